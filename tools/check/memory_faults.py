@@ -34,6 +34,10 @@ EXCEPTIONS: Dict[Tuple[str, str], str] = {
     ("crates/acl_verdicts/src/labels.rt", "MoreLabels::add"): COUNT,
     ("crates/acl_verdicts/src/numbered.rt", "counted"): COUNT,
     ("crates/acl_verdicts/src/steps.rt", "MoreSteps::number"): COUNT,
+    ("crates/kinds/src/blocks.rt", "BlockList::pushed"): COUNT,
+    ("crates/kinds/src/kinds.rt", "Kinds::grant"): COUNT,
+    ("crates/kinds/src/list.rt", "SharedList::pushed"): COUNT,
+    ("crates/kinds/src/memo.rt", "count_again"): COUNT,
     ("crates/acl_tree/src/edit_command.rt", "prepare_chmod"):
         "the operands were looked up before, and a mode is put into each file that is found",
     ("crates/acl_tree/src/creat.rt", "node_of"): ALONE,

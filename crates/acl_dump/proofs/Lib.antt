@@ -7,6 +7,9 @@ pub mod OwnPaths
 pub mod DumpFaults
 pub mod LowestLines
 pub mod Streams
+pub mod CutBodies
+pub mod SameBodies
+pub mod KnownBodies
 pub mod WrittenEntries
 pub mod WrittenNames
 pub mod WrittenRecords

@@ -42,19 +42,19 @@ not_among all records path rest parts apart = not_repeated records path rest (su
 
 -- ---- what a value is made of
 
-next-ok : {A B : Type 0} (r : Result A TextFault) (f : A → Result B TextFault) (y : B) → (r >>= f) ≡ Ok y → (x : A) × ((r ≡ Ok x) × (f x ≡ Ok y))
+pub next-ok : {A B : Type 0} (r : Result A TextFault) (f : A → Result B TextFault) (y : B) → (r >>= f) ≡ Ok y → (x : A) × ((r ≡ Ok x) × (f x ≡ Ok y))
 next-ok (Ok x) f y e = (x, (refl, e))
 next-ok (Err fault) f y e = absurd cc
 
-at_place-ok : {S T : Type 0} (at : ℕ) (r : Result S FaultKind) (more : S → Result T TextFault) (y : T) → at_place at r more ≡ Ok y → (x : S) × ((r ≡ Ok x) × (more x ≡ Ok y))
+pub at_place-ok : {S T : Type 0} (at : ℕ) (r : Result S FaultKind) (more : S → Result T TextFault) (y : T) → at_place at r more ≡ Ok y → (x : S) × ((r ≡ Ok x) × (more x ≡ Ok y))
 at_place-ok at (Ok x) more y e = (x, (refl, e))
 at_place-ok at (Err kind) more y e = absurd cc
 
-bind-ok : {A B : Type 0} (r : Result A FaultKind) (f : A → Result B FaultKind) (y : B) → (r >>= f) ≡ Ok y → (x : A) × ((r ≡ Ok x) × (f x ≡ Ok y))
+pub bind-ok : {A B : Type 0} (r : Result A FaultKind) (f : A → Result B FaultKind) (y : B) → (r >>= f) ≡ Ok y → (x : A) × ((r ≡ Ok x) × (f x ≡ Ok y))
 bind-ok (Ok x) f y e = (x, (refl, e))
 bind-ok (Err kind) f y e = absurd cc
 
-ok-is : {A F : Type 0} (x y : A) → (let r : Result A F = Ok x in r ≡ Ok y) → x ≡ y
+pub ok-is : {A F : Type 0} (x y : A) → (let r : Result A F = Ok x in r ≡ Ok y) → x ≡ y
 ok-is x y e = cc
 
 abbrev drafted : Option RecordDraft → List (List (List ℕ))

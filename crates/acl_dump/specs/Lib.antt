@@ -6,6 +6,8 @@ pub mod Faults
 pub mod Lowest
 pub mod Seen
 pub mod Watched
+pub mod SameBodies
+pub mod KnownBodies
 pub mod Writing
 pub mod Again
 pub mod Laws

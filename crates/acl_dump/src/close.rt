@@ -86,7 +86,11 @@ fn record_with(draft: RecordDraft, access: Acl, dacl: Option<Acl>) -> DumpRecord
 }
 
 /// The record of all its lines, or what it lacks as a whole, at its `file:` line.
-fn record_of(alloc: Global, dump_use: DumpUse, draft: RecordDraft) -> Result<DumpRecord, TextFault>
+pub(crate) fn record_of(
+    alloc: Global,
+    dump_use: DumpUse,
+    draft: RecordDraft,
+) -> Result<DumpRecord, TextFault>
     ensures { GivesAt draft.at (λ r. r) result (record_of dump_use draft) }
 {
     let (access, dacl) = lists_of(alloc, dump_use, &draft)?;

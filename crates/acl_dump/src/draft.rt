@@ -1,17 +1,19 @@
 //! An open record: the `# file:` line and the lines after it so far.
 
 ghost use Rattle.std.specs.Prelude.{◌≡◌, ◌++◌, ◌∷◌, [], List, OnOk, is_some};
-ghost use Rattle.acl_syntax.specs.InTurn.{GivesAt};
+ghost use Rattle.acl_syntax.specs.InTurn.{Gives, GivesAt};
 ghost use Rattle.acl_dump.specs.Records.{has_no_entry, with_entry, with_item, add};
 ghost use Rattle.acl_dump.specs.Watched.{opened_draft};
+ghost use Rattle.acl_dump.specs.SameBodies.{content_added};
 ghost use Rattle.acl_dump.specs.Seen.{SeenPathsAre};
 ghost use Rattle.acl_dump.specs.declared.record.DumpRecord.{DumpRecord};
 
-use crate::item::{Item, bad_header};
+use crate::item::{Item, bad_header, item_of};
+use crate::line::LineKind;
 use crate::seen::{Seen, is_seen};
 use acl_entry::{Entry, Id, Key, Perm};
 use acl_names::{Path, read_path};
-use acl_syntax::{FaultKind, TextFault};
+use acl_syntax::{FaultKind, Names, TextFault};
 use std::alloc::{AllocError, Global};
 use std::marker::Model;
 
@@ -118,11 +120,7 @@ impl RecordDraft {
 }
 
 /// Adds the content of a line to the open record, if there is one.
-pub(crate) fn add(
-    draft: &mut Option<RecordDraft>,
-    at: usize,
-    item: Option<Item>,
-) -> Result<(), TextFault>
+fn add(draft: &mut Option<RecordDraft>, at: usize, item: Option<Item>) -> Result<(), TextFault>
     ensures { GivesAt at (λ _. draft.new) result (add item draft.old) }
 {
     let Some(item) = item else {
@@ -135,6 +133,23 @@ pub(crate) fn add(
         }),
         Some(draft) => draft.add_item(at, item),
     }
+}
+
+/// Adds a line of this content, which begins no record, to the open record, if there is one. What it calls is called here
+/// alone, and so is inlined here.
+#[inline(never)]
+pub(crate) fn add_content<N: Names>(
+    alloc: Global,
+    names: &N,
+    draft: &mut Option<RecordDraft>,
+    at: usize,
+    kind: LineKind,
+    value: &[u8],
+) -> Result<(), TextFault>
+    ensures { Gives (λ _. draft.new) result (content_added (N.naming names.now) draft.old at kind value.now) }
+{
+    let item = item_of(alloc, names, at, kind, value)?;
+    add(draft, at, item)
 }
 
 /// The record that a `file:` line of this value begins. Where paths are watched, no earlier record may have

@@ -10,8 +10,8 @@ ghost use Rattle.acl_dump.specs.OwnPaths.{have_own_paths};
 
 use crate::apart::are_apart;
 use crate::close::close;
-use crate::draft::{RecordDraft, add, open_record};
-use crate::item::item_of;
+use crate::draft::{RecordDraft, add_content, open_record};
+use crate::known::read_known;
 use crate::line::{LineKind, content_of};
 use crate::record::{DumpRecord, DumpUse};
 use crate::seen::Seen;
@@ -45,7 +45,7 @@ pub fn read_dump<N: Names>(
     ensures apart { IfOk result (λ records. have_own_paths records.items ≡ true) }
 {
     // A dump without a fault needs no set of paths: they are compared once all are known.
-    match read_stream(alloc, bytes, dump_use, names, None) {
+    match read_known(alloc, bytes, dump_use, names) {
         Ok(records) => {
             if are_apart(alloc, &records)? {
                 return Ok(records);
@@ -57,7 +57,7 @@ pub fn read_dump<N: Names>(
             }
         }
     }
-    // A repeated path may be the first fault, so the dump is read again and each path is looked up.
+    // Which fault is the first, a repeated path or another, is found by reading the dump again, line by line.
     read_stream(alloc, bytes, dump_use, names, Some(Seen::new(alloc)))
 }
 
@@ -121,10 +121,7 @@ fn read_line<N: Names>(
     let (kind, value) = content_of(line);
     match kind {
         LineKind::File => begin_record(alloc, dump_use, records, seen, draft, at, value),
-        _ => {
-            let item = item_of(alloc, names, at, kind, value)?;
-            add(draft, at, item)
-        }
+        _ => add_content(alloc, names, draft, at, kind, value),
     }
 }
 

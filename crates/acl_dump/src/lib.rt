@@ -3,12 +3,15 @@
 #![tactic(auto)]
 
 mod apart;
+mod bodies;
+mod body;
 mod close;
 mod draft;
 mod dump;
 mod effective;
 mod header;
 mod item;
+mod known;
 mod laws;
 mod line;
 mod record;

@@ -33,6 +33,7 @@ fn without_space(value: &[u8]) -> &[u8]
 }
 
 /// What follows `#` and white space: a header with its value, or a comment.
+#[inline(always)]
 fn header_of(text: &[u8]) -> (LineKind, &[u8])
     ensures { (result.0, result.1.now) ≡ header_of text.now }
 {
@@ -50,6 +51,7 @@ fn header_of(text: &[u8]) -> (LineKind, &[u8])
 }
 
 /// What a line is, and its value: that of a header, or the entry without its comment.
+#[inline(always)]
 pub(crate) fn content_of(line: &[u8]) -> (LineKind, &[u8])
     ensures { (result.0, result.1.now) ≡ content_of line.now }
 {

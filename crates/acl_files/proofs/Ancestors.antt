@@ -7,10 +7,8 @@ use Rattle.std.specs.FinMap.Entries.{below_all}
 use Rattle.std.proofs.lemmas.Bool.{and_parts}
 use Rattle.std.proofs.lemmas.List.{map-append, reverse-append}
 use Rattle.acl_names.specs.Paths.{path_cmp}
-use Rattle.acl_edit.specs.declared.node.Node.{Node}
 use Rattle.path_map.specs.Entries.{PathOf, IsInOrder}
 use Rattle.acl_names.proofs.Below.{below_less, below_trans, convex_below, not_below_itself}
-use Rattle.acl_files.specs.Files.{Files}
 use Rattle.acl_names.specs.Below.{is_above}
 use Rattle.acl_files.specs.Walks.{ancestors, last_or, nearest_above}
 use Rattle.acl_files.proofs.Follows.{above}
@@ -112,62 +110,63 @@ module _ {A : Type 0} where
 
 -- ---- files, from the nearest one on
 
--- the paths that are still to come: that of a file that is found, after those of the files above it
-abbrev pub to_come : Files → Files → List PathOf
-to_come found t = flat_map (λ (e : PathOf × Node). ancestors e.0 t ++ e.0 ∷ []) found
+module _ {V : Type 0} where
+  -- the paths that are still to come: that of a file that is found, after those of the files above it
+  abbrev pub to_come : List (PathOf × V) → List (PathOf × V) → List PathOf
+  to_come found t = flat_map (λ (e : PathOf × V). ancestors e.0 t ++ e.0 ∷ []) found
 
--- those of the nearest file above a path are all above the path
-pub nearest_leads : (p : PathOf) (t : Files) → IsInOrder t → to_come (nearest_above p t) t ≡ ancestors p t
-nearest_leads p t order = by (nearest_above p t) refl (nearest_alone p t)
-  where
-    by : (l : Files) → nearest_above p t ≡ l → length (nearest_above p t) ≤ 1 → to_come (nearest_above p t) t ≡ ancestors p t
-    by [] is few = ap (λ l. to_come l t) is ∙ sym (ap (map (λ (e : PathOf × Node). e.0)) (last_none (those p t) is))
-    by (r ∷ []) is few =
-        ap (λ l. to_come l t) is
-        ∙ append-nil (ancestors r.0 t ++ r.0 ∷ [])
-        ∙ sym (ap (map (λ (e : PathOf × Node). e.0)) (nearest_last p t r order is) ∙ map-append (λ (e : PathOf × Node). e.0) (those r.0 t) (r ∷ []))
-    by (r ∷ s ∷ l) is few = let many : length (r ∷ s ∷ l) ≤ 1 = subst (λ (l : Files). length l ≤ 1) is few in absurd (omega (arith, many))
+  -- those of the nearest file above a path are all above the path
+  pub nearest_leads : (p : PathOf) (t : List (PathOf × V)) → IsInOrder t → to_come (nearest_above p t) t ≡ ancestors p t
+  nearest_leads p t order = by (nearest_above p t) refl (nearest_alone p t)
+    where
+      by : (l : List (PathOf × V)) → nearest_above p t ≡ l → length (nearest_above p t) ≤ 1 → to_come (nearest_above p t) t ≡ ancestors p t
+      by [] is few = ap (λ l. to_come l t) is ∙ sym (ap (map (λ (e : PathOf × V). e.0)) (last_none (those p t) is))
+      by (r ∷ []) is few =
+          ap (λ l. to_come l t) is
+          ∙ append-nil (ancestors r.0 t ++ r.0 ∷ [])
+          ∙ sym (ap (map (λ (e : PathOf × V). e.0)) (nearest_last p t r order is) ∙ map-append (λ (e : PathOf × V). e.0) (those r.0 t) (r ∷ []))
+      by (r ∷ s ∷ l) is few = let many : length (r ∷ s ∷ l) ≤ 1 = subst (λ (l : List (PathOf × V)). length l ≤ 1) is few in absurd (omega (arith, many))
 
--- some paths are found, from the nearest on, and the next file
-pub record IsClimbed (path : PathOf) (t : Files) (found : Files) (paths : List PathOf) : Type 0 where
-  pub all : to_come found t ++ reverse paths ≡ ancestors path t
-  pub alone : length found ≤ 1
+  -- some paths are found, from the nearest on, and the next file
+  pub record IsClimbed (path : PathOf) (t : List (PathOf × V)) (found : List (PathOf × V)) (paths : List PathOf) : Type 0 where
+    pub all : to_come found t ++ reverse paths ≡ ancestors path t
+    pub alone : length found ≤ 1
 
-pub climb_begins : (path : PathOf) (t found : Files) (paths : List PathOf) → IsInOrder t → found ≡ nearest_above path t → paths ≡ [] → IsClimbed path t found paths
-climb_begins path t found paths order is none = record {
-  all = ap (λ l. to_come found t ++ reverse l) none ∙ append-nil (to_come found t) ∙ ap (λ l. to_come l t) is ∙ nearest_leads path t order;
-  alone = subst (λ (l : Files). length l ≤ 1) (sym is) (nearest_alone path t);
-}
-
--- the file found, where there is one, is alone
-one_found : (found rest : Files) (e : PathOf × Node) → found ≡ rest ++ e ∷ [] → length found ≤ 1 → found ≡ e ∷ []
-one_found found [] e is few = is
-one_found found (x ∷ []) e is few = let many : length (x ∷ e ∷ []) ≤ 1 = subst (λ (l : Files). length l ≤ 1) is few in absurd (omega (arith, many))
-one_found found (x ∷ y ∷ rest) e is few = let many : length (x ∷ y ∷ (rest ++ e ∷ [])) ≤ 1 = subst (λ (l : Files). length l ≤ 1) is few in absurd (omega (arith, many))
-
-module _ (path : PathOf) (t found rest next : Files) (e : PathOf × Node) (order : IsInOrder t) (is : found ≡ rest ++ e ∷ []) (leads : next ≡ nearest_above e.0 t) (paths : List PathOf) (climbed : IsClimbed path t found paths) where
-  here : to_come found t ≡ to_come next t ++ e.0 ∷ []
-  here =
-      ap (λ l. to_come l t) (one_found found rest e is climbed.alone)
-      ∙ append-nil (ancestors e.0 t ++ e.0 ∷ [])
-      ∙ ap (λ l. l ++ e.0 ∷ []) (sym (ap (λ l. to_come l t) leads ∙ nearest_leads e.0 t order))
-
-  pub climb_more : (more : List PathOf) → more ≡ paths ++ e.0 ∷ [] → IsClimbed path t next more
-  climb_more more pushed = record {
-    all = ap (λ l. to_come next t ++ reverse l) pushed
-        ∙ ap (λ l. to_come next t ++ l) (reverse-append paths (e.0 ∷ []))
-        ∙ sym (append_assoc (to_come next t) (e.0 ∷ []) (reverse paths))
-        ∙ ap (λ l. l ++ reverse paths) (sym here)
-        ∙ climbed.all;
-    alone = subst (λ (l : Files). length l ≤ 1) (sym leads) (nearest_alone e.0 t);
+  pub climb_begins : (path : PathOf) (t found : List (PathOf × V)) (paths : List PathOf) → IsInOrder t → found ≡ nearest_above path t → paths ≡ [] → IsClimbed path t found paths
+  climb_begins path t found paths order is none = record {
+    all = ap (λ l. to_come found t ++ reverse l) none ∙ append-nil (to_come found t) ∙ ap (λ l. to_come l t) is ∙ nearest_leads path t order;
+    alone = subst (λ (l : List (PathOf × V)). length l ≤ 1) (sym is) (nearest_alone path t);
   }
 
-  pub climb_less : length (to_come next t) < length (to_come found t)
-  climb_less = subst (λ (l : List PathOf). length (to_come next t) < length l) (sym here) (one_less (to_come next t))
-    where
-      one_less : (l : List PathOf) → length l < length (l ++ e.0 ∷ [])
-      one_less [] = omega arith
-      one_less (x ∷ l) = let lt = one_less l in omega (arith, lt)
+  -- the file found, where there is one, is alone
+  one_found : (found rest : List (PathOf × V)) (e : PathOf × V) → found ≡ rest ++ e ∷ [] → length found ≤ 1 → found ≡ e ∷ []
+  one_found found [] e is few = is
+  one_found found (x ∷ []) e is few = let many : length (x ∷ e ∷ []) ≤ 1 = subst (λ (l : List (PathOf × V)). length l ≤ 1) is few in absurd (omega (arith, many))
+  one_found found (x ∷ y ∷ rest) e is few = let many : length (x ∷ y ∷ (rest ++ e ∷ [])) ≤ 1 = subst (λ (l : List (PathOf × V)). length l ≤ 1) is few in absurd (omega (arith, many))
 
-pub climb_ends : (path : PathOf) (t found : Files) (paths : List PathOf) → IsClimbed path t found paths → found ≡ [] → reverse paths ≡ ancestors path t
-climb_ends path t found paths climbed none = ap (λ l. to_come l t ++ reverse paths) (sym none) ∙ climbed.all
+  module _ (path : PathOf) (t found rest next : List (PathOf × V)) (e : PathOf × V) (order : IsInOrder t) (is : found ≡ rest ++ e ∷ []) (leads : next ≡ nearest_above e.0 t) (paths : List PathOf) (climbed : IsClimbed path t found paths) where
+    here : to_come found t ≡ to_come next t ++ e.0 ∷ []
+    here =
+        ap (λ l. to_come l t) (one_found found rest e is climbed.alone)
+        ∙ append-nil (ancestors e.0 t ++ e.0 ∷ [])
+        ∙ ap (λ l. l ++ e.0 ∷ []) (sym (ap (λ l. to_come l t) leads ∙ nearest_leads e.0 t order))
+
+    pub climb_more : (more : List PathOf) → more ≡ paths ++ e.0 ∷ [] → IsClimbed path t next more
+    climb_more more pushed = record {
+      all = ap (λ l. to_come next t ++ reverse l) pushed
+          ∙ ap (λ l. to_come next t ++ l) (reverse-append paths (e.0 ∷ []))
+          ∙ sym (append_assoc (to_come next t) (e.0 ∷ []) (reverse paths))
+          ∙ ap (λ l. l ++ reverse paths) (sym here)
+          ∙ climbed.all;
+      alone = subst (λ (l : List (PathOf × V)). length l ≤ 1) (sym leads) (nearest_alone e.0 t);
+    }
+
+    pub climb_less : length (to_come next t) < length (to_come found t)
+    climb_less = subst (λ (l : List PathOf). length (to_come next t) < length l) (sym here) (one_less (to_come next t))
+      where
+        one_less : (l : List PathOf) → length l < length (l ++ e.0 ∷ [])
+        one_less [] = omega arith
+        one_less (x ∷ l) = let lt = one_less l in omega (arith, lt)
+
+  pub climb_ends : (path : PathOf) (t found : List (PathOf × V)) (paths : List PathOf) → IsClimbed path t found paths → found ≡ [] → reverse paths ≡ ancestors path t
+  climb_ends path t found paths climbed none = ap (λ l. to_come l t ++ reverse paths) (sym none) ∙ climbed.all

@@ -1,10 +1,9 @@
--- What an edit of files changes.
-use Rattle.std.proofs.Common.{◌≡◌, Bool, true, false, ◌&&◌, not, cond, eqb, if◌then◌else◌, is_some, IsTrue, List, [], ◌∷◌, ◌++◌, filter, Some, Ordering, Less, Equal, Greater, refl, sym, ap, subst, ◌∙◌, append_assoc}
+-- Labels; and the files of a state that are others in another state.
+use Rattle.std.proofs.Common.{◌≡◌, Bool, true, false, ◌&&◌, not, cond, eqb, if◌then◌else◌, is_some, List, [], ◌∷◌, filter, Option, Some, None, Ordering, Less, Equal, Greater, refl, sym, ap, subst, ◌∙◌}
 use Rattle.std.specs.Bool.{Decides}
 use Rattle.std.specs.Option.{option_map_or}
-use Rattle.std.specs.Ordering.{is_eq, is_lt}
-use Rattle.std.specs.FinMap.{find, is_sorted}
-use Rattle.std.specs.FinMap.Entries.{below_all}
+use Rattle.std.specs.Ordering.{is_eq}
+use Rattle.std.specs.FinMap.{find}
 use Rattle.std.proofs.lemmas.Bool.{and_parts, eqb-true, eq-eqb}
 use Rattle.std.proofs.lemmas.Cmp.{tied_itself}
 use Rattle.acl_entry.specs.Keys.{same_key, key_cmp}
@@ -15,13 +14,11 @@ use Rattle.acl_entry.specs.declared.label.Label.{Label}
 use Rattle.acl_entry.proofs.KeyLaws.{key_total, exact_keys}
 use Rattle.acl_entry.proofs.Maps.{map_of-entries}
 use Rattle.acl_names.specs.Paths.{path_cmp}
-use Rattle.acl_names.proofs.PathOrder.{path_total}
 use Rattle.acl_edit.specs.declared.node.Node.{Node}
 use Rattle.acl_files.specs.Files.{PathOf, Files, IsInOrder}
-use Rattle.acl_files.specs.Changed.{same_entry, same_entries, same_label, is_changed, changed_between, gone_between}
-use Rattle.acl_files.specs.Inner.{changed_one, changed_by}
+use Rattle.acl_files.specs.Changed.{same_entry, same_entries, same_label, changed_between, gone_between, differs, differing, SameBut}
 use Rattle.acl_files.specs.Operands.{edit_files}
-use Rattle.path_map.proofs.Places.{above}
+use Rattle.path_map.proofs.Differences.{Leads, leads_all}
 
 -- ---- labels
 
@@ -81,51 +78,19 @@ label_itself a = both _ _ (eq-eqb a.owner a.owner refl) (both _ _ (eq-eqb a.grou
 pub label_decides : (a b : Label) → Decides (same_label a b) (a ≡ b)
 label_decides a b = (label_is_same a b, λ e. subst (λ x. same_label a x ≡ true) e (label_itself a))
 
--- ---- look-ups
+-- ---- files that are gone
 
-less : (o : Ordering) → is_lt o ≡ true → o ≡ Less
-less Less h = refl
-less Equal h = cc
-less Greater h = cc
-
-before_it : (q : PathOf) (pre : Files) (e : PathOf × Node) (es : Files) → IsTrue (below_all path_cmp q (pre ++ e ∷ es)) → path_cmp q e.0 ≡ Less
-before_it q [] e es order = less (path_cmp q e.0) (and_parts (is_lt (path_cmp q e.0)) (below_all path_cmp q es) order).0
-before_it q (s ∷ pre) e es order = before_it q pre e es (and_parts (is_lt (path_cmp q s.0)) (below_all path_cmp q (pre ++ e ∷ es)) order).1
-
--- a file is what its path leads to
-pub find_it : (pre : Files) (e : PathOf × Node) (es : Files) → IsInOrder (pre ++ e ∷ es) → find path_cmp e.0 (pre ++ e ∷ es) ≡ Some e.1
-find_it [] e es order = ap (λ o. cond (is_eq o) (Some e.1) (find path_cmp e.0 es)) (tied_itself path_total e.0)
-find_it (q ∷ pre) e es order =
-    let parts = and_parts (below_all path_cmp q.0 (pre ++ e ∷ es)) (is_sorted path_cmp (pre ++ e ∷ es)) order in
-    ap (λ o. cond (is_eq o) (Some q.1) (find path_cmp e.0 (pre ++ e ∷ es))) (above q.0 e.0 (before_it q.0 pre e es parts.0))
-    ∙ find_it pre e es parts.1
-
--- ---- edits
+-- none is, where all paths are recorded still
+pub none_gone : (old new : Files) → IsInOrder old → ((p : PathOf) → is_some (find path_cmp p old) ≡ true → is_some (find path_cmp p new) ≡ true) → gone_between old new ≡ []
+none_gone old new order keeps = each old (leads_all old order)
+  where
+    each : (es : Files) → Leads old es → filter (λ e. not (is_some (find path_cmp e.0 new))) es ≡ []
+    each [] h = refl
+    each (e ∷ es) h =
+        let rest = filter (λ e. not (is_some (find path_cmp e.0 new))) es in
+        ap (λ b. cond (not b) (e ∷ rest) rest) (keeps e.0 (ap is_some h.0)) ∙ each es h.1
 
 module _ (test : PathOf → Bool) (g : PathOf → Node → Node) where
-  one_changed : (b : Bool) (e : PathOf × Node) (more : Files)
-      → cond (not (same_label e.1.label (if b then g e.0 e.1 else e.1).label)) ((e.0, if b then g e.0 e.1 else e.1) ∷ more) more ≡ changed_one b g e ++ more
-  one_changed true e more = by (not (same_label e.1.label (g e.0 e.1).label))
-    where
-      by : (c : Bool) → cond c ((e.0, g e.0 e.1) ∷ more) more ≡ (if c then (e.0, g e.0 e.1) ∷ [] else []) ++ more
-      by true = refl
-      by false = refl
-  one_changed false e more = ap (λ b. cond (not b) ((e.0, e.1) ∷ more) more) (label_itself e.1.label)
-
-  changed_of : (pre es : Files) → IsInOrder (pre ++ es) → filter (is_changed (pre ++ es)) (edit_files test g es) ≡ changed_by test g es
-  changed_of pre [] order = refl
-  changed_of pre (e ∷ es) order =
-      let moved : pre ++ e ∷ es ≡ (pre ++ e ∷ []) ++ es = sym (append_assoc pre (e ∷ []) es) in
-      let new : Node = if test e.0 then g e.0 e.1 else e.1 in
-      let rest = filter (is_changed (pre ++ e ∷ es)) (edit_files test g es) in
-      ap (λ o. cond (option_map_or (λ n. not (same_label n.label new.label)) o true) ((e.0, new) ∷ rest) rest) (find_it pre e es order)
-      ∙ one_changed (test e.0) e rest
-      ∙ ap (λ l. changed_one (test e.0) g e ++ l) (ap (λ all. filter (is_changed all) (edit_files test g es)) moved ∙ changed_of (pre ++ e ∷ []) es (subst IsInOrder moved order))
-
-  -- an edit changes just the files that it edits to another label
-  pub changed-edited : (t : Files) → IsInOrder t → changed_by test g t ≡ changed_between t (edit_files test g t)
-  changed-edited t order = sym (changed_of [] t order)
-
   found_edited : (p : PathOf) (t : Files) → is_some (find path_cmp p (edit_files test g t)) ≡ is_some (find path_cmp p t)
   found_edited p [] = refl
   found_edited p (e ∷ t) = by (is_eq (path_cmp p e.0)) (found_edited p t)
@@ -134,29 +99,52 @@ module _ (test : PathOf → Bool) (g : PathOf → Node → Node) where
       by true rest = refl
       by false rest = rest
 
-  gone_of : (pre es : Files) → IsInOrder (pre ++ es) → filter (λ e. not (is_some (find path_cmp e.0 (edit_files test g (pre ++ es))))) es ≡ []
-  gone_of pre [] order = refl
-  gone_of pre (e ∷ es) order =
-      let moved : pre ++ e ∷ es ≡ (pre ++ e ∷ []) ++ es = sym (append_assoc pre (e ∷ []) es) in
-      let rest = filter (λ x. not (is_some (find path_cmp x.0 (edit_files test g (pre ++ e ∷ es))))) es in
-      ap (λ b. cond (not b) (e ∷ rest) rest) (found_edited e.0 (pre ++ e ∷ es) ∙ ap is_some (find_it pre e es order))
-      ∙ ap (λ all. filter (λ x. not (is_some (find path_cmp x.0 (edit_files test g all)))) es) moved
-      ∙ gone_of (pre ++ e ∷ []) es (subst IsInOrder moved order)
-
-  -- and none is gone
+  -- none is gone by an edit
   pub gone-edited : (t : Files) → IsInOrder t → gone_between t (edit_files test g t) ≡ []
-  gone-edited t order = gone_of [] t order
+  gone-edited t order = none_gone t (edit_files test g t) order (λ p h. found_edited p t ∙ h)
 
-  -- the files that pass the test, all edited, change as much
-  pub changed-all : (t : Files) → changed_by (λ _. true) g (filter (λ e. test e.0) t) ≡ changed_by test g t
-  changed-all [] = refl
-  changed-all (e ∷ t) = by (test e.0) (changed-all t)
-    where
-      by : (b : Bool) → changed_by (λ _. true) g (filter (λ e. test e.0) t) ≡ changed_by test g t → changed_by (λ _. true) g (cond b (e ∷ filter (λ e. test e.0) t) (filter (λ e. test e.0) t)) ≡ changed_one b g e ++ changed_by test g t
-      by true rest = ap (λ l. changed_one true g e ++ l) rest
-      by false rest = rest
+-- ---- files that are others in another state
 
--- where there was no file all are new
-pub all_changed : (new : Files) → changed_between [] new ≡ new
-all_changed [] = refl
-all_changed (e ∷ es) = ap (λ l. e ∷ l) (all_changed es)
+differ_changed : (o : Option Node) (n : Node) → differs true o n ≡ option_map_or (λ m. not (same_label m.label n.label)) o true
+differ_changed None n = refl
+differ_changed (Some m) n = refl
+
+differ_gone : (o : Option Node) (n : Node) → differs false o n ≡ not (is_some o)
+differ_gone None n = refl
+differ_gone (Some m) n = refl
+
+pub differing_changed : (old new : Files) → differing true old new ≡ changed_between old new
+differing_changed old [] = refl
+differing_changed old (e ∷ es) = λ i. cond (differ_changed (find path_cmp e.0 old) e.1 i) (e ∷ differing_changed old es i) (differing_changed old es i)
+
+pub differing_gone : (new old : Files) → differing false new old ≡ gone_between old new
+differing_gone new [] = refl
+differing_gone new (e ∷ es) = λ i. cond (differ_gone (find path_cmp e.0 new) e.1 i) (e ∷ differing_gone new es i) (differing_gone new es i)
+
+-- a file that is the same in the other state is not among them
+same_differs : (labels : Bool) (o : Option Node) (n : Node) → o ≡ Some n → differs labels o n ≡ false
+same_differs labels o n h = ap (λ o. differs labels o n) h ∙ ap (λ b. labels && not b) (label_itself n.label) ∙ by labels
+  where
+    by : (b : Bool) → (b && false) ≡ false
+    by true = refl
+    by false = refl
+
+-- so they are among those that a test passes, where all others are the same
+pub differing_meant : (labels : Bool) (test : PathOf → Bool) (t other : Files) → IsInOrder t → SameBut test t other → differing labels other (filter (λ e. test e.0) t) ≡ differing labels other t
+differing_meant labels test t other order same = each t (leads_all t order)
+  where
+    each : (es : Files) → Leads t es → differing labels other (filter (λ e. test e.0) es) ≡ differing labels other es
+    each [] h = refl
+    each (e ∷ es) h = by (test e.0) refl (each es h.1)
+      where
+        rest : Files
+        rest = differing labels other es
+
+        by : (b : Bool) → test e.0 ≡ b → differing labels other (filter (λ e. test e.0) es) ≡ rest
+            → differing labels other (cond b (e ∷ filter (λ e. test e.0) es) (filter (λ e. test e.0) es)) ≡ cond (differs labels (find path_cmp e.0 other) e.1) (e ∷ rest) rest
+        by true is more = ap (λ l. cond (differs labels (find path_cmp e.0 other) e.1) (e ∷ l) l) more
+        by false is more = more ∙ sym (ap (λ c. cond c (e ∷ rest) rest) (same_differs labels (find path_cmp e.0 other) e.1 (same e.0 is ∙ h.0)))
+
+-- the same files the other way round
+pub same_back : (test : PathOf → Bool) (old new : Files) → SameBut test old new → SameBut test new old
+same_back test old new same p out = sym (same p out)

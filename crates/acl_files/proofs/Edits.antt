@@ -1,15 +1,14 @@
 -- Files of a command, edited: what is put among the files of the tree.
-use Rattle.std.proofs.Common.{◌≡◌, Bool, List, [], ◌∷◌, ◌++◌, map, Result, Ok, Err, refl, sym, ap, subst, ◌∙◌, append_assoc}
+use Rattle.std.proofs.Common.{◌≡◌, Bool, List, [], ◌∷◌, map, Result, Ok, Err, refl, sym, ap, ◌∙◌}
 use Rattle.acl_edit.specs.declared.edit.EditFault.{EditFault}
 use Rattle.acl_edit.specs.declared.node.Node.{Node}
 use Rattle.path_map.specs.Merged.{put_all}
-use Rattle.path_map.proofs.Edits.{in_order-edited, put_edited}
+use Rattle.path_map.proofs.Edits.{put_edited}
 use Rattle.acl_files.specs.declared.edit.FileFault.{FileFault}
 use Rattle.acl_files.specs.Files.{PathOf, Files, Recorded, IsInOrder}
-use Rattle.acl_files.specs.Found.{found_in}
 use Rattle.acl_files.specs.Operands.{is_file, edit_files, files_meant}
 use Rattle.acl_files.specs.Edits.{KeepsPlace, and_others, edit_each, edit_all, with_edits}
-use Rattle.acl_files.specs.Inner.{file_of, ok_or, node_after, after_edits}
+use Rattle.acl_files.specs.Inner.{ok_or, node_after}
 
 -- the edits, where there is no fault
 abbrev edits_of : Result Files FileFault → Files
@@ -18,11 +17,6 @@ edits_of (Err fault) = []
 
 err_is_not_ok : {A B : Type 0} (a : A) (b : B) → Err b ≡ Ok a → ⊥
 err_is_not_ok a b h = cc
-
--- the files that are found are those that were looked for
-pub files_seen : (all es : Files) → map file_of (found_in all es) ≡ es
-files_seen all [] = refl
-files_seen all (e ∷ es) = ap (λ l. e ∷ l) (files_seen all es)
 
 module _ (edit : PathOf → Node → Result Node EditFault) where
   pub edits_are : (es ns : Files) → edit_each edit es ≡ Ok ns → ns ≡ map (λ e. (e.0, node_after edit e.0 e.1)) es
@@ -41,29 +35,10 @@ module _ (edit : PathOf → Node → Result Node EditFault) where
       by (Ok m) is = law p n m is
       by (Err fault) is = record { kind = refl; default = λ h. h }
 
-  -- one file more, in a loop
-  pub edits_more : (old : Files) (e : PathOf × Node) (n : Node) (es : Files) (all : Result Files FileFault) → edit e.0 e.1 ≡ Ok n → all ≡ after_edits old (edit_each edit (e ∷ es)) → all ≡ after_edits (old ++ (e.0, n) ∷ []) (edit_each edit es)
-  edits_more old e n es all is whole = whole ∙ ap (λ o. after_edits old (and_others e.0 o (edit_each edit es))) is ∙ by (edit_each edit es)
-    where
-      by : (r : Result Files FileFault) → after_edits old (and_others e.0 (Ok n) r) ≡ after_edits (old ++ (e.0, n) ∷ []) r
-      by (Ok os) = ap (λ l. Ok l) (sym (append_assoc old ((e.0, n) ∷ []) os))
-      by (Err fault) = refl
-
-  -- a file whose edit fails
-  pub edits_stop : (old : Files) (e : PathOf × Node) (es : Files) (fault : FileFault) → edit_each edit (e ∷ []) ≡ Err fault → after_edits old (edit_each edit (e ∷ es)) ≡ Err fault
-  edits_stop old e es fault h = by (edit e.0 e.1) h
-    where
-      by : (o : Result Node EditFault) → and_others e.0 o (Ok []) ≡ Err fault → after_edits old (and_others e.0 o (edit_each edit es)) ≡ Err fault
-      by (Err f) h = h
-      by (Ok n) h = absurd (err_is_not_ok _ _ (sym h))
-
   -- what is put among the files is their edit
   pub put_edits : (recursive : Bool) (paths : List PathOf) (t ns : Files) → IsInOrder t → edit_each edit (files_meant recursive paths t) ≡ Ok ns → put_all ns t ≡ edit_files (is_file recursive paths) (node_after edit) t
   put_edits recursive paths t ns order h =
       ap (λ l. put_all l t) (edits_are (files_meant recursive paths t) ns h) ∙ put_edited (is_file recursive paths) (node_after edit) t order
-
-  pub in_order-edits : (recursive : Bool) (paths : List PathOf) (t ns : Files) → IsInOrder t → edit_each edit (files_meant recursive paths t) ≡ Ok ns → IsInOrder ns
-  in_order-edits recursive paths t ns order h = subst IsInOrder (sym (edits_are (files_meant recursive paths t) ns h)) (in_order-edited (is_file recursive paths) (node_after edit) t order)
 
 -- ---- an edit that never fails
 

@@ -3,6 +3,7 @@ pub mod Kept
 pub mod Changes
 pub mod Selected
 pub mod Edits
+pub mod Left
 pub mod Placed
 pub mod Restored
 pub mod Nearest
@@ -12,6 +13,9 @@ pub mod Follows
 pub mod Loaded
 pub mod Mapped
 pub mod SortedRecords
+pub mod Without
+pub mod ByKind
+pub mod SameNodes
 pub use Rattle.acl_dump.proofs as of_acl_dump
 pub use Rattle.acl_edit.proofs as of_acl_edit
 pub use Rattle.acl_entry.proofs as of_acl_entry

@@ -1,6 +1,6 @@
 -- Records of a dump in path order, and which lie below which.
 use Rattle.std.proofs.Common.{◌≡◌, List, [], ◌∷◌, ◌++◌, map, Ordering, Less, Equal, Greater, refl, sym, ap, subst, ◌∙◌, append_assoc}
-use Rattle.std.specs.Prelude.{fold, reverse, Bool}
+use Rattle.std.specs.Prelude.{fold, reverse}
 use Rattle.std.specs.FinMap.{put}
 use Rattle.std.specs.FinMap.Entries.{by_order}
 use Rattle.std.proofs.lemmas.List.{map-append, reverse-append}
@@ -9,10 +9,10 @@ use Rattle.acl_names.proofs.PathOrder.{exact_paths}
 use Rattle.acl_dump.specs.declared.record.DumpRecord.{DumpRecord}
 use Rattle.acl_edit.specs.declared.node.Node.{Node}
 use Rattle.path_map.specs.Entries.{IsInOrder}
-use Rattle.acl_files.specs.Files.{PathOf, Files, holds_below}
+use Rattle.acl_files.specs.Files.{PathOf, holds_below}
 use Rattle.acl_names.specs.Below.{is_above}
 use Rattle.acl_files.specs.Loading.{insert_record, in_path_order, node_of, has_below, as_files, files_of}
-use Rattle.acl_files.specs.Inner.{next_below, files_from, next_file_below, file_before, files_before}
+use Rattle.acl_files.specs.Inner.{next_below, files_from, next_file_below}
 use Rattle.acl_files.proofs.Shared.{in_order-put}
 use Rattle.acl_files.proofs.Shared.{any-map}
 use Rattle.acl_files.proofs.Follows.{known_by_next}
@@ -74,27 +74,7 @@ files_are rs = by_next (λ r. node_of (has_below (in_path_order rs) r.path) r) [
 pub files_in_order : (rs : List DumpRecord) → IsInOrder (files_of rs)
 files_in_order rs = in_order-records (λ r. node_of (has_below (in_path_order rs) r.path) r) rs
 
--- ---- the files from the last record on
+-- ---- the records from the last one on
 
-pub before_last : (rs : List DumpRecord) (r : DumpRecord) (es : Files) → files_before (rs ++ r ∷ []) es ≡ files_before rs (file_before r es)
-before_last [] r es = refl
-before_last (s ∷ rs) r es = ap (λ more. file_before s more) (before_last rs r es)
-
-next_of_files : (p : PathOf) (rs : List DumpRecord) → next_file_below p (files_from rs) ≡ next_below p rs
-next_of_files p [] = refl
-next_of_files p (r ∷ rs) = refl
-
-pub before_none : (rs : List DumpRecord) → files_before rs [] ≡ files_from rs
-before_none [] = refl
-before_none (r ∷ rs) = ap (λ es. file_before r es) (before_none rs) ∙ ap (λ b. (r.path, node_of b r) ∷ files_from rs) (next_of_files r.path rs)
-
--- one more record, whose file comes before those that are given from the last to the first
-pub one_before : (left rest : List DumpRecord) (r : DumpRecord) (done more : Files) (b : Bool) → left ≡ rest ++ r ∷ [] → b ≡ next_file_below r.path (reverse done) → more ≡ done ++ (r.path, node_of b r) ∷ [] → files_before rest (reverse more) ≡ files_before left (reverse done)
-one_before left rest r done more b was is added =
-    ap (λ es. files_before rest es) (ap (λ (es : Files). reverse es) added ∙ reverse-append done ((r.path, node_of b r) ∷ []) ∙ ap (λ d. (r.path, node_of d r) ∷ reverse done) is)
-    ∙ sym (before_last rest r (reverse done))
-    ∙ ap (λ rs. files_before rs (reverse done)) (sym was)
-
-pub map-reverse : {V W : Type 0} (f : V → W) (xs : List V) → map f (reverse xs) ≡ reverse (map f xs)
-map-reverse f [] = refl
-map-reverse {W = W} f (x ∷ xs) = ap (map f) (reverse-append (x ∷ []) xs) ∙ map-append f (reverse xs) (x ∷ []) ∙ ap (λ (l : List W). l ++ f x ∷ []) (map-reverse f xs) ∙ sym (reverse-append (f x ∷ []) (map f xs))
+pub reverse-end : {A : Type 0} (xs : List A) (x : A) → reverse (xs ++ x ∷ []) ≡ x ∷ reverse xs
+reverse-end xs x = reverse-append xs (x ∷ [])

@@ -1,13 +1,12 @@
 -- Files restored from records: each record's file, found by search and sorted by path, is a file of the command.
-use Rattle.std.proofs.Common.{◌≡◌, ◌≢◌, ℕ, zero, suc, ◌+◌, ◌<◌, arith, length, get_or, Bool, true, false, cond, not, ◌&&◌, ◌||◌, T, IsTrue, List, [], ◌∷◌, ◌++◌, map, Option, Some, None, Result, Err, is_some, if◌then◌else◌, Ordering, Less, Equal, Greater, refl, sym, ap, subst, ◌∙◌, true≢false}
+use Rattle.std.proofs.Common.{◌≡◌, ◌≢◌, ℕ, zero, suc, ◌+◌, ◌<◌, arith, length, get_or, Bool, true, false, cond, ◌&&◌, ◌||◌, T, IsTrue, List, [], ◌∷◌, map, Option, Some, None, Result, Err, is_some, if◌then◌else◌, Ordering, Less, Equal, Greater, refl, sym, ap, subst, ◌∙◌, true≢false}
 use Rattle.std.specs.Prelude.{option_map}
 use Rattle.std.specs.Option.{option_or}
-use Rattle.std.specs.Ordering.{is_eq, is_gt, is_lt, eq_by_cmp}
+use Rattle.std.specs.Ordering.{is_eq, is_lt, eq_by_cmp}
 use Rattle.std.specs.List.{All, AllByRecursion}
 use Rattle.std.specs.List.Sorted.{IsSortedBy}
 use Rattle.std.specs.FinMap.{find, is_sorted}
 use Rattle.std.specs.FinMap.Entries.{below_all, find-where_key, same_entries}
-use Rattle.std.proofs.lemmas.Bool.{and_parts}
 use Rattle.std.proofs.lemmas.List.Elements.{recursion_from_All}
 use Rattle.acl_names.specs.Paths.{path_cmp}
 use Rattle.acl_names.proofs.PathOrder.{path_total, exact_paths}
@@ -15,9 +14,6 @@ use Rattle.acl_dump.specs.declared.record.DumpRecord.{DumpRecord}
 use Rattle.acl_edit.specs.declared.edit.EditFault.{EditFault}
 use Rattle.acl_edit.specs.declared.node.Node.{Node}
 use Rattle.path_map.specs.Entries.{IsInOrder}
-use Rattle.path_map.specs.Below.{from}
-use Rattle.path_map.specs.Inner.{After}
-use Rattle.path_map.proofs.Merges.{later_after}
 use Rattle.path_map.proofs.Differences.{Leads, leads_all}
 use Rattle.path_map.proofs.Rows.{in_order-filter}
 use Rattle.acl_files.specs.Loading.{in_path_order, record_at}
@@ -31,37 +27,7 @@ use Rattle.acl_files.specs.Operands.{is_file, files_meant, first_missing}
 use Rattle.acl_files.specs.Edits.{and_others, edit_each, edit_all}
 use Rattle.acl_files.specs.Edits.{file_fault, unless_missing}
 use Rattle.acl_files.specs.Restoring.{edit_of, edit_if_some, restore_one, paths_of, restored_tree}
-use Rattle.acl_files.specs.Inner.{RestoredFile, IsFileOf, restored, restore_each, changed_by_records, node_after, changed_one, changed_by, ok_or}
-
--- ---- the file of a path, by a cursor
-
-after_none : (p : PathOf) (es : Files) → After p es → find path_cmp p es ≡ None
-after_none p [] h = refl
-after_none p (e ∷ es) h = ap (λ o. cond (is_eq o) (Some e.1) (find path_cmp p es)) h.0 ∙ after_none p es h.1
-
-after_more : (p : PathOf) (e : PathOf × Node) (es : Files) → path_cmp p e.0 ≡ Less → After e.0 es → After p es
-after_more p e [] lt h = tt
-after_more p e (x ∷ es) lt h = (path_total.trans p e.0 x.0 lt h.0, after_more p e es lt h.1)
-
--- the node of the first of them, if that has the path
-abbrev pub at_first : PathOf → Files → Option Node
-at_first p [] = None
-at_first p (e ∷ es) = if eq_by_cmp path_cmp p e.0 then Some e.1 else None
-
-pub found_first : (p : PathOf) (t : Files) → IsInOrder t → find path_cmp p t ≡ at_first p (from p t)
-found_first p [] order = refl
-found_first p (e ∷ t) order = by (path_cmp p e.0) refl (found_first p t (and_parts _ _ order).1)
-  where
-    by : (o : Ordering) → path_cmp p e.0 ≡ o → find path_cmp p t ≡ at_first p (from p t) → cond (is_eq o) (Some e.1) (find path_cmp p t) ≡ at_first p (cond (not (is_gt o)) (e ∷ from p t) (from p t))
-    by Less is rest = after_none p t (after_more p e t is (later_after e t order)) ∙ sym (ap (λ o. if is_eq o then Some e.1 else None) is)
-    by Equal is rest = sym (ap (λ o. if is_eq o then Some e.1 else None) is)
-    by Greater is rest = rest
-
-pub none_at : (p : PathOf) (t : Files) → IsInOrder t → from p t ≡ [] → find path_cmp p t ≡ None
-none_at p t order none = found_first p t order ∙ ap (λ es. at_first p es) none
-
-pub first_at : (p : PathOf) (t more : Files) (e : PathOf × Node) (o : Ordering) → IsInOrder t → from p t ≡ e ∷ more → path_cmp p e.0 ≡ o → find path_cmp p t ≡ if is_eq o then Some e.1 else None
-first_at p t more e o order first is = found_first p t order ∙ ap (λ es. at_first p es) first ∙ ap (λ o. if is_eq o then Some e.1 else None) is
+use Rattle.acl_files.specs.Inner.{RestoredFile, IsFileOf, restored, restore_each}
 
 -- ---- sorted by the paths of their records
 
@@ -190,10 +156,6 @@ module _ (edit : PathOf → Node → Result Node EditFault) where
   pub restored_are : (xs : List RestoredFile) → AllByRecursion (λ x. edit x.0.0 x.0.1 ≡ restored x) xs → restore_each xs ≡ edit_each edit (map (λ x. x.0) xs)
   restored_are [] all = refl
   restored_are (x ∷ xs) all = (λ i. and_others x.0.0 (sym all.0 i) (restored_are xs all.1 i))
-
-  pub changed_are : (xs : List RestoredFile) → AllByRecursion (λ x. edit x.0.0 x.0.1 ≡ restored x) xs → changed_by_records xs ≡ changed_by (λ _. true) (node_after edit) (map (λ x. x.0) xs)
-  changed_are [] all = refl
-  changed_are (x ∷ xs) all = (λ i. changed_one true (λ _ n. ok_or n (sym all.0 i)) x.0 ++ changed_are xs all.1 i)
 
 -- a fault of a file is the restore's, where no path is missing
 pub fault_reported : (records : List DumpRecord) (t : Recorded) (fault : FileFault) → first_missing (paths_of records) t.files ≡ None → (fault ≢ of_files.NoMemory → edit_all (restore_one records) false (paths_of records) t ≡ Err fault)

@@ -1,27 +1,28 @@
 -- The files that operands in path order mean.
-use Rattle.std.proofs.Common.{◌≡◌, ◌≢◌, ℕ, suc, ◌+◌, ◌<◌, arith, length, get_or, take, drop, take-append-drop, Bool, true, false, not, cond, ◌||◌, List, [], ◌∷◌, ◌++◌, filter, map, Option, Some, None, Ordering, Less, Equal, Greater, refl, sym, ap, subst, ◌∙◌, append_assoc, true≢false}
+use Rattle.std.proofs.Common.{◌≡◌, ◌≢◌, ℕ, suc, ◌<◌, ◌≤◌, arith, length, get_or, Bool, true, false, not, cond, ◌||◌, List, [], ◌∷◌, ◌++◌, filter, Some, None, Ordering, Less, Equal, Greater, refl, sym, ap, subst, ◌∙◌, append_assoc, true≢false}
+use Rattle.std.specs.Prelude.{Option, option_map}
 use Rattle.std.specs.Option.{option_map_or}
 use Rattle.std.specs.List.Sorted.{IsSortedBy}
 use Rattle.std.specs.Ordering.{is_eq, is_gt, is_lt, eq_by_cmp}
 use Rattle.std.proofs.lemmas.Bool.{and_parts}
 use Rattle.std.proofs.lemmas.Cmp.{tied_itself}
-use Rattle.std.specs.Prelude.{option_map}
-use Rattle.std.proofs.lemmas.List.{map-append, take_more, drop_more}
-use Rattle.std.proofs.lemmas.List.Folds.{list_any-append}
 use Rattle.acl_names.specs.Paths.{path_cmp}
 use Rattle.acl_names.proofs.PathOrder.{path_total, exact_paths}
 use Rattle.acl_edit.specs.declared.node.Node.{Node}
 use Rattle.path_map.specs.Below.{from}
-use Rattle.path_map.specs.Inner.{From, After}
-use Rattle.acl_names.proofs.Below.{convex, not_before, within_trans}
-use Rattle.path_map.proofs.Merges.{before_from, later_after}
+use Rattle.path_map.specs.Entries.{first}
+use Rattle.path_map.specs.Inner.{After, IsEndOf}
+use Rattle.acl_names.proofs.Below.{convex, not_before}
+use Rattle.path_map.proofs.Merges.{before_from, before_later, before_part, later_after}
 use Rattle.path_map.proofs.Places.{above, below}
-use Rattle.path_map.proofs.Ranges.{from_from, from_end}
+use Rattle.path_map.proofs.Ranges.{from-append, from_none, from_end}
+use Rattle.kinds.specs.Kinds.{KindsOf, node_at}
+use Rattle.kinds.specs.Numbered.{Numbers, entries_by, AreUsed}
+use Rattle.kinds.proofs.EntriesBy.{entry_first, entries_append}
 use Rattle.acl_files.specs.Files.{PathOf, Files, IsInOrder}
-use Rattle.acl_names.specs.Below.{encloses}
-use Rattle.acl_files.specs.Operands.{means, is_file}
+use Rattle.acl_names.specs.Below.{encloses, is_above}
+use Rattle.acl_files.specs.Operands.{means, is_file, files_meant}
 use Rattle.acl_files.specs.Sound.{holds_below}
-use Rattle.acl_files.specs.Found.{found_file, found_in, files_found}
 use Rattle.acl_files.specs.Inner.{NoneBefore, Ascend, next_file_below}
 use Rattle.acl_files.proofs.Follows.{known_by_next}
 
@@ -80,10 +81,6 @@ means_convex false p e r pe er h = by (path_cmp e p) refl
     by Equal is = ap is_eq is
     by Greater is = absurd (er (subst (λ z. path_cmp e z ≡ Greater) (sym (same_path p r h)) is))
 
-means_trans : (b : Bool) (p q r : PathOf) → means b p q ≡ true → means b q r ≡ true → means b p r ≡ true
-means_trans true p q r h k = within_trans p q r h k
-means_trans false p q r h k = subst (λ z. eq_by_cmp path_cmp r z ≡ true) (same_path p q h) k
-
 -- ---- operands in path order
 
 not_greater_from : (o : Ordering) → is_lt o ≡ false → o ≢ Less
@@ -95,230 +92,187 @@ none_before_later : (p q : PathOf) (ps : List PathOf) → path_cmp p q ≢ Great
 none_before_later p q [] le h = tt
 none_before_later p q (r ∷ ps) le h = (le_trans p q r le h.0, none_before_later p q ps le h.1)
 
-module _ {A : Type 0} (f : A → PathOf) where
-  ascends : (xs : List A) → ((k : ℕ) (d : A) → suc k < length xs → is_lt (path_cmp (f (get_or xs (suc k) d)) (f (get_or xs k d))) ≡ false) → Ascend (map f xs)
-  ascends [] h = tt
-  ascends (x ∷ []) h = (tt, tt)
-  ascends (x ∷ y ∷ xs) h =
-      let rest = ascends (y ∷ xs) (λ k d lt. h (suc k) d (omega arith)) in
-      let first : path_cmp (f x) (f y) ≢ Greater = λ gt. not_greater_from (path_cmp (f y) (f x)) (h 0 x (omega arith)) (below (f x) (f y) gt) in
-      ((first, none_before_later (f x) (f y) (map f xs) first rest.0), rest)
+ascends : (xs : List PathOf) → ((k : ℕ) (d : PathOf) → suc k < length xs → is_lt (path_cmp (get_or xs (suc k) d) (get_or xs k d)) ≡ false) → Ascend xs
+ascends [] h = tt
+ascends (x ∷ []) h = (tt, tt)
+ascends (x ∷ y ∷ xs) h =
+    let rest = ascends (y ∷ xs) (λ k d lt. h (suc k) d (omega arith)) in
+    let first : path_cmp x y ≢ Greater = λ gt. not_greater_from (path_cmp y x) (h 0 x (omega arith)) (below x y gt) in
+    ((first, none_before_later x y xs first rest.0), rest)
 
-  -- what a sort leaves
-  pub ascend_sorted : (xs : List A) → IsSortedBy (λ x y. is_lt (path_cmp (f x) (f y))) xs → Ascend (map f xs)
-  ascend_sorted xs h = ascends xs (λ k d lt. ap (λ n. is_lt (path_cmp (f (get_or xs n d)) (f (get_or xs k d)))) (omega arith) ∙ h k d (omega arith) (omega arith))
-
--- ---- several operands
-
--- none of them is after a path
-abbrev pub NoneAfter : List PathOf → PathOf → Type 0
-NoneAfter [] p = Unit {0}
-NoneAfter (q ∷ qs) p = (path_cmp q p ≢ Greater) × NoneAfter qs p
-
-none_before_at : (q : PathOf) (ps : List PathOf) (p : PathOf) (rest : List PathOf) → NoneBefore q (ps ++ p ∷ rest) → path_cmp q p ≢ Greater
-none_before_at q [] p rest h = h.0
-none_before_at q (x ∷ ps) p rest h = none_before_at q ps p rest h.1
-
-pub none_after : (ps : List PathOf) (p : PathOf) (rest : List PathOf) → Ascend (ps ++ p ∷ rest) → NoneAfter ps p
-none_after [] p rest h = tt
-none_after (q ∷ ps) p rest h = (none_before_at q ps p rest h.0, none_after ps p rest h.1)
-
-after_parts : (ps : List PathOf) (p x : PathOf) → NoneAfter (ps ++ p ∷ []) x → NoneAfter ps x × (path_cmp p x ≢ Greater)
-after_parts [] p x h = (tt, h.0)
-after_parts (q ∷ ps) p x h = let rest = after_parts ps p x h.1 in ((h.0, rest.0), rest.1)
-
-or_false : (b : Bool) → (b || false) ≡ b
-or_false true = refl
-or_false false = refl
-
-one_more : (b : Bool) (ps : List PathOf) (p x : PathOf) → is_file b (ps ++ p ∷ []) x ≡ (is_file b ps x || means b p x)
-one_more b ps p x = list_any-append (λ q. means b q x) ps (p ∷ []) ∙ ap (λ c. is_file b ps x || c) (or_false (means b p x))
-
-file_convex : (b : Bool) (ps : List PathOf) (p e : PathOf) → NoneAfter ps p → path_cmp p e ≢ Greater → is_file b ps e ≡ true → is_file b ps p ≡ true
-file_convex b [] p e none le h = h
-file_convex b (q ∷ ps) p e none le h = by (means b q e) refl (λ k. file_convex b ps p e none.1 le k) h
-  where
-    either : (c : Bool) → (c || true) ≡ true
-    either true = refl
-    either false = refl
-
-    by : (c : Bool) → means b q e ≡ c → (is_file b ps e ≡ true → is_file b ps p ≡ true) → (c || is_file b ps e) ≡ true → (means b q p || is_file b ps p) ≡ true
-    by true is rest k = ap (λ c. c || is_file b ps p) (means_convex b q p e none.0 le is)
-    by false is rest k = ap (λ c. means b q p || c) (rest k) ∙ either (means b q p)
-
-file_trans : (b : Bool) (ps : List PathOf) (p e : PathOf) → is_file b ps p ≡ true → means b p e ≡ true → is_file b ps e ≡ true
-file_trans b [] p e h k = h
-file_trans b (q ∷ ps) p e h k = by (means b q p) refl (λ h. file_trans b ps p e h k) h
-  where
-    either : (c : Bool) → (c || true) ≡ true
-    either true = refl
-    either false = refl
-
-    by : (c : Bool) → means b q p ≡ c → (is_file b ps p ≡ true → is_file b ps e ≡ true) → (c || is_file b ps p) ≡ true → (means b q e || is_file b ps e) ≡ true
-    by true is rest h = ap (λ c. c || is_file b ps e) (means_trans b q p e is k)
-    by false is rest h = ap (λ c. means b q e || c) (rest h) ∙ either (means b q e)
-
--- of the paths that are not before them, the last operand that was taken means as many as all of them
-abbrev pub Covers : Bool → List PathOf → Option PathOf → Type 0
-Covers b ps last = (x : PathOf) → NoneAfter ps x → is_file b ps x ≡ option_map_or (λ r. means b r x) last false
-
-same_or : (a c : Bool) → (c ≡ true → a ≡ true) → (a || c) ≡ a
-same_or true c h = refl
-same_or false true h = sym (h refl)
-same_or false false h = refl
-
-no_or : (a c : Bool) → (a ≡ true → ⊥) → (a || c) ≡ c
-no_or true c h = absurd (h refl)
-no_or false c h = refl
-
--- an operand that is meant by the last one is passed over
-pub covers_same : (b : Bool) (ps : List PathOf) (last : Option PathOf) (p : PathOf) → is_file b ps p ≡ true → Covers b ps last → Covers b (ps ++ p ∷ []) last
-covers_same b ps last p h covers x none =
-    one_more b ps p x ∙ same_or (is_file b ps x) (means b p x) (λ k. file_trans b ps p x h k) ∙ covers x (after_parts ps p x none).0
-
--- another one is taken
-pub covers_more : (b : Bool) (ps : List PathOf) (p : PathOf) → NoneAfter ps p → is_file b ps p ≡ false → Covers b (ps ++ p ∷ []) (Some p)
-covers_more b ps p before h x none =
-    one_more b ps p x ∙ no_or (is_file b ps x) (means b p x) (λ k. true≢false (sym (file_convex b ps p x before (after_parts ps p x none).1 k) ∙ h))
+-- what a sort leaves
+pub ascend_sorted : (xs : List PathOf) → IsSortedBy (λ x y. is_lt (path_cmp x y)) xs → Ascend xs
+ascend_sorted xs h = ascends xs (λ k d lt. ap (λ n. is_lt (path_cmp (get_or xs n d) (get_or xs k d))) (omega arith) ∙ h k d (omega arith) (omega arith))
 
 -- ---- their files
 
-pub filter_alike : (f g : PathOf → Bool) → ((q : PathOf) → f q ≡ g q) → (t : Files) → filter (λ e. f e.0) t ≡ filter (λ e. g e.0) t
+pub filter_alike : {V : Type 0} (f g : PathOf → Bool) → ((q : PathOf) → f q ≡ g q) → (t : List (PathOf × V)) → filter (λ e. f e.0) t ≡ filter (λ e. g e.0) t
 filter_alike f g h [] = refl
 filter_alike f g h (e ∷ t) = λ i. cond (h e.0 i) (e ∷ filter_alike f g h t i) (filter_alike f g h t i)
 
-module _ (f g : PathOf → Bool) (apart : (x y : PathOf) → f x ≡ true → g y ≡ true → path_cmp x y ≡ Less) where
-  none_later : (y : PathOf) → g y ≡ true → (t : Files) → After y t → filter (λ e. f e.0) t ≡ []
-  none_later y k [] h = refl
-  none_later y k (e ∷ t) h = by (f e.0) refl (none_later y k t h.1)
-    where
-      by : (c : Bool) → f e.0 ≡ c → filter (λ e. f e.0) t ≡ [] → cond c (e ∷ filter (λ e. f e.0) t) (filter (λ e. f e.0) t) ≡ []
-      by true is rest = absurd (less_is_not_greater (sym (apart e.0 y is k) ∙ above y e.0 h.0))
-      by false is rest = rest
+-- ---- what operands in path order mean
 
-  pub filter_apart : (t : Files) → IsInOrder t → filter (λ e. f e.0 || g e.0) t ≡ filter (λ e. f e.0) t ++ filter (λ e. g e.0) t
-  filter_apart [] order = refl
-  filter_apart (e ∷ t) order = by (f e.0) refl (g e.0) refl (filter_apart t (and_parts _ _ order).1)
-    where
-      fs : Files
-      fs = filter (λ e. f e.0) t
+pub none_meant : {V : Type 0} (b : Bool) (es : List (PathOf × V)) → files_meant b [] es ≡ []
+none_meant b [] = refl
+none_meant b (e ∷ es) = none_meant b es
 
-      gs : Files
-      gs = filter (λ e. g e.0) t
+greater : (o : Ordering) → is_gt o ≡ true → o ≡ Greater
+greater Less h = absurd (true≢false (sym h))
+greater Equal h = absurd (true≢false (sym h))
+greater Greater h = refl
 
-      all : Files
-      all = filter (λ e. f e.0 || g e.0) t
-
-      by : (c : Bool) → f e.0 ≡ c → (d : Bool) → g e.0 ≡ d → all ≡ fs ++ gs → cond (c || d) (e ∷ all) all ≡ cond c (e ∷ fs) fs ++ cond d (e ∷ gs) gs
-      by true is true k rest = absurd (equal_is_not_less (sym (tied_itself path_total e.0) ∙ apart e.0 e.0 is k))
-      by true is false k rest = ap (λ l. e ∷ l) rest
-      by false is true k rest =
-          let none : fs ≡ [] = none_later e.0 k t (later_after e t order) in
-          ap (λ l. e ∷ l) (rest ∙ ap (λ l. l ++ gs) none) ∙ ap (λ l. l ++ (e ∷ gs)) (sym none)
-      by false is false k rest = rest
-
-module _ (b : Bool) (t : Files) where
-  pub selected_same : (ps : List PathOf) (p : PathOf) → is_file b ps p ≡ true → files_found b ps t ≡ files_found b (ps ++ p ∷ []) t
-  selected_same ps p h =
-      ap (λ l. found_in t l) (filter_alike (is_file b ps) (is_file b (ps ++ p ∷ [])) (λ x. sym (one_more b ps p x ∙ same_or (is_file b ps x) (means b p x) (λ k. file_trans b ps p x h k))) t)
-
-  pub selected_more : (ps : List PathOf) (p : PathOf) → IsInOrder t → NoneAfter ps p → is_file b ps p ≡ false → files_found b ps t ++ found_in t (filter (λ e. means b p e.0) t) ≡ files_found b (ps ++ p ∷ []) t
-  selected_more ps p order none h =
-      sym (map-append (λ e. found_file (holds_below t e.0) e) (filter (λ e. is_file b ps e.0) t) (filter (λ e. means b p e.0) t))
-      ∙ ap (λ l. found_in t l)
-      (sym (filter_alike (is_file b (ps ++ p ∷ [])) (λ x. is_file b ps x || means b p x) (one_more b ps p) t
-      ∙ filter_apart (is_file b ps) (means b p) apart t order))
-    where
-      apart : (x y : PathOf) → is_file b ps x ≡ true → means b p y ≡ true → path_cmp x y ≡ Less
-      apart x y hx hy = by (path_cmp x p) refl
-        where
-          by : (o : Ordering) → path_cmp x p ≡ o → path_cmp x y ≡ Less
-          by Less is = before_from x p y is (means_from b p y hy)
-          by Equal is = absurd (true≢false (sym (subst (λ z. is_file b ps z ≡ true) (exact_paths x p is) hx) ∙ h))
-          by Greater is = absurd (true≢false (sym (file_convex b ps p x none (λ gt. less_is_not_greater (sym (below x p is) ∙ gt)) hx) ∙ h))
-
--- ---- a loop over operands
-
-module _ {A B : Type 0} (f : A → B) (xs : List A) (i : ℕ) (x : A) (lt : i < length xs) (is : x ≡ get_or xs i x) where
-  pub around_item : map f xs ≡ map f (take i xs) ++ f x ∷ map f (drop (i + 1) xs)
-  around_item =
-      ap (λ l. map f l) (sym (take-append-drop i xs) ∙ ap (λ l. take i xs ++ l) (drop_more xs i x lt ∙ ap (λ y. y ∷ drop (i + 1) xs) (sym is)))
-      ∙ map-append f (take i xs) (x ∷ drop (i + 1) xs)
-
-  pub one_item_more : map f (take (i + 1) xs) ≡ map f (take i xs) ++ f x ∷ []
-  one_item_more = ap (λ l. map f l) (take_more xs i x lt ∙ ap (λ y. take i xs ++ y ∷ []) (sym is)) ∙ map-append f (take i xs) (x ∷ [])
-
-pub last_seen : {A : Type 0} (f : A → PathOf) (g : PathOf → Bool) (o : Option A) → option_map_or g (option_map f o) false ≡ option_map_or (λ x. g (f x)) o false
-last_seen f g None = refl
-last_seen f g (Some x) = refl
-
-pub none_selected : (b : Bool) (t : Files) → files_found b [] t ≡ []
-none_selected b t = ap (λ l. found_in t l) (none t)
+-- no operand from one on means what is before that one
+none_before : (b : Bool) (q : PathOf) (qs : List PathOf) (p : PathOf) → NoneBefore q qs → path_cmp q p ≡ Greater → is_file b qs p ≡ false
+none_before b q [] p h gt = refl
+none_before b q (r ∷ qs) p h gt = by (means b r p) refl (none_before b q qs p h.1 gt)
   where
-    none : (es : Files) → filter (λ e. is_file b [] e.0) es ≡ []
-    none [] = refl
-    none (e ∷ es) = none es
+    by : (c : Bool) → means b r p ≡ c → is_file b qs p ≡ false → (c || is_file b qs p) ≡ false
+    by true is rest = absurd (le_trans q r p h.0 (means_from b r p is) gt)
+    by false is rest = rest
 
--- ---- the files of one operand, by a cursor
+module _ {V : Type 0} (b : Bool) (q : PathOf) (qs : List PathOf) where
+  -- an entry that the first operand means comes first
+  pub taken : (e : PathOf × V) (more : List (PathOf × V)) → means b q e.0 ≡ true → files_meant b (q ∷ qs) (e ∷ more) ≡ e ∷ files_meant b (q ∷ qs) more
+  taken e more is = ap (λ c. cond (c || is_file b qs e.0) (e ∷ files_meant b (q ∷ qs) more) (files_meant b (q ∷ qs) more)) is
 
--- the files that are still to come end the tree's, and none is before the operand
-pub record IsAtEnd (p : PathOf) (t rest : Files) : Type 0 where
-  pub seen : Files
-  pub whole : t ≡ seen ++ rest
-  pub from_p : From p rest
+  passed_each : (p : PathOf) → path_cmp q p ≢ Greater → means b q p ≡ false → (es : List (PathOf × V)) → After p es → files_meant b (q ∷ qs) es ≡ files_meant b qs es
+  passed_each p le is [] h = refl
+  passed_each p le is (e ∷ es) h = λ i. cond (out (means b q e.0) refl i || is_file b qs e.0) (e ∷ passed_each p le is es h.1 i) (passed_each p le is es h.1 i)
+    where
+      out : (c : Bool) → means b q e.0 ≡ c → c ≡ false
+      out true k = absurd (true≢false (sym (means_convex b q p e.0 le (λ gt. less_is_not_greater (sym h.0 ∙ gt)) k) ∙ is))
+      out false k = refl
 
-pub end_begins : (p : PathOf) (t : Files) → IsInOrder t → IsAtEnd p t (from p t)
-end_begins p t order = let end = from_end p t order in record { seen = end.0; whole = end.1; from_p = from_from p t }
+  -- after an entry that it does not mean, and is not after, it means none
+  pub passed : (e : PathOf × V) (more : List (PathOf × V)) → IsInOrder (e ∷ more) → path_cmp e.0 q ≢ Less → means b q e.0 ≡ false → files_meant b (q ∷ qs) (e ∷ more) ≡ files_meant b qs (e ∷ more)
+  passed e more order from is =
+      let le : path_cmp q e.0 ≢ Greater = λ gt. from (below q e.0 gt) in
+      λ i. cond (is i || is_file b qs e.0) (e ∷ passed_each e.0 le is more (later_after e more order) i) (passed_each e.0 le is more (later_after e more order) i)
 
-pub end_more : (p : PathOf) (t rest more : Files) (e : PathOf × Node) → rest ≡ e ∷ more → IsAtEnd p t rest → IsAtEnd p t more
-end_more p t rest more e is at = record {
-  seen = at.seen ++ e ∷ [];
-  whole = at.whole ∙ ap (λ l. at.seen ++ l) is ∙ sym (append_assoc at.seen (e ∷ []) more);
-  from_p = (subst (λ l. From p l) is at.from_p).1;
-}
+  -- before it none is meant
+  pub meant_from : NoneBefore q qs → (es : List (PathOf × V)) → files_meant b (q ∷ qs) (from q es) ≡ files_meant b (q ∷ qs) es
+  meant_from none [] = refl
+  meant_from none (e ∷ es) = by (is_gt (path_cmp q e.0)) refl (meant_from none es)
+    where
+      meant : List (PathOf × V)
+      meant = files_meant b (q ∷ qs) es
 
--- the files before an operand are not meant
-pub meant_from : (b : Bool) (p : PathOf) (t : Files) → filter (λ e. means b p e.0) (from p t) ≡ filter (λ e. means b p e.0) t
-meant_from b p [] = refl
-meant_from b p (e ∷ t) = by (is_gt (path_cmp p e.0)) refl (meant_from b p t)
+      outside : is_gt (path_cmp q e.0) ≡ true → (c : Bool) → means b q e.0 ≡ c → (c || is_file b qs e.0) ≡ false
+      outside gt true is = absurd (means_from b q e.0 is (greater (path_cmp q e.0) gt))
+      outside gt false is = none_before b q qs e.0 none (greater (path_cmp q e.0) gt)
+
+      by : (c : Bool) → is_gt (path_cmp q e.0) ≡ c → files_meant b (q ∷ qs) (from q es) ≡ meant
+          → files_meant b (q ∷ qs) (cond (not c) (e ∷ from q es) (from q es)) ≡ cond (is_file b (q ∷ qs) e.0) (e ∷ meant) meant
+      by true is rest = rest ∙ sym (ap (λ c. cond c (e ∷ meant) meant) (outside is (means b q e.0) refl))
+      by false is rest = ap (λ l. cond (is_file b (q ∷ qs) e.0) (e ∷ l) l) rest
+
+-- ---- the end of a map
+
+in_order-right : {V : Type 0} (pre es : List (PathOf × V)) → IsInOrder (pre ++ es) → IsInOrder es
+in_order-right [] es order = order
+in_order-right (x ∷ pre) es order = in_order-right pre es (and_parts _ _ order).1
+
+module _ {V : Type 0} (all rest more : List (PathOf × V)) (e : PathOf × V) (order : IsInOrder all) (end : IsEndOf rest all) (is : rest ≡ e ∷ more) where
+  whole : end.before ++ e ∷ more ≡ all
+  whole = ap (λ l. end.before ++ l) (sym is) ∙ end.joined
+
+  pub order_left : IsInOrder (e ∷ more)
+  order_left = in_order-right end.before (e ∷ more) (subst IsInOrder (sym whole) order)
+
+  -- from a later path on it is the same end
+  pub end_from : (q : PathOf) → path_cmp e.0 q ≡ Less → from q all ≡ from q more
+  end_from q lt =
+      ap (from q) (sym whole)
+      ∙ from-append q end.before (e ∷ more)
+      ∙ ap (λ l. l ++ from q (e ∷ more)) (from_none q end.before (before_later e.0 q end.before (λ gt. less_is_not_greater (sym lt ∙ gt)) (before_part end.before e more (subst IsInOrder (sym whole) order))))
+      ∙ ap (λ c. cond (not c) (e ∷ from q more) (from q more)) (ap is_gt (above e.0 q lt))
+
+pub fewer_from : {V : Type 0} (q : PathOf) (es : List (PathOf × V)) → length (from q es) ≤ length es
+fewer_from q [] = omega arith
+fewer_from q (e ∷ es) = by (is_gt (path_cmp q e.0)) (fewer_from q es)
   where
-    greater : (o : Ordering) → is_gt o ≡ true → o ≡ Greater
-    greater Less h = absurd (true≢false (sym h))
-    greater Equal h = absurd (true≢false (sym h))
-    greater Greater h = refl
+    by : (c : Bool) → length (from q es) ≤ length es → length (cond (not c) (e ∷ from q es) (from q es)) ≤ suc (length es)
+    by true h = omega arith
+    by false h = omega arith
 
-    outside : is_gt (path_cmp p e.0) ≡ true → (c : Bool) → means b p e.0 ≡ c → c ≡ false
-    outside gt true is = absurd (means_from b p e.0 is (greater (path_cmp p e.0) gt))
-    outside gt false is = refl
+-- an end of an end
+pub end_of_end : {V : Type 0} (a b c : List (PathOf × V)) → IsEndOf a b → IsEndOf b c → IsEndOf a c
+end_of_end a b c x y = record { before = y.before ++ x.before; joined = append_assoc y.before x.before a ∙ ap (λ l. y.before ++ l) x.joined ∙ y.joined }
 
-    by : (c : Bool) → is_gt (path_cmp p e.0) ≡ c → filter (λ e. means b p e.0) (from p t) ≡ filter (λ e. means b p e.0) t
-        → filter (λ e. means b p e.0) (cond (not c) (e ∷ from p t) (from p t)) ≡ cond (means b p e.0) (e ∷ filter (λ e. means b p e.0) t) (filter (λ e. means b p e.0) t)
-    by true is rest = rest ∙ sym (ap (λ c. cond c (e ∷ filter (λ e. means b p e.0) t) (filter (λ e. means b p e.0) t)) (outside is (means b p e.0) refl))
-    by false is rest = ap (λ l. cond (means b p e.0) (e ∷ l) l) rest
+pub end_after : {V : Type 0} (e : PathOf × V) (more rest : List (PathOf × V)) → rest ≡ e ∷ more → IsEndOf more rest
+end_after e more rest is = record { before = e ∷ []; joined = sym is }
 
--- after one that is not meant none is
-pub none_meant : (b : Bool) (p : PathOf) (t rest more : Files) (e : PathOf × Node) → IsInOrder t → rest ≡ e ∷ more → IsAtEnd p t rest → means b p e.0 ≡ false → filter (λ e. means b p e.0) rest ≡ []
-none_meant b p t rest more e order is at out =
-    let start : From p (e ∷ more) = subst (λ l. From p l) is at.from_p in
-    let here : IsInOrder (e ∷ more) = order_right at.seen (e ∷ more) (subst IsInOrder (at.whole ∙ ap (λ l. at.seen ++ l) is) order) in
-    ap (λ l. filter (λ e. means b p e.0) l) is
-    ∙ ap (λ c. cond c (e ∷ filter (λ e. means b p e.0) more) (filter (λ e. means b p e.0) more)) out
-    ∙ none_in more start.0 (later_after e more here)
-  where
-    order_right : (pre es : Files) → IsInOrder (pre ++ es) → IsInOrder es
-    order_right [] es order = order
-    order_right (q ∷ pre) es order = order_right pre es (and_parts _ _ order).1
+pub end_at : {V : Type 0} (q : PathOf) (es : List (PathOf × V)) → IsInOrder es → IsEndOf (from q es) es
+end_at q es order = let end = from_end q es order in record { before = end.0; joined = sym end.1 }
 
-    none_in : (es : Files) → path_cmp p e.0 ≢ Greater → After e.0 es → filter (λ e. means b p e.0) es ≡ []
-    none_in [] le h = refl
-    none_in (x ∷ es) le h = ap (λ c. cond c (x ∷ filter (λ e. means b p e.0) es) (filter (λ e. means b p e.0) es)) (by (means b p x.0) refl) ∙ none_in es le h.1
-      where
-        by : (c : Bool) → means b p x.0 ≡ c → c ≡ false
-        by true k = absurd (true≢false (sym (means_convex b p e.0 x.0 le (λ gt. less_is_not_greater (sym h.0 ∙ gt)) k) ∙ out))
-        by false k = refl
+-- ---- a step of the walk
 
--- whether another file is below it is seen from the next file
-pub next_at_end : (p : PathOf) (t rest more : Files) (e : PathOf × Node) → IsInOrder t → rest ≡ e ∷ more → IsAtEnd p t rest → next_file_below e.0 more ≡ holds_below t e.0
-next_at_end p t rest more e order is at =
-    let whole : t ≡ at.seen ++ e ∷ more = at.whole ∙ ap (λ l. at.seen ++ l) is in
-    known_by_next at.seen e more (subst IsInOrder whole order) ∙ ap (λ (l : Files). holds_below l e.0) (sym whole)
+pub record Head {V : Type 0} (p : PathOf) (es : List (PathOf × V)) : Type 0 where
+  pub entry : PathOf × V
+  pub more : List (PathOf × V)
+  pub is : es ≡ entry ∷ more
+  pub path : entry.0 ≡ p
+
+some_is_not_none : (p : PathOf) → None ≡ Some p → ⊥
+some_is_not_none p h = cc
+
+same_some : (p q : PathOf) → Some p ≡ Some q → p ≡ q
+same_some p q h = cc
+
+pub head_of : {V : Type 0} (p : PathOf) (es : List (PathOf × V)) → Some p ≡ option_map (λ e. e.0) (first es) → Head p es
+head_of p [] h = absurd (some_is_not_none p (sym h))
+head_of p (e ∷ es) h = record { entry = e; more = es; is = refl; path = sym (same_some p e.0 h) }
+
+module _ {V : Type 0} (b : Bool) (all rest : List (PathOf × V)) (ops qs : List PathOf) (q p : PathOf) (order : IsInOrder all) (end : IsEndOf rest all) (head : Head p rest) (split : ops ≡ q ∷ qs) where
+  here : IsInOrder (head.entry ∷ head.more)
+  here = order_left all rest head.more head.entry order end head.is
+
+  module _ (lt : path_cmp p q ≡ Less) where
+    sought : from q all ≡ from q head.more
+    sought = end_from all rest head.more head.entry order end head.is q (ap (λ r. path_cmp r q) head.path ∙ lt)
+
+    skipped : from q rest ≡ from q head.more
+    skipped = ap (from q) head.is ∙ ap (λ c. cond (not c) (head.entry ∷ from q head.more) (from q head.more)) (ap is_gt (above head.entry.0 q (ap (λ r. path_cmp r q) head.path ∙ lt)))
+
+    pub sought_meant : Ascend ops → files_meant b ops (from q all) ≡ files_meant b ops rest
+    sought_meant asc =
+        let none : NoneBefore q qs = (subst Ascend split asc).0 in
+        (λ i. files_meant b (split i) ((sought ∙ sym skipped) i)) ∙ meant_from b q qs none rest ∙ ap (λ l. files_meant b l rest) (sym split)
+
+    pub sought_end : IsEndOf (from q all) rest
+    sought_end = subst (λ l. IsEndOf l rest) (skipped ∙ sym sought) (end_at q rest (subst IsInOrder (sym head.is) here))
+
+    pub sought_fewer : length (from q all) < length rest
+    sought_fewer = omega (arith, ap length sought, fewer_from q head.more, ap length head.is)
+
+  pub passed_meant : path_cmp p q ≢ Less → means b q p ≡ false → files_meant b qs rest ≡ files_meant b ops rest
+  passed_meant from out =
+      ap (files_meant b qs) head.is
+      ∙ sym (passed b q qs head.entry head.more here (subst (λ r. path_cmp r q ≢ Less) (sym head.path) from) (ap (means b q) head.path ∙ out))
+      ∙ (λ i. files_meant b (sym split i) (sym head.is i))
+
+-- ---- whether another file is below
+
+used_right : (k : KindsOf Node) (pre ns : Numbers) → AreUsed k (pre ++ ns) → AreUsed k ns
+used_right k [] ns used = used
+used_right k (e ∷ pre) ns used = used_right k pre ns used.1
+
+next_by : (k : KindsOf Node) (p : PathOf) (ns : Numbers) → AreUsed k ns → next_file_below p (entries_by k ns) ≡ next_file_below p ns
+next_by k p [] used = refl
+next_by k p (e ∷ ns) used = ap (next_file_below p) (entry_first k e ns used.0.0 used.0.1)
+
+pub below_peeked : {A V : Type 0} (f : A → PathOf) (p : PathOf) (es : List (PathOf × V)) (o : Option A) → option_map f o ≡ option_map (λ e. e.0) (first es) → option_map_or (λ a. is_above p (f a)) o false ≡ next_file_below p es
+below_peeked f p [] None h = refl
+below_peeked f p [] (Some a) h = absurd (some_is_not_none (f a) (sym h))
+below_peeked f p (e ∷ es) None h = absurd (some_is_not_none e.0 h)
+below_peeked f p (e ∷ es) (Some a) h = ap (is_above p) (same_some (f a) e.0 h)
+
+-- it is seen from the next one
+pub below_by_next : (k : KindsOf Node) (ns pre more : Numbers) (e : PathOf × ℕ) (n : Node) → IsInOrder (entries_by k ns) → AreUsed k ns → node_at k e.1 ≡ Some n → ns ≡ pre ++ e ∷ more → next_file_below e.0 more ≡ holds_below (entries_by k ns) e.0
+below_by_next k ns pre more e n order used at is =
+    let whole : entries_by k ns ≡ entries_by k pre ++ (e.0, n) ∷ entries_by k more =
+    ap (entries_by k) is ∙ entries_append k pre (e ∷ more) ∙ ap (λ l. entries_by k pre ++ l) (entry_first k e more n at)
+    in
+    sym (next_by k e.0 more (used_right k pre (e ∷ more) (subst (λ (l : Numbers). AreUsed k l) is used)).1)
+    ∙ known_by_next (entries_by k pre) (e.0, n) (entries_by k more) (subst IsInOrder whole order)
+    ∙ ap (λ (es : Files). holds_below es e.0) (sym whole)

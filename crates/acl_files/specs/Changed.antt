@@ -1,5 +1,5 @@
 -- What changed from one list of files to another: where the check of access may answer otherwise.
-use Rattle.std.specs.Prelude.{◌≡◌, List, [], ◌∷◌, ◌++◌, Bool, true, false, ◌==◌, ◌&&◌, not, is_some, filter}
+use Rattle.std.specs.Prelude.{◌≡◌, List, [], ◌∷◌, Bool, true, false, ◌==◌, ◌&&◌, not, Option, Some, None, is_some, filter}
 use Rattle.std.specs.Option.{option_map_or}
 use Rattle.std.specs.FinMap.{find}
 use Rattle.acl_entry.specs.Keys.{same_key}
@@ -8,8 +8,6 @@ use Rattle.acl_entry.specs.Lists.{entries}
 use Rattle.acl_entry.specs.declared.entry.Entry.{Entry}
 use Rattle.acl_entry.specs.declared.label.Label.{Label}
 use Rattle.acl_names.specs.Paths.{path_cmp}
-use Rattle.acl_names.specs.Made.{values}
-use Rattle.std.specs.declared.rc.Rc.{Rc}
 use Rattle.acl_edit.specs.declared.node.Node.{Node}
 use Rattle.acl_files.specs.Files.{PathOf, Files}
 
@@ -38,10 +36,18 @@ changed_between old new = filter (is_changed old) new
 abbrev pub gone_between : Files → Files → Files
 gone_between old new = filter (λ e. not (is_some (find path_cmp e.0 new))) old
 
--- these files were added to shared ones
-abbrev pub Adds : {Z : Type 0} → List (Rc (PathOf × Node) Z) → Files → List (Rc (PathOf × Node) Z) → Type 0
-Adds before more after = values after ≡ values before ++ more
+-- ---- one state beside another
 
--- the files that changed were added to those noted before, and none is gone
-abbrev pub NotesChanged : {Z : Type 0} → Files → Files → List (Rc (PathOf × Node) Z) → List (Rc (PathOf × Node) Z) → Type 0
-NotesChanged old new before after = Adds before (changed_between old new) after × (gone_between old new ≡ [])
+-- whether a file is another one than what the other state has at its path: it has none, or, where labels count, one of
+-- another label
+abbrev pub differs : Bool → Option Node → Node → Bool
+differs by_label None n = true
+differs by_label (Some m) n = by_label && not (same_label m.label n.label)
+
+-- the files of a state that are others in the other one
+abbrev pub differing : Bool → Files → Files → Files
+differing by_label other es = filter (λ e. differs by_label (find path_cmp e.0 other) e.1) es
+
+-- two states have the same files, but where a test passes
+abbrev pub SameBut : (PathOf → Bool) → Files → Files → Type 0
+SameBut test old new = (p : PathOf) → test p ≡ false → find path_cmp p new ≡ find path_cmp p old

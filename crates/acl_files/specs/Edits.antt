@@ -20,6 +20,13 @@ pub record KeepsPlace (old new : Node) : Type 0 where
 abbrev pub FileEdit : Type 0
 FileEdit = PathOf → Node → Result Node EditFault
 
+-- an edit of nodes, and as one of files: no path decides what becomes of a node
+abbrev pub OneEdit : Type 0
+OneEdit = Node → Result Node EditFault
+
+abbrev pub of_each : OneEdit → FileEdit
+of_each edit p n = edit n
+
 -- the edit leaves each file what its place in a tree asks for
 abbrev pub KeepsPlaces : FileEdit → Type 0
 KeepsPlaces edit = (p : PathOf) (n m : Node) → edit p n ≡ Ok m → KeepsPlace n m

@@ -9,6 +9,9 @@ pub use Rattle.path_map.specs.Below.{holds_below}
 abbrev pub Files : Type 0
 Files = List (PathOf × Node)
 
+abbrev pub coded_files : Coded Files
+coded_files = coded_list (coded× (coded_list (coded_list coded_ℕ)) node_contracts.the_row.coded)
+
 -- the largest number of files of a tree
 abbrev pub max_files : ℕ
 max_files = 1048576

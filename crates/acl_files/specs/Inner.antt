@@ -1,5 +1,5 @@
 -- For inner functions and their callers' proofs: no public contract names these definitions.
-use Rattle.std.specs.Prelude.{◌≡◌, ◌≢◌, ⊤, List, Option, Some, None, map, [], ◌∷◌, ◌++◌, Bool, true, false, ◌&&◌, not, if◌then◌else◌, Result, Ok, Err}
+use Rattle.std.specs.Prelude.{◌≡◌, ◌≢◌, ⊤, ℕ, List, Option, Some, None, map, [], ◌∷◌, ◌++◌, Bool, true, false, Result, Ok, Err}
 use Rattle.std.specs.Coded.{Coded, coded×, coded_ℕ, coded_list}
 use Rattle.std.specs.FinMap.{find}
 use Rattle.std.specs.List.{All}
@@ -12,13 +12,14 @@ use Rattle.acl_edit.specs.declared.edit.EditFault.{EditFault}
 use Rattle.acl_edit.specs.declared.node.Node.{Node}
 use Rattle.acl_edit.specs.contracts.node.Node as node_contracts
 use Rattle.acl_files.specs.declared.edit.FileFault.{FileFault}
-use Rattle.acl_files.specs.declared.edit.FileFault.TheVariants.{NoMemory}
+use Rattle.acl_files.specs.declared.edit.FileFault.TheVariants.{Edit, NoMemory}
+use Rattle.kinds.specs.Numbered.{Numbers}
+use Rattle.kinds.specs.declared.edit.Stop.{Stop}
+use Rattle.kinds.specs.declared.edit.Stop.TheVariants as stops
 use Rattle.acl_names.specs.Below.{is_above}
 use Rattle.acl_files.specs.Files.{PathOf, Files}
 use Rattle.acl_files.specs.Loading.{node_of}
 use Rattle.acl_files.specs.Edits.{FileEdit, and_others, edit_each}
-use Rattle.acl_files.specs.Found.{FoundFile}
-use Rattle.acl_files.specs.Changed.{same_label}
 use Rattle.acl_files.specs.Restoring.{edit_of}
 
 -- ---- the files of records
@@ -34,18 +35,9 @@ files_from [] = []
 files_from (r ∷ rs) = (r.path, node_of (next_below r.path rs) r) ∷ files_from rs
 
 -- whether the first of the files that follow is below a path
-abbrev pub next_file_below : PathOf → Files → Bool
+abbrev pub next_file_below : {V : Type 0} → PathOf → List (PathOf × V) → Bool
 next_file_below p [] = false
 next_file_below p (e ∷ es) = is_above p e.0
-
--- a record's file, before the files that follow it
-abbrev pub file_before : DumpRecord → Files → Files
-file_before r es = (r.path, node_of (next_file_below r.path es) r) ∷ es
-
--- the files of records in path order, before the files that follow them
-abbrev pub files_before : List DumpRecord → Files → Files
-files_before [] es = es
-files_before (r ∷ rs) es = file_before r (files_before rs es)
 
 -- ---- operands in path order
 
@@ -59,10 +51,20 @@ abbrev pub Ascend : List PathOf → Type 0
 Ascend [] = ⊤
 Ascend (p ∷ ps) = NoneBefore p ps × Ascend ps
 
--- ---- edits
+-- ---- a walk over the entries that operands mean
 
-abbrev pub file_of : FoundFile → PathOf × Node
-file_of f = (f.path, f.node)
+-- an entry is taken: those after it are left
+pub record IsTaken (e : PathOf × ℕ) (old new : Numbers) : Type 0 where
+  pub before : Numbers
+  pub joined : old ≡ before ++ e ∷ new
+
+-- of the entries that are still to come, first those that are meant, and then all: the first that is meant is taken, if
+-- there is one
+abbrev pub TakesFirst : Numbers × Numbers → Option (PathOf × ℕ) → Numbers × Numbers → Type 0
+TakesFirst old None new = (old.0 ≡ []) × (new.0 ≡ [])
+TakesFirst old (Some e) new = (old.0 ≡ e ∷ new.0) × IsTaken e old.1 new.1
+
+-- ---- edits
 
 -- the node after an edit that succeeds
 abbrev pub ok_or : Node → Result Node EditFault → Node
@@ -82,20 +84,10 @@ abbrev pub EditsOne : FileEdit → PathOf × Node → Result Node FileFault → 
 EditsOne edit e (Ok n) = edit e.0 e.1 ≡ Ok n
 EditsOne edit e (Err fault) = fault ≢ NoMemory → edit_each edit (e ∷ []) ≡ Err fault
 
--- ---- what an edit changes
-
--- a file as an edit leaves it, if that changes it
-abbrev pub changed_one : Bool → (PathOf → Node → Node) → PathOf × Node → Files
-changed_one edited edit e = if edited && not (same_label e.1.label (edit e.0 e.1).label) then (e.0, edit e.0 e.1) ∷ [] else []
-
--- the files that an edit of those that pass a test changes
-abbrev pub changed_by : (PathOf → Bool) → (PathOf → Node → Node) → Files → Files
-changed_by test edit [] = []
-changed_by test edit (e ∷ es) = changed_one (test e.0) edit e ++ changed_by test edit es
-
--- the files that an edit of all changes
-abbrev pub changed_each : FileEdit → Files → Files
-changed_each edit es = changed_by (λ _. true) (node_after edit) es
+-- why an edit of nodes by their numbers stops, as the fault of the files
+abbrev pub fault_of : Stop (PathOf × EditFault) → FileFault
+fault_of (stops.Fault fault) = Edit fault.0 fault.1
+fault_of stops.NoMemory = NoMemory
 
 -- ---- restored files
 
@@ -105,11 +97,6 @@ RestoredFile = (PathOf × Node) × DumpRecord
 
 abbrev pub coded_restored : Coded RestoredFile
 coded_restored = coded× (coded× (coded_list (coded_list coded_ℕ)) node_contracts.the_row.coded) record_contracts.the_row.coded
-
--- a call finds the file of a path, or there is none
-abbrev pub FindsAt : PathOf → Files → Option (PathOf × Node) → Type 0
-FindsAt p t None = find path_cmp p t ≡ None
-FindsAt p t (Some e) = (e.0 ≡ p) × (find path_cmp p t ≡ Some e.1)
 
 -- it is the file of the record's path
 abbrev pub IsFileOf : Files → RestoredFile → Type 0
@@ -133,7 +120,22 @@ abbrev pub restore_each : List RestoredFile → Result Files FileFault
 restore_each [] = Ok []
 restore_each (x ∷ xs) = and_others x.0.0 (restored x) (restore_each xs)
 
--- the files whose label that changes
-abbrev pub changed_by_records : List RestoredFile → Files
-changed_by_records [] = []
-changed_by_records (x ∷ xs) = changed_one true (λ _ n. ok_or n (restored x)) x.0 ++ changed_by_records xs
+-- one of two, where it is the first or not
+abbrev pub OneOf : Bool → Type 0 → Type 0 → Type 0
+OneOf true a b = a
+OneOf false a b = b
+
+pub record Either (a b : Type 0) : Type 0 where
+  pub first : Bool
+  pub is : OneOf first a b
+
+-- files edited, of which those that stay as they are may be left out
+abbrev pub SomeEdited : {A : Type 0} → (A → PathOf × Node) → (A → Result Node EditFault) → List A → Files → Type 0
+SomeEdited file edit [] [] = ⊤
+SomeEdited file edit [] (k ∷ ks) = ⊥
+SomeEdited file edit (x ∷ xs) [] = (edit x ≡ Ok (file x).1) × SomeEdited file edit xs []
+SomeEdited file edit (x ∷ xs) (k ∷ ks) = Either ((((file x).0 ≡ k.0) × (edit x ≡ Ok k.1)) × SomeEdited file edit xs ks) ((edit x ≡ Ok (file x).1) × SomeEdited file edit xs (k ∷ ks))
+
+-- a file with its edited node is put after others, or left out where it stays as it is
+abbrev pub PutsOrLeaves : Files → PathOf × Node → Node → Files → Type 0
+PutsOrLeaves before e n after = Either (after ≡ before ++ (e.0, n) ∷ []) ((after ≡ before) × (e.1 ≡ n))

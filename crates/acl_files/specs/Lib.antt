@@ -15,3 +15,4 @@ pub use Rattle.acl_entry.specs as acl_entry
 pub use Rattle.acl_names.specs as acl_names
 pub use Rattle.acl_dump.specs.acl_syntax
 pub use Rattle.path_map.specs as path_map
+pub use Rattle.kinds.specs as kinds

@@ -18,6 +18,10 @@ means recursive p q = if recursive then encloses p q else eq_by_cmp path_cmp q p
 abbrev pub is_file : Bool → List PathOf → PathOf → Bool
 is_file recursive paths q = list_any (λ p. means recursive p q) paths
 
+-- whether a region means the file: with what is below its paths, or without
+abbrev pub in_region : Bool × List PathOf → PathOf → Bool
+in_region region q = is_file region.0 region.1 q
+
 -- the first operand that is not recorded
 abbrev pub first_missing : List PathOf → Files → Option PathOf
 first_missing [] t = None
@@ -36,5 +40,5 @@ abbrev pub LooksUp : {X : Type 0} → Result X TreeFault → Option PathOf → T
 LooksUp result missing = MatchResult result (λ _. missing ≡ None) (λ fault. fault ≢ NoMemory → IsMissing fault missing)
 
 -- the files of a command
-abbrev pub files_meant : Bool → List PathOf → Files → Files
+abbrev pub files_meant : {V : Type 0} → Bool → List PathOf → List (PathOf × V) → List (PathOf × V)
 files_meant recursive paths t = filter (λ e. is_file recursive paths e.0) t

@@ -8,7 +8,7 @@ abbrev pub within : PathOf → Files → List PathOf
 within p t = map (λ e. e.0) (filter (λ e. encloses p e.0) t)
 
 -- the paths of the files that a path is below, in path order: parents first
-abbrev pub ancestors : PathOf → Files → List PathOf
+abbrev pub ancestors : {V : Type 0} → PathOf → List (PathOf × V) → List PathOf
 ancestors p t = map (λ e. e.0) (filter (λ e. is_above e.0 p) t)
 
 -- the last of some alone; if there is none, what is given

@@ -1,33 +1,56 @@
-//! The recorded files, in path order; those at a path or below it, and above it; and the nearest path above one that has an entry.
+//! The recorded files, in path order; those at a path or below it, and above it.
 
-ghost use Rattle.std.specs.Prelude.{◌≡◌, IfOk};
+ghost use Rattle.std.specs.Prelude.{◌≡◌, IfOk, map};
 ghost use Rattle.std.specs.Option.{option_copied};
 ghost use Rattle.std.specs.FinMap.{find};
 ghost use Rattle.acl_names.specs.Paths.{path_cmp};
-ghost use Rattle.acl_names.specs.Made.{values};
+ghost use Rattle.path_map.specs.Entries.{seen};
+ghost use Rattle.kinds.specs.Numbered.{entries_in};
 ghost use Rattle.acl_files.specs.Files.{no_files, Recorded, coded_recorded};
 ghost use Rattle.acl_files.specs.Sound.{IsSoundTree};
 ghost use Rattle.acl_files.specs.Walks.{within, ancestors, nearest_above};
 
-use crate::records::Record;
 use acl_edit::Node;
 use acl_names::Path;
-use path_map::{Entries, Finder, MapEntry, PathMap};
+use kinds::{KindMap, KindsFinder, KindsIter};
+use path_map::PathMap;
 use std::alloc::{AllocError, Global};
 use std::marker::Model;
-use std::rc::Rc;
 
 /// A cursor over recorded files: those that are still to come, in path order.
-pub type FilesIter<'a> = Entries<'a, Node>;
+pub type FilesIter<'a> = KindsIter<'a, Node>;
 
-/// A look-up of recorded files that goes on from where it was: for paths that are asked for in path order.
-pub type FilesFinder<'a> = Finder<'a, Node>;
+/// A look-up of recorded files.
+#[derive(Drop)]
+pub struct FilesFinder<'a> {
+    files: KindsFinder<'a, Node>,
+}
+
+impl<'a> Model for FilesFinder<'a> {
+    ghost use Rattle.acl_files.specs.Files.{Files, coded_files};
+
+    ghost Value = { Files };
+
+    ghost coded = { coded_files };
+
+    ghost view = { λ f. f.files };
+}
+
+impl<'a> FilesFinder<'a> {
+    /// The node of a path, where it is recorded. Allocates nothing.
+    pub fn get(&mut self, path: &Path) -> Option<&'a Node>
+        ensures same { self.new ≡ self.old }
+        ensures found { option_copied result ≡ find path_cmp path.now self.old }
+    {
+        self.files.get(path)
+    }
+}
 
 /// The files that a dump recorded, in path order, and whether a dump was loaded. Files and those made from them share
-/// what is the same, by chunks. What is always true of them is the clause of [`Files::soundness_law`].
+/// what is the same. What is always true of them is the clause of [`Files::soundness_law`].
 #[derive(Drop)]
 pub struct Files {
-    files: PathMap<Node>,
+    files: KindMap<Node>,
     loaded: bool,
 }
 
@@ -36,9 +59,9 @@ impl Model for Files {
 
     ghost coded = { coded_recorded };
 
-    ghost view = { λ f. record { files = f.files; loaded = f.loaded } };
+    ghost view = { λ f. record { files = entries_in f.files; loaded = f.loaded } };
 
-    ghost invariant = { λ f. IsSoundTree (record { files = f.files; loaded = f.loaded }) };
+    ghost invariant = { λ f. IsSoundTree (record { files = entries_in f.files; loaded = f.loaded }) };
 }
 
 impl Files {
@@ -47,15 +70,15 @@ impl Files {
         ensures { IfOk result (λ files. files ≡ no_files) }
     {
         Ok(Files {
-            files: PathMap::new(alloc),
+            files: KindMap::new(alloc),
             loaded: false,
         })
     }
 
     /// These files.
-    pub fn of(files: PathMap<Node>, loaded: bool) -> Files
-        requires { IsSoundTree (record { files = files; loaded = loaded }) }
-        ensures { result ≡ record { files = files; loaded = loaded } }
+    pub fn of(files: KindMap<Node>, loaded: bool) -> Files
+        requires { IsSoundTree (record { files = entries_in files; loaded = loaded }) }
+        ensures { result ≡ record { files = entries_in files; loaded = loaded } }
     {
         Files { files, loaded }
     }
@@ -71,8 +94,8 @@ impl Files {
     }
 
     /// The files.
-    pub fn files_by_path(&self) -> &PathMap<Node>
-        ensures all { result.now ≡ self.now.files }
+    pub fn files_by_path(&self) -> &KindMap<Node>
+        ensures all { entries_in result.now ≡ self.now.files }
         ensures sound { IsSoundTree self.now }
     {
         &self.files
@@ -101,11 +124,13 @@ impl Files {
         self.files.get(path)
     }
 
-    /// A look-up of files that goes on from where it was. Allocates nothing.
+    /// A look-up of files. Allocates nothing.
     pub fn finder(&self) -> FilesFinder<'_>
         ensures { result ≡ self.now.files }
     {
-        self.files.finder()
+        FilesFinder {
+            files: self.files.finder(),
+        }
     }
 
     /// The files in path order. Allocates nothing.
@@ -120,9 +145,9 @@ impl Files {
         ensures { IfOk result (λ paths. paths.items ≡ within path.now self.now.files) }
     {
         let mut paths = Vec::new(alloc);
-        let mut rest = self.files_by_path().within(path);
+        let mut rest = self.files_by_path().paths_within(path);
         while let Some(file) = rest.next() {
-            paths.push(file.path().try_clone(alloc)?)?;
+            paths.push(file.0.try_clone(alloc)?)?;
         }
         Ok(paths)
     }
@@ -132,39 +157,39 @@ impl Files {
     pub fn ancestors(&self, alloc: Global, path: &Path) -> Result<Vec<Path>, AllocError>
         ensures { IfOk result (λ paths. paths.items ≡ ancestors path.now self.now.files) }
     {
-        self.soundness_law();
+        let numbers = self.files_by_path().numbers();
         let mut paths = Vec::new(alloc);
-        let mut above = nearest_above(alloc, self.files_by_path(), path)?;
+        let mut above = nearest_above(alloc, numbers, path)?;
         while let Some(file) = above.pop() {
-            above = nearest_above(alloc, self.files_by_path(), file.path())?;
-            paths.push(file.path().try_clone(alloc)?)?;
+            above = nearest_above(alloc, numbers, file.0)?;
+            paths.push(file.0.try_clone(alloc)?)?;
         }
         paths.reverse();
         Ok(paths)
     }
 }
 
-/// The nearest entry above a path, if there is one: the last entry up to its parent, or else one above what they
-/// have in common. That is a search for each entry in the way. Fails only if memory runs out.
-pub fn nearest_above<V: Drop>(
+/// The nearest path above a path, if there is one, with its number: the last one up to its parent, or else one above what
+/// they have in common. That is a search for each path in the way. Fails only if memory runs out.
+fn nearest_above<'a>(
     alloc: Global,
-    entries: &PathMap<V>,
+    numbers: &'a PathMap<usize>,
     path: &Path,
-) -> Result<Vec<Rc<MapEntry<V>>>, AllocError>
-    ensures { IfOk result (λ above. values above.items ≡ nearest_above path.now entries.now) }
+) -> Result<Vec<(&'a Path, usize)>, AllocError>
+    ensures { IfOk result (λ above. map seen above.items ≡ nearest_above path.now numbers.now) }
 {
-    entries.order_law();
+    numbers.order_law();
     let mut above = Vec::new(alloc);
     if path.components().is_empty() {
         return Ok(above);
     }
     let mut top = path.parent(alloc)?;
-    while let Some(entry) = entries.up_to(&top) {
-        if top.is_within(entry.path()) {
-            above.push(entry.clone()?)?;
+    while let Some(entry) = numbers.up_to(&top) {
+        if top.is_within(entry.0) {
+            above.push((entry.0, entry.1))?;
             return Ok(above);
         }
-        top = top.common(alloc, entry.path())?;
+        top = top.common(alloc, entry.0)?;
     }
     Ok(above)
 }

@@ -2,13 +2,17 @@
 //! or restored, all or none; the recorded paths around a path.
 #![tactic(auto)]
 
+mod alike;
+mod differences;
 mod edit;
 mod fault;
 mod files;
 mod laws;
 mod records;
+mod region;
 mod restore;
 mod selection;
+mod walk;
 
 pub use acl_dump::{
     DumpRecord, DumpUse, Effective, FaultKind, Form, Header, Names, NoNames, PasswdRow, Sep, Spec,
@@ -23,11 +27,13 @@ pub use acl_entry::{
     rising_ids,
 };
 pub use acl_names::{Name, Path, append_name, append_path, read_name, read_path, write_name};
+pub use differences::Differences;
 pub use edit::{FileFault, NodeEdit, edit_files};
 pub use fault::TreeFault;
-pub use files::{Files, FilesFinder, FilesIter, nearest_above};
+pub use files::{Files, FilesFinder, FilesIter};
+pub use kinds::KindMap;
 pub use laws::each_record_is_a_file;
-pub use path_map::PathMap;
-pub use records::{Record, files_of, in_path_order};
+pub use records::{files_of, in_path_order, put_file, without_files};
+pub use region::Region;
 pub use restore::{DumpRecords, restore_files};
 pub use selection::{Found, Paths, Selection, look_up, select};

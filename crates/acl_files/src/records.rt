@@ -1,21 +1,49 @@
-//! The files of a dump's records, sorted by their paths.
+//! The files of a dump's records, sorted by their paths; maps of files with some put, or without some.
 
-ghost use Rattle.std.specs.Prelude.{◌≡◌, true, reverse, IfOk, unwrap_or};
-ghost use Rattle.acl_names.specs.Made.{values};
+ghost use Rattle.std.specs.Prelude.{◌≡◌, true, not, reverse, IfOk, unwrap_or, filter};
+ghost use Rattle.std.specs.FinMap.{put};
+ghost use Rattle.acl_names.specs.Paths.{path_cmp};
+ghost use Rattle.path_map.specs.Entries.{IsInOrder};
+ghost use Rattle.kinds.specs.Numbered.{entries_in};
 ghost use Rattle.acl_dump.specs.OwnPaths.{have_own_paths};
 ghost use Rattle.acl_files.specs.Loading.{node_of, files_of, in_path_order};
-ghost use Rattle.acl_files.specs.Inner.{next_file_below, files_from};
+ghost use Rattle.acl_files.specs.Inner.{next_below, files_from};
+ghost use Rattle.acl_files.specs.Operands.{in_region};
 
+use crate::alike::AlikeNodes;
+use crate::region::{Region, numbers_in};
 use acl_dump::DumpRecord;
 use acl_edit::{Kind, Node};
 use acl_entry::{Id, Label};
 use acl_names::Path;
-use path_map::MapEntry;
+use kinds::{KindMap, KindMapBuilder, KindPuts};
 use std::alloc::{AllocError, Global};
-use std::rc::Rc;
 
-/// A file: its path, and its node.
-pub type Record = MapEntry<Node>;
+/// The map with a file put. Fails only if memory runs out.
+pub fn put_file(
+    alloc: Global,
+    files: &KindMap<Node>,
+    path: &Path,
+    node: Node,
+) -> Result<KindMap<Node>, AllocError>
+    ensures { IfOk result (λ new. entries_in new ≡ put path_cmp path.now node (entries_in files.now)) }
+{
+    let puts = KindPuts::new(alloc, files)?;
+    let puts = puts.push(alloc, path, node, &AlikeNodes)?;
+    puts.finish(alloc)
+}
+
+/// The map without the files that a region means. Fails only if memory runs out.
+pub fn without_files(
+    alloc: Global,
+    files: &KindMap<Node>,
+    region: &Region,
+) -> Result<KindMap<Node>, AllocError>
+    ensures { IfOk result (λ new. entries_in new ≡ filter (λ e. not (in_region region.now e.0)) (entries_in files.now)) }
+{
+    let entries = numbers_in(alloc, files.numbers(), region)?;
+    files.without_all(alloc, &entries)
+}
 
 /// A directory where a file is below it, or its record has a default list.
 fn kind_of(has_below: bool, entry: &DumpRecord) -> Kind
@@ -39,8 +67,8 @@ fn id_or_root(id: Option<Id>) -> Id
 }
 
 /// The file of a record.
-fn file_of(alloc: Global, has_below: bool, entry: DumpRecord) -> Result<Rc<Record>, AllocError>
-    ensures { IfOk result (λ file. file.value ≡ (entry.path, node_of has_below entry)) }
+fn file_of(has_below: bool, entry: DumpRecord) -> (Path, Node)
+    ensures { result ≡ (entry.path, node_of has_below entry) }
 {
     let kind = kind_of(has_below, &entry);
     let node = Node {
@@ -53,15 +81,15 @@ fn file_of(alloc: Global, has_below: bool, entry: DumpRecord) -> Result<Rc<Recor
         flags: entry.flags.unwrap_or([false; 3]),
         dacl: entry.dacl,
     };
-    Ok(Rc::new(alloc, Record::new(Rc::new(alloc, entry.path)?, node))?)
+    (entry.path, node)
 }
 
-/// Whether the first of the files that follow in path order, which are given from the last to the first, is below a path.
-fn next_below(path: &Path, following: &[Rc<Record>]) -> bool
-    ensures { result ≡ next_file_below path.now (reverse (values following.now)) }
+/// Whether the first of the records that follow in path order, which are given from the last to the first, is below a path.
+fn is_followed_below(path: &Path, following: &[DumpRecord]) -> bool
+    ensures { result ≡ next_below path.now (reverse following.now) }
 {
     match following {
-        [.., next] => next.path().is_below(path),
+        [.., next] => next.path.is_below(path),
         [] => false,
     }
 }
@@ -78,28 +106,30 @@ fn free_moved(left: &mut Vec<DumpRecord>)
     }
 }
 
-/// The files of records that are in path order. Paths and lists are moved out of the records, from the last one on, so
-/// that records and files do not both take memory for long.
-fn files_from(alloc: Global, sorted: Vec<DumpRecord>) -> Result<Vec<Rc<Record>>, AllocError>
-    ensures { IfOk result (λ files. values files.items ≡ files_from sorted.items) }
+/// The map of the files of records that are in path order. Paths and lists are moved out of the records into the map, and
+/// memory of records is freed meanwhile.
+fn map_of(alloc: Global, sorted: Vec<DumpRecord>) -> Result<KindMap<Node>, AllocError>
+    requires { IsInOrder (files_from sorted.items) }
+    ensures { IfOk result (λ files. entries_in files ≡ files_from sorted.items) }
 {
-    let mut files = Vec::with_capacity(alloc, sorted.len())?;
+    let mut files = KindMapBuilder::new(alloc);
     let mut left = sorted;
+    left.reverse();
     while let Some(entry) = left.pop() {
-        let has_below = next_below(&entry.path, &files);
-        files.push(file_of(alloc, has_below, entry)?)?;
+        let has_below = is_followed_below(&entry.path, &left);
+        let (path, node) = file_of(has_below, entry);
+        files = files.push(alloc, path, node, &AlikeNodes)?;
         free_moved(&mut left);
     }
-    files.reverse();
-    Ok(files)
+    files.finish(alloc)
 }
 
-/// The files of a dump's records, in path order. Fails only if memory runs out.
-pub fn files_of(alloc: Global, records: Vec<DumpRecord>) -> Result<Vec<Rc<Record>>, AllocError>
+/// The map of the files of a dump's records. Fails only if memory runs out.
+pub fn files_of(alloc: Global, records: Vec<DumpRecord>) -> Result<KindMap<Node>, AllocError>
     requires { have_own_paths records.items ≡ true }
-    ensures { IfOk result (λ files. values files.items ≡ files_of records.items) }
+    ensures { IfOk result (λ files. entries_in files ≡ files_of records.items) }
 {
-    files_from(alloc, in_path_order(records))
+    map_of(alloc, in_path_order(records))
 }
 
 /// The records in path order. Allocates nothing.

@@ -1,32 +1,32 @@
 //! setfacl(1) --restore: files get back what their records contain.
 
-ghost use Rattle.std.specs.Prelude.{◌≡◌, true, map, false, option_map, IfOk, OnOk, List};
+ghost use Rattle.std.specs.Prelude.{◌≡◌, ◌≢◌, true, map, false, IfOk, IfErr, OnOk, Err, List};
 ghost use Rattle.std.specs.List.Sorted.{IsPermutation};
 ghost use Rattle.std.specs.Coded.{coded_list};
-ghost use Rattle.acl_names.specs.Made.{values};
+ghost use Rattle.kinds.specs.Numbered.{entries_in};
 ghost use Rattle.acl_dump.specs.acl_syntax.InTurn.{GivesUnless};
 ghost use Rattle.acl_dump.specs.OwnPaths.{have_own_paths};
 ghost use Rattle.acl_edit.specs.Edits.{Gives, allowed};
 ghost use Rattle.acl_files.specs.Loading.{in_path_order};
-ghost use Rattle.acl_files.specs.Changed.{Adds, NotesChanged};
-ghost use Rattle.acl_files.specs.Inner.{AreFilesOf, FindsAt, restore_each, changed_by_records, RestoredFile, coded_restored, restored_by};
-ghost use Rattle.acl_files.specs.Operands.{LooksUp, first_missing};
+ghost use Rattle.acl_files.specs.Inner.{AreFilesOf, restore_each, RestoredFile, coded_restored, restored_by, restored, SomeEdited, PutsOrLeaves};
+ghost use Rattle.acl_files.specs.Files.{PathOf};
+ghost use Rattle.acl_files.specs.Operands.{LooksUp, first_missing, is_file, in_region};
 ghost use Rattle.acl_files.specs.Restoring.{paths_of, restored_tree};
 ghost use Rattle.acl_dump.specs.contracts.record.DumpRecord as record_contracts;
 ghost use Rattle.acl_dump.specs.declared.record.DumpRecord.{DumpRecord as Whole};
 
-use crate::edit::{FileFault, NodeEdit, edit_one, push_edited};
+use crate::alike::AlikeNodes;
+use crate::edit::{FileFault, NodeEdit, edit_one};
 use crate::fault::TreeFault;
-use crate::files::{Files, FilesFinder};
-use crate::records::Record;
+use crate::files::Files;
+use crate::region::Region;
 use acl_dump::DumpRecord;
 use acl_edit::{EditFault, Kind, Node};
 use acl_entry::{Acl, Label};
 use acl_names::Path;
-use std::alloc::Global;
-use std::cmp::Ordering;
+use kinds::{KindMap, KindPuts, Likeness};
+use std::alloc::{AllocError, Global};
 use std::marker::Model;
-use std::rc::Rc;
 
 /// Records of a dump, no two of one path.
 #[derive(Drop)]
@@ -60,12 +60,23 @@ impl DumpRecords {
     {
         &self.list
     }
+
+    /// The files at the paths of the records. Fails only if memory runs out.
+    pub fn region(&self, alloc: Global) -> Result<Region, AllocError>
+        ensures { IfOk result (λ region. (q : PathOf) → in_region region q ≡ is_file false (paths_of self.now) q) }
+    {
+        let mut paths = Vec::with_capacity(alloc, self.list.len())?;
+        for entry in &self.list {
+            paths.push(entry.path.try_clone(alloc)?)?;
+        }
+        Ok(Region::new(paths, false))
+    }
 }
 
 /// A recorded file, and the record that it is restored from.
 #[derive(Drop)]
 struct Restored<'a> {
-    file: &'a Rc<Record>,
+    node: &'a Node,
     entry: &'a DumpRecord,
 }
 
@@ -74,7 +85,7 @@ impl<'a> Model for Restored<'a> {
 
     ghost coded = { coded_restored };
 
-    ghost view = { λ r. (r.file.now.value, r.entry.now) };
+    ghost view = { λ r. ((r.entry.now.path, r.node.now), r.entry.now) };
 }
 
 /// The default list of a record, where its file may have one.
@@ -93,10 +104,10 @@ fn default_of(alloc: Global, kind: Kind, entry: &DumpRecord) -> Result<Option<Ac
 
 /// The record is for its file alone.
 impl NodeEdit for Restored<'_> {
-    ghost edited = { λ restored _ n. restored_by restored.1 n };
+    ghost edited = { λ restored n. restored_by restored.1 n };
 
     #[tactic(auto, unfolding(acl_edit::specs::Edits::restore))]
-    fn edited(&self, alloc: Global, _path: &Path, node: &Node) -> Result<Node, EditFault> {
+    fn edited(&self, alloc: Global, node: &Node) -> Result<Node, EditFault> {
         let entry = self.entry;
         let acl = entry.access.try_clone(alloc)?;
         let dacl = default_of(alloc, node.kind, entry)?;
@@ -116,22 +127,6 @@ impl NodeEdit for Restored<'_> {
     fn keeps_place(&self) {}
 }
 
-/// The file of a path.
-fn file_at<'a>(files: &mut FilesFinder<'a>, path: &Path) -> Option<&'a Rc<Record>>
-    ensures same { files.new ≡ files.old }
-    ensures found { FindsAt path.now files.old (option_map (λ file. file.now.value) result) }
-{
-    files.order_law();
-    let Some(file) = files.from(path).next() else {
-        return None;
-    };
-    match path.order(file.path()) {
-        Ordering::Equal => Some(file),
-        Ordering::Less => None,
-        Ordering::Greater => None,
-    }
-}
-
 /// The files of records, in the order of the records; or the first path that is not recorded.
 fn files_of<'a>(
     alloc: Global,
@@ -142,15 +137,15 @@ fn files_of<'a>(
     ensures there { LooksUp result (first_missing (paths_of records.now) tree.now.files) }
 {
     let mut found = Vec::with_capacity(alloc, records.len())?;
-    let mut files = tree.finder();
+    let mut finder = tree.finder();
     let mut rest = records;
     while let [entry, more @ ..] = rest {
-        let Some(file) = file_at(&mut files, &entry.path) else {
+        let Some(node) = finder.get(&entry.path) else {
             return Err(TreeFault::NoSuchFile {
                 path: entry.path.try_clone(alloc)?,
             });
         };
-        found.push(Restored { file, entry })?;
+        found.push(Restored { node, entry })?;
         rest = more;
     }
     Ok(found)
@@ -167,39 +162,52 @@ fn in_path_order(found: Vec<Restored<'_>>) -> Vec<Restored<'_>>
     sorted
 }
 
-/// The files as their records have them, and those whose label that changes.
-fn restore_each(
+/// A file with its edited node more to be put, unless it stays as it is.
+fn push_restored<'a>(
     alloc: Global,
-    changed: &mut Vec<Rc<Record>>,
-    found: &[Restored<'_>],
-) -> Result<Vec<Rc<Record>>, FileFault>
-    ensures made { GivesUnless FileFault.NoMemory (λ es. values es.items) result (restore_each found.now) }
-    ensures reported { OnOk result (Adds changed.old.items (changed_by_records found.now) changed.new.items) }
+    puts: KindPuts<'a, Node>,
+    path: &'a Path,
+    old: &Node,
+    node: Node,
+) -> Result<KindPuts<'a, Node>, AllocError>
+    ensures { IfOk result (λ new. (new.0 ≡ puts.entry.0) × PutsOrLeaves puts.entry.1 (path.now, old.now) node new.1) }
 {
-    let mut edits = Vec::with_capacity(alloc, found.len())?;
-    let mut rest = found;
-    while let [restored, more @ ..] = rest {
-        let node = edit_one(alloc, restored, restored.file)?;
-        push_edited(alloc, &mut edits, changed, restored.file, node)?;
-        rest = more;
+    if AlikeNodes.is_same(old, &node) {
+        return Ok(puts);
     }
-    Ok(edits)
+    let puts = puts.push(alloc, path, node, &AlikeNodes)?;
+    Ok(puts)
 }
 
-/// The tree with the files of records restored, and the files whose label that changes. None is gone.
-pub fn restore_files(
+/// The files as their records have them, to be put among those of a map, but for those that stay as they are.
+fn restore_each<'a>(
     alloc: Global,
-    tree: &Files,
-    changed: &mut Vec<Rc<Record>>,
-    records: &DumpRecords,
-) -> Result<Files, TreeFault>
-    ensures made { GivesUnless TreeFault.NoMemory (λ t. t) result (restored_tree records.now tree.now) }
-    ensures noted { IfOk result (λ new. NotesChanged tree.now.files new.files changed.old.items changed.new.items) }
+    files: &'a KindMap<Node>,
+    found: &[Restored<'a>],
+) -> Result<KindPuts<'a, Node>, FileFault>
+    ensures before { IfOk result (λ puts. puts.0 ≡ entries_in files.now) }
+    ensures made { IfOk result (λ puts. SomeEdited (λ x. x.0) restored found.now puts.1) }
+    ensures refused { IfErr result (λ fault. fault ≢ FileFault.NoMemory → restore_each found.now ≡ Err fault) }
+{
+    let mut puts = KindPuts::new(alloc, files)?;
+    let mut rest = found;
+    while let [restored, more @ ..] = rest {
+        let (path, old) = (&restored.entry.path, restored.node);
+        let node = edit_one(alloc, restored, path, old)?;
+        puts = push_restored(alloc, puts, path, old, node)?;
+        rest = more;
+    }
+    Ok(puts)
+}
+
+/// The tree with the files of records restored.
+pub fn restore_files(alloc: Global, tree: &Files, records: &DumpRecords) -> Result<Files, TreeFault>
+    ensures { GivesUnless TreeFault.NoMemory (λ t. t) result (restored_tree records.now tree.now) }
 {
     tree.soundness_law();
     let found = files_of(alloc, tree, records.as_slice())?;
     let sorted = in_path_order(found);
-    let edits = restore_each(alloc, changed, &sorted)?;
-    let by_path = tree.files_by_path().put_all(alloc, &edits)?;
+    let puts = restore_each(alloc, tree.files_by_path(), &sorted)?;
+    let by_path = puts.finish(alloc)?;
     Ok(Files::of(by_path, tree.is_loaded()))
 }

@@ -1,116 +1,59 @@
 //! The operands of a command, and the files that they mean, found by search.
 
-ghost use Rattle.std.specs.Prelude.{◌≡◌, ◌≢◌, ◌++◌, Bool, false, map, filter, None, IfOk, IfErr, OnOk};
+ghost use Rattle.std.specs.Prelude.{◌≡◌, ◌≢◌, false, None, IfOk, IfErr, OnOk};
 ghost use Rattle.std.specs.Option.{option_map_or};
-ghost use Rattle.acl_files.specs.Files.{PathOf};
-ghost use Rattle.acl_files.specs.Found.{files_found, found_in, found_file, Selects};
-ghost use Rattle.acl_files.specs.Inner.{Ascend, next_file_below};
-ghost use Rattle.acl_files.specs.Operands.{means, is_file, first_missing, IsMissing};
+ghost use Rattle.acl_names.specs.Below.{is_above};
+ghost use Rattle.acl_files.specs.Found.{files_found, found_file, Selects};
+ghost use Rattle.acl_files.specs.Inner.{next_file_below};
+ghost use Rattle.acl_files.specs.Operands.{first_missing, IsMissing};
 
 use crate::fault::TreeFault;
 use crate::files::{Files, FilesIter};
-use crate::records::Record;
+use crate::region::Region;
 use acl_edit::Node;
 use acl_names::Path;
 use std::alloc::{AllocError, Global};
-use std::cmp::Ordering;
 use std::marker::Model;
-use std::rc::Rc;
 
-/// Whether an operand means a file.
-fn means(recursive: bool, operand: &Path, path: &Path) -> bool
-    ensures { result ≡ means recursive operand.now path.now }
+/// Whether a path that follows another one, if there is one, is below it.
+fn is_below(path: &Path, next: Option<&Path>) -> bool
+    ensures { result ≡ option_map_or (λ next. is_above path.now next.now) next.entry false }
 {
-    if recursive {
-        path.is_within(operand)
-    } else {
-        path.order(operand) == Ordering::Equal
-    }
-}
-
-/// Whether an operand, if there is one, means a file.
-fn is_meant(recursive: bool, operand: Option<&Path>, path: &Path) -> bool
-    ensures { result ≡ option_map_or (λ p. means recursive p.now path.now) operand.entry false }
-{
-    match operand {
-        Some(operand) => means(recursive, operand, path),
+    match next {
+        Some(next) => next.is_below(path),
         None => false,
     }
 }
 
-/// The operands, borrowed one by one.
-fn all_operands<'a>(alloc: Global, operands: &'a Paths) -> Result<Vec<&'a Path>, AllocError>
-    ensures { IfOk result (λ all. map (λ p. p.now) all.items ≡ operands.now) }
-{
-    operands.as_slice().iter().collect(alloc)
-}
-
-/// The operands in path order.
-fn in_order<'a>(alloc: Global, operands: &'a Paths) -> Result<Vec<&'a Path>, AllocError>
-    ensures same { IfOk result (λ sorted. (recursive : Bool) (q : PathOf)
-        → is_file recursive (map (λ p. p.now) sorted.items) q ≡ is_file recursive operands.now q) }
-    ensures sorted { IfOk result (λ sorted. Ascend (map (λ p. p.now) sorted.items)) }
-{
-    let mut sorted = all_operands(alloc, operands)?;
-    sorted.sort_unstable_by(|a, b| a.order(b));
-    Ok(sorted)
-}
-
-/// Adds the files that one operand means.
-fn push_meant(
-    files: &mut Vec<Found>,
-    tree: &Files,
-    recursive: bool,
-    operand: &Path,
-) -> Result<(), AllocError>
-    ensures { OnOk result (files.new.items ≡ files.old.items ++ found_in tree.now.files (filter (λ e. means recursive operand.now e.0) tree.now.files)) }
-{
-    tree.soundness_law();
-    let mut rest = tree.files_by_path().from(operand);
-    while let Some(file) = rest.next() {
-        if !means(recursive, operand, file.path()) {
-            return Ok(());
-        }
-        let found = Found::before(file, &rest)?;
-        files.push(found)?;
-    }
-    Ok(())
-}
-
-/// The files that operands in path order mean. What an operand means is either all meant by the one before it,
-/// or comes after all of that.
-fn select_in_order(
+/// The files that a region means.
+fn files_in<'a>(
     alloc: Global,
-    tree: &Files,
-    operands: &[&Path],
-    recursive: bool,
-) -> Result<Vec<Found>, AllocError>
-    requires { Ascend (map (λ p. p.now) operands.now) }
-    ensures { IfOk result (λ files. files.items ≡ files_found recursive (map (λ p. p.now) operands.now) tree.now.files) }
+    tree: &'a Files,
+    region: &Region,
+) -> Result<Vec<Found<'a>>, AllocError>
+    ensures { IfOk result (λ files. files.items ≡ files_found region.now.0 region.now.1 tree.now.files) }
 {
-    tree.soundness_law();
-    let mut files = Vec::new(alloc);
-    let mut last: Option<&Path> = None;
-    for operand in operands {
-        if is_meant(recursive, last, operand) {
-            continue;
-        }
-        push_meant(&mut files, tree, recursive, operand)?;
-        last = Some(*operand);
+    let files = tree.files_by_path();
+    let mut found = Vec::new(alloc);
+    let mut walk = region.walk(files.numbers());
+    while let Some(entry) = walk.next() {
+        let has_below = is_below(entry.0, walk.next_path());
+        let node = files.kinds().node(entry.1);
+        found.push(Found::new(entry.0, node, has_below))?;
     }
-    Ok(files)
+    Ok(found)
 }
 
 /// The files of a selection.
-pub fn select(
+pub fn select<'a>(
     alloc: Global,
-    tree: &Files,
+    tree: &'a Files,
     selection: &Selection<'_>,
-) -> Result<Vec<Found>, AllocError>
+) -> Result<Vec<Found<'a>>, AllocError>
     ensures { IfOk result (λ files. files.items ≡ files_found selection.now.recursive selection.now.operands.now tree.now.files) }
 {
-    let sorted = in_order(alloc, selection.operands)?;
-    select_in_order(alloc, tree, &sorted, selection.recursive)
+    let region = Region::of(alloc, selection)?;
+    Ok(files_in(alloc, tree, &region)?)
 }
 
 /// Whether each operand is recorded; else the first that isn't.
@@ -134,11 +77,11 @@ impl Files {
     /// # Errors
     ///
     /// `NoSuchFile` of the first operand that is not recorded, or `NoMemory`.
-    pub fn selected(
-        &self,
+    pub fn selected<'a>(
+        &'a self,
         alloc: Global,
         selection: &Selection<'_>,
-    ) -> Result<Vec<Found>, TreeFault>
+    ) -> Result<Vec<Found<'a>>, TreeFault>
         ensures { Selects (λ files. files.items) selection.now self.now.files result }
     {
         look_up(alloc, self, selection.operands.as_slice())?;
@@ -185,74 +128,53 @@ pub struct Selection<'a> {
 
 /// A recorded file, and whether another one lies below it.
 #[derive(Drop)]
-pub struct Found {
-    file: Rc<Record>,
+pub struct Found<'a> {
+    path: &'a Path,
+    node: &'a Node,
     has_below: bool,
 }
 
-impl Model for Found {
+impl<'a> Model for Found<'a> {
     ghost use Rattle.acl_files.specs.Found.{FoundFile, coded_found};
 
     ghost Value = { FoundFile };
 
     ghost coded = { coded_found };
 
-    ghost view = { λ f. record { path = f.file.value.0; node = f.file.value.1; has_below = f.has_below } };
+    ghost view = { λ f. record { path = f.path.now; node = f.node.now; has_below = f.has_below } };
 }
 
-/// Whether the next file is below a path.
-fn is_next_below(path: &Path, rest: &FilesIter<'_>) -> bool
-    ensures { result ≡ next_file_below path.now rest.now }
-{
-    match rest.peek() {
-        Some(next) => next.path().is_below(path),
-        None => false,
-    }
-}
-
-impl Found {
+impl<'a> Found<'a> {
     /// A file, and whether another one lies below it.
-    pub fn new(file: Rc<Record>, has_below: bool) -> Found
-        ensures { result ≡ record { path = file.value.0; node = file.value.1; has_below = has_below } }
+    pub fn new(path: &'a Path, node: &'a Node, has_below: bool) -> Found<'a>
+        ensures { result ≡ record { path = path.now; node = node.now; has_below = has_below } }
     {
-        Found { file, has_below }
+        Found {
+            path,
+            node,
+            has_below,
+        }
     }
 
-    /// A file before those that follow it in path order, with whether the next one is below it. Fails only if memory
-    /// runs out.
-    pub fn before(file: &Rc<Record>, rest: &FilesIter<'_>) -> Result<Found, AllocError>
-        ensures { IfOk result (λ found. found ≡ found_file (next_file_below file.now.value.0 rest.now) file.now.value) }
+    /// A file before those that follow it in path order, with whether the next one is below it. Allocates nothing.
+    pub fn before(path: &'a Path, node: &'a Node, rest: &FilesIter<'_>) -> Found<'a>
+        ensures { result ≡ found_file (next_file_below path.now rest.now) (path.now, node.now) }
     {
-        let has_below = is_next_below(file.path(), rest);
-        Ok(Found::new(file.clone()?, has_below))
-    }
-
-    /// The file, for those that share it.
-    pub(crate) fn record(&self) -> &Record
-        ensures { result.now ≡ (self.now.path, self.now.node) }
-    {
-        &self.file
-    }
-
-    /// The file, for others that share it.
-    pub fn shared_record(&self) -> &Rc<Record>
-        ensures { result.now.value ≡ (self.now.path, self.now.node) }
-    {
-        &self.file
+        Found::new(path, node, is_below(path, rest.peek()))
     }
 
     /// The file's path.
-    pub fn path(&self) -> &Path
+    pub fn path(&self) -> &'a Path
         ensures { result.now ≡ self.now.path }
     {
-        self.file.path()
+        self.path
     }
 
     /// The file's node.
-    pub fn node(&self) -> &Node
+    pub fn node(&self) -> &'a Node
         ensures { result.now ≡ self.now.node }
     {
-        self.file.value()
+        self.node
     }
 
     /// Whether another recorded file lies below it.

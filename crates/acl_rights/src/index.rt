@@ -1,6 +1,7 @@
 //! The index: the whole table of verdicts of a state, and of verdicts along paths.
 
 ghost use Rattle.std.specs.Prelude.{◌≡◌, ◌+◌, ◌<◌, ◌≤◌, ◌^◌, length, IfOk, true};
+ghost use Rattle.acl_tree.specs.acl_names.Made.{values};
 ghost use Rattle.acl_tree.specs.acl_people.KnownPeople.{persons};
 ghost use Rattle.acl_tree.specs.Step.{state_from};
 ghost use Rattle.acl_verdicts.specs.Rows.{Asks};
@@ -11,10 +12,11 @@ ghost use Rattle.acl_rights.specs.Grants.{rows_at, AreGrants, table_of};
 use crate::lists::{GroupLists, records};
 use crate::stage::{After, after_line};
 use acl_tree::{NoMemory, People, Staged, Tree};
-use acl_verdicts::{Grants, Judge, LabelRows};
+use acl_verdicts::{Grants, Judge, LabelRows, Record, records_of};
 use std::alloc::{AllocError, Global};
 use std::marker::{Model, PhantomData};
 use std::mem;
+use std::rc::Rc;
 
 /// The verdicts on all users and files of a state, with and without search along the files' paths, and for each group the
 /// files that mention it.
@@ -42,6 +44,7 @@ impl Model for VerdictTable {
 
 impl VerdictTable {
     ghost use Rattle.acl_tree.specs.Changed.{changed_between, gone_between};
+    ghost use Rattle.acl_tree.specs.acl_names.Made.{values};
     ghost use Rattle.acl_rights.specs.Groups.{AreLists};
 
     /// The table of so many users and a tree, which it shares.
@@ -63,17 +66,19 @@ impl VerdictTable {
         })
     }
 
-    /// The table of so many users and a tree, for which the lists are made.
+    /// The table of so many users and a tree with these files, for which the lists are made.
     fn with_lists(
         alloc: Global,
         users: usize,
         tree: &Tree,
+        files: &[Rc<Record>],
         grants: Grants,
     ) -> Result<VerdictTable, AllocError>
-        requires { AreGrants tree.now.files grants }
+        requires files { values files.now ≡ tree.now.files }
+        requires grants { AreGrants tree.now.files grants }
         ensures { IfOk result (λ table. table ≡ table_of users tree.now.files grants) }
     {
-        let lists = GroupLists::of_tree(alloc, tree)?;
+        let lists = GroupLists::of_tree(alloc, tree, files)?;
         VerdictTable::of(users, tree, grants, lists)
     }
 
@@ -90,9 +95,9 @@ impl VerdictTable {
         ensures { IfOk result (λ table. table ≡ table_of (length staged.now.state.people.users) staged.now.state.tree.files grants) }
     {
         let tree = staged.tree();
-        let lists = self
-            .lists
-            .staged(alloc, &self.tree, tree, staged.changed(), staged.gone())?;
+        let changed = records_of(alloc, staged.changed())?;
+        let gone = records_of(alloc, staged.gone())?;
+        let lists = self.lists.staged(alloc, &self.tree, tree, &changed, &gone)?;
         VerdictTable::of(staged.people().users(), tree, grants, lists)
     }
 }
@@ -164,18 +169,18 @@ fn all_granted<J: Judge>(
     alloc: Global,
     judge: &mut J,
     tree: &Tree,
+    files: &[Rc<Record>],
     people: &People,
 ) -> Result<Grants, AllocError>
+    requires files { values files.now ≡ tree.now.files }
     requires room { J.asked_of judge.old + all_pairs (state_from tree.now people.now) < 2 ^ 64 }
     ensures grants { IfOk result (λ new. AreGrants tree.now.files new) }
     ensures rows { IfOk result (λ new. rows_at new ≡ rows_of J.verdict_of (persons people.now) tree.now.files) }
     ensures asked { Asks result (J.asked_of judge.old) (J.asked_of judge.new) (all_pairs (state_from tree.now people.now)) }
 {
     tree.soundness_law();
-    let files = records(alloc, tree)?;
-    let rows = LabelRows::of_files(alloc, judge, &files, people.all_subjects())?;
+    let rows = LabelRows::of_files(alloc, judge, files, people.all_subjects())?;
     let new = Grants::of(alloc, rows, files.len())?;
-    drop(files);
     Ok(new)
 }
 
@@ -195,8 +200,10 @@ impl<J: Judge> Index<J> {
         ensures whole { IfOk result (λ index. IsWhole J.verdict_of (state_from tree.now people.now) index) }
         ensures asked { Asks result (J.asked_of judge.old) (J.asked_of judge.new) (all_pairs (state_from tree.now people.now)) }
     {
-        let grants = all_granted(alloc, judge, tree, people)?;
-        let table = VerdictTable::with_lists(alloc, people.users(), tree, grants)?;
+        let files = records(alloc, tree)?;
+        let grants = all_granted(alloc, judge, tree, &files, people)?;
+        let table = VerdictTable::with_lists(alloc, people.users(), tree, &files, grants)?;
+        drop(files);
         Ok(Index {
             table,
             judge: PhantomData,

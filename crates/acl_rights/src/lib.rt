@@ -14,7 +14,7 @@ pub use acl_tree::{
     Acl, Change, ChangeEntries, ChangeFlags, Command, Draft, DumpRecord, DumpRecords, DumpUse,
     Edit, Effective, Entry, FaultKind, FilesIter, Form, Found, Header, Id, Key, Kind, Label,
     Membership, Name, Names, NewFile, NewUser, NoMemory, NoNames, Node, Path, Paths, People, Perm,
-    Record, Requests, Selection, Sep, Spec, Specs, Staged, State, Subject, Table, TextFault, Tree,
+    Requests, Selection, Sep, Spec, Specs, Staged, State, Subject, Table, TextFault, Tree,
     TreeFault, UserName, Want, Which, append_entry, append_header, append_line, append_list,
     append_name, append_path, append_short, each_file_is_edited, read_dump, read_entries, read_id,
     read_name, read_path, read_perms, records_are_read_again, restore_of_what_is_changes_nothing,

@@ -12,8 +12,9 @@ ghost use Rattle.std.specs.BTreeMap.{keys};
 ghost use Rattle.acl_tree.specs.acl_names.Made.{values};
 
 use crate::mentioned::regrouped;
-use acl_tree::{FilesFinder, Id, Label, Path, Record, Tree, rising_ids};
-use path_map::{MapEntry, PathMap};
+use acl_tree::{FilesFinder, Id, Label, Path, Tree, rising_ids};
+use acl_verdicts::{Record, record_of};
+use entry_map::{MapEntry, PathMap};
 use std::alloc::{AllocError, Global};
 use std::collections::BTreeMap;
 use std::rc::Rc;
@@ -74,7 +75,7 @@ pub(crate) fn records(alloc: Global, tree: &Tree) -> Result<Vec<Rc<Record>>, All
     let mut records = Vec::new(alloc);
     let mut files = tree.iter();
     while let Some(file) = files.next() {
-        records.push(file.clone()?)?;
+        records.push(record_of(alloc, file.0, file.1)?)?;
     }
     Ok(records)
 }
@@ -147,17 +148,20 @@ impl GroupLists {
         })
     }
 
-    /// The lists of a tree, in one pass over its files. Fails only if memory runs out.
-    pub fn of_tree(alloc: Global, tree: &Tree) -> Result<GroupLists, AllocError>
+    /// The lists of a tree with these files, in one pass over them. Fails only if memory runs out.
+    pub fn of_tree(
+        alloc: Global,
+        tree: &Tree,
+        files: &[Rc<Record>],
+    ) -> Result<GroupLists, AllocError>
+        requires { values files.now ≡ tree.now.files }
         ensures { IfOk result (λ lists. AreLists tree.now.files lists) }
     {
         let none = GroupLists::new(alloc)?;
         let empty = Tree::new(alloc)?;
-        let files = records(alloc, tree)?;
         let gone: Vec<Rc<Record>> = Vec::new(alloc);
-        let lists = none.staged(alloc, &empty, tree, &files, &gone);
+        let lists = none.staged(alloc, &empty, tree, files, &gone);
         drop(gone);
-        drop(files);
         drop(empty);
         drop(none);
         lists

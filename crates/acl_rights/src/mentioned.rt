@@ -6,7 +6,8 @@ ghost use Rattle.acl_tree.specs.acl_names.Made.{values};
 ghost use Rattle.acl_tree.specs.acl_entry.Mentions.{named_groups};
 ghost use Rattle.acl_rights.specs.Inner.{same_ids, same_mentions, is_regrouped, regrouped};
 
-use acl_tree::{Entry, FilesFinder, Id, Key, Label, Record, Tree};
+use acl_tree::{Entry, FilesFinder, Id, Key, Label, Tree};
+use acl_verdicts::Record;
 use std::alloc::{AllocError, Global};
 use std::rc::Rc;
 

@@ -10,7 +10,7 @@ ghost use Rattle.acl_rights.specs.Inner.{has_one};
 
 use crate::lists::GroupLists;
 use acl_tree::{Id, Path};
-use path_map::{MapEntry, PathMap};
+use entry_map::{MapEntry, PathMap};
 use std::alloc::{AllocError, Global};
 use std::rc::Rc;
 

@@ -3,6 +3,7 @@
 ghost use Rattle.std.specs.Prelude.{◌≡◌, ◌+◌, ◌-◌, ◌<◌, ◌≤◌, ◌^◌, true, [], Some, length, map, slice_get, count_by, IfOk};
 ghost use Rattle.path_map.specs.Entries.{IsInOrder};
 ghost use Rattle.path_map.specs.Below.{within, lies_in};
+ghost use Rattle.acl_tree.specs.acl_names.Made.{values};
 ghost use Rattle.acl_tree.specs.acl_people.KnownPeople.{persons};
 ghost use Rattle.acl_rights.specs.Groups.{AreLists};
 ghost use Rattle.acl_rights.specs.Costs.{all_pairs};
@@ -12,8 +13,10 @@ ghost use Rattle.acl_rights.specs.Grants.{GoesOn, GoesOnFrom, IsAfter, IsAfterLo
 use crate::lists::{GroupLists, records};
 use crate::paths_of_groups::paths_of_groups;
 use acl_tree::{GroupIds, Path, Staged, Subject, Tree, UserChange};
-use acl_verdicts::{ChangedRows, Grants, Judge, LabelRows, UpdatedWays, is_covered};
-use path_map::{Finder, PathMap};
+use acl_verdicts::{
+    ChangedRows, Grants, Judge, LabelRows, Record, UpdatedWays, is_covered, records_of,
+};
+use entry_map::{Finder, PathMap};
 use std::alloc::{AllocError, Global};
 use std::rc::Rc;
 
@@ -63,6 +66,42 @@ fn count_within(numbers: &PathMap<usize>, paths: &[Rc<Path>]) -> u64
 
 /// What is granted after a line by which files change and no user does: labels that no file had are asked for, and files
 /// that changed, and what is below them, are walked.
+fn after_changes<J: Judge>(
+    alloc: Global,
+    judge: &mut J,
+    grants: &Grants,
+    staged: &Staged,
+    changed: &[Rc<Record>],
+    gone: &[Rc<Record>],
+) -> Result<After, AllocError>
+    requires room { J.asked_of judge.old + most_asked staged.now < 2 ^ 64 }
+    requires counts { all_pairs staged.now.state < 2 ^ 64 }
+    requires goes { GoesOn J.verdict_of grants.now staged.now }
+    requires changed { values changed.now ≡ staged.now.changed }
+    requires gone { values gone.now ≡ staged.now.gone }
+    requires moved { staged.now.user_change ≡ UserChange.Unchanged }
+    ensures made { IfOk result (IsAfter J.verdict_of staged.now) }
+    ensures at_most { J.asked_of judge.new ≤ J.asked_of judge.old + most_asked staged.now }
+{
+    staged.tree().soundness_law();
+    let old = &grants.rows;
+    old.numbers.order_law();
+    let users = staged.people().all_subjects();
+    let new = old.with_files(alloc, judge, users, changed, gone)?;
+    let ChangedRows { rows, puts } = new;
+    rows.numbers.order_law();
+    let updated = grants
+        .ways
+        .updated(alloc, &old.numbers, &rows.numbers, &puts, gone)?;
+    let UpdatedWays { ways, walked } = updated;
+    Ok(After {
+        grants: grants.extended(alloc, rows, ways)?,
+        looked: 0,
+        refreshed: walked * staged.people().users() as u64,
+    })
+}
+
+/// What is granted after a line by which files change and no user does.
 fn after_files<J: Judge>(
     alloc: Global,
     judge: &mut J,
@@ -76,23 +115,10 @@ fn after_files<J: Judge>(
     ensures made { IfOk result (IsAfter J.verdict_of staged.now) }
     ensures at_most { J.asked_of judge.new ≤ J.asked_of judge.old + most_asked staged.now }
 {
-    staged.tree().soundness_law();
-    let old = &grants.rows;
-    old.numbers.order_law();
-    let users = staged.people().all_subjects();
-    let gone = staged.gone();
-    let new = old.with_files(alloc, judge, users, staged.changed(), gone)?;
-    let ChangedRows { rows, puts } = new;
-    rows.numbers.order_law();
-    let updated = grants
-        .ways
-        .updated(alloc, &old.numbers, &rows.numbers, &puts, gone)?;
-    let UpdatedWays { ways, walked } = updated;
-    Ok(After {
-        grants: grants.extended(alloc, rows, ways)?,
-        looked: 0,
-        refreshed: walked * staged.people().users() as u64,
-    })
+    let changed = records_of(alloc, staged.changed())?;
+    let gone = records_of(alloc, staged.gone())?;
+    let after = after_changes(alloc, judge, grants, staged, &changed, &gone)?;
+    Ok(after)
 }
 
 /// What is granted after a line by which files change and no user does. Where there are many numbers that no file has, all

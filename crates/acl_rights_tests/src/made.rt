@@ -1,9 +1,8 @@
 //! Short ways to make a state and its files in tests.
 use crate::lines::path;
-use acl_rights::{Command, Found, Path, Record, State, Table, Tree};
+use acl_rights::{Command, Found, Node, Path, State, Table, Tree};
 use std::alloc::Global;
 use std::process::Abort;
-use std::rc::Rc;
 
 const PASSWD: &[u8] = b"lisa:x:1001:50:Lisa:/home/lisa:/bin/sh\n\
 joe:x:1000:100:Joe:/home/joe:/bin/sh\nann:x:1002:100:Ann:/home/ann:/bin/sh\n";
@@ -34,27 +33,33 @@ pub fn setup(rt: &impl Abort, alloc: Global) -> State {
     state
 }
 
-fn record(rt: &impl Abort, alloc: Global, tree: &Tree, path: Path) -> Record {
-    let node = tree.get(&path).expect(rt, "a file");
-    let node = node.try_clone(alloc).expect(rt, "memory");
-    Record::new(Rc::new(alloc, path).expect(rt, "memory"), node)
-}
-
 /// A file of the tree, and whether another one is to be below it.
-fn found(rt: &impl Abort, alloc: Global, tree: &Tree, name: &[u8], has_below: bool) -> Found {
+fn found<'a>(
+    rt: &impl Abort,
+    alloc: Global,
+    tree: &'a Tree,
+    name: &[u8],
+    has_below: bool,
+) -> Found<'a> {
     let path = path(alloc, name).expect(rt, "a path");
-    let file = record(rt, alloc, tree, path);
-    Found::new(Rc::new(alloc, file).expect(rt, "memory"), has_below)
+    let mut found: Option<(&'a Path, &'a Node)> = None;
+    for file in tree.iter() {
+        if file.0.order(&path).is_eq() {
+            found = Some(file);
+        }
+    }
+    let file = found.expect(rt, "a file");
+    Found::new(file.0, file.1, has_below)
 }
 
 /// Files of the tree, in this order.
-pub fn all_found(
+pub fn all_found<'a>(
     rt: &impl Abort,
     alloc: Global,
-    tree: &Tree,
+    tree: &'a Tree,
     names: &[&[u8]],
     have_below: bool,
-) -> Vec<Found> {
+) -> Vec<Found<'a>> {
     let mut files = Vec::new(alloc);
     for name in names {
         files

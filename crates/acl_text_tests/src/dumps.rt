@@ -92,9 +92,9 @@ fn fault_of(alloc: Global, bytes: &[u8], dump_use: DumpUse) -> Option<TextFault>
 }
 
 /// A dump, and its fault with the number of the line.
-type Row = (&'static [u8], &'static str);
+pub type Row = (&'static [u8], &'static str);
 
-fn expect_faults(rt: &impl Abort, alloc: Global, dump_use: DumpUse, rows: &[Row]) {
+pub fn expect_faults(rt: &impl Abort, alloc: Global, dump_use: DumpUse, rows: &[Row]) {
     for (bytes, want) in rows {
         expect_fault(rt, alloc, fault_of(alloc, bytes, dump_use), want);
     }
@@ -311,7 +311,7 @@ fn expect_records(
 }
 
 /// The dump is read as the slow reader reads it.
-fn agrees(rt: &impl Abort, alloc: Global, bytes: &[u8], dump_use: DumpUse) {
+pub fn agrees(rt: &impl Abort, alloc: Global, bytes: &[u8], dump_use: DumpUse) {
     match read(rt, alloc, bytes, dump_use) {
         Ok(slow) => expect_records(rt, alloc, bytes, dump_use, &slow),
         Err(fault) => assert!(rt; fault_of(alloc, bytes, dump_use) == Some(fault)),

@@ -5,6 +5,8 @@
 #[cfg(test)]
 mod attributes;
 #[cfg(test)]
+mod bodies;
+#[cfg(test)]
 mod cut_entries;
 #[cfg(test)]
 mod dumps;

@@ -184,6 +184,69 @@ fn parents(rt: HostRuntime) {
     }
 }
 
+/// Paths with their parents: of some bytes less than lie in the value of a path, as many, one more, and many more.
+static LENGTHS: [(&[u8], &[u8]); 7] = [
+    (b"dev", b"."),
+    (
+        b"012345678/012345678/012345678/abcdef",
+        b"012345678/012345678/012345678",
+    ),
+    (
+        b"012345678/012345678/012345678/abcdefg",
+        b"012345678/012345678/012345678",
+    ),
+    (
+        b"012345678/012345678/012345678/abcdefgh",
+        b"012345678/012345678/012345678",
+    ),
+    (
+        b"012345678/012345678/012345678/0123456/a",
+        b"012345678/012345678/012345678/0123456",
+    ),
+    (
+        b"012345678/012345678/012345678/01234567/a",
+        b"012345678/012345678/012345678/01234567",
+    ),
+    (
+        b"a-name-of-more-than-thirty-eight-bytes-012345678/012345678/012345678/b/c",
+        b"a-name-of-more-than-thirty-eight-bytes-012345678/012345678/012345678/b",
+    ),
+];
+
+/// The path is written like this, and so are its parent and what it begins with as its parent does.
+fn expect_whole(rt: &impl Abort, alloc: Global, path: Path, want: &[u8], parent: &[u8]) {
+    expect_text(rt, alloc, &path, want);
+    let above = path.parent(alloc).expect(rt, "memory");
+    expect_text(rt, alloc, &above, parent);
+    let begun = path.common(alloc, &above).expect(rt, "memory");
+    expect_text(rt, alloc, &begun, parent);
+}
+
+#[test]
+fn paths_of_each_length(rt: HostRuntime) {
+    for (text, parent) in &LENGTHS {
+        let path = path(&rt, rt.alloc(), text);
+        expect_whole(&rt, rt.alloc(), path, text, parent);
+    }
+}
+
+#[test]
+fn copies_of_each_length(rt: HostRuntime) {
+    for (text, parent) in &LENGTHS {
+        let path = path(&rt, rt.alloc(), text);
+        let again = path.try_clone(rt.alloc()).expect(&rt, "memory");
+        expect_whole(&rt, rt.alloc(), again, text, parent);
+    }
+}
+
+#[test]
+fn paths_in_parts_of_each_length(rt: HostRuntime) {
+    for (text, parent) in &LENGTHS {
+        let path = path_in_parts(&rt, rt.alloc(), text);
+        expect_whole(&rt, rt.alloc(), path, text, parent);
+    }
+}
+
 fn common(rt: &impl Abort, alloc: Global, left: &[u8], right: &[u8]) -> Path {
     let left = path(rt, alloc, left);
     let right = path(rt, alloc, right);

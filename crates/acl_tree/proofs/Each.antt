@@ -19,7 +19,10 @@ use Rattle.acl_files.specs.Edits.{unless_missing}
 use Rattle.acl_files.specs.Restoring.{restore_one, paths_of, restored_tree}
 use Rattle.acl_files.specs.Inner.{ok_or, node_after}
 use Rattle.acl_tree.specs.Laws.{EditsEach}
+use Rattle.acl_files.specs.Changed.{gone_between}
+use Rattle.acl_files.proofs.Changes.{gone-edited}
 use Rattle.acl_files.proofs.Edits.{put_edits}
+use Rattle.acl_files.proofs.Selected.{filter_alike}
 
 err_is_not_ok : {A B : Type 0} (a : A) (b : B) → Err b ≡ Ok a → ⊥
 err_is_not_ok a b h = cc
@@ -89,6 +92,22 @@ module _ (edit : PathOf → Node → Result Node EditFault) where
   files_in es (Ok t) = t.files
   files_in es (Err fault) = es
 
+  -- what is edited
+  pub edited_files : (recursive : Bool) (paths : List PathOf) (old new : Recorded) → IsInOrder old.files → edit_all edit recursive paths old ≡ Ok new → new.files ≡ edit_files (is_file recursive paths) (node_after edit) old.files
+  edited_files recursive paths old new order h = by (edit_each edit (files_meant recursive paths old.files)) refl h
+    where
+      by : (r : Result Files FileFault) → edit_each edit (files_meant recursive paths old.files) ≡ r → with_edits old r ≡ Ok new → new.files ≡ edit_files (is_file recursive paths) (node_after edit) old.files
+      by (Err f) is h = absurd (err_is_not_ok _ _ h)
+      by (Ok ns) is h = ap (files_in old.files) (sym h) ∙ put_edits edit recursive paths old.files ns order is
+
+  pub kept_edited : (recursive : Bool) (paths : List PathOf) (old new : Recorded) → IsInOrder old.files → edit_all edit recursive paths old ≡ Ok new → gone_between old.files new.files ≡ []
+  kept_edited recursive paths old new order h =
+      ap (λ es. gone_between old.files es) (edited_files recursive paths old new order h) ∙ gone-edited (is_file recursive paths) (node_after edit) old.files order
+
+  -- the same files are edited by other words
+  pub edit_alike : (r s : Bool) (ps qs : List PathOf) (t : Recorded) → ((q : PathOf) → is_file r ps q ≡ is_file s qs q) → edit_all edit r ps t ≡ edit_all edit s qs t
+  edit_alike r s ps qs t same = ap (λ es. with_edits t (edit_each edit es)) (filter_alike (is_file r ps) (is_file s qs) same t.files)
+
   pub edits_each : (recursive : Bool) (paths : List PathOf) (old new : Recorded) → IsInOrder old.files → edit_all edit recursive paths old ≡ Ok new → EditsEach edit recursive paths old new
   edits_each recursive paths old new order h = by (edit_each edit (files_meant recursive paths old.files)) refl h
     where
@@ -103,7 +122,7 @@ module _ (edit : PathOf → Node → Result Node EditFault) where
         where
           found : (p : PathOf) → find path_cmp p new.files ≡ option_map (λ n. if is_file recursive paths p then node_after edit p n else n) (find path_cmp p old.files)
           found p =
-              ap (λ es. find path_cmp p es) (ap (files_in old.files) (sym h) ∙ put_edits edit recursive paths old.files ns order is)
+              ap (λ es. find path_cmp p es) (edited_files recursive paths old new order (ap (with_edits old) is ∙ h))
               ∙ find-edited p (is_file recursive paths) (node_after edit) old.files
 
 none_missing : (missing : Option PathOf) (r : Result Recorded FileFault) (new : Recorded) → unless_missing missing r ≡ Ok new → r ≡ Ok new
@@ -122,3 +141,8 @@ edit_each_file recursive paths e old new order h =
 pub restore_each_file : (records : List DumpRecord) (old new : Recorded) → IsInOrder old.files → restored_tree records old ≡ Ok new → EditsEach (restore_one records) false (paths_of records) old new
 restore_each_file records old new order h =
     edits_each (restore_one records) false (paths_of records) old new order (none_missing (first_missing (paths_of records) old.files) (edit_all (restore_one records) false (paths_of records) old) new h)
+
+-- no file is gone by a restore
+pub kept_restored : (records : List DumpRecord) (old new : Recorded) → IsInOrder old.files → restored_tree records old ≡ Ok new → gone_between old.files new.files ≡ []
+kept_restored records old new order h =
+    kept_edited (restore_one records) false (paths_of records) old new order (none_missing (first_missing (paths_of records) old.files) (edit_all (restore_one records) false (paths_of records) old) new h)

@@ -1,8 +1,7 @@
 -- A file put among others: what it changes, and that the tree stays sound.
-use Rattle.std.proofs.Common.{◌≡◌, ℕ, suc, ◌<◌, ◌≤◌, arith, Bool, true, false, not, cond, eqb, ◌||◌, List, [], ◌∷◌, length, filter, Option, Some, None, is_some, Result, Ok, Err, if◌then◌else◌, nat_lt, ltb-false, Ordering, Less, Equal, Greater, refl, sym, ap, subst, ◌∙◌, true≢false}
+use Rattle.std.proofs.Common.{◌≡◌, ℕ, suc, ◌<◌, ◌≤◌, arith, Bool, true, false, cond, eqb, ◌||◌, List, [], ◌∷◌, length, filter, Option, Some, None, is_some, Result, Ok, Err, if◌then◌else◌, nat_lt, ltb-false, Ordering, Less, Equal, Greater, refl, sym, ap, subst, ◌∙◌, true≢false}
 use Rattle.std.specs.Prelude.{MatchOption}
 use Rattle.std.specs.List.{list_any}
-use Rattle.std.specs.Option.{option_map_or}
 use Rattle.std.specs.Ordering.{is_eq, eq_by_cmp}
 use Rattle.std.specs.FinMap.{find, put}
 use Rattle.std.specs.FinMap.Entries.{by_order}
@@ -18,17 +17,17 @@ use Rattle.acl_files.specs.acl_edit.declared.node.Kind.TheVariants.{Plain, Direc
 use Rattle.acl_files.specs.path_map.Merged.{has}
 use Rattle.acl_files.proofs.of_acl_names.Below.{below_within, not_before, not_below_itself, within_below, within_itself}
 use Rattle.acl_files.proofs.of_acl_names.Parents.{below_parent}
-use Rattle.acl_files.proofs.of_path_map.Differences.{Fail, put_passes, Leads, leads_all, has_put_all}
+use Rattle.acl_files.proofs.of_path_map.Differences.{Leads, leads_all, has_put_all}
 use Rattle.acl_files.specs.Files.{PathOf, Files, Recorded, max_files}
 use Rattle.acl_files.specs.acl_names.Below.{is_above, encloses, parent}
-use Rattle.acl_files.specs.Changed.{same_label, is_changed, changed_between, gone_between}
+use Rattle.acl_files.specs.Changed.{gone_between}
 use Rattle.acl_tree.specs.Creat.{exists, only_directory, directory_at, creat_in, creat_by}
 use Rattle.acl_tree.specs.declared.command.NewFile.{NewFile}
 use Rattle.acl_files.specs.declared.fault.TreeFault.{TreeFault}
 use Rattle.acl_files.specs.declared.fault.TreeFault.TheVariants.{NotDirectory, Exists, TooMany}
 use Rattle.acl_tree.specs.Inner.{IsNewIn}
 use Rattle.acl_files.specs.Sound.{holds_below, IsPlaced, ArePlaced, IsSoundTree}
-use Rattle.acl_files.proofs.Changes.{label_itself}
+use Rattle.acl_files.proofs.Changes.{none_gone}
 use Rattle.acl_files.proofs.Shared.{in_order-put}
 
 -- ---- tests of lists
@@ -224,30 +223,9 @@ module _ (t : Recorded) (sound : IsSoundTree t) (e : PathOf × Node) (new : IsNe
       some_is_not_none : {A : Type 0} (a : A) → Some a ≡ None → ⊥
       some_is_not_none a h = cc
 
-  -- ---- what changes
-
-  fail_old : (es : Files) → Leads t.files es → Fail (is_changed t.files) es
-  fail_old [] h = tt
-  fail_old (x ∷ es) h = (ap (λ o. option_map_or (λ n. not (same_label n.label x.1.label)) o true) h.0 ∙ ap not (label_itself x.1.label), fail_old es h.1)
-
-  pub changed_with : changed_between t.files all ≡ e ∷ []
-  changed_with =
-      put_passes (is_changed t.files) (e ∷ []) t.files refl (fail_old t.files (leads_all t.files sound.order))
-      ∙ ap (λ o. cond (option_map_or (λ n. not (same_label n.label e.1.label)) o true) (e ∷ []) []) (absent_found e.0 t.files new.absent)
-
+  -- no file is gone
   pub gone_with : gone_between t.files all ≡ []
-  gone_with = each t.files (leads_all t.files sound.order)
-    where
-      last : (a b : Bool) → b ≡ true → not (a || b) ≡ false
-      last true b h = refl
-      last false b h = ap not h
-
-      each : (es : Files) → Leads t.files es → filter (λ x. not (has x.0 all)) es ≡ []
-      each [] h = refl
-      each (x ∷ es) h =
-          ap (λ b. cond b (x ∷ filter (λ x. not (has x.0 all)) es) (filter (λ x. not (has x.0 all)) es))
-          (ap not (has_put_all x.0 (e ∷ []) t.files) ∙ last (has x.0 (e ∷ [])) (has x.0 t.files) (ap is_some h.0))
-          ∙ each es h.1
+  gone_with = none_gone t.files all sound.order (λ p h. has_put_all p (e ∷ []) t.files ∙ later (has p (e ∷ [])) (has p t.files) h)
 
 -- ---- the new file of a user
 

@@ -1,24 +1,23 @@
 -- Files removed: what is gone, and that the tree stays sound.
 use Rattle.std.proofs.Common.{◌≡◌, suc, ◌≤◌, arith, Bool, true, false, not, cond, eqb, ◌&&◌, ◌||◌, List, [], ◌∷◌, length, filter, Option, Some, None, is_some, refl, sym, ap, subst, ◌∙◌, true≢false}
 use Rattle.std.specs.List.{AllByRecursion}
-use Rattle.std.specs.Option.{option_map_or, option_or}
+use Rattle.std.specs.Option.{option_or}
 use Rattle.std.specs.Ordering.{eq_by_cmp}
 use Rattle.std.specs.FinMap.{find}
 use Rattle.acl_files.specs.acl_names.Paths.{path_cmp}
 use Rattle.acl_files.specs.acl_edit.Nodes.{is_directory}
 use Rattle.acl_files.specs.acl_edit.declared.node.Node.{Node}
-use Rattle.acl_files.specs.path_map.Merged.{has, without_all}
+use Rattle.acl_files.specs.path_map.Merged.{has}
 use Rattle.acl_files.proofs.of_path_map.Differences.{Leads, leads_all, has_where}
 pub use Rattle.acl_files.proofs.of_path_map.Rows.{in_order-filter}
 use Rattle.acl_files.specs.declared.fault.TreeFault.{TreeFault}
 use Rattle.acl_files.specs.declared.fault.TreeFault.TheVariants.{IsDirectory}
 use Rattle.acl_files.specs.Files.{PathOf, Files, Recorded, IsInOrder}
 use Rattle.acl_files.specs.acl_names.Below.{is_above, encloses}
-use Rattle.acl_files.specs.Changed.{same_label, is_changed, changed_between, gone_between}
+use Rattle.acl_files.specs.Changed.{gone_between}
 use Rattle.acl_files.specs.Operands.{is_file, files_meant}
 use Rattle.acl_tree.specs.Rm.{refusal, first_refused, without_files}
 use Rattle.acl_files.specs.Sound.{holds_below, IsPlaced, ArePlaced, IsSoundTree}
-use Rattle.acl_files.proofs.Changes.{label_itself}
 use Rattle.acl_files.proofs.of_acl_names.Below.{below_within, within_trans}
 use Rattle.acl_files.proofs.Selected.{same_path}
 
@@ -37,17 +36,9 @@ later : (a b : Bool) → b ≡ true → (a || b) ≡ true
 later true b h = refl
 later false b h = h
 
--- ---- what is left and what is gone
+-- ---- what is gone
 
 module _ (test : PathOf → Bool) (t : Files) (order : IsInOrder t) where
-  -- without the files that pass a test, those are left that do not
-  pub left_where : without_all (filter (λ e. test e.0) t) t ≡ filter (λ e. not (test e.0)) t
-  left_where = each t (leads_all t order)
-    where
-      each : (es : Files) → Leads t es → filter (λ e. not (has e.0 (filter (λ e. test e.0) t))) es ≡ filter (λ e. not (test e.0)) es
-      each [] h = refl
-      each (e ∷ es) h = λ i. cond (not ((has_where test e.0 t ∙ and_true (test e.0) (has e.0 t) (ap is_some h.0)) i)) (e ∷ each es h.1 i) (each es h.1 i)
-
   pub gone_from : gone_between t (filter (λ e. not (test e.0)) t) ≡ filter (λ e. test e.0) t
   gone_from = each t (leads_all t order)
     where
@@ -55,20 +46,6 @@ module _ (test : PathOf → Bool) (t : Files) (order : IsInOrder t) where
       each [] h = refl
       each (e ∷ es) h =
           λ i. cond ((ap not (has_where (λ p. not (test p)) e.0 t ∙ and_true (not (test e.0)) (has e.0 t) (ap is_some h.0)) ∙ not_twice (test e.0)) i) (e ∷ each es h.1 i) (each es h.1 i)
-
-  pub none_changed : changed_between t (filter (λ e. not (test e.0)) t) ≡ []
-  none_changed = each t (leads_all t order)
-    where
-      pass : (b : Bool) (e : PathOf × Node) (es : Files) → is_changed t e ≡ false → filter (is_changed t) es ≡ [] → filter (is_changed t) (cond b (e ∷ es) es) ≡ []
-      pass true e es h rest = ap (λ b. cond b (e ∷ filter (is_changed t) es) (filter (is_changed t) es)) h ∙ rest
-      pass false e es h rest = rest
-
-      each : (es : Files) → Leads t es → filter (is_changed t) (filter (λ e. not (test e.0)) es) ≡ []
-      each [] h = refl
-      each (e ∷ es) h =
-          pass (not (test e.0)) e (filter (λ e. not (test e.0)) es)
-          (ap (λ o. option_map_or (λ n. not (same_label n.label e.1.label)) o true) h.0 ∙ ap not (label_itself e.1.label))
-          (each es h.1)
 
 -- ---- soundness
 

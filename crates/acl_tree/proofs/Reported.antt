@@ -1,67 +1,37 @@
 -- What a staged state reports of its changes.
-use Rattle.std.proofs.Common.{◌≡◌, ◌≢◌, ℕ, List, [], ◌∷◌, filter, true, false, refl, sym, ap, subst, ◌∙◌}
+use Rattle.std.proofs.Common.{◌≡◌, ◌≢◌, ℕ, List, [], ◌∷◌, false, refl, sym, ap, subst, ◌∙◌}
 use Rattle.std.specs.List.{AllByRecursion}
 use Rattle.acl_people.specs.KnownPeople.{KnownPeople, persons}
 use Rattle.acl_people.specs.Moves.{MovesUser}
+use Rattle.acl_tree.specs.declared.user_change.UserChange.{UserChange}
 use Rattle.acl_tree.specs.declared.user_change.UserChange.TheVariants.{Unchanged}
 use Rattle.acl_files.specs.Files.{Files, Recorded, IsInOrder}
-use Rattle.acl_files.specs.Changed.{changed_between, gone_between}
+use Rattle.acl_files.specs.Changed.{gone_between}
 use Rattle.acl_files.specs.Sound.{holds_below}
 use Rattle.acl_tree.specs.Step.{State, state_from}
-use Rattle.acl_tree.specs.Reports.{StagedState, move_of, UsersMoved, Reports}
-use Rattle.acl_files.proofs.Changes.{all_changed}
-use Rattle.acl_tree.proofs.Removals.{gone_from, none_changed}
+use Rattle.acl_tree.specs.Reports.{StagedState, move_of, UsersMoved, Reports, staged_from}
+use Rattle.acl_files.proofs.Changes.{none_gone}
 
-module _ (old : State) (s : StagedState) where
-  same_users : s.user_change ≡ Unchanged → s.state.people ≡ old.people → UsersMoved old s.state s.user_change
-  same_users is people = subst (λ m. UsersMoved old s.state m) (sym is) (ap persons people)
-
-  none_apart : s.gone ≡ [] → AllByRecursion (λ e. holds_below s.state.tree.files e.0 ≡ false) s.gone
-  none_apart none = subst (AllByRecursion (λ e. holds_below s.state.tree.files e.0 ≡ false)) (sym none) tt
-
-  -- after a load of files, where there was none
-  pub reported_load : old.tree.files ≡ [] → s.changed ≡ s.state.tree.files → s.gone ≡ [] → s.user_change ≡ Unchanged → s.state.people ≡ old.people → Reports old s
-  reported_load none all gone moved people = record {
-    changed = all ∙ sym (ap (λ es. changed_between es s.state.tree.files) none ∙ all_changed s.state.tree.files);
-    gone = gone ∙ sym (ap (λ es. gone_between es s.state.tree.files) none);
-    apart = none_apart gone;
-    users = same_users moved people;
-  }
-
+module _ (old new : State) (change : UserChange) (s : StagedState) (is : s ≡ staged_from old.tree.files new change) where
   -- after files are removed
-  pub reported_removal : s.changed ≡ changed_between old.tree.files s.state.tree.files → s.gone ≡ gone_between old.tree.files s.state.tree.files → AllByRecursion (λ e. holds_below s.state.tree.files e.0 ≡ false) s.gone → s.user_change ≡ Unchanged → s.state.people ≡ old.people → Reports old s
-  reported_removal changed gone apart moved people = record { changed = changed; gone = gone; apart = apart; users = same_users moved people }
+  pub reported_removal : AllByRecursion (λ e. holds_below new.tree.files e.0 ≡ false) (gone_between old.tree.files new.tree.files) → UsersMoved old new change → Reports old s
+  reported_removal apart users = subst (λ s. Reports old s) (sym is) (record { changed = refl; gone = refl; apart = apart; users = users })
 
-  -- after a change of files of which none is gone
-  pub reported_change : (new : Files) → s.state.tree.files ≡ new → s.changed ≡ changed_between old.tree.files new → s.gone ≡ [] → gone_between old.tree.files new ≡ [] → s.user_change ≡ Unchanged → s.state.people ≡ old.people → Reports old s
-  reported_change new is changed gone kept moved people = record {
-    changed = changed ∙ ap (λ es. changed_between old.tree.files es) (sym is);
-    gone = gone ∙ sym (ap (λ es. gone_between old.tree.files es) is ∙ kept);
-    apart = none_apart gone;
-    users = same_users moved people;
-  }
+  -- after a change of which none is gone
+  pub reported_change : gone_between old.tree.files new.tree.files ≡ [] → UsersMoved old new change → Reports old s
+  reported_change kept users = reported_removal (subst (λ (es : Files). AllByRecursion (λ e. holds_below new.tree.files e.0 ≡ false) es) (sym kept) tt) users
 
--- ---- a change of people alone
-
-all_kept : (t : Files) → filter (λ e. true) t ≡ t
-all_kept [] = refl
-all_kept (e ∷ t) = ap (λ es. e ∷ es) (all_kept t)
-
-none_kept : (t : Files) → filter (λ e. false) t ≡ []
-none_kept [] = refl
-none_kept (e ∷ t) = none_kept t
+-- after a command on files
+module _ (old new : State) (s : StagedState) (is : s ≡ staged_from old.tree.files new Unchanged) (people : new.people ≡ old.people) where
+  pub reported_files : gone_between old.tree.files new.tree.files ≡ [] → Reports old s
+  reported_files kept = reported_change old new Unchanged s is kept (ap persons people)
 
 -- after a change of people
-pub reported_people : (old : State) (s : StagedState) → IsInOrder old.tree.files → s.state.tree ≡ old.tree → s.changed ≡ [] → s.gone ≡ [] → UsersMoved old s.state s.user_change → Reports old s
-reported_people old s order same changed gone users =
-    let t : Files = old.tree.files in
-    let files : s.state.tree.files ≡ t = ap (λ (tree : Recorded). tree.files) same in
-    record {
-      changed = changed ∙ sym (ap (λ es. changed_between t es) (files ∙ sym (all_kept t)) ∙ none_changed (λ _. false) t order);
-      gone = gone ∙ sym (ap (λ es. gone_between t es) (files ∙ sym (all_kept t)) ∙ gone_from (λ _. false) t order ∙ none_kept t);
-      apart = none_apart old s gone;
-      users = users;
-    }
+pub reported_people : (old new : State) (change : UserChange) (s : StagedState) → s ≡ staged_from old.tree.files new change → IsInOrder old.tree.files → new.tree ≡ old.tree → UsersMoved old new change → Reports old s
+reported_people old new change s is order same users =
+    reported_change old new change s is
+    (ap (λ (t : Recorded). gone_between old.tree.files t.files) same ∙ none_gone old.tree.files old.tree.files order (λ p h. h))
+    users
 
 -- a user who joined or left no group did not move
 pub user_moved : (tree : Recorded) (known next : KnownPeople) (user : ℕ) (ids : List ℕ) → MovesUser (persons known) (persons next) user ids → (ids ≡ [] → persons next ≡ persons known)

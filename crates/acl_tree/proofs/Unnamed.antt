@@ -112,7 +112,7 @@ module _ (new : NewFile) (t made : Recorded) where
 
 -- ---- rm
 
-not_removed : (p : PathOf) (recursive : Bool) (paths : List PathOf) (t : Files) → is_file recursive paths p ≡ false → find path_cmp p (without_files recursive paths t) ≡ find path_cmp p t
+pub not_removed : (p : PathOf) (recursive : Bool) (paths : List PathOf) (t : Files) → is_file recursive paths p ≡ false → find path_cmp p (without_files recursive paths t) ≡ find path_cmp p t
 not_removed p recursive paths t out =
     find-where_key path_cmp (λ q. not (is_file recursive paths q)) p (λ q tied. ap (λ q. not (is_file recursive paths q)) (sym (exact_paths p q tied))) t
     ∙ ap (λ b. cond (not b) (find path_cmp p t) None) out

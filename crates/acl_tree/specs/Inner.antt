@@ -1,5 +1,5 @@
 -- For inner functions: no public contract names these definitions.
-use Rattle.std.specs.Prelude.{◌≡◌, ◌≢◌, ◌<◌, [], length, Option, Some, None, false, Result, MatchResult}
+use Rattle.std.specs.Prelude.{◌≡◌, ◌≢◌, ◌<◌, length, Option, Some, None, false, Result, MatchResult}
 use Rattle.std.specs.FinMap.{find}
 use Rattle.acl_files.specs.acl_names.Paths.{path_cmp}
 use Rattle.acl_files.specs.acl_syntax.InTurn.{GivesUnless}
@@ -14,7 +14,7 @@ use Rattle.acl_files.specs.acl_names.Below.{parent}
 use Rattle.acl_people.specs.KnownPeople.{KnownPeople}
 use Rattle.acl_tree.specs.Creat.{exists}
 use Rattle.acl_tree.specs.Step.{State, state_from}
-use Rattle.acl_tree.specs.Reports.{StagedState, UsersMoved, Reports}
+use Rattle.acl_tree.specs.Reports.{StagedState, UsersMoved, Reports, staged_from}
 use Rattle.acl_tree.specs.declared.user_change.UserChange.{UserChange}
 use Rattle.acl_tree.specs.declared.state.BorrowedState.{BorrowedState}
 
@@ -44,7 +44,7 @@ pub record IsStaged (old : State) (user_change : UserChange) (staged : StagedSta
 
 -- the same files with other people: it reports what that changes of a state with these files whose users moved so
 pub record StagesPeople (tree : Recorded) (people : KnownPeople) (user_change : UserChange) (staged : StagedState) : Type 0 where
-  pub all : staged ≡ record { state = state_from tree people; changed = []; gone = []; user_change = user_change }
+  pub all : staged ≡ staged_from tree.files (state_from tree people) user_change
   pub sound : IsSoundTree staged.state.tree
   pub reports : (old : KnownPeople) → UsersMoved (state_from tree old) (state_from tree people) user_change → Reports (state_from tree old) staged
 

@@ -35,6 +35,11 @@ coded_staged =
     code_by (State × (Files × (Files × UserChange))) (coded× coded_state (coded× coded_files (coded× coded_files moved_contracts.the_row.coded)))
     (λ s. (s.state, (s.changed, (s.gone, s.user_change)))) (λ p. record { state = p.0; changed = p.1.0; gone = p.1.1.0; user_change = p.1.1.1 }) (λ _. refl)
 
+-- what the state after a command changes of the files before it
+abbrev pub staged_from : Files → State → UserChange → StagedState
+staged_from old new user_change =
+    record { state = new; changed = changed_between old new.tree.files; gone = gone_between old new.tree.files; user_change = user_change }
+
 abbrev pub load_moves : Table → UserChange
 load_moves Passwd = Loaded
 load_moves Group = Loaded

@@ -1,5 +1,5 @@
 -- The whole state, and what a command makes of it.
-use Rattle.std.specs.Prelude.{◌≡◌, ℕ, List, length, Bool, true, false, nat_lt, ◌||◌, if◌then◌else◌, Option, Some, None, Result, Ok, Err, refl}
+use Rattle.std.specs.Prelude.{ℕ, List, length, Bool, true, false, nat_lt, ◌||◌, if◌then◌else◌, Option, Some, None, Result, Ok, Err, refl}
 use Rattle.std.specs.Coded.{Coded, code_by, coded×}
 use Rattle.acl_files.specs.acl_syntax.declared.fault.TextFault.{TextFault}
 use Rattle.acl_files.specs.acl_syntax.InTurn.{GivesUnless}

@@ -15,11 +15,9 @@ use crate::command::NewFile;
 use crate::dump::MAX_FILES;
 use crate::state::BorrowedState;
 use crate::step::Staged;
-use crate::user_change::UserChange;
-use acl_files::{Files, Kind, Name, Node, PasswdRow, Path, Record, TreeFault, create};
+use acl_files::{Files, Kind, Name, Node, PasswdRow, Path, Region, TreeFault, create, put_file};
 use acl_people::People;
-use std::alloc::{AllocError, Global};
-use std::rc::Rc;
+use std::alloc::Global;
 
 /// The row of the user that a word means.
 fn row_of<'a>(alloc: Global, people: &'a People, user: &Name) -> Result<&'a PasswdRow, TreeFault>
@@ -42,7 +40,7 @@ fn row_of<'a>(alloc: Global, people: &'a People, user: &Name) -> Result<&'a Pass
 fn exists(tree: &Files, path: &Path) -> bool
     ensures { result ≡ exists path.now tree.now.files }
 {
-    tree.files_by_path().within(path).next().is_some()
+    tree.files_by_path().has_within(path)
 }
 
 /// The directory of a new file.
@@ -76,16 +74,16 @@ fn node_of(
     }
 }
 
-/// The new file of a user.
+/// The node of a user's new file.
 fn new_file(
     alloc: Global,
     tree: &Files,
     new: &NewFile,
     owner: &PasswdRow,
-) -> Result<Rc<Record>, TreeFault>
-    ensures made { Gives (λ file. record tree.now { files = put path_cmp file.value.0 file.value.1 tree.now.files }) result
+) -> Result<Node, TreeFault>
+    ensures made { Gives (λ node. record tree.now { files = put path_cmp new.now.path node tree.now.files }) result
         (creat_by new.now tree.now (Some owner.now)) }
-    ensures fits { IfOk result (λ file. IsNewIn tree.now.files file.value) }
+    ensures fits { IfOk result (λ node. IsNewIn tree.now.files (new.now.path, node)) }
 {
     tree.soundness_law();
     if exists(tree, &new.path) {
@@ -97,9 +95,7 @@ fn new_file(
     if tree.files_by_path().len() >= MAX_FILES {
         return Err(TreeFault::TooMany);
     }
-    let node = node_of(alloc, directory, new, owner)?;
-    let path = Rc::new(alloc, new.path.try_clone(alloc)?)?;
-    Ok(Rc::new(alloc, Record::new(path, node))?)
+    Ok(node_of(alloc, directory, new, owner)?)
 }
 
 /// Makes a file.
@@ -110,17 +106,11 @@ pub(crate) fn prepare_creat(
 ) -> Result<Staged, TreeFault>
     ensures { Prepares (whole state.now) (Creat new.now) result }
 {
-    let (tree, people) = (state.tree, state.people);
-    let owner = row_of(alloc, people, &new.user)?;
-    let file = new_file(alloc, tree, new, owner)?;
-    let mut changed = Vec::new(alloc);
-    changed.push(file)?;
-    let files = tree.files_by_path().put_all(alloc, &changed)?;
-    Ok(Staged::of(
-        Files::of(files, tree.is_loaded()),
-        people.share()?,
-        changed,
-        Vec::new(alloc),
-        UserChange::Unchanged,
-    ))
+    let tree = state.tree;
+    let owner = row_of(alloc, state.people, &new.user)?;
+    let node = new_file(alloc, tree, new, owner)?;
+    let by_path = put_file(alloc, tree.files_by_path(), &new.path, node)?;
+    let files = Files::of(by_path, tree.is_loaded());
+    let staged = Staged::with_files(state, files, Region::at(alloc, &new.path)?)?;
+    Ok(staged)
 }

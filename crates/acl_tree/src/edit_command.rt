@@ -1,18 +1,18 @@
 //! Files are edited: setfacl(1) and chacl(1), `setfacl --restore`, chmod(1).
 
 ghost use Rattle.std.specs.Prelude.{◌≡◌, IfOk};
-ghost use Rattle.acl_files.specs.Edits.{edit_all};
+ghost use Rattle.acl_files.specs.Edits.{of_each, edit_all};
 ghost use Rattle.acl_files.specs.acl_syntax.InTurn.{GivesUnless};
 ghost use Rattle.acl_tree.specs.Inner.{IsStaged, whole};
 ghost use Rattle.acl_tree.specs.Reports.{Prepares};
+ghost use Rattle.acl_tree.specs.declared.user_change.UserChange.{UserChange};
 ghost use Rattle.acl_tree.specs.declared.command.Command.TheVariants as commands;
 ghost use Rattle.acl_tree.specs.declared.command.Command.TheVariants.{Restore};
 
 use crate::state::BorrowedState;
 use crate::step::Staged;
-use crate::user_change::UserChange;
 use acl_files::{
-    DumpRecords, Edit, EditFault, FileFault, Node, NodeEdit, Path, Selection, TreeFault, apply,
+    DumpRecords, Edit, EditFault, FileFault, Node, NodeEdit, Region, Selection, TreeFault, apply,
     chmod, edit_files, look_up, restore_files,
 };
 use std::alloc::Global;
@@ -25,11 +25,11 @@ struct EachFile<'a> {
 }
 
 impl NodeEdit for EachFile<'_> {
-    ghost use Rattle.acl_tree.specs.EditCommand.{edit_one};
+    ghost use Rattle.acl_files.specs.acl_edit.Edits as edits;
 
-    ghost edited = { λ each. edit_one each.edit.now each.recursive };
+    ghost edited = { λ each n. edits.edit n each.edit.now each.recursive };
 
-    fn edited(&self, alloc: Global, _path: &Path, node: &Node) -> Result<Node, EditFault> {
+    fn edited(&self, alloc: Global, node: &Node) -> Result<Node, EditFault> {
         apply(alloc, node, self.edit, self.recursive)
     }
 
@@ -45,19 +45,15 @@ pub(crate) fn stage_edits<E: NodeEdit>(
     edit: &E,
 ) -> Result<Staged, FileFault>
     ensures made { GivesUnless FileFault.NoMemory (λ staged. staged.state.tree) result
-        (edit_all (E.edited edit.now) selection.now.recursive selection.now.operands.now state.now.tree.now) }
+        (edit_all (of_each (E.edited edit.now)) selection.now.recursive selection.now.operands.now state.now.tree.now) }
     ensures people { IfOk result (λ staged. staged.state.people ≡ state.now.people.now) }
     ensures staged { IfOk result (IsStaged (whole state.now) UserChange.Unchanged) }
 {
-    let mut changed = Vec::new(alloc);
-    let edited = edit_files(alloc, state.tree, &mut changed, selection, edit)?;
-    Ok(Staged::of(
-        edited,
-        state.people.share()?,
-        changed,
-        Vec::new(alloc),
-        UserChange::Unchanged,
-    ))
+    state.tree.soundness_law();
+    let touched = Region::of(alloc, selection)?;
+    let edited = edit_files(alloc, state.tree, &touched, edit)?;
+    let staged = Staged::with_files(state, edited, touched)?;
+    Ok(staged)
 }
 
 /// Edits the files of a command.
@@ -87,9 +83,9 @@ impl NodeEdit for Mode {
     ghost use Rattle.std.specs.Prelude.{Ok};
     ghost use Rattle.acl_files.specs.acl_edit.Nodes as nodes;
 
-    ghost edited = { λ mode _ n. Ok (nodes.chmod n mode.bits) };
+    ghost edited = { λ mode n. Ok (nodes.chmod n mode.bits) };
 
-    fn edited(&self, alloc: Global, _path: &Path, node: &Node) -> Result<Node, EditFault> {
+    fn edited(&self, alloc: Global, node: &Node) -> Result<Node, EditFault> {
         let mut node = node.try_clone(alloc)?;
         chmod(&mut node, self.bits);
         Ok(node)
@@ -124,13 +120,8 @@ pub(crate) fn prepare_restore(
 ) -> Result<Staged, TreeFault>
     ensures { Prepares (whole state.now) (Restore records.now) result }
 {
-    let mut changed = Vec::new(alloc);
-    let restored = restore_files(alloc, state.tree, &mut changed, records)?;
-    Ok(Staged::of(
-        restored,
-        state.people.share()?,
-        changed,
-        Vec::new(alloc),
-        UserChange::Unchanged,
-    ))
+    state.tree.soundness_law();
+    let restored = restore_files(alloc, state.tree, records)?;
+    let staged = Staged::with_files(state, restored, records.region(alloc)?)?;
+    Ok(staged)
 }

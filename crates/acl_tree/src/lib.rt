@@ -19,13 +19,13 @@ mod userdel;
 mod usermod;
 
 pub use acl_files::{
-    Acl, Change, ChangeEntries, ChangeFlags, Draft, DumpRecord, DumpRecords, DumpUse, Edit,
-    EditFault, Effective, Entry, FaultKind, FilesFinder, FilesIter, Form, Found, Header, Id, Key,
-    Kind, Label, ListFault, Name, Names, NoMemory, NoNames, Node, Path, Paths, Perm, Record,
-    Requests, Selection, Sep, Spec, Specs, Subject, TextFault, TreeFault, Want, Which,
-    append_entry, append_header, append_id, append_line, append_list, append_name, append_path,
-    append_short, each_record_is_a_file, granted, read_dump, read_entries, read_id, read_name,
-    read_path, read_perms, records_are_read_again, rising_ids, trim, write_name,
+    Acl, Change, ChangeEntries, ChangeFlags, Differences, Draft, DumpRecord, DumpRecords, DumpUse,
+    Edit, EditFault, Effective, Entry, FaultKind, FilesFinder, FilesIter, Form, Found, Header, Id,
+    Key, Kind, Label, ListFault, Name, Names, NoMemory, NoNames, Node, Path, Paths, Perm, Requests,
+    Selection, Sep, Spec, Specs, Subject, TextFault, TreeFault, Want, Which, append_entry,
+    append_header, append_id, append_line, append_list, append_name, append_path, append_short,
+    each_record_is_a_file, granted, read_dump, read_entries, read_id, read_name, read_path,
+    read_perms, records_are_read_again, rising_ids, trim, write_name,
 };
 pub use acl_people::{People, UserName};
 pub use command::{Command, Membership, NewFile, NewUser, Table};

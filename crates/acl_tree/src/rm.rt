@@ -1,21 +1,16 @@
 //! rm: files removed.
 
-ghost use Rattle.std.specs.Prelude.{◌≡◌, map, IfOk};
 ghost use Rattle.std.specs.FinMap.{find};
-ghost use Rattle.acl_files.specs.acl_names.Made.{values};
 ghost use Rattle.acl_files.specs.acl_names.Paths.{path_cmp};
 ghost use Rattle.acl_tree.specs.Inner.{IsRefusedFor, whole};
 ghost use Rattle.acl_tree.specs.Reports.{Prepares};
-ghost use Rattle.acl_files.specs.Inner.{file_of};
 ghost use Rattle.acl_tree.specs.Rm.{refusal, first_refused};
 ghost use Rattle.acl_tree.specs.declared.command.Command.TheVariants.{Rm};
 
 use crate::state::BorrowedState;
 use crate::step::Staged;
-use crate::user_change::UserChange;
-use acl_files::{Files, Found, Kind, Path, Record, Selection, TreeFault, select};
-use std::alloc::{AllocError, Global};
-use std::rc::Rc;
+use acl_files::{Files, Kind, Path, Region, Selection, TreeFault, without_files};
+use std::alloc::Global;
 
 /// Whether an operand may be removed.
 fn check_one(alloc: Global, tree: &Files, recursive: bool, path: &Path) -> Result<(), TreeFault>
@@ -46,17 +41,6 @@ fn check_all(alloc: Global, tree: &Files, selection: &Selection<'_>) -> Result<(
     Ok(())
 }
 
-/// The files found, for those that share them.
-fn records(alloc: Global, files: &[Found]) -> Result<Vec<Rc<Record>>, AllocError>
-    ensures { IfOk result (λ all. values all.items ≡ map file_of files.now) }
-{
-    let mut all = Vec::with_capacity(alloc, files.len())?;
-    for file in files {
-        all.push(file.shared_record().clone()?)?;
-    }
-    Ok(all)
-}
-
 /// Removes files.
 pub(crate) fn prepare_rm(
     alloc: Global,
@@ -65,16 +49,11 @@ pub(crate) fn prepare_rm(
 ) -> Result<Staged, TreeFault>
     ensures { Prepares (whole state.now) (Rm selection.now.operands.now selection.now.recursive) result }
 {
-    let (tree, people) = (state.tree, state.people);
+    let tree = state.tree;
     check_all(alloc, tree, selection)?;
-    let files = select(alloc, tree, selection)?;
-    let gone = records(alloc, &files)?;
-    let by_path = tree.files_by_path().without_all(alloc, &gone)?;
-    Ok(Staged::of(
-        Files::of(by_path, tree.is_loaded()),
-        people.share()?,
-        Vec::new(alloc),
-        gone,
-        UserChange::Unchanged,
-    ))
+    let touched = Region::of(alloc, selection)?;
+    let by_path = without_files(alloc, tree.files_by_path(), &touched)?;
+    let files = Files::of(by_path, tree.is_loaded());
+    let staged = Staged::with_files(state, files, touched)?;
+    Ok(staged)
 }

@@ -11,7 +11,7 @@ ghost use Rattle.acl_tree.specs.Memberships.{user_at, group_at};
 use crate::state::BorrowedState;
 use crate::step::Staged;
 use crate::user_change::{GroupIds, UserChange};
-use acl_files::{Files, Id, Name, TreeFault};
+use acl_files::{Files, Id, Name, Region, TreeFault};
 use acl_people::People;
 use std::alloc::{AllocError, Global};
 
@@ -25,13 +25,9 @@ pub(crate) fn stage_people(
     ensures { IfOk result (StagesPeople tree.now people user_change) }
 {
     tree.soundness_law();
-    Ok(Staged::of(
-        tree.share()?,
-        people,
-        Vec::new(alloc),
-        Vec::new(alloc),
-        user_change,
-    ))
+    let files = tree.share()?;
+    let before = tree.share()?;
+    Ok(Staged::of(files, people, before, Region::nothing(alloc), user_change))
 }
 
 /// How the users move where one joined or left these groups.

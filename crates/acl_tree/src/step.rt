@@ -1,10 +1,12 @@
 //! Commands on the whole state: each is prepared whole, or refused; and a prepared command, before it is put in place.
 
-ghost use Rattle.std.specs.Prelude.{◌≡◌, length, option_map};
-ghost use Rattle.acl_files.specs.acl_names.Made.{values};
+ghost use Rattle.std.specs.Prelude.{◌≡◌, length, option_map, IfOk};
+ghost use Rattle.acl_files.specs.Changed.{SameBut};
+ghost use Rattle.acl_files.specs.Operands.{in_region};
 ghost use Rattle.acl_tree.specs.Inner.{whole};
+ghost use Rattle.acl_tree.specs.Step.{state_from};
 ghost use Rattle.acl_files.specs.Sound.{IsSoundTree};
-ghost use Rattle.acl_tree.specs.Reports.{Prepares, RefusesAtOnce, memberships_moved, place_joined, place_left};
+ghost use Rattle.acl_tree.specs.Reports.{Prepares, RefusesAtOnce, memberships_moved, place_joined, place_left, staged_from};
 
 use crate::command::Command;
 use crate::creat::prepare_creat;
@@ -18,11 +20,10 @@ use crate::user_change::UserChange;
 use crate::useradd::prepare_useradd;
 use crate::userdel::prepare_userdel;
 use crate::usermod::prepare_usermod;
-use acl_files::{Files, Id, Paths, Record, Selection, TreeFault};
+use acl_files::{Differences, Files, Id, Paths, Region, Selection, TreeFault};
 use acl_people::People;
-use std::alloc::Global;
+use std::alloc::{AllocError, Global};
 use std::marker::Model;
-use std::rc::Rc;
 
 /// The operands of a command, with whether files below them are meant too.
 fn selection_of(operands: &Paths, recursive: bool) -> Selection<'_>
@@ -73,57 +74,68 @@ pub(crate) fn prepare_command(
     }
 }
 
-/// The whole state after a command, and what it changes. It is put in place by [`Tree::commit`], or discarded:
-/// one of these has to be done with it.
+/// The whole state after a command, and what it changes: the files before, and those that it touched. It is put in place by
+/// [`Tree::commit`], or discarded: one of these has to be done with it.
 pub struct Staged {
     tree: Tree,
     people: People,
-    changed: Vec<Rc<Record>>,
-    gone: Vec<Rc<Record>>,
+    before: Files,
+    touched: Region,
     user_change: UserChange,
 }
 
 impl Model for Staged {
-    ghost use Rattle.acl_files.specs.acl_names.Made.{values};
-    ghost use Rattle.acl_tree.specs.Reports.{StagedState, coded_staged};
+    ghost use Rattle.acl_files.specs.Changed.{SameBut};
+    ghost use Rattle.acl_files.specs.Operands.{in_region};
+    ghost use Rattle.acl_tree.specs.Step.{state_from};
+    ghost use Rattle.acl_tree.specs.Reports.{StagedState, coded_staged, staged_from};
 
     ghost Value = { StagedState };
 
     ghost coded = { coded_staged };
 
-    ghost view = { λ s. record {
-      state = record { tree = s.tree; people = s.people };
-      changed = values s.changed.items;
-      gone = values s.gone.items;
-      user_change = s.user_change;
-    } };
+    ghost view = { λ s. staged_from s.before.files (state_from s.tree s.people) s.user_change };
+
+    ghost invariant = { λ s. SameBut (in_region s.touched) s.before.files s.tree.files };
 }
 
 impl Staged {
-    /// The state after a command, with what the command changed.
+    /// The state after a command, with the files before it and those that the command touched.
     pub(crate) fn of(
         files: Files,
         people: People,
-        changed: Vec<Rc<Record>>,
-        gone: Vec<Rc<Record>>,
+        before: Files,
+        touched: Region,
         user_change: UserChange,
     ) -> Staged
-        ensures all { result ≡ record {
-          state = record { tree = files; people = people };
-          changed = values changed.items;
-          gone = values gone.items;
-          user_change = user_change;
-        } }
+        requires { SameBut (in_region touched) before.files files.files }
+        ensures all { result ≡ staged_from before.files (state_from files people) user_change }
         ensures sound { IsSoundTree files }
     {
         files.soundness_law();
         Staged {
             tree: Tree::of(files),
             people,
-            changed,
-            gone,
+            before,
+            touched,
             user_change,
         }
+    }
+
+    /// The state after a command on files alone, with the files that it touched. Fails only if memory runs out.
+    pub(crate) fn with_files(
+        state: &BorrowedState<'_>,
+        files: Files,
+        touched: Region,
+    ) -> Result<Staged, AllocError>
+        requires { SameBut (in_region touched) state.now.tree.now.files files.files }
+        ensures all { IfOk result (λ staged. staged ≡ staged_from state.now.tree.now.files (state_from files state.now.people.now) UserChange.Unchanged) }
+        ensures sound { IfOk result (λ staged. IsSoundTree staged.state.tree) }
+    {
+        let before = state.tree.share()?;
+        let people = state.people.share()?;
+        let staged = Staged::of(files, people, before, touched, UserChange::Unchanged);
+        Ok(staged)
     }
 
     /// The tree after the command.
@@ -141,18 +153,20 @@ impl Staged {
     }
 
     /// The files after the command that are new, or whose owner, group or access list is another than
-    /// before, in path order. It allocates nothing.
-    pub fn changed(&self) -> &[Rc<Record>]
-        ensures { values result.now ≡ self.now.changed }
+    /// before, in path order. Allocates nothing.
+    pub fn changed(&self) -> Differences<'_>
+        ensures { result ≡ self.now.changed }
     {
-        &self.changed
+        self.tree
+            .files_whole()
+            .changed_from(&self.before, &self.touched)
     }
 
-    /// The files before the command that are recorded no more, in path order. It allocates nothing.
-    pub fn gone(&self) -> &[Rc<Record>]
-        ensures { values result.now ≡ self.now.gone }
+    /// The files before the command that are recorded no more, in path order. Allocates nothing.
+    pub fn gone(&self) -> Differences<'_>
+        ensures { result ≡ self.now.gone }
     {
-        &self.gone
+        self.before.gone_in(self.tree.files_whole(), &self.touched)
     }
 
     /// The user who joined or left groups, and the ids of these groups, rising; `None` where nobody did. It allocates
@@ -202,8 +216,8 @@ impl Staged {
         let Staged {
             tree: _tree,
             people: _people,
-            changed: _changed,
-            gone: _gone,
+            before: _before,
+            touched: _touched,
             user_change: _user_change,
         } = self;
     }
@@ -216,8 +230,8 @@ impl Staged {
         let Staged {
             tree,
             people,
-            changed: _changed,
-            gone: _gone,
+            before: _before,
+            touched: _touched,
             user_change: _user_change,
         } = self;
         (tree, people)

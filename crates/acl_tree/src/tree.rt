@@ -76,7 +76,7 @@ impl Tree {
         self.files.get(path)
     }
 
-    /// A look-up of files that goes on from where it was: for paths that are asked for in path order. Allocates nothing.
+    /// A look-up of files. Allocates nothing.
     pub fn finder(&self) -> FilesFinder<'_>
         ensures { result ≡ self.now.files }
     {
@@ -110,7 +110,11 @@ impl Tree {
     /// # Errors
     ///
     /// `NoSuchFile` of the first operand that is not recorded, or `NoMemory`.
-    pub fn files(&self, alloc: Global, selection: &Selection<'_>) -> Result<Vec<Found>, TreeFault>
+    pub fn files<'a>(
+        &'a self,
+        alloc: Global,
+        selection: &Selection<'_>,
+    ) -> Result<Vec<Found<'a>>, TreeFault>
         ensures { Selects (λ files. files.items) selection.now self.now.files result }
     {
         self.files.selected(alloc, selection)
@@ -123,6 +127,13 @@ impl Tree {
         ensures { IsSoundTree self.now }
     {
         self.files.soundness_law();
+    }
+
+    /// The files as one value.
+    pub(crate) fn files_whole(&self) -> &Files
+        ensures { result.now ≡ self.now }
+    {
+        &self.files
     }
 
     /// The state of this tree and these people.

@@ -71,7 +71,7 @@ fn line_end(has_below: bool) -> &'static [u8] {
 }
 
 /// A path with the owner's id, and whether files are below it.
-fn push_found(rt: &impl Abort, text: &mut Vec<u8>, file: &Found) {
+fn push_found(rt: &impl Abort, text: &mut Vec<u8>, file: &Found<'_>) {
     append_path(text, file.path()).expect(rt, "memory");
     text.push(b' ').expect(rt, "memory");
     append_id(text, file.node().label.owner, None).expect(rt, "memory");
@@ -79,7 +79,7 @@ fn push_found(rt: &impl Abort, text: &mut Vec<u8>, file: &Found) {
         .expect(rt, "memory");
 }
 
-fn found_text(rt: &impl Abort, alloc: Global, files: &[Found]) -> Vec<u8> {
+fn found_text(rt: &impl Abort, alloc: Global, files: &[Found<'_>]) -> Vec<u8> {
     let mut text = Vec::new(alloc);
     for file in files {
         push_found(rt, &mut text, file);
@@ -88,7 +88,7 @@ fn found_text(rt: &impl Abort, alloc: Global, files: &[Found]) -> Vec<u8> {
 }
 
 /// All files at or below some operands.
-fn found(rt: &impl Abort, alloc: Global, tree: &Tree, operands: &Paths) -> Vec<Found> {
+fn found<'a>(rt: &impl Abort, alloc: Global, tree: &'a Tree, operands: &Paths) -> Vec<Found<'a>> {
     let selection = Selection {
         operands,
         recursive: true,

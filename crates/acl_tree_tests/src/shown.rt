@@ -1,7 +1,7 @@
 //! What comes of a command, and what files are, as texts.
 use crate::rows::path;
 use acl_tree::{
-    Acl, Command, EditFault, Id, Kind, Label, Name, Names, Node, Path, People, Perm, Record,
+    Acl, Command, Differences, EditFault, Id, Kind, Label, Name, Names, Node, Path, People, Perm,
     Requests, Staged, State, Subject, TextFault, Tree, TreeFault, UserChange, append_id,
     append_path, append_short, granted,
 };
@@ -166,13 +166,23 @@ fn push_moved(rt: &impl Abort, alloc: Global, text: &mut Vec<u8>, users: &UserCh
     push_groups(rt, text, users);
 }
 
+/// How many files are still to come.
+pub fn count_of(files: Differences<'_>) -> usize {
+    let mut count: usize = 0;
+    let mut rest = files;
+    while let Some(_file) = rest.next() {
+        count = count.saturating_add(1);
+    }
+    count
+}
+
 /// How many files a prepared command changes and removes, and how it moves users.
 fn staged_text(rt: &impl Abort, alloc: Global, staged: &Staged) -> Vec<u8> {
     let mut text = Vec::new(alloc);
     push(rt, &mut text, b"done: ");
-    push_number(rt, alloc, &mut text, staged.changed().len());
+    push_number(rt, alloc, &mut text, count_of(staged.changed()));
     push(rt, &mut text, b" changed, ");
-    push_number(rt, alloc, &mut text, staged.gone().len());
+    push_number(rt, alloc, &mut text, count_of(staged.gone()));
     push(rt, &mut text, b" gone");
     push_moved(rt, alloc, &mut text, staged.user_change());
     text
@@ -270,10 +280,10 @@ pub fn are_shown(rt: &impl Abort, alloc: Global, state: &State, files: &[(&[u8],
 /// More files than any tree has here.
 const MANY: usize = 20;
 
-fn push_file(rt: &impl Abort, text: &mut Vec<u8>, file: &Record, people: &People) {
-    push_path(rt, text, Some(file.path()));
+fn push_file(rt: &impl Abort, text: &mut Vec<u8>, file: (&Path, &Node), people: &People) {
+    push_path(rt, text, Some(file.0));
     push(rt, text, b" ");
-    push_node(rt, text, file.value(), people);
+    push_node(rt, text, file.1, people);
     push(rt, text, b"\n");
 }
 

@@ -1,4 +1,5 @@
 //! The public surface as a user sees it, with its types written out: people, the tree, and commands.
+use crate::shown::count_of;
 use crate::small_tree::{accept, load, path};
 use acl_tree::{
     Command, DumpRecord, DumpRecords, DumpUse, Edit, EditFault, FilesFinder, Id, Kind, Membership,
@@ -45,7 +46,7 @@ fn expect_names(rt: &impl Abort, people: &People) {
 fn last_kind(tree: &Tree) -> Option<Kind> {
     let mut last: Option<Kind> = None;
     for file in tree.iter() {
-        last = Some(file.value().kind);
+        last = Some(file.1.kind);
     }
     last
 }
@@ -104,8 +105,8 @@ fn counts_of(staged: &Staged) -> Counts {
     let joined: Option<usize> = staged.joined();
     let left: Option<usize> = staged.left();
     (
-        staged.changed().len(),
-        staged.gone().len(),
+        count_of(staged.changed()),
+        count_of(staged.gone()),
         moved.map(|(user, groups)| (user, groups.len())),
         joined,
         left,

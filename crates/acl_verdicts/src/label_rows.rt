@@ -13,9 +13,10 @@ use crate::cells::{Cells, judged};
 use crate::judge::Judge;
 use crate::labels::{Labelled, Labels, NumberedFiles, numbered, numbered_from_start};
 use crate::numbered::Numbered;
-use acl_files::{Path, Record};
+use crate::records::Record;
+use acl_files::Path;
 use acl_subjects::Subjects;
-use path_map::{MapEntry, PathMap};
+use entry_map::{MapEntry, PathMap};
 use std::alloc::{AllocError, Global};
 use std::rc::Rc;
 

@@ -6,9 +6,10 @@ ghost use Rattle.acl_verdicts.specs.Rows.{labels_each};
 ghost use Rattle.acl_verdicts.specs.Labels.{labels_in, StandsFor, MayHave, CountsOneMore, IsNumbered, AreNumbered, NumbersOneMore};
 
 use crate::numbered::Numbered;
+use crate::records::Record;
 use crate::steps::{Hints, mixed};
-use acl_files::{Entry as ListEntry, Key, Label, Record};
-use path_map::{MapEntry, PathMap};
+use acl_files::{Entry as ListEntry, Key, Label};
+use entry_map::{MapEntry, PathMap};
 use std::alloc::{AllocError, Global};
 use std::collections::BTreeMap;
 use std::marker::Model;

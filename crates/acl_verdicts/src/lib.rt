@@ -2,6 +2,7 @@
 //! files, and those that are left where each directory on the way has to grant search.
 #![tactic(auto)]
 
+mod above;
 mod answers;
 mod cells;
 mod grants;
@@ -11,6 +12,7 @@ mod labels;
 mod marks;
 mod numbered;
 mod reaches;
+mod records;
 mod steps;
 mod user_rows;
 mod ways;
@@ -22,6 +24,7 @@ pub use grants::{FileRow, FileRows, Grants, MaxNumbers};
 pub use judge::{Judge, Posix};
 pub use label_rows::{ChangedRows, LabelRows};
 pub use numbered::Numbered;
+pub use records::{Record, record_of, records_of};
 pub use steps::Step;
 pub use user_rows::UpdatedRows;
 pub use ways::{UpdatedWays, Ways, is_covered};

@@ -4,7 +4,7 @@ ghost use Rattle.std.specs.Prelude.{◌≡◌, false, length, get_or, IfOk};
 ghost use Rattle.acl_verdicts.specs.Marks.{IsMarked, IsMarkedAt, AddsMark, AreMarks, AreMarksAt};
 
 use acl_files::Path;
-use path_map::{Finder, PathMap};
+use entry_map::{Finder, PathMap};
 use std::alloc::{AllocError, Global};
 use std::rc::Rc;
 

@@ -10,10 +10,11 @@ ghost use Rattle.acl_verdicts.specs.Subtrees.{covers, IsApart};
 ghost use Rattle.acl_verdicts.specs.Walks.{last_of, AllBefore, IsLeftAbove};
 ghost use Rattle.acl_verdicts.specs.Ways.{ways, ways_below, wayed, known, number_at, AreBack, AreSteps, AreWays, AreWaysOf, AreAbove, IsAbove, AddsSteps, AddsWays, AreUpdatedWays};
 
+use crate::above::nearest_above;
 use crate::numbered::Numbered;
 use crate::steps::{MoreSteps, Step, Steps};
-use acl_files::{Path, nearest_above};
-use path_map::{Finder, MapEntry, PathMap};
+use acl_files::Path;
+use entry_map::{Finder, MapEntry, PathMap};
 use std::alloc::{AllocError, Global};
 use std::rc::Rc;
 

@@ -7,7 +7,7 @@ use Rattle.std.specs.Ordering.{is_eq, is_lt}
 use Rattle.std.specs.FinMap.{find, put, is_sorted}
 use Rattle.std.specs.FinMap.Entries.{by_order, below_all}
 use Rattle.acl_rights.specs.acl_files.Inner.{next_file_below}
-use Rattle.acl_rights.specs.acl_files.path_map.Entries.{PathOf, IsInOrder, first}
+use Rattle.acl_rights.specs.acl_files.path_map.Entries.{PathOf, IsInOrder}
 use Rattle.acl_rights.specs.acl_files.path_map.Merged.{put_all}
 use Rattle.acl_rights.specs.acl_names.Names.{escaped}
 use Rattle.acl_rights.specs.acl_names.Paths.{path_cmp}
@@ -26,7 +26,7 @@ use Rattle.facl.specs.declared.answers.placed_users.PlacedUser.{PlacedUser}
 use Rattle.facl_output.specs.Listings.{path_shown}
 use Rattle.acl_rights.specs.Verdicts.{can_requests, rows_granted}
 use Rattle.facl.specs.ChangesText.{change_lines, users_of_both, place_of, granted_to, changes_text}
-use Rattle.facl.specs.Inner.{Placed, placed_of, placed_in, cell_at, lines_between, Walked, has_next_below, shown_before, walk_of, row_in, lines_of_both}
+use Rattle.facl.specs.Inner.{Placed, placed_of, placed_in, cell_at, lines_between, Walked, has_next_below, next_path, shown_before, walk_of, row_in, lines_of_both}
 use Rattle.acl_rights.proofs.AskedAlong.{can_alone, can_along}
 
 flat-map : {A B C : Type 0} (h : B → List C) (f : A → B) (xs : List A) → flat_map h (map f xs) ≡ flat_map (λ x. h (f x)) xs
@@ -127,7 +127,7 @@ walked_rows (e ∷ es) (row ∷ rows) h p = by (is_eq (path_cmp p row.0)) (walke
     later = cc
 
     by : (b : Bool) → option_map (λ (f : List ℕ × List ℕ). f.1) (find path_cmp p (walk_of es rows)) ≡ find path_cmp p rows
-        → option_map (λ (f : List ℕ × List ℕ). f.1) (cond b (Some (shown_before (first es) e, row.1)) (find path_cmp p (walk_of es rows))) ≡ cond b (Some row.1) (find path_cmp p rows)
+        → option_map (λ (f : List ℕ × List ℕ). f.1) (cond b (Some (shown_before (next_path es) e, row.1)) (find path_cmp p (walk_of es rows))) ≡ cond b (Some row.1) (find path_cmp p rows)
     by true more = refl
     by false more = more
 
@@ -135,7 +135,7 @@ pub no_files : (rows : Rows) → walk_of [] rows ≡ []
 no_files [] = refl
 no_files (row ∷ rows) = refl
 
-pub next_below : (p : PathOf) (es : Files) → has_next_below p (first es) ≡ next_file_below p es
+pub next_below : (p : PathOf) (es : Files) → has_next_below p (next_path es) ≡ next_file_below p es
 next_below p [] = refl
 next_below p (e ∷ es) = refl
 
@@ -150,7 +150,7 @@ walked_shown t done (e ∷ es) [] all order h = absurd (cc h)
 walked_shown t done (e ∷ es) (row ∷ rows) all order h =
     let here : row.0 ≡ e.0 = cc in
     let later : paths rows ≡ paths es = cc in
-    let has_file_below : has_next_below e.0 (first es) ≡ holds_below t e.0 = next_below e.0 es ∙ known_by_next done e es (subst IsInOrder all order) ∙ ap (λ (l : Files). holds_below l e.0) (sym all) in
+    let has_file_below : has_next_below e.0 (next_path es) ≡ holds_below t e.0 = next_below e.0 es ∙ known_by_next done e es (subst IsInOrder all order) ∙ ap (λ (l : Files). holds_below l e.0) (sym all) in
     let more = walked_shown t (done ++ e ∷ []) es rows (all ∙ sym (append_assoc done (e ∷ []) es)) order later in
     λ i. (here i, path_shown (found_file (has_file_below i) e)) ∷ more i
 

@@ -11,12 +11,11 @@ use Rattle.acl_rights.specs.acl_tree.Found.{FoundFile, found_file, found_in}
 use Rattle.acl_rights.specs.acl_tree.Sound.{holds_below}
 use Rattle.acl_rights.specs.acl_tree.Step.{State}
 use Rattle.acl_rights.proofs.of_acl_files.Follows.{known_by_next}
-use Rattle.acl_rights.specs.acl_files.path_map.Entries.{first}
 use Rattle.acl_rights.specs.Tables.{Verdict, cells_of, rows_of}
 use Rattle.facl_output.specs.Listings.{path_shown}
 use Rattle.facl.specs.Answers.{verdict_line, index_text}
 use Rattle.acl_rights.specs.Verdicts.{granted, rows_granted}
-use Rattle.facl.specs.Inner.{row_lines, walk_of, has_next_below, shown_before, lines_of_walk}
+use Rattle.facl.specs.Inner.{row_lines, walk_of, has_next_below, next_path, shown_before, lines_of_walk}
 use Rattle.facl.proofs.ChangeLines.{next_below}
 
 -- one more of some rows
@@ -56,10 +55,10 @@ module _ (V : Verdict) (s : State) (order : IsInOrder s.tree.files) where
   each_file : (done es : Files) → s.tree.files ≡ done ++ es → lines_of_walk written (walk_of es (rows_of V (persons s.people) es)) ≡ flat_map file_lines (found_in s.tree.files es)
   each_file done [] all = refl
   each_file done (e ∷ es) all =
-      let has_file_below : has_next_below e.0 (first es) ≡ holds_below s.tree.files e.0 =
+      let has_file_below : has_next_below e.0 (next_path es) ≡ holds_below s.tree.files e.0 =
       next_below e.0 es ∙ known_by_next done e es (subst IsInOrder all order) ∙ ap (λ (l : Files). holds_below l e.0) (sym all)
       in
-      let here : row_lines (shown_before (first es) e) written (cells_of V (persons s.people) e.1) ≡ file_lines (found_file (holds_below s.tree.files e.0) e) =
+      let here : row_lines (shown_before (next_path es) e) written (cells_of V (persons s.people) e.1) ≡ file_lines (found_file (holds_below s.tree.files e.0) e) =
       ap (λ b. row_lines (path_shown (found_file b e)) written (cells_of V (persons s.people) e.1)) has_file_below
       ∙ each_user (path_shown (found_file (holds_below s.tree.files e.0) e)) e.1 s.people.users
       in

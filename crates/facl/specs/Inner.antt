@@ -117,24 +117,28 @@ abbrev pub Walked : Type 0
 Walked = List (PathOf × (List ℕ × List ℕ))
 
 -- whether the next file, if there is one, is below a path
-abbrev pub has_next_below : PathOf → Option (PathOf × Node) → Bool
-has_next_below p next = option_map_or (λ e. is_above p e.0) next false
+abbrev pub has_next_below : PathOf → Option PathOf → Bool
+has_next_below p next = option_map_or (λ q. is_above p q) next false
 
-abbrev pub shown_before : Option (PathOf × Node) → PathOf × Node → List ℕ
+-- the path of the first file, if there is one
+abbrev pub next_path : Files → Option PathOf
+next_path es = option_map (λ e. e.0) (first es)
+
+abbrev pub shown_before : Option PathOf → PathOf × Node → List ℕ
 shown_before next e = path_shown (found_file (has_next_below e.0 next) e)
 
 -- files with their rows, where both are in the same order
 abbrev pub walk_of : Files → Rows → Walked
 walk_of es [] = []
 walk_of [] (row ∷ rows) = []
-walk_of (e ∷ es) (row ∷ rows) = (row.0, (shown_before (first es) e, row.1)) ∷ walk_of es rows
+walk_of (e ∷ es) (row ∷ rows) = (row.0, (shown_before (next_path es) e, row.1)) ∷ walk_of es rows
 
 -- the lines of files, by the verdicts on the users of these names
 abbrev pub lines_of_walk : List (List ℕ) → Walked → List ℕ
 lines_of_walk names files = flat_map (λ file. row_lines file.1.0 names file.1.1) files
 
 abbrev pub shown_row : FileWithRow → List ℕ × List ℕ
-shown_row step = (shown_before (option_map (λ next. next.now.value) step.next) step.file.now.value, step.requests.now)
+shown_row step = (shown_before (option_map (λ next. next.now) step.next) (step.path.now, step.node.now), step.requests.now)
 
 -- ---- two walks side by side
 

@@ -7,7 +7,7 @@ ghost use Rattle.acl_tree.specs.acl_syntax.Writing.{IsKeyNamed};
 ghost use Rattle.acl_tree.specs.acl_dump.Again.{IsFound};
 ghost use Rattle.facl_output.specs.Again.{IsListAgain, IsReadAgain};
 
-use acl_tree::{Acl, Id, Key, People, Record, Tree};
+use acl_tree::{Acl, Id, Key, Node, Path, People, Tree};
 
 /// Proof only: a file has three flags.
 fn flags_are_three(flags: [bool; 3])
@@ -53,11 +53,10 @@ fn list_is_read_again(people: &People, acl: &Acl)
 }
 
 /// Proof only: a file is read again as it is written.
-fn file_is_read_again(people: &People, file: &Record)
-    ensures { IsReadAgain people.now file.now }
+fn file_is_read_again(people: &People, path: &Path, node: &Node)
+    ensures { IsReadAgain people.now (path.now, node.now) }
 {
-    let _components = file.path().components();
-    let node = file.value();
+    let _components = path.components();
     flags_are_three(node.flags);
     user_is_found(people, node.label.owner);
     group_is_found(people, node.label.group);
@@ -73,6 +72,6 @@ pub(crate) fn files_are_read_again(people: &People, tree: &Tree)
 {
     let mut files = tree.iter();
     while let Some(file) = files.next() {
-        file_is_read_again(people, file);
+        file_is_read_again(people, file.0, file.1);
     }
 }

@@ -24,7 +24,7 @@ fn push_default<N: Names>(
 }
 
 /// Adds the line of a file.
-fn push_line<N: Names>(text: &mut Vec<u8>, names: &N, file: &Found) -> Result<(), AllocError>
+fn push_line<N: Names>(text: &mut Vec<u8>, names: &N, file: &Found<'_>) -> Result<(), AllocError>
     ensures { Appends result text.old text.new (chacl_line (N.naming names.now) file.now) }
 {
     push_path_shown(text, file)?;
@@ -37,7 +37,11 @@ fn push_line<N: Names>(text: &mut Vec<u8>, names: &N, file: &Found) -> Result<()
 }
 
 /// Adds the lines of files.
-fn push_lines<N: Names>(text: &mut Vec<u8>, names: &N, files: &[Found]) -> Result<(), AllocError>
+fn push_lines<N: Names>(
+    text: &mut Vec<u8>,
+    names: &N,
+    files: &[Found<'_>],
+) -> Result<(), AllocError>
     ensures { Appends result text.old text.new (chacl_listing (N.naming names.now) files.now) }
 {
     for file in files {
@@ -52,7 +56,7 @@ fn push_lines<N: Names>(text: &mut Vec<u8>, names: &N, files: &[Found]) -> Resul
 pub fn write_chacl_listing<N: Names>(
     alloc: Global,
     names: &N,
-    files: &[Found],
+    files: &[Found<'_>],
 ) -> Result<Vec<u8>, AllocError>
     ensures { IfOk result (λ text. text.items ≡ chacl_listing (N.naming names.now) files.now) }
 {

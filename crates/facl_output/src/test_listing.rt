@@ -74,7 +74,7 @@ fn push_lists_of<N: Names>(text: &mut Vec<u8>, names: &N, node: &Node) -> Result
 }
 
 /// Adds the line of a file.
-fn push_file<N: Names>(text: &mut Vec<u8>, names: &N, file: &Found) -> Result<(), AllocError>
+fn push_file<N: Names>(text: &mut Vec<u8>, names: &N, file: &Found<'_>) -> Result<(), AllocError>
     ensures { Appends result text.old text.new (file_line (N.naming names.now) file.now) }
 {
     push_path_shown(text, file)?;
@@ -82,7 +82,11 @@ fn push_file<N: Names>(text: &mut Vec<u8>, names: &N, file: &Found) -> Result<()
 }
 
 /// Adds the lines of files.
-fn push_files<N: Names>(text: &mut Vec<u8>, names: &N, files: &[Found]) -> Result<(), AllocError>
+fn push_files<N: Names>(
+    text: &mut Vec<u8>,
+    names: &N,
+    files: &[Found<'_>],
+) -> Result<(), AllocError>
     ensures { Appends result text.old text.new (test_listing (N.naming names.now) files.now) }
 {
     for file in files {
@@ -101,7 +105,7 @@ fn push_files<N: Names>(text: &mut Vec<u8>, names: &N, files: &[Found]) -> Resul
 pub fn append_test_listing<N: Names>(
     text: &mut Vec<u8>,
     names: &N,
-    files: &[Found],
+    files: &[Found<'_>],
 ) -> Result<(), AllocError>
     ensures { AppendsWhole result text.old text.new (test_listing (N.naming names.now) files.now) }
 {

@@ -1,12 +1,11 @@
-//! A map of three branches: the even numbers below 80,000 as names, each with itself as value.
-use crate::made::{Row, digit, map_of, merged, next_value, row, value_at, value_up_to};
-use acl_names::Path;
-use path_map::{Entries, Finder, PathMap};
+//! A map of several branches: the even numbers below 70,000 as names, each with itself as value.
+use crate::made::{Row, built, digit, map_of, merged, path, value_up_to};
+use path_map::{Entries, PathMap, Renumbered};
 use std::alloc::Global;
 use std::process::Abort;
 
 /// The row of a number below 100,000.
-fn numbered(rt: &impl Abort, alloc: Global, number: u32) -> Row {
+fn numbered(rt: &impl Abort, alloc: Global, number: usize) -> Row {
     let name = [
         digit(number / 10_000),
         digit(number / 1_000),
@@ -14,11 +13,11 @@ fn numbered(rt: &impl Abort, alloc: Global, number: u32) -> Row {
         digit(number / 10),
         digit(number),
     ];
-    row(rt, alloc, &name, number)
+    (path(rt, alloc, &name), number)
 }
 
 /// The rows of every second number from one to before another.
-fn numbers(rt: &impl Abort, alloc: Global, first: u32, end: u32) -> Vec<Row> {
+fn numbers(rt: &impl Abort, alloc: Global, first: usize, end: usize) -> Vec<Row> {
     let mut rows = Vec::new(alloc);
     for number in (first..end).step_by(2) {
         rows.push(numbered(rt, alloc, number)).expect(rt, "memory");
@@ -26,12 +25,19 @@ fn numbers(rt: &impl Abort, alloc: Global, first: u32, end: u32) -> Vec<Row> {
     rows
 }
 
-fn evens(rt: &impl Abort, alloc: Global) -> PathMap<u32> {
-    map_of(rt, alloc, &numbers(rt, alloc, 0, 80_000))
+fn evens(rt: &impl Abort, alloc: Global) -> PathMap<usize> {
+    map_of(rt, alloc, &numbers(rt, alloc, 0, 70_000))
 }
 
-/// Whether the entries are the even numbers from one to before another.
-fn are_evens(mut entries: Entries<'_, u32>, first: u32, end: u32) -> bool {
+fn next_value(entries: &mut Entries<'_, usize>) -> Option<usize> {
+    match entries.next() {
+        Some(entry) => Some(entry.1),
+        None => None,
+    }
+}
+
+/// Whether the values are the even numbers from one to before another.
+fn are_evens(mut entries: Entries<'_, usize>, first: usize, end: usize) -> bool {
     for number in (first..end).step_by(2) {
         if next_value(&mut entries) != Some(number) {
             return false;
@@ -40,70 +46,90 @@ fn are_evens(mut entries: Entries<'_, u32>, first: u32, end: u32) -> bool {
     next_value(&mut entries).is_none()
 }
 
-fn expect_number(rt: &impl Abort, map: &PathMap<u32>, path: &Path, number: u32) {
-    assert!(rt; value_at(map, path) == Some(number));
-    assert!(rt; value_up_to(map, path) == Some(number));
-    assert!(rt; are_evens(map.from(path), number, 80_000));
+fn expect_number(rt: &impl Abort, alloc: Global, map: &PathMap<usize>, number: usize) {
+    let row = numbered(rt, alloc, number);
+    assert!(rt; map.get(&row.0) == Some(number));
+    assert!(rt; value_up_to(map, &row.0) == Some(number));
+    assert!(rt; are_evens(map.from(&row.0), number, 70_000));
 }
 
 #[test]
 fn each_number_is_found_and_followed(rt: HostRuntime) {
     let map = evens(&rt, rt.alloc());
-    assert!(rt; are_evens(map.iter(), 0, 80_000));
-    for number in (0..80_000).step_by(1_000) {
-        expect_number(&rt, &map, numbered(&rt, rt.alloc(), number).path(), number);
+    assert!(rt; are_evens(map.iter(), 0, 70_000));
+    for number in (0..70_000).step_by(3_500) {
+        expect_number(&rt, rt.alloc(), &map, number);
     }
 }
 
-/// Whether the entries are 0, 1 and then the even numbers to before the last.
-fn are_changed(mut entries: Entries<'_, u32>) -> bool {
+/// Whether the values are 0, 1 and then the even numbers to before the last.
+fn are_changed(mut entries: Entries<'_, usize>) -> bool {
     next_value(&mut entries) == Some(0)
         && next_value(&mut entries) == Some(1)
-        && are_evens(entries, 2, 79_998)
+        && are_evens(entries, 2, 69_998)
 }
 
 #[test]
 fn the_first_and_the_last_branch_are_changed(rt: HostRuntime) {
     let map = evens(&rt, rt.alloc());
     let puts = numbers(&rt, rt.alloc(), 1, 2);
-    let gone = numbers(&rt, rt.alloc(), 79_998, 80_000);
+    let gone = numbers(&rt, rt.alloc(), 69_998, 70_000);
     let changed = merged(&rt, rt.alloc(), &map, &puts, &gone);
     assert!(rt; are_changed(changed.iter()));
-    assert!(rt; are_evens(map.iter(), 0, 80_000));
+    assert!(rt; are_evens(map.iter(), 0, 70_000));
 }
 
-fn found(finder: &mut Finder<'_, u32>, path: &Path) -> Option<u32> {
-    finder.get(path).copied()
+#[test]
+fn a_number_of_all_is_renumbered(rt: HostRuntime) {
+    let map = evens(&rt, rt.alloc());
+    let root = path(&rt, rt.alloc(), b".");
+    let new = map
+        .changed_within(rt.alloc(), &root, &Renumbered::new(&[4]))
+        .expect(&rt, "memory");
+    let mut entries = new.iter();
+    assert!(rt; next_value(&mut entries) == Some(4));
+    assert!(rt; are_evens(entries, 2, 70_000));
 }
 
-/// Whether the finder finds each of the entries.
-fn finds_each(finder: &mut Finder<'_, u32>, mut entries: Entries<'_, u32>) -> bool {
-    while let Some(entry) = entries.next() {
-        if found(finder, entry.path()) != Some(*entry.value()) {
+/// Whether a look-up finds each even number from one to before another, in turn, and no odd one.
+fn finds_evens(
+    rt: &impl Abort,
+    alloc: Global,
+    map: &PathMap<usize>,
+    first: usize,
+    end: usize,
+) -> bool {
+    let mut finder = map.finder();
+    for number in first..end {
+        let row = numbered(rt, alloc, number);
+        let want = if number % 2 == 0 { Some(number) } else { None };
+        if finder.get(&row.0) != want {
             return false;
         }
     }
     true
 }
 
-/// Whether the path's entry, of this number, is the only one within it.
-fn is_alone(finder: &mut Finder<'_, u32>, path: &Path, number: u32) -> bool {
-    let mut within = finder.within(path);
-    match within.next() {
-        Some(entry) => *entry.value() == number && within.next().is_none(),
-        None => false,
+#[test]
+fn numbers_are_looked_up_in_turn(rt: HostRuntime) {
+    let map = evens(&rt, rt.alloc());
+    assert!(rt; finds_evens(&rt, rt.alloc(), &map, 0, 300));
+    assert!(rt; finds_evens(&rt, rt.alloc(), &map, 69_800, 70_000));
+}
+
+/// A map whose paths are moved into it has all even numbers to before another.
+fn expect_built(rt: &impl Abort, alloc: Global, end: usize) {
+    let map = built(rt, alloc, numbers(rt, alloc, 0, end));
+    assert!(rt; are_evens(map.iter(), 0, end));
+    if let Some(last) = end.checked_sub(2) {
+        let row = numbered(rt, alloc, last);
+        assert!(rt; map.get(&row.0) == Some(last));
     }
 }
 
 #[test]
-fn a_finder_finds_numbers_in_order_and_out_of_it(rt: HostRuntime) {
-    let map = evens(&rt, rt.alloc());
-    let mut finder = map.finder();
-    assert!(rt; finds_each(&mut finder, map.iter()));
-    let before = numbered(&rt, rt.alloc(), 500);
-    assert!(rt; found(&mut finder, before.path()) == Some(500));
-    let after = numbered(&rt, rt.alloc(), 701);
-    assert!(rt; found(&mut finder, after.path()).is_none());
-    assert!(rt; are_evens(finder.from(after.path()), 702, 80_000));
-    assert!(rt; is_alone(&mut finder, before.path(), 500));
+fn maps_are_built_at_the_limits_of_chunks_and_branches(rt: HostRuntime) {
+    for end in [0, 2, 62, 64, 66, 128, 130, 2_048, 2_050, 66_000] {
+        expect_built(&rt, rt.alloc(), end);
+    }
 }

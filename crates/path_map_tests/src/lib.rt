@@ -1,4 +1,4 @@
-//! Each public call of `path_map` once, on a map with two names that begin alike, and on one of three branches.
+//! Each public call of `path_map` once, on a map with two names that begin alike, and on one of several branches.
 //!
 //! They are apart from `path_map`, since a crate with tests is proved twice.
 #![tactic(auto)]

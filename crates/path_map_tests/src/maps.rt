@@ -1,46 +1,47 @@
 //! A map of four paths. What is found is printed, each path with its value.
-use crate::made::{Row, digit, map_of, merged, path, row, value_at, value_up_to};
-use acl_names::append_path;
-use path_map::{Entries, MapEntry, PathMap, Within, is_in_order};
+use crate::made::{Row, built, digit, entries, map_of, merged, path, value_up_to};
+use acl_names::{Path, append_path};
+use path_map::{Entries, PathMap, PathMapBuilder, Renumbered, Within, is_in_order};
 use std::alloc::Global;
 use std::process::Abort;
 
-static FOUR: [(&[u8], u32); 4] = [(b".", 1), (b"a", 2), (b"a/b", 3), (b"ab", 4)];
+static FOUR: [(&[u8], usize); 4] = [(b".", 1), (b"a", 2), (b"a/b", 3), (b"ab", 4)];
 
-fn rows(rt: &impl Abort, alloc: Global, texts: &[(&[u8], u32)]) -> Vec<Row> {
+fn rows(rt: &impl Abort, alloc: Global, texts: &[(&[u8], usize)]) -> Vec<Row> {
     let mut rows = Vec::new(alloc);
     for (text, value) in texts {
-        rows.push(row(rt, alloc, text, *value)).expect(rt, "memory");
+        rows.push((path(rt, alloc, text), *value))
+            .expect(rt, "memory");
     }
     rows
 }
 
-fn four(rt: &impl Abort, alloc: Global) -> PathMap<u32> {
+fn four(rt: &impl Abort, alloc: Global) -> PathMap<usize> {
     map_of(rt, alloc, &rows(rt, alloc, &FOUR))
 }
 
-fn push_entry(rt: &impl Abort, text: &mut Vec<u8>, entry: &MapEntry<u32>) {
-    append_path(text, entry.path()).expect(rt, "memory");
-    text.extend_from_slice(&[b'=', digit(*entry.value()), b' '])
+fn push_entry(rt: &impl Abort, text: &mut Vec<u8>, path: &Path, value: usize) {
+    append_path(text, path).expect(rt, "memory");
+    text.extend_from_slice(&[b'=', digit(value), b' '])
         .expect(rt, "memory");
 }
 
-fn printed(rt: &impl Abort, alloc: Global, mut entries: Entries<'_, u32>) -> Vec<u8> {
+fn printed(rt: &impl Abort, alloc: Global, mut entries: Entries<'_, usize>) -> Vec<u8> {
     let mut text = Vec::new(alloc);
     for _ in 0..9 {
         match entries.next() {
-            Some(entry) => push_entry(rt, &mut text, entry),
+            Some(entry) => push_entry(rt, &mut text, entry.0, entry.1),
             None => break,
         }
     }
     text
 }
 
-fn printed_within(rt: &impl Abort, alloc: Global, mut entries: Within<'_, '_, u32>) -> Vec<u8> {
+fn printed_within(rt: &impl Abort, alloc: Global, mut entries: Within<'_, '_, usize>) -> Vec<u8> {
     let mut text = Vec::new(alloc);
     for _ in 0..9 {
         match entries.next() {
-            Some(entry) => push_entry(rt, &mut text, entry),
+            Some(entry) => push_entry(rt, &mut text, entry.0, entry.1),
             None => break,
         }
     }
@@ -50,8 +51,8 @@ fn printed_within(rt: &impl Abort, alloc: Global, mut entries: Within<'_, '_, u3
 /// A path, its value, that of the last entry up to it, what is printed from it on, and what is printed within it.
 struct Look {
     path: &'static [u8],
-    value: Option<u32>,
-    up_to: Option<u32>,
+    value: Option<usize>,
+    up_to: Option<usize>,
     from: &'static [u8],
     within: &'static [u8],
 }
@@ -88,9 +89,9 @@ static LOOKS: [Look; 4] = [
     },
 ];
 
-fn expect_look(rt: &impl Abort, alloc: Global, map: &PathMap<u32>, look: &Look) {
+fn expect_look(rt: &impl Abort, alloc: Global, map: &PathMap<usize>, look: &Look) {
     let path = path(rt, alloc, look.path);
-    assert!(rt; value_at(map, &path) == look.value);
+    assert!(rt; map.get(&path) == look.value);
     assert!(rt; value_up_to(map, &path) == look.up_to);
     assert!(rt; printed(rt, alloc, map.from(&path)).as_slice() == look.from);
     assert!(rt; printed_within(rt, alloc, map.within(&path)).as_slice() == look.within);
@@ -104,58 +105,68 @@ fn a_map_is_looked_at(rt: HostRuntime) {
     }
 }
 
-fn first(map: &PathMap<u32>) -> Option<u32> {
-    match map.iter().peek() {
-        Some(entry) => Some(*entry.value()),
-        None => None,
-    }
-}
-
 #[test]
 fn the_first_entry(rt: HostRuntime) {
-    let empty = PathMap::new(rt.alloc());
-    assert!(rt; first(&empty).is_none());
     let map = four(&rt, rt.alloc());
-    assert!(rt; first(&map) == Some(1));
+    let root = path(&rt, rt.alloc(), b".");
+    let entries = map.iter();
+    let first = entries.peek().expect(&rt, "an entry");
+    assert!(rt; first.order(&root).is_eq());
 }
 
 #[test]
-fn an_empty_map_has_no_last_entry(rt: HostRuntime) {
-    let empty = PathMap::new(rt.alloc());
+fn an_empty_map_has_no_entry(rt: HostRuntime) {
+    let empty: PathMap<usize> = PathMap::new(rt.alloc());
     let path = path(&rt, rt.alloc(), b"a/c");
     assert!(rt; value_up_to(&empty, &path).is_none());
+    assert!(rt; empty.iter().peek().is_none());
 }
 
 /// The map is printed like this.
-fn expect_printed(rt: &impl Abort, alloc: Global, map: &PathMap<u32>, want: &[u8]) {
+fn expect_printed(rt: &impl Abort, alloc: Global, map: &PathMap<usize>, want: &[u8]) {
     assert!(rt; printed(rt, alloc, map.iter()).as_slice() == want);
 }
 
-static PUT: [(&[u8], u32); 1] = [(b"a/c", 5)];
+static PUT: [(&[u8], usize); 1] = [(b"a/c", 5)];
 
-static GONE: [(&[u8], u32); 2] = [(b"a", 0), (b"a/c", 0)];
+static GONE: [(&[u8], usize); 2] = [(b"a", 0), (b"a/c", 0)];
 
-fn with_put(rt: &impl Abort, alloc: Global, map: &PathMap<u32>) -> PathMap<u32> {
-    let puts = rows(rt, alloc, &PUT);
-    assert!(rt; is_in_order(&puts));
-    map.put_all(alloc, &puts).expect(rt, "memory")
+#[test]
+fn paths_are_moved_into_a_map(rt: HostRuntime) {
+    let map = built(&rt, rt.alloc(), rows(&rt, rt.alloc(), &FOUR));
+    expect_printed(&rt, rt.alloc(), &map, b".=1 a=2 a/b=3 ab=4 ");
 }
 
-fn without_gone(rt: &impl Abort, alloc: Global, map: &PathMap<u32>) -> PathMap<u32> {
-    let gone = rows(rt, alloc, &GONE);
-    assert!(rt; is_in_order(&gone));
-    map.without_all(alloc, &gone).expect(rt, "memory")
+#[test]
+fn a_builder_takes_later_paths_alone(rt: HostRuntime) {
+    let mut builder: PathMapBuilder<usize> = PathMapBuilder::new(rt.alloc());
+    let first = path(&rt, rt.alloc(), b"a");
+    assert!(rt; builder.takes(&first));
+    builder.push(rt.alloc(), first, 1).expect(&rt, "memory");
+    assert!(rt; !builder.takes(&path(&rt, rt.alloc(), b".")));
+    assert!(rt; !builder.takes(&path(&rt, rt.alloc(), b"a")));
+    assert!(rt; builder.takes(&path(&rt, rt.alloc(), b"a/b")));
 }
 
 #[test]
 fn entries_are_put(rt: HostRuntime) {
-    let map = with_put(&rt, rt.alloc(), &four(&rt, rt.alloc()));
+    let rows = rows(&rt, rt.alloc(), &PUT);
+    let puts = entries(&rt, rt.alloc(), &rows);
+    assert!(rt; is_in_order(&puts));
+    let map = four(&rt, rt.alloc())
+        .put_all(rt.alloc(), &puts)
+        .expect(&rt, "memory");
     expect_printed(&rt, rt.alloc(), &map, b".=1 a=2 a/b=3 a/c=5 ab=4 ");
 }
 
 #[test]
 fn entries_are_removed(rt: HostRuntime) {
-    let map = without_gone(&rt, rt.alloc(), &four(&rt, rt.alloc()));
+    let rows = rows(&rt, rt.alloc(), &GONE);
+    let gone = entries(&rt, rt.alloc(), &rows);
+    assert!(rt; is_in_order(&gone));
+    let map = four(&rt, rt.alloc())
+        .without_all(rt.alloc(), &gone)
+        .expect(&rt, "memory");
     expect_printed(&rt, rt.alloc(), &map, b".=1 a/b=3 ab=4 ");
 }
 
@@ -167,4 +178,50 @@ fn a_map_is_changed_and_its_copies_are_not(rt: HostRuntime) {
     let changed = merged(&rt, rt.alloc(), &map, &puts, &rows(&rt, rt.alloc(), &GONE));
     expect_printed(&rt, rt.alloc(), &changed, b".=1 a/b=3 a/c=5 ab=4 ");
     expect_printed(&rt, rt.alloc(), &copy, b".=1 a=2 a/b=3 ab=4 ");
+}
+
+// A path that the map has not is passed over.
+static VALUES: [(&[u8], usize); 3] = [(b"a", 7), (b"a/c", 8), (b"ab", 9)];
+
+#[test]
+fn values_are_replaced_by_their_paths(rt: HostRuntime) {
+    let rows = rows(&rt, rt.alloc(), &VALUES);
+    let puts = entries(&rt, rt.alloc(), &rows);
+    assert!(rt; is_in_order(&puts));
+    let map = four(&rt, rt.alloc());
+    let new = map.with_values(rt.alloc(), &puts).expect(&rt, "memory");
+    expect_printed(&rt, rt.alloc(), &new, b".=1 a=7 a/b=3 ab=9 ");
+    expect_printed(&rt, rt.alloc(), &map, b".=1 a=2 a/b=3 ab=4 ");
+}
+
+#[test]
+fn replaced_values_are_returned(rt: HostRuntime) {
+    let rows = rows(&rt, rt.alloc(), &VALUES);
+    let puts = entries(&rt, rt.alloc(), &rows);
+    assert!(rt; is_in_order(&puts));
+    let map = four(&rt, rt.alloc());
+    let (new, was) = map.replaced(rt.alloc(), &puts).expect(&rt, "memory");
+    expect_printed(&rt, rt.alloc(), &new, b".=1 a=7 a/b=3 ab=9 ");
+    assert!(rt; was.as_slice() == [Some(2), None, Some(4)].as_slice());
+}
+
+#[test]
+fn values_within_a_path_are_renumbered(rt: HostRuntime) {
+    let map = four(&rt, rt.alloc());
+    let top = path(&rt, rt.alloc(), b"a");
+    let new = map
+        .changed_within(rt.alloc(), &top, &Renumbered::new(&[0, 0, 6]))
+        .expect(&rt, "memory");
+    // 3 is no place of the table: it stays.
+    expect_printed(&rt, rt.alloc(), &new, b".=1 a=6 a/b=3 ab=4 ");
+}
+
+#[test]
+fn many_paths_are_looked_up(rt: HostRuntime) {
+    let map = four(&rt, rt.alloc());
+    let rows = rows(&rt, rt.alloc(), &VALUES);
+    let asked = entries(&rt, rt.alloc(), &rows);
+    assert!(rt; is_in_order(&asked));
+    let found = map.get_all(rt.alloc(), &asked).expect(&rt, "memory");
+    assert!(rt; found.as_slice() == [Some(2), None, Some(4)].as_slice());
 }

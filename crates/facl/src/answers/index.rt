@@ -62,7 +62,7 @@ fn push_row(
 }
 
 /// The path of a found file as it is printed.
-fn path_shown(alloc: Global, file: &Found) -> Result<Vec<u8>, AllocError>
+fn path_shown(alloc: Global, file: &Found<'_>) -> Result<Vec<u8>, AllocError>
     ensures { IfOk result (λ path. path.items ≡ path_shown file.now) }
 {
     let mut path = Vec::new(alloc);
@@ -74,7 +74,7 @@ fn path_shown(alloc: Global, file: &Found) -> Result<Vec<u8>, AllocError>
 pub(crate) fn shown(alloc: Global, file: &FileWithRow<'_>) -> Result<Vec<u8>, AllocError>
     ensures { IfOk result (λ path. path.items ≡ (shown_row file.now).0) }
 {
-    let found = file.found()?;
+    let found = file.found();
     path_shown(alloc, &found)
 }
 

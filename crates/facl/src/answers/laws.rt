@@ -13,7 +13,7 @@ ghost use Rattle.facl.specs.ChangesText.{changes_text, IsUnchanged};
 ghost use Rattle.facl.specs.Inner.{HasValidList};
 ghost use Rattle.facl.specs.WhyText.{some_decides, IsDecidedAlong};
 
-use acl_rights::{Label, Record, State, Subject, Tree};
+use acl_rights::{Label, Node, Path, State, Subject, Tree};
 
 /// Proof only: the check of acl(5) grants a user a request on a file exactly if one of the entries that `why` prints
 /// contains it: of an entry of the group class what the mask leaves.
@@ -24,10 +24,10 @@ pub fn deciding_entries_are_the_check(subject: &Subject, label: &Label)
 }
 
 /// Proof only: the access list of a file is a valid one.
-fn list_is_valid(file: &Record)
-    ensures { HasValidList file.now }
+fn list_is_valid(path: &Path, node: &Node)
+    ensures { HasValidList (path.now, node.now) }
 {
-    let _entries = file.value().label.acl.entries();
+    let _entries = node.label.acl.entries();
 }
 
 /// Proof only: the access list of each file is a valid one.
@@ -36,7 +36,7 @@ fn lists_are_valid(tree: &Tree)
 {
     let mut files = tree.iter();
     while let Some(file) = files.next() {
-        list_is_valid(file);
+        list_is_valid(file.0, file.1);
     }
 }
 

@@ -8,7 +8,7 @@ ghost use Rattle.acl_rights.specs.acl_tree.Found.{found_file, found_in};
 ghost use Rattle.facl.specs.Answers.{file_line, may_text};
 ghost use Rattle.facl.specs.Inner.{is_first, in_step};
 
-use acl_rights::{FilesIter, Found, Judge, Path, Perm, Record, Tree, Verdicts};
+use acl_rights::{FilesIter, Found, Judge, Node, Path, Perm, Tree, Verdicts};
 use facl_output::push_path_shown;
 use std::alloc::{AllocError, Global};
 use std::cmp::Ordering;
@@ -25,7 +25,7 @@ fn is_first(paths: &[Rc<Path>], path: &Path) -> bool
 }
 
 /// Adds the line of a file.
-fn push_file(text: &mut Vec<u8>, file: &Found) -> Result<(), AllocError>
+fn push_file(text: &mut Vec<u8>, file: &Found<'_>) -> Result<(), AllocError>
     ensures { Appends result text.old text.new (file_line file.now) }
 {
     push_path_shown(text, file)?;
@@ -36,12 +36,13 @@ fn push_file(text: &mut Vec<u8>, file: &Found) -> Result<(), AllocError>
 /// Adds the line of a file, by those that come after it.
 fn push_before(
     text: &mut Vec<u8>,
-    file: &Rc<Record>,
+    path: &Path,
+    node: &Node,
     rest: &FilesIter<'_>,
 ) -> Result<(), AllocError>
-    ensures { Appends result text.old text.new (file_line (found_file (next_file_below file.now.value.0 rest.now) file.now.value)) }
+    ensures { Appends result text.old text.new (file_line (found_file (next_file_below path.now rest.now) (path.now, node.now))) }
 {
-    let found = Found::before(file, rest)?;
+    let found = Found::before(path, node, rest);
     push_file(text, &found)
 }
 
@@ -53,8 +54,8 @@ fn push_files(text: &mut Vec<u8>, tree: &Tree, paths: &[Rc<Path>]) -> Result<(),
     let mut rest = paths;
     let mut files = tree.iter();
     while let Some(file) = files.next() {
-        if is_first(rest, file.path()) {
-            push_before(text, file, &files)?;
+        if is_first(rest, file.0) {
+            push_before(text, file.0, file.1, &files)?;
             rest = &rest[1..];
         }
     }

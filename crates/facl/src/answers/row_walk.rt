@@ -1,42 +1,40 @@
 //! A walk over all files of a state, each with its row of verdicts.
 
-ghost use Rattle.std.specs.Prelude.{◌≡◌, IfOk, drop, option_map};
+ghost use Rattle.std.specs.Prelude.{◌≡◌, drop, option_map};
 ghost use Rattle.acl_rights.specs.acl_files.path_map.Entries.{first, IsInOrder};
 ghost use Rattle.acl_rights.specs.acl_tree.Found.{found_file};
 ghost use Rattle.facl.specs.Inner.{has_next_below, walk_of, shown_row};
 ghost use Rattle.acl_rights.specs.Verdicts.{rows_granted};
 
-use acl_rights::{FileRows, FilesIter, Found, Judge, Path, Record, Requests, Tree, Verdicts};
-use std::alloc::AllocError;
+use acl_rights::{FileRows, FilesIter, Found, Judge, Node, Path, Requests, Tree, Verdicts};
 use std::marker::Model;
-use std::rc::Rc;
 
 /// A file, the next one after it, and what each user may do with it.
 #[derive(Clone, Copy)]
 pub(crate) struct FileWithRow<'a> {
-    pub file: &'a Rc<Record>,
-    pub next: Option<&'a Rc<Record>>,
+    pub path: &'a Path,
+    pub node: &'a Node,
+    pub next: Option<&'a Path>,
     pub requests: &'a [Requests],
 }
 
 /// Whether a file, if there is one, is below a path.
-fn is_above(path: &Path, next: Option<&Rc<Record>>) -> bool
-    ensures { result ≡ has_next_below path.now (option_map (λ next. next.now.value) next.entry) }
+fn is_above(path: &Path, next: Option<&Path>) -> bool
+    ensures { result ≡ has_next_below path.now (option_map (λ next. next.now) next.entry) }
 {
     match next {
-        Some(next) => next.path().is_below(path),
+        Some(next) => next.is_below(path),
         None => false,
     }
 }
 
 impl<'a> FileWithRow<'a> {
-    /// The file, with whether another one is below it. Fails only if memory runs out.
-    pub fn found(&self) -> Result<Found, AllocError>
-        ensures { IfOk result (λ found. found ≡ found_file (has_next_below self.now.file.now.value.0
-            (option_map (λ next. next.now.value) self.now.next)) self.now.file.now.value) }
+    /// The file, with whether another one is below it.
+    pub fn found(&self) -> Found<'a>
+        ensures { result ≡ found_file (has_next_below self.now.path.now (option_map (λ next. next.now) self.now.next)) (self.now.path.now, self.now.node.now) }
     {
-        let has_below = is_above(self.file.path(), self.next);
-        Ok(Found::new(self.file.clone()?, has_below))
+        let has_below = is_above(self.path, self.next);
+        Found::new(self.path, self.node, has_below)
     }
 }
 
@@ -96,7 +94,8 @@ impl<'a> Walk<'a> {
         let row = self.rows.next()?;
         let file = self.files.next()?;
         Some(FileWithRow {
-            file,
+            path: file.0,
+            node: file.1,
             next: self.files.peek(),
             requests: row.requests,
         })

@@ -88,7 +88,7 @@ fn push_record<N: Names>(
     text: &mut Vec<u8>,
     names: &N,
     subject: &Subject,
-    file: &Found,
+    file: &Found<'_>,
 ) -> Result<(), AllocError>
     ensures { Appends result text.old text.new (why_record (N.naming names.now) subject.now file.now) }
 {
@@ -103,7 +103,7 @@ fn push_records<N: Names>(
     text: &mut Vec<u8>,
     names: &N,
     subject: &Subject,
-    files: &[Found],
+    files: &[Found<'_>],
 ) -> Result<(), AllocError>
     ensures { Appends result text.old text.new (why_text (N.naming names.now) subject.now files.now) }
 {
@@ -120,7 +120,7 @@ pub fn write_why<N: Names>(
     alloc: Global,
     names: &N,
     subject: &Subject,
-    files: &[Found],
+    files: &[Found<'_>],
 ) -> Result<Vec<u8>, AllocError>
     ensures { IfOk result (λ text. text.items ≡ why_text (N.naming names.now) subject.now files.now) }
 {
@@ -167,12 +167,12 @@ fn asked_paths(alloc: Global, tree: &Tree, paths: Paths, along: bool) -> Result<
 /// # Errors
 ///
 /// `NoSuchFile` of the first path that is not recorded, or `NoMemory`.
-pub fn files_asked(
+pub fn files_asked<'a>(
     alloc: Global,
-    tree: &Tree,
+    tree: &'a Tree,
     paths: Paths,
     along: bool,
-) -> Result<Vec<Found>, TreeFault>
+) -> Result<Vec<Found<'a>>, TreeFault>
     ensures all { IfOk result (λ files. files.items ≡ files_asked along paths tree.now.files) }
     ensures there { OnOk result (first_missing paths tree.now.files ≡ None) }
     ensures reported { IfErr result (λ fault. fault ≢ TreeFault.NoMemory → IsMissing fault (first_missing paths tree.now.files)) }

@@ -28,7 +28,11 @@ fn paths_of(alloc: Global, records: &[DumpRecord]) -> Result<Vec<Path>, AllocErr
 }
 
 /// The files of operands that are recorded.
-fn files_of(alloc: Global, tree: &Tree, selection: &Selection<'_>) -> Result<Vec<Found>, LineFault>
+fn files_of<'a>(
+    alloc: Global,
+    tree: &'a Tree,
+    selection: &Selection<'_>,
+) -> Result<Vec<Found<'a>>, LineFault>
     requires { first_missing selection.now.operands.now tree.now.files ≡ None }
     ensures { Gives (λ files. files.items) result (Ok (files_found selection.now.recursive selection.now.operands.now tree.now.files)) }
 {
@@ -36,11 +40,11 @@ fn files_of(alloc: Global, tree: &Tree, selection: &Selection<'_>) -> Result<Vec
 }
 
 /// The files of records that are recorded.
-fn files_of_records(
+fn files_of_records<'a>(
     alloc: Global,
-    tree: &Tree,
+    tree: &'a Tree,
     records: &DumpRecords,
-) -> Result<Vec<Found>, LineFault>
+) -> Result<Vec<Found<'a>>, LineFault>
     requires { first_missing (paths_of records.now) tree.now.files ≡ None }
     ensures { Gives (λ files. files.items) result (Ok (files_found false (paths_of records.now) tree.now.files)) }
 {
@@ -53,12 +57,12 @@ fn files_of_records(
 }
 
 /// The files of a command, as they are after it.
-fn files_after(
+fn files_after<'a>(
     alloc: Global,
     state: &State,
     command: &Command<'_>,
-    staged: &Staged,
-) -> Result<Vec<Found>, LineFault>
+    staged: &'a Staged,
+) -> Result<Vec<Found<'a>>, LineFault>
     requires { step state.now command.now ≡ Ok staged.now.state }
     ensures { Gives (λ files. files.items) result (Ok (command_files command.now staged.now.state.tree.files)) }
 {

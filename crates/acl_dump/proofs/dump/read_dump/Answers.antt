@@ -18,8 +18,8 @@ returns-then-branch-clause-made g c =
 
 pub returns-clause-made : goal.returns-clause-made
 returns-clause-made g c =
-    subst (λ r. Gives (λ records. records.items) c.read_stream-2.result r)
-    (watched_dump (g.N.Names.naming c.args.names.now) c.args.dump_use c.args.bytes.now) c.read_stream-2.ensures
+    subst (λ r. Gives (λ records. records.items) c.read_stream.result r)
+    (watched_dump (g.N.Names.naming c.args.names.now) c.args.dump_use c.args.bytes.now) c.read_stream.ensures
 
 pub returns-then-branch-clause-apart : goal.returns-then-branch-clause-apart
 returns-then-branch-clause-apart g c =
@@ -28,5 +28,5 @@ returns-then-branch-clause-apart g c =
 
 pub returns-clause-apart : goal.returns-clause-apart
 returns-clause-apart g c =
-    given_ok (λ records. records.items) c.read_stream-2.result _ _ (returns-clause-made g c)
+    given_ok (λ records. records.items) c.read_stream.result _ _ (returns-clause-made g c)
     (dump_apart (g.N.Names.naming c.args.names.now) c.args.dump_use c.args.bytes.now)

@@ -3,10 +3,10 @@ use Rattle.acl_files.proofs.Nearest.{Alike}
 use Rattle.acl_files.proofs.files.nearest_above.Given as goal
 
 abbrev pub invariant-loop-entry : goal.invariant-loop-entry
-invariant-loop-entry g l = record {
-  alike : Alike l.fn.path l.top l.entries;
+invariant-loop-entry l = record {
+  alike : Alike l.fn.path l.top l.numbers;
   none : l.above.items ≡ [];
 }
 
 abbrev pub decreases-loop-entry : goal.decreases-loop-entry
-decreases-loop-entry g l = length l.top
+decreases-loop-entry l = length l.top

@@ -7,9 +7,9 @@ use Rattle.acl_files.proofs.restore.files_of.Given as goal
 
 abbrev pub invariant-loop-rest : goal.invariant-loop-rest
 invariant-loop-rest l = record {
-  same : l.files ≡ l.tree.files;
   records : map (λ x. x.1) l.found.items ++ l.rest ≡ l.records;
   files : All (IsFileOf l.tree.files) l.found.items;
+  finder : l.finder ≡ l.tree.files;
   there : first_missing (paths_of l.rest) l.tree.files ≡ first_missing (paths_of l.records) l.tree.files;
 }
 

@@ -1,11 +1,15 @@
-use Rattle.std.proofs.Common.{◌≡◌, ◌++◌, map, length}
-use Rattle.acl_files.specs.Inner.{restore_each, after_edits, changed_by_records}
+use Rattle.std.proofs.Common.{◌≡◌, ◌++◌, length, Err}
+use Rattle.kinds.specs.Numbered.{entries_in}
+use Rattle.acl_files.specs.Files.{Files}
+use Rattle.acl_files.specs.declared.edit.FileFault.{FileFault}
+use Rattle.acl_files.specs.Inner.{restored, restore_each, SomeEdited}
 use Rattle.acl_files.proofs.restore.restore_each.Given as goal
 
 abbrev pub invariant-loop-rest : goal.invariant-loop-rest
 invariant-loop-rest l = record {
-  made : restore_each l.found ≡ after_edits (map (λ r. r.value) l.edits.items) (restore_each l.rest);
-  reported : map (λ r. r.value) l.changed.items ++ changed_by_records l.rest ≡ map (λ r. r.value) l.fn.changed.items ++ changed_by_records l.found;
+  before : l.puts.0 ≡ entries_in l.files;
+  made : (ms : Files) → SomeEdited (λ x. x.0) restored l.rest ms → SomeEdited (λ x. x.0) restored l.found (l.puts.1 ++ ms);
+  refused : (fault : FileFault) → restore_each l.rest ≡ Err fault → restore_each l.found ≡ Err fault;
 }
 
 abbrev pub decreases-loop-rest : goal.decreases-loop-rest

@@ -1,57 +1,60 @@
-use Rattle.std.proofs.Common.{◌≡◌, ◌∷◌, ◌++◌, [], Ok, map, ap, sym, subst, ◌∙◌}
-use Rattle.std.specs.FinMap.{put}
+use Rattle.std.proofs.Common.{◌≡◌, Bool, true, false, cond, ◌||◌, Some, Ok, refl, ap, sym, subst, ◌∙◌}
+use Rattle.std.specs.Ordering.{eq_by_cmp}
+use Rattle.std.specs.FinMap.{find, put}
+use Rattle.std.specs.FinMap.Entries.{find-put}
 use Rattle.acl_files.specs.acl_names.Paths.{path_cmp}
+use Rattle.acl_files.proofs.of_acl_names.PathOrder.{path_total}
 use Rattle.acl_files.specs.acl_edit.declared.node.Node.{Node}
-use Rattle.acl_files.specs.path_map.Merged.{put_all}
 use Rattle.acl_files.specs.Files.{PathOf, Files, Recorded}
 use Rattle.acl_files.specs.Sound.{IsSoundTree}
 use Rattle.acl_tree.specs.Creat.{creat_by}
-use Rattle.acl_tree.specs.Step.{State, with_tree}
-use Rattle.acl_tree.proofs.NewFiles.{sound_with, changed_with, gone_with}
-use Rattle.acl_tree.proofs.Reported.{reported_change}
+use Rattle.acl_tree.specs.Step.{State, state_from, with_tree}
+use Rattle.acl_tree.specs.Reports.{staged_from}
+use Rattle.acl_tree.specs.declared.user_change.UserChange.TheVariants.{Unchanged}
+use Rattle.acl_tree.proofs.NewFiles.{sound_with, gone_with}
+use Rattle.acl_tree.proofs.Reported.{reported_files}
 use Rattle.acl_tree.proofs.creat.prepare_creat.Goals as goal
 
-pub of-requires : goal.of-requires
-of-requires c =
-    let e : PathOf × Node = c.in_ok-file.file.value in
-    let t : Files = c.args.state.now.tree.now.files in
-    let one : map (λ r. r.value) c.deref.result.now ≡ e ∷ [] =
-    ap (λ l. map (λ r. r.value) l) (c.deref.ensures.value ∙ c.in_ok-push.ensures.items)
-    ∙ ap (λ l. map (λ r. r.value) (l ++ c.in_ok-file.file ∷ [])) c.new-changed.ensures.items
-    in
-    let new : c.in_ok-files.files ≡ put path_cmp e.0 e.1 t = c.in_ok-files.ensures ∙ (λ i. put_all (one i) (c.files_by_path.ensures.all i)) in
+or_false : (b : Bool) → (b || false) ≡ b
+or_false true = refl
+or_false false = refl
+
+pub of-files-requires : goal.of-files-requires
+of-files-requires c =
+    let tree : Recorded = c.args.state.now.tree.now in
+    let e : PathOf × Node = (c.args.new.now.path, c.in_ok-node.node) in
+    let new = c.in_ok-by_path.ensures ∙ ap (λ (es : Files). put path_cmp e.0 e.1 es) c.files_by_path.ensures.all in
     subst (λ (t : Recorded). IsSoundTree t) (λ i. record { files = sym new i; loaded = sym c.is_loaded.ensures i })
-    (sound_with c.args.state.now.tree.now c.files_by_path.ensures.sound e c.in_ok-file.ensures.fits)
+    (sound_with tree c.files_by_path.ensures.sound e c.in_ok-node.ensures.fits)
+
+pub with_files-requires : goal.with_files-requires
+with_files-requires c = λ p out.
+    let e : PathOf × Node = (c.args.new.now.path, c.in_ok-node.node) in
+    let t : Files = c.args.state.now.tree.now.files in
+    let other : eq_by_cmp path_cmp p e.0 ≡ false = sym (or_false (eq_by_cmp path_cmp p e.0)) ∙ sym (c.in_ok-at.ensures p) ∙ out in
+    ap (λ (t : Recorded). find path_cmp p t.files) c.of-files.ensures
+    ∙ ap (λ (es : Files). find path_cmp p es) (c.in_ok-by_path.ensures ∙ ap (λ (es : Files). put path_cmp e.0 e.1 es) c.files_by_path.ensures.all)
+    ∙ find-put path_cmp path_total p e.0 e.1 t
+    ∙ ap (λ b. cond b (Some e.1) (find path_cmp p t)) other
 
 pub returns : goal.returns
 returns c =
-    let e : PathOf × Node = c.in_ok-file.file.value in
-    let t : Files = c.args.state.now.tree.now.files in
-    let old : State = record { tree = c.args.state.now.tree.now; people = c.args.state.now.people.now } in
-    let pushed : map (λ r. r.value) c.push.new.self.items ≡ e ∷ [] =
-    ap (λ l. map (λ r. r.value) l) c.in_ok-push.ensures.items
-    ∙ ap (λ l. map (λ r. r.value) (l ++ c.in_ok-file.file ∷ [])) c.new-changed.ensures.items
+    let tree : Recorded = c.args.state.now.tree.now in
+    let old : State = state_from tree c.args.state.now.people.now in
+    let e : PathOf × Node = (c.args.new.now.path, c.in_ok-node.node) in
+    let after : Recorded = record tree { files = put path_cmp e.0 e.1 tree.files } in
+    let new : State = state_from after c.args.state.now.people.now in
+    let files : c.of-files.result.files ≡ after.files =
+    ap (λ (t : Recorded). t.files) c.of-files.ensures ∙ c.in_ok-by_path.ensures ∙ ap (λ (es : Files). put path_cmp e.0 e.1 es) c.files_by_path.ensures.all
     in
-    let one : map (λ r. r.value) c.deref.result.now ≡ e ∷ [] = ap (λ l. map (λ r. r.value) l) c.deref.ensures.value ∙ pushed in
-    let new : c.in_ok-files.files ≡ put path_cmp e.0 e.1 t = c.in_ok-files.ensures ∙ (λ i. put_all (one i) (c.files_by_path.ensures.all i)) in
-    let sound = c.files_by_path.ensures.sound in
-    let tree : Recorded = record c.args.state.now.tree.now { files = put path_cmp e.0 e.1 t } in
-    let whole : State = record { tree = tree; people = c.args.state.now.people.now } in
-    let made : c.of.result ≡ tree = c.of.ensures ∙ (λ i. record { files = new i; loaded = c.is_loaded.ensures i }) in
-    let is : c.of-2.result.state ≡ whole = ap (λ s. s.state) c.of-2.ensures.all ∙ (λ i. record { tree = made i; people = c.in_ok-share.ensures i }) in
+    let made : c.of-files.result ≡ after = λ i. record { files = files i; loaded = (ap (λ (t : Recorded). t.loaded) c.of-files.ensures ∙ c.is_loaded.ensures) i } in
+    let is : c.in_ok-staged.staged ≡ staged_from tree.files new Unchanged = c.in_ok-staged.ensures.all ∙ ap (λ (t : Recorded). staged_from tree.files (state_from t c.args.state.now.people.now) Unchanged) made in
     record {
       made =
-          ap (λ row. with_tree old (creat_by c.args.new.now c.args.state.now.tree.now row)) c.in_ok-owner.ensures.found
-          ∙ ap (λ r. with_tree old r) c.in_ok-file.ensures.made
-          ∙ ap (λ (s : State). Ok s) (sym is);
-      sound = subst (λ (t : Recorded). IsSoundTree t) (sym (ap (λ s. s.state.tree) c.of-2.ensures.all)) c.of-2.ensures.sound;
-      reports =
-          reported_change old c.of-2.result (put path_cmp e.0 e.1 t)
-          (ap (λ s. s.tree.files) is)
-          (ap (λ s. s.changed) c.of-2.ensures.all ∙ pushed ∙ sym (changed_with c.args.state.now.tree.now sound e c.in_ok-file.ensures.fits))
-          (ap (λ s. s.gone) c.of-2.ensures.all ∙ ap (λ l. map (λ r. r.value) l) c.new.ensures.items)
-          (gone_with c.args.state.now.tree.now sound e c.in_ok-file.ensures.fits)
-          (ap (λ s. s.user_change) c.of-2.ensures.all)
-          (ap (λ s. s.people) is);
-      moved = ap (λ s. s.user_change) c.of-2.ensures.all;
+          ap (λ row. with_tree old (creat_by c.args.new.now tree row)) c.in_ok-owner.ensures.found
+          ∙ ap (λ r. with_tree old r) c.in_ok-node.ensures.made
+          ∙ ap (λ (s : State). Ok s) (sym (ap (λ s. s.state) is));
+      sound = c.in_ok-staged.ensures.sound;
+      reports = reported_files old new c.in_ok-staged.staged is refl (gone_with tree c.files_by_path.ensures.sound e c.in_ok-node.ensures.fits);
+      moved = ap (λ s. s.user_change) is;
     }

@@ -1,25 +1,37 @@
-use Rattle.std.proofs.Common.{true, arith, map, sym, ap, subst, ◌∙◌}
+use Rattle.std.proofs.Common.{◌≡◌, List, length, nat_lt, if◌then◌else◌, true, false, Ok, Err, arith, refl, sym, ap, subst, ◌∙◌, true≢false}
 use Rattle.std.proofs.lemmas.Grind.{common_steps}
-use Rattle.acl_files.specs.Files.{Files}
+use Rattle.acl_files.specs.acl_dump.declared.record.DumpRecord.{DumpRecord}
+use Rattle.acl_files.specs.Files.{Files, Recorded, max_files}
+use Rattle.acl_files.specs.Loading.{files_of}
+use Rattle.acl_files.specs.declared.fault.TreeFault.TheVariants.{TooMany}
+use Rattle.acl_files.specs.Changed.{gone_between}
 use Rattle.acl_files.specs.Sound.{IsSoundTree}
-use Rattle.acl_tree.specs.Step.{State}
+use Rattle.acl_tree.specs.Step.{State, state_from, with_records}
 use Rattle.acl_files.proofs.Kept.{loaded_sound}
-use Rattle.acl_tree.proofs.Reported.{reported_load}
+use Rattle.acl_tree.proofs.Reported.{reported_files}
 use Rattle.acl_tree.proofs.dump.prepare_dump.Goals as goal
 
-pub tree_of-requires : goal.tree_of-requires
-tree_of-requires c =
-    subst (λ (files : Files). IsSoundTree (record { files = files; loaded = true })) (sym (ap (λ l. map (λ r. r.value) l) c.deref.ensures.value ∙ c.in_ok-files.ensures))
+pub of-files-requires : goal.of-files-requires
+of-files-requires c =
+    subst (λ (files : Files). IsSoundTree (record { files = files; loaded = true })) (sym c.in_ok-files_of.ensures)
     (loaded_sound c.in-Ok.records.items (omega arith))
+
+pub with_files-requires : goal.with_files-requires
+with_files-requires c = λ p out. absurd (true≢false (sym (c.in_ok-touched.ensures p) ∙ out))
 
 pub returns-clause-reports : goal.returns-clause-reports
 returns-clause-reports c = λ none.
-    let old : State = record { tree = c.args.state.now.tree.now; people = c.args.state.now.people.now } in
-    reported_load old c.of.result none
-    (ap (λ s. s.changed) c.of.ensures.all ∙ sym (ap (λ s. s.state.tree.files) c.of.ensures.all ∙ ap (λ t. t.files) c.in_ok-loaded.ensures ∙ ap (λ l. map (λ r. r.value) l) c.deref.ensures.value))
-    (ap (λ s. s.gone) c.of.ensures.all ∙ ap (λ l. map (λ r. r.value) l) c.new.ensures.items)
-    (ap (λ s. s.user_change) c.of.ensures.all)
-    (ap (λ s. s.state.people) c.of.ensures.all ∙ c.in_ok-share.ensures)
+    let old : State = state_from c.args.state.now.tree.now c.args.state.now.people.now in
+    let new : State = state_from c.of-files.result c.args.state.now.people.now in
+    reported_files old new c.in_ok-staged.staged c.in_ok-staged.ensures.all refl (ap (λ es. gone_between es new.tree.files) none)
 
 pub returns-clause-made : goal.returns-clause-made
-returns-clause-made c = grind (arith, common_steps)
+returns-clause-made c =
+    let old : State = state_from c.args.state.now.tree.now c.args.state.now.people.now in
+    let records : List DumpRecord = c.in-Ok.records.items in
+    let few : nat_lt max_files (length records) ≡ false = grind (arith, common_steps) in
+    let tree : c.of-files.result ≡ record { files = files_of records; loaded = true } = c.of-files.ensures ∙ ap (λ (es : Files). record { files = es; loaded = true }) c.in_ok-files_of.ensures in
+    ap (with_records old) c.in-Ok.ensures.made
+    ∙ ap (λ b. if b then Err TooMany else Ok (record old { tree = record { files = files_of records; loaded = true } })) few
+    ∙ ap (λ (t : Recorded). Ok (state_from t c.args.state.now.people.now)) (sym tree)
+    ∙ ap (λ (s : State). Ok s) (sym (ap (λ s. s.state) c.in_ok-staged.ensures.all))

@@ -1,25 +1,24 @@
-use Rattle.std.proofs.Common.{◌≡◌, [], map, ap, sym, subst, ◌∙◌}
+use Rattle.std.proofs.Common.{◌≡◌, refl, ap, sym, subst, ◌∙◌}
+use Rattle.std.specs.FinMap.{find}
+use Rattle.acl_files.specs.acl_names.Paths.{path_cmp}
 use Rattle.acl_files.specs.Files.{Recorded}
 use Rattle.acl_files.specs.Sound.{IsSoundTree}
 use Rattle.acl_tree.specs.Step.{state_from}
-use Rattle.acl_tree.specs.Reports.{StagedState, UsersMoved}
+use Rattle.acl_tree.specs.Reports.{staged_from}
 use Rattle.acl_tree.proofs.Reported.{reported_people}
 use Rattle.acl_tree.proofs.stage_people.stage_people.Goals as goal
+
+pub of-requires : goal.of-requires
+of-requires c = λ p out. ap (λ (t : Recorded). find path_cmp p t.files) (c.in_ok-files.ensures ∙ sym c.in_ok-before.ensures)
 
 pub returns : goal.returns
 returns c =
     let tree = c.args.tree.now in
-    let is : c.of.result ≡ record { state = state_from tree c.args.people; changed = []; gone = []; user_change = c.args.user_change } =
-    c.of.ensures.all
-    ∙ (λ i. record { state = state_from (c.in_ok-share.ensures i) c.args.people; changed = map (λ r. r.value) (c.new.ensures.items i); gone = map (λ r. r.value) (c.new-2.ensures.items i); user_change = c.args.user_change })
+    let is : c.of.result ≡ staged_from tree.files (state_from tree c.args.people) c.args.user_change =
+    c.of.ensures.all ∙ (λ i. staged_from (c.in_ok-before.ensures i).files (state_from (c.in_ok-files.ensures i) c.args.people) c.args.user_change)
     in
     record {
       all = is;
       sound = subst (λ (t : Recorded). IsSoundTree t) (sym (ap (λ s. s.state.tree) c.of.ensures.all)) c.of.ensures.sound;
-      reports = λ old users.
-          reported_people (state_from tree old) c.of.result c.soundness_law.ensures.order
-          (ap (λ s. s.state.tree) is)
-          (ap (λ s. s.changed) is)
-          (ap (λ s. s.gone) is)
-          (subst (λ (s : StagedState). UsersMoved (state_from tree old) s.state s.user_change) (sym is) users);
+      reports = λ old users. reported_people (state_from tree old) (state_from tree c.args.people) c.args.user_change c.of.result is c.soundness_law.ensures.order refl users;
     }

@@ -1,9 +1,15 @@
-use Rattle.std.proofs.Common.{arith}
+use Rattle.std.proofs.Common.{◌≤◌, length, subst, arith}
+use Rattle.std.proofs.Math.Nat.{mul-le-mul_left, mul-le-mul_right}
 use Rattle.std.proofs.lemmas.Grind.{common_steps}
+use Rattle.acl_tree.specs.Files.{Recorded}
+use Rattle.acl_tree.specs.acl_people.KnownPeople.{KnownPeople}
 use Rattle.acl_rights.proofs.indexed.IndexedStates.new.Goals as goal
 
 pub returns-in_err-state-clause-few : goal.returns-in_err-state-clause-few
 returns-in_err-state-clause-few g c = grind (arith, common_steps)
 
 pub returns-clause-few : goal.returns-clause-few
-returns-clause-few g c = grind (arith, common_steps)
+returns-clause-few g c =
+    let files : length c.args.state.tree.files ≤ 1048576 = subst (λ (t : Recorded). length t.files ≤ 1048576) c.tree.ensures c.soundness_law.ensures.few in
+    let users : length c.args.state.people.users ≤ 65536 = subst (λ (known : KnownPeople). length known.users ≤ 65536) c.people.ensures c.soundness_law-2.ensures.few_users in
+    omega (arith, mul-le-mul_left (length c.args.state.tree.files) users, mul-le-mul_right 65536 files)

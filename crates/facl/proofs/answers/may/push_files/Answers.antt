@@ -1,7 +1,9 @@
-use Rattle.std.proofs.Common.{map, refl, sym, ap, ◌∙◌, arith}
+use Rattle.std.proofs.Common.{◌≡◌, true, false, map, refl, sym, ap, ◌∙◌, arith}
 use Rattle.facl_output.proofs.Parts.{begins_later}
 use Rattle.std.proofs.lemmas.Grind.{common_steps}
 use Rattle.acl_rights.specs.acl_files.Inner.{next_file_below}
+use Rattle.acl_rights.specs.acl_edit.declared.node.Node.{Node}
+use Rattle.acl_rights.specs.acl_tree.Files.{PathOf}
 use Rattle.acl_rights.specs.acl_tree.Found.{found_file}
 use Rattle.facl.specs.Inner.{is_first}
 use Rattle.facl.proofs.FileLines.{rest_is, map_drop, step_taken, step_left, step_ends}
@@ -15,15 +17,17 @@ returns-in_err-push_before c =
 pub loop-file-preserved-then-is_first : goal.loop-file-preserved-then-is_first
 loop-file-preserved-then-is_first c =
     let left = map (λ p. p.value) c.loop-file.rest.now in
-    let first = ap (λ p. is_first p left) (sym (c.path.ensures ∙ ap (λ e. e.0) c.deref.ensures)) ∙ sym c.is_first.ensures ∙ c.if-is_first.true in
-    step_taken c.args.tree.now.files c.loop-file.files c.next.new.self (map (λ p. p.value) c.args.paths.now) left c.args.text.now.items c.loop-file.text.items c.in-Some.file.now.value
-    c.soundness_law.ensures.order c.in-Some.ensures.steps c.loop-file.invariant _ _ (found_file (next_file_below c.in-Some.file.now.value.0 c.next.new.self) c.in-Some.file.now.value) first (ap (map (λ p. p.value)) (rest_is c.loop-file.rest.now) ∙ map_drop (λ p. p.value) c.loop-file.rest.now) refl c.in_ok-push_before.ensures
+    let e : PathOf × Node = (c.in-Some.file.0.now, c.in-Some.file.1.now) in
+    let first : is_first e.0 left ≡ true = sym c.is_first.ensures ∙ c.if-is_first.true in
+    step_taken c.args.tree.now.files c.loop-file.files c.next.new.self (map (λ p. p.value) c.args.paths.now) left c.args.text.now.items c.loop-file.text.items e
+    c.soundness_law.ensures.order c.in-Some.ensures.steps c.loop-file.invariant _ _ (found_file (next_file_below e.0 c.next.new.self) e) first (ap (map (λ p. p.value)) (rest_is c.loop-file.rest.now) ∙ map_drop (λ p. p.value) c.loop-file.rest.now) refl c.in_ok-push_before.ensures
 
 pub loop-file-preserved : goal.loop-file-preserved
 loop-file-preserved c =
     let left = map (λ p. p.value) c.loop-file.rest.now in
-    let other = ap (λ p. is_first p left) (sym (c.path.ensures ∙ ap (λ e. e.0) c.deref.ensures)) ∙ sym c.is_first.ensures ∙ c.if-is_first.false in
-    step_left c.args.tree.now.files c.loop-file.files c.next.new.self (map (λ p. p.value) c.args.paths.now) left c.args.text.now.items c.loop-file.text.items c.in-Some.file.now.value
+    let e : PathOf × Node = (c.in-Some.file.0.now, c.in-Some.file.1.now) in
+    let other : is_first e.0 left ≡ false = sym c.is_first.ensures ∙ c.if-is_first.false in
+    step_left c.args.tree.now.files c.loop-file.files c.next.new.self (map (λ p. p.value) c.args.paths.now) left c.args.text.now.items c.loop-file.text.items e
     c.soundness_law.ensures.order c.in-Some.ensures.steps c.loop-file.invariant other
 
 pub returns : goal.returns

@@ -1,0 +1,12 @@
+pub mod InBlocks
+pub mod Numbers
+pub mod EntriesBy
+pub mod Counts
+pub mod Chosen
+pub mod Gone
+pub mod InTurn
+pub mod Puts
+pub mod Edited
+pub mod Settled
+pub mod Stopped
+pub mod Replaced

@@ -1,0 +1,132 @@
+-- Nodes by numbers, and counts.
+use Rattle.std.proofs.Common.{◌≡◌, ◌≢◌, ℕ, zero, suc, ◌+◌, ◌-◌, ◌<◌, ◌≤◌, Bool, true, false, cond, List, [], ◌∷◌, ◌++◌, length, set, get_or, get_or-set_same, get_or-set_other, Option, Some, None, refl, sym, ap, ◌∙◌, arith, ltb-true, ltb-false}
+use Rattle.std.specs.Prelude.{◌==◌, nat_lt, slice_get, if◌then◌else◌}
+use Rattle.std.proofs.lemmas.Option.{slice_get_within}
+use Rattle.std.proofs.lemmas.List.{get_or_past}
+use Rattle.std.proofs.lemmas.Bool.Decides.{nat_tests}
+use Rattle.kinds.specs.Kinds.{Adds, Grants, Releases}
+
+pub eq_self : (n : ℕ) → (n == n) ≡ true
+eq_self n = grind (arith, nat_tests)
+
+pub eq_true : (n m : ℕ) → (n == m) ≡ true → n ≡ m
+eq_true n m h = grind (arith, nat_tests)
+
+pub eq_false : (n m : ℕ) → (n == m) ≡ false → n ≢ m
+eq_false n m h e = absurd (no (sym h ∙ ap (λ k. k == m) e ∙ eq_self m))
+  where
+    no : false ≡ true → ⊥
+    no e = cc
+
+pub none_got : {A : Type 0} (xs : List A) (i : ℕ) (d : A) → slice_get xs i ≡ None → get_or xs i d ≡ d
+none_got [] i d h = refl
+none_got (x ∷ xs) zero d h = cc
+none_got (x ∷ xs) (suc i) d h = none_got xs i d h
+
+-- what is at a place after a write
+pub set_read : {A : Type 0} (xs : List A) (i n : ℕ) (y d : A) → i < length xs → get_or (set xs i y) n d ≡ (if n == i then y else get_or xs n d)
+set_read xs i n y d lt = by (n == i) refl
+  where
+    by : (b : Bool) → (n == i) ≡ b → get_or (set xs i y) n d ≡ cond b y (get_or xs n d)
+    by true is = let e = eq_true n i is in ap (λ k. get_or (set xs i y) k d) e ∙ get_or-set_same xs i y d lt
+    by false is = get_or-set_other xs i n y d (eq_false n i is)
+
+-- and where nothing is written
+pub set_none : {A : Type 0} (xs : List A) (i n : ℕ) (y d : A) → length xs ≤ i → get_or (set xs i y) n d ≡ get_or xs n d
+set_none [] i n y d h = refl
+set_none (x ∷ xs) zero n y d h = absurd (omega arith)
+set_none (x ∷ xs) (suc i) zero y d h = refl
+set_none (x ∷ xs) (suc i) (suc n) y d h = set_none xs i n y d (omega arith)
+
+push_here : {A : Type 0} (xs : List A) (y d : A) → get_or (xs ++ y ∷ []) (length xs) d ≡ y
+push_here [] y d = refl
+push_here (x ∷ xs) y d = push_here xs y d
+
+push_other : {A : Type 0} (xs : List A) (n : ℕ) (y d : A) → n ≢ length xs → get_or (xs ++ y ∷ []) n d ≡ get_or xs n d
+push_other [] zero y d h = absurd (h refl)
+push_other [] (suc n) y d h = refl
+push_other (x ∷ xs) zero y d h = refl
+push_other (x ∷ xs) (suc n) y d h = push_other xs n y d (λ e. h (ap suc e))
+
+pub push_read : {A : Type 0} (xs : List A) (n : ℕ) (y d : A) → get_or (xs ++ y ∷ []) n d ≡ (if n == length xs then y else get_or xs n d)
+push_read xs n y d = by (n == length xs) refl
+  where
+    by : (b : Bool) → (n == length xs) ≡ b → get_or (xs ++ y ∷ []) n d ≡ cond b y (get_or xs n d)
+    by true is = let e = eq_true n (length xs) is in ap (λ k. get_or (xs ++ y ∷ []) k d) e ∙ push_here xs y d
+    by false is = push_other xs n y d (eq_false n (length xs) is)
+
+-- a default more at the end changes nothing
+pub push_default : {A : Type 0} (xs : List A) (n : ℕ) (d : A) → get_or (xs ++ d ∷ []) n d ≡ get_or xs n d
+push_default [] zero d = refl
+push_default [] (suc n) d = refl
+push_default (x ∷ xs) zero d = refl
+push_default (x ∷ xs) (suc n) d = push_default xs n d
+
+-- ---- numbers in use
+
+pub node_within : {N : Type 0} (nodes : List (Option N)) (n : ℕ) (x : N) → get_or nodes n None ≡ Some x → n < length nodes
+node_within [] n x h = cc
+node_within (y ∷ nodes) zero x h = omega arith
+node_within (y ∷ nodes) (suc n) x h = let lt = node_within nodes n x h in omega arith
+
+-- ---- what the code does
+
+pub reused : {N : Type 0} (slots : List (Option N)) (counts : List ℕ) (at : ℕ) (x : N) → slice_get slots at ≡ Some None → Adds (slots, counts) x at (set slots at (Some x), counts)
+reused slots counts at x h = record {
+  free = free slots at h;
+  nodes = λ n. set_read slots at n (Some x) None (slice_get_within slots at None h);
+  counts = λ n. refl;
+}
+  where
+    free : {N : Type 0} (slots : List (Option N)) (at : ℕ) → slice_get slots at ≡ Some None → get_or slots at None ≡ None
+    free [] at h = refl
+    free (s ∷ slots) zero h = cc
+    free (s ∷ slots) (suc at) h = free slots at h
+
+pub grown : {N : Type 0} (slots : List (Option N)) (counts : List ℕ) (x : N) → Adds (slots, counts) x (length slots) (slots ++ Some x ∷ [], counts ++ 0 ∷ [])
+grown slots counts x = record {
+  free = get_or_past slots (length slots) None (omega arith);
+  nodes = λ n. push_read slots n (Some x) None;
+  counts = λ n. push_default counts n 0;
+}
+
+pub granted : {N : Type 0} (slots : List (Option N)) (counts : List ℕ) (at more count : ℕ) → at < length counts → count ≡ get_or counts at 0 + more → Grants (slots, counts) at more (slots, set counts at count)
+granted slots counts at more count lt is = record {
+  nodes = λ n. refl;
+  counts = λ n. set_read counts at n count 0 lt ∙ by n (n == at) refl;
+}
+  where
+    by : (n : ℕ) (b : Bool) → (n == at) ≡ b → cond b count (get_or counts n 0) ≡ get_or counts n 0 + cond b more 0
+    by n true same = is ∙ ap (λ k. get_or counts k 0 + more) (sym (eq_true n at same))
+    by n false same = omega arith
+
+less_counts : (counts : List ℕ) (at fewer count : ℕ) → count ≡ get_or counts at 0 - fewer → (n : ℕ) → get_or (set counts at count) n 0 ≡ get_or counts n 0 - (if n == at then fewer else 0)
+less_counts counts at fewer count is n = by (nat_lt at (length counts)) refl (n == at) refl
+  where
+    by : (w : Bool) → nat_lt at (length counts) ≡ w → (b : Bool) → (n == at) ≡ b → get_or (set counts at count) n 0 ≡ get_or counts n 0 - cond b fewer 0
+    by true lt true same = set_read counts at n count 0 (ltb-true _ _ lt) ∙ ap (λ b. cond b count (get_or counts n 0)) same ∙ is ∙ ap (λ k. get_or counts k 0 - fewer) (sym (eq_true n at same))
+    by true lt false same = set_read counts at n count 0 (ltb-true _ _ lt) ∙ ap (λ b. cond b count (get_or counts n 0)) same ∙ omega arith
+    by false ge true same =
+        let none : get_or counts n 0 ≡ 0 = ap (λ k. get_or counts k 0) (eq_true n at same) ∙ get_or_past counts at 0 (ltb-false _ _ ge) in
+        set_none counts at n count 0 (ltb-false _ _ ge) ∙ omega arith
+    by false ge false same = set_none counts at n count 0 (ltb-false _ _ ge) ∙ omega arith
+
+pub released : {N : Type 0} (slots : List (Option N)) (counts : List ℕ) (at fewer count : ℕ) → count ≡ get_or counts at 0 - fewer → Releases (slots, counts) at fewer (slots, set counts at count)
+released slots counts at fewer count is = record { nodes = λ n _. refl; counts = less_counts counts at fewer count is }
+
+pub freed : {N : Type 0} (slots : List (Option N)) (counts : List ℕ) (at fewer count : ℕ) → count ≡ get_or counts at 0 - fewer → get_or counts at 0 ≤ fewer → Releases (slots, counts) at fewer (set slots at None, set counts at count)
+freed slots counts at fewer count is le = record { nodes = λ n lt. kept n lt; counts = less_counts counts at fewer count is }
+  where
+    kept : (n : ℕ) → 0 < get_or (set counts at count) n 0 → get_or (set slots at None) n None ≡ get_or slots n None
+    kept n lt = get_or-set_other slots at n None None (λ same.
+        let here : get_or (set counts at count) n 0 ≡ get_or counts at 0 - fewer = less_counts counts at fewer count is n ∙ ap (λ k. get_or counts k 0 - cond (k == at) fewer 0) same ∙ ap (λ b. get_or counts at 0 - cond b fewer 0) (eq_self at) in
+        absurd (omega arith))
+
+pub eq_swap : (n m : ℕ) → (n == m) ≡ (m == n)
+eq_swap n m = by (n == m) refl (m == n) refl
+  where
+    by : (a : Bool) → (n == m) ≡ a → (b : Bool) → (m == n) ≡ b → a ≡ b
+    by true h true k = refl
+    by true h false k = absurd (eq_false m n k (sym (eq_true n m h)))
+    by false h true k = absurd (eq_false n m h (sym (eq_true m n k)))
+    by false h false k = refl

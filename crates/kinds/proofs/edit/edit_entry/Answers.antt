@@ -1,0 +1,31 @@
+use Rattle.std.proofs.Common.{◌≡◌, ℕ, ◌++◌, ◌∷◌, [], List, map, sym, ap, subst, ◌∙◌}
+use Rattle.std.proofs.lemmas.List.{map-append}
+use Rattle.path_map.specs.Entries.{PathOf, seen}
+use Rattle.kinds.specs.declared.memo.Met.{Met}
+use Rattle.kinds.specs.Numbered.{Numbers}
+use Rattle.kinds.specs.Memo.{EditsOneMore}
+use Rattle.kinds.proofs.Edited.{met_again, met_first}
+use Rattle.kinds.proofs.edit.edit_entry.Goals as goal
+
+pub returns-in-Some-clause-made : goal.returns-in-Some-clause-made
+returns-in-Some-clause-made g c =
+    let edit = g.E.KindEdit.edited c.args.edit.now in
+    let e : PathOf × ℕ = (c.args.path.now, c.args.number) in
+    let met = c.args.memo.now.met.items in
+    let puts : Numbers = map seen c.args.puts.now.items in
+    let pushed : map (seen {V = ℕ}) c.push.new.self.items ≡ puts ++ (c.args.path.now, c.in_ok-new.new) ∷ [] =
+    ap (map seen) c.in_ok-push.ensures.items ∙ map-append seen c.args.puts.now.items ((c.args.path, c.in_ok-new.new) ∷ []) in
+    subst (λ (ps : Numbers). EditsOneMore edit e c.args.kinds met puts c.args.kinds c.count_again.new.met.items ps) (sym pushed)
+    (met_again edit e c.args.kinds met c.count_again.new.met.items puts c.in-Some.at c.in_ok-new.new c.in-Some.ensures c.in_ok-new.ensures)
+
+pub returns-clause-made : goal.returns-clause-made
+returns-clause-made g c =
+    let edit = g.E.KindEdit.edited c.args.edit.now in
+    let e : PathOf × ℕ = (c.args.path.now, c.args.number) in
+    let met = c.args.memo.now.met.items in
+    let puts : Numbers = map seen c.args.puts.now.items in
+    let pushed : map (seen {V = ℕ}) c.push-2.new.self.items ≡ puts ++ (c.args.path.now, c.in_ok-kinds.new) ∷ [] =
+    ap (map seen) c.in_ok-push-2.ensures.items ∙ map-append seen c.args.puts.now.items ((c.args.path, c.in_ok-kinds.new) ∷ []) in
+    subst (λ (ms : List Met). EditsOneMore edit e c.args.kinds met puts c.in_ok-kinds.kinds ms (map seen c.push-2.new.self.items)) (sym c.in_ok-note.ensures)
+    (subst (λ (ps : Numbers). EditsOneMore edit e c.args.kinds met puts c.in_ok-kinds.kinds (met ++ record { old = e.1; new = c.in_ok-kinds.new; count = 1 } ∷ []) ps) (sym pushed)
+    (met_first edit e c.args.kinds c.in_ok-kinds.kinds met puts c.in_ok-node.node.value c.in_ok-kinds.new c.in_ok-node.ensures c.in_ok-kinds.ensures))

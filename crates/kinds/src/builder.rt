@@ -1,0 +1,88 @@
+//! A map built of entries that come in path order: nodes that are the same get one number.
+
+ghost use Rattle.std.specs.Prelude.{◌≡◌, ◌++◌, ◌∷◌, [], IfOk};
+ghost use Rattle.std.specs.FinMap.{is_sorted};
+ghost use Rattle.acl_names.specs.Paths.{path_cmp};
+ghost use Rattle.path_map.specs.Entries.{IsInOrder};
+ghost use Rattle.kinds.specs.Numbered.{entries_in};
+
+use crate::kinds::Kinds;
+use crate::map::KindMap;
+use crate::numbering::{Likeness, Numbering};
+use acl_names::Path;
+use path_map::PathMapBuilder;
+use std::alloc::{AllocError, Global};
+use std::marker::Model;
+
+/// A map that is being built: its entries so far, which come in path order.
+#[derive(Drop)]
+pub struct KindMapBuilder<N> {
+    numbering: Numbering<N>,
+    numbers: PathMapBuilder<usize>,
+}
+
+impl<N> Model for KindMapBuilder<N> {
+    ghost use Rattle.std.specs.Prelude.{List, []};
+    ghost use Rattle.path_map.specs.Entries.{PathOf};
+    ghost use Rattle.kinds.specs.Numbered.{entries_by};
+    ghost use Rattle.kinds.specs.Inner.{AddsBut};
+
+    ghost Value = { List (PathOf × N) };
+
+    ghost view = { λ b. entries_by b.numbering.kinds b.numbers };
+
+    ghost invariant = { λ b. AddsBut ([], []) (entries_by b.numbering.kinds b.numbers) b.numbering.kinds b.numbers b.numbering.last b.numbering.pending };
+}
+
+impl<N> KindMapBuilder<N> {
+    /// No entries. Allocates nothing.
+    pub fn new(alloc: Global) -> KindMapBuilder<N>
+        ensures { result ≡ [] }
+    {
+        KindMapBuilder {
+            numbering: Numbering::new(alloc, Kinds::new(alloc)),
+            numbers: PathMapBuilder::new(alloc),
+        }
+    }
+
+    /// Whether a path is after those of all entries so far: then `push` takes it. Allocates nothing.
+    pub fn takes(&self, path: &Path) -> bool
+        ensures { (node : N) → result ≡ is_sorted path_cmp (self.now ++ (path.now, node) ∷ []) }
+    {
+        self.numbers.takes(path)
+    }
+}
+
+impl<N: Drop> KindMapBuilder<N> {
+    /// An entry more, which is the last in path order; path and node are moved into the map. Fails only if memory, or the
+    /// numbers, run out.
+    pub fn push<L: Likeness<N>>(
+        self,
+        alloc: Global,
+        path: Path,
+        node: N,
+        likeness: &L,
+    ) -> Result<KindMapBuilder<N>, AllocError>
+        requires { IsInOrder (self ++ (path, node) ∷ []) }
+        ensures { IfOk result (λ new. new ≡ self ++ (path, node) ∷ []) }
+    {
+        let KindMapBuilder {
+            numbering,
+            mut numbers,
+        } = self;
+        let numbering = numbering.give(alloc, node, likeness)?;
+        numbers.push(alloc, path, numbering.last)?;
+        Ok(KindMapBuilder { numbering, numbers })
+    }
+
+    /// The map of the entries. Fails only if memory runs out, or if paths are more than can be counted.
+    pub fn finish(self, alloc: Global) -> Result<KindMap<N>, AllocError>
+        ensures { IfOk result (λ map. entries_in map ≡ self) }
+    {
+        let KindMapBuilder { numbering, numbers } = self;
+        let kinds = numbering.counted()?;
+        let numbers = numbers.finish(alloc)?;
+        numbers.order_law();
+        Ok(KindMap::of(kinds, numbers))
+    }
+}

@@ -1,0 +1,157 @@
+//! Edits of entries by their numbers: what an edit makes of a number is computed once.
+
+ghost use Rattle.std.specs.Prelude.{◌≡◌, ◌+◌, ◌++◌, ◌∷◌, [], map, IfOk, length};
+ghost use Rattle.std.specs.List.{AllByRecursion};
+ghost use Rattle.path_map.specs.Entries.{IsInOrder, seen};
+ghost use Rattle.kinds.specs.Kinds.{IsNode};
+ghost use Rattle.kinds.specs.Numbered.{AreUsed, entries_by};
+ghost use Rattle.kinds.specs.Inner.{AreAmong};
+ghost use Rattle.kinds.specs.Memo.{NodeEdit, edit_each, EditsOneMore, AreEdited, ArePut};
+ghost use Rattle.kinds.specs.Stops.{GivesOr, StopsAt, EditsEntry};
+ghost use Rattle.kinds.specs.declared.edit.Stop.{Stop};
+
+use crate::kinds::Kinds;
+use crate::map::KindMap;
+use crate::memo::{Memo, count_again, settle};
+use acl_names::Path;
+use std::alloc::{AllocError, AllocFailed, Global};
+use std::rc::Rc;
+
+/// Why an edit stops.
+#[derive(Debug, Drop)]
+pub enum Stop<F> {
+    /// It is refused.
+    Fault(F),
+    /// Memory ran out.
+    NoMemory,
+}
+
+impl<F> From<AllocError> for Stop<F> {
+    ghost from_gives = { λ _ stop. stop ≡ Stop.NoMemory };
+
+    fn from(_: AllocError) -> Stop<F> {
+        Stop::NoMemory
+    }
+}
+
+impl<F, T: Drop> From<AllocFailed<T>> for Stop<F> {
+    ghost from_gives = { λ _ stop. stop ≡ Stop.NoMemory };
+
+    fn from(_: AllocFailed<T>) -> Stop<F> {
+        Stop::NoMemory
+    }
+}
+
+/// What a command does to the node of each of its entries.
+pub trait KindEdit<N> {
+    type Fault: Drop;
+
+    ghost edited: { Self → NodeEdit N Self.Fault };
+
+    /// The node after the edit.
+    fn edited(&self, alloc: Global, node: &N) -> Result<N, Stop<Self::Fault>>
+        ensures { GivesOr (λ x. x) result (edited self.now node.now) };
+}
+
+/// The node of an entry edited, or the fault with its path.
+fn edit_one<N: Drop, E: KindEdit<N>>(
+    alloc: Global,
+    kinds: &Kinds<N>,
+    path: &Path,
+    number: usize,
+    edit: &E,
+) -> Result<Rc<N>, Stop<(Path, E::Fault)>>
+    requires { IsNode kinds.now number }
+    ensures { EditsEntry (E.edited edit.now) kinds.now (path.now, number) result }
+{
+    match edit.edited(alloc, kinds.node(number)) {
+        Ok(node) => Ok(Rc::new(alloc, node)?),
+        Err(Stop::NoMemory) => Err(Stop::NoMemory),
+        Err(Stop::Fault(fault)) => Err(Stop::Fault((path.try_clone(alloc)?, fault))),
+    }
+}
+
+/// One entry more edited: its number, if it was met, or else its node.
+fn edit_entry<'a, N: Drop, E: KindEdit<N>>(
+    alloc: Global,
+    kinds: Kinds<N>,
+    memo: &mut Memo,
+    puts: &mut Vec<(&'a Path, usize)>,
+    path: &'a Path,
+    number: usize,
+    edit: &E,
+) -> Result<Kinds<N>, Stop<(Path, E::Fault)>>
+    requires { IsNode kinds number }
+    ensures made { IfOk result (λ new. EditsOneMore (E.edited edit.now) (path.now, number) kinds memo.old.met.items (map seen puts.old.items) new memo.new.met.items (map seen puts.new.items)) }
+    ensures reported { StopsAt result (edit_each (E.edited edit.now) (entries_by kinds ((path.now, number) ∷ []))) }
+{
+    if let Some(at) = memo.place(number) {
+        memo.last = at;
+        let new = count_again(&mut memo.met, at)?;
+        puts.push((path, new))?;
+        return Ok(kinds);
+    }
+    let node = edit_one(alloc, &kinds, path, number, edit)?;
+    let (kinds, new) = kinds.add(alloc, node)?;
+    memo.note(number, new)?;
+    puts.push((path, new))?;
+    Ok(kinds)
+}
+
+/// What an edit made of entries: the nodes with those that were added, the numbers that were met, and the entries.
+#[derive(Drop)]
+struct EditedNumbers<'a, N> {
+    kinds: Kinds<N>,
+    memo: Memo,
+    puts: Vec<(&'a Path, usize)>,
+}
+
+/// Entries edited, each of their numbers once; or the first fault.
+fn edit_entries<'a, N: Drop, E: KindEdit<N>>(
+    alloc: Global,
+    kinds: Kinds<N>,
+    entries: &[(&'a Path, usize)],
+    edit: &E,
+) -> Result<EditedNumbers<'a, N>, Stop<(Path, E::Fault)>>
+    requires { AreUsed kinds (map seen entries.now) }
+    ensures made { IfOk result (λ new. AreEdited (E.edited edit.now) kinds (map seen entries.now) new.kinds new.memo.met.items (map seen new.puts.items)) }
+    ensures reported { StopsAt result (edit_each (E.edited edit.now) (entries_by kinds (map seen entries.now))) }
+{
+    let mut kinds = kinds;
+    let mut memo = Memo::new(alloc);
+    let mut puts = Vec::with_capacity(alloc, entries.len())?;
+    for entry in entries {
+        kinds = edit_entry(alloc, kinds, &mut memo, &mut puts, entry.0, entry.1, edit)?;
+    }
+    Ok(EditedNumbers { kinds, memo, puts })
+}
+
+/// A map after an edit, and the entries that were edited, with their new numbers.
+#[derive(Drop)]
+pub struct EditedMap<'a, N> {
+    pub map: KindMap<N>,
+    pub entries: Vec<(&'a Path, usize)>,
+}
+
+impl<N: Drop> KindMap<N> {
+    /// The map with some of its entries edited, and these; or the fault of the first for which the edit fails, with its
+    /// path. This map stays as it is, and both share all paths. Each number is edited once.
+    pub fn edited<'a, E: KindEdit<N>>(
+        &self,
+        alloc: Global,
+        entries: &[(&'a Path, usize)],
+        edit: &E,
+    ) -> Result<EditedMap<'a, N>, Stop<(Path, E::Fault)>>
+        requires order { IsInOrder (map seen entries.now) }
+        requires among { AreAmong self.now.1 (map seen entries.now) }
+        ensures made { GivesOr (λ new. entries_by new.map.0 (map seen new.entries.items)) result (edit_each (E.edited edit.now) (entries_by self.now.0 (map seen entries.now))) }
+        ensures put { IfOk result (λ new. ArePut self.now new.map (map seen new.entries.items)) }
+    {
+        let edited = edit_entries(alloc, self.kinds().share()?, entries, edit)?;
+        let EditedNumbers { kinds, memo, puts } = edited;
+        let numbers = self.numbers().with_values(alloc, &puts)?;
+        let kinds = settle(kinds, &memo.met)?;
+        let map = KindMap::of(kinds, numbers);
+        Ok(EditedMap { map, entries: puts })
+    }
+}

@@ -1,0 +1,27 @@
+//! A persistent map from paths to nodes that keeps what many paths have in common once: for each path a number, and for
+//! each number a node with the count of its paths. A map and its copies share what did not change.
+#![tactic(auto)]
+
+mod blocks;
+mod builder;
+mod edit;
+mod finder;
+mod iter;
+mod kinds;
+mod list;
+mod map;
+mod memo;
+mod numbering;
+mod put;
+
+pub use blocks::{BlockList, Same};
+pub use builder::KindMapBuilder;
+pub use edit::{EditedMap, KindEdit, Stop};
+pub use finder::KindsFinder;
+pub use iter::KindsIter;
+pub use kinds::Kinds;
+pub use list::SharedList;
+pub use map::KindMap;
+pub use memo::{Memo, Met};
+pub use numbering::Likeness;
+pub use put::KindPuts;

@@ -1,0 +1,206 @@
+//! The map by kinds.
+
+ghost use Rattle.std.specs.Prelude.{◌≡◌, ◌<◌, ◌∷◌, [], length, map, IfOk};
+ghost use Rattle.std.specs.Option.{option_copied};
+ghost use Rattle.std.specs.FinMap.{find};
+ghost use Rattle.acl_names.specs.Paths.{path_cmp};
+ghost use Rattle.path_map.specs.Entries.{IsInOrder, seen};
+ghost use Rattle.std.specs.List.{list_any};
+ghost use Rattle.acl_names.specs.Below.{encloses};
+ghost use Rattle.path_map.specs.Below.{from, within};
+ghost use Rattle.path_map.specs.Merged.{without_all};
+ghost use Rattle.kinds.specs.Numbered.{AreSound, entries_in};
+ghost use Rattle.kinds.specs.Kinds.{Releases};
+ghost use Rattle.kinds.specs.Inner.{ReleasesAll, ReleasesRun};
+
+use crate::iter::KindsIter;
+use crate::kinds::Kinds;
+use acl_names::Path;
+use path_map::{PathMap, Within};
+use std::alloc::{AllocError, Global};
+use std::marker::Model;
+
+/// A map from paths to nodes: for each path a number, for each number a node and the count of its paths. Contracts see
+/// both; what a caller has of it are its entries, by [`entries_in`].
+#[derive(Drop)]
+pub struct KindMap<N> {
+    kinds: Kinds<N>,
+    numbers: PathMap<usize>,
+}
+
+impl<N> Model for KindMap<N> {
+    ghost use Rattle.kinds.specs.Numbered.{Kept, AreSound};
+
+    ghost Value = { Kept N };
+
+    ghost view = { λ m. (m.kinds, m.numbers) };
+
+    ghost invariant = { λ m. AreSound m.kinds m.numbers };
+}
+
+impl<N> KindMap<N> {
+    /// No entries.
+    pub fn new(alloc: Global) -> KindMap<N>
+        ensures { entries_in result ≡ [] }
+    {
+        KindMap {
+            kinds: Kinds::new(alloc),
+            numbers: PathMap::new(alloc),
+        }
+    }
+
+    /// The map of these numbers and their nodes.
+    pub fn of(kinds: Kinds<N>, numbers: PathMap<usize>) -> KindMap<N>
+        requires { AreSound kinds numbers }
+        ensures { result ≡ (kinds, numbers) }
+    {
+        KindMap { kinds, numbers }
+    }
+
+    /// The nodes by their numbers.
+    pub fn kinds(&self) -> &Kinds<N>
+        ensures all { result.now ≡ self.now.0 }
+        ensures sound { AreSound self.now.0 self.now.1 }
+    {
+        &self.kinds
+    }
+
+    /// The paths with their numbers.
+    pub fn numbers(&self) -> &PathMap<usize>
+        ensures all { result.now ≡ self.now.1 }
+        ensures sound { AreSound self.now.0 self.now.1 }
+    {
+        &self.numbers
+    }
+
+    /// Proof only: the entries are in path order, each path once.
+    pub fn order_law(&self)
+        ensures { IsInOrder (entries_in self.now) }
+    {
+        let _numbers = self.numbers();
+    }
+
+    /// How many entries there are. Allocates nothing.
+    pub fn len(&self) -> usize
+        requires few { length (entries_in self.now) < 18446744073709551616 }
+        ensures { result ≡ length (entries_in self.now) }
+    {
+        self.numbers().len()
+    }
+
+    /// The node of a path, if it has one. Allocates nothing.
+    pub fn get(&self, path: &Path) -> Option<&N>
+        ensures { option_copied result ≡ find path_cmp path.now (entries_in self.now) }
+    {
+        match self.numbers().get(path) {
+            Some(number) => self.kinds().get(number),
+            None => None,
+        }
+    }
+
+    /// The entries in path order. Allocates nothing.
+    pub fn iter(&self) -> KindsIter<'_, N>
+        ensures { result ≡ entries_in self.now }
+    {
+        KindsIter::new(self.numbers().iter(), self.kinds())
+    }
+
+    /// The entries that are not before a path. Allocates nothing.
+    pub fn from(&self, path: &Path) -> KindsIter<'_, N>
+        ensures { result ≡ from path.now (entries_in self.now) }
+    {
+        KindsIter::new(self.numbers().from(path), self.kinds())
+    }
+
+    /// The paths at or below a path, each with its number. Allocates nothing.
+    pub fn paths_within<'a, 'p>(&'a self, path: &'p Path) -> Within<'a, 'p, usize>
+        ensures { map (λ e. e.0) result ≡ map (λ e. e.0) (within path.now (entries_in self.now)) }
+    {
+        self.numbers().within(path)
+    }
+
+    /// Whether there is an entry at or below a path. Allocates nothing.
+    pub fn has_within(&self, path: &Path) -> bool
+        ensures { result ≡ list_any (λ e. encloses path.now e.0) (entries_in self.now) }
+    {
+        self.paths_within(path).next().is_some()
+    }
+}
+
+impl<N: Drop> KindMap<N> {
+    /// A copy that shares the entries. Fails only if memory runs out.
+    pub fn share(&self) -> Result<KindMap<N>, AllocError>
+        ensures { IfOk result (λ same. same ≡ self.now) }
+    {
+        Ok(KindMap {
+            kinds: self.kinds.share()?,
+            numbers: self.numbers.share()?,
+        })
+    }
+
+    /// The map without the paths of some entries, in path order. This map stays as it is. Fails only if memory runs
+    /// out.
+    pub fn without_all<W>(
+        &self,
+        alloc: Global,
+        gone: &[(&Path, W)],
+    ) -> Result<KindMap<N>, AllocError>
+        requires { IsInOrder (map seen gone.now) }
+        ensures { IfOk result (λ new. entries_in new ≡ without_all (map seen gone.now) (entries_in self.now)) }
+    {
+        let found = self.numbers().get_all(alloc, gone)?;
+        let numbers = self.numbers().without_all(alloc, gone)?;
+        let kinds = release_all(self.kinds().share()?, &found)?;
+        Ok(KindMap { kinds, numbers })
+    }
+}
+
+/// So many paths have a number no longer, if any.
+fn release_if<N: Drop>(kinds: Kinds<N>, number: usize, fewer: usize) -> Result<Kinds<N>, AllocError>
+    ensures { IfOk result (λ new. Releases kinds number fewer new) }
+{
+    if fewer == 0 {
+        return Ok(kinds);
+    }
+    kinds.release(number, fewer)
+}
+
+/// A path that was looked up has its number no longer, after a run of paths of one number that are counted still: so many
+/// are, of this number.
+fn release_run<N: Drop>(
+    kinds: Kinds<N>,
+    last: usize,
+    pending: usize,
+    found: Option<usize>,
+) -> Result<(Kinds<N>, usize, usize), AllocError>
+    ensures { IfOk result (λ new. ReleasesRun kinds last pending found new.0 new.1 new.2) }
+{
+    let Some(number) = found else {
+        return Ok((kinds, last, pending));
+    };
+    if number == last && pending < usize::MAX {
+        return Ok((kinds, number, pending + 1));
+    }
+    let kinds = release_if(kinds, last, pending)?;
+    Ok((kinds, number, 1))
+}
+
+/// Paths that were looked up have their numbers no longer, by runs of one number.
+pub(crate) fn release_all<N: Drop>(
+    kinds: Kinds<N>,
+    found: &[Option<usize>],
+) -> Result<Kinds<N>, AllocError>
+    ensures { IfOk result (λ new. ReleasesAll kinds found.now new) }
+{
+    let mut kinds = kinds;
+    let mut last = 0;
+    let mut pending = 0;
+    for one in found {
+        let (released, number, count) = release_run(kinds, last, pending, *one)?;
+        kinds = released;
+        last = number;
+        pending = count;
+    }
+    let kinds = release_if(kinds, last, pending)?;
+    Ok(kinds)
+}

@@ -1,0 +1,121 @@
+//! What an edit made of numbers: each number is edited once.
+
+ghost use Rattle.std.specs.Prelude.{◌≡◌, true, ◌+◌, ◌<◌, ◌++◌, ◌∷◌, [], IfOk, IfSome, OnOk, length, get_or, slice_set};
+ghost use Rattle.std.specs.List.{AllByRecursion};
+ghost use Rattle.kinds.specs.Kinds.{IsNode};
+ghost use Rattle.kinds.specs.Memo.{IsMetAt, CountsAgain, GrantsMet, ReleasesMet, Moves};
+
+use crate::kinds::Kinds;
+use std::alloc::{AllocError, Global};
+use std::collections::BTreeMap;
+
+/// What an edit made of a number, and how many paths have it.
+#[derive(Clone, Copy)]
+pub struct Met {
+    pub old: usize,
+    pub new: usize,
+    pub count: usize,
+}
+
+/// Numbers that an edit met, and where each may be found.
+#[derive(Drop)]
+pub struct Memo {
+    pub met: Vec<Met>,
+    /// The place of the number that was met last.
+    pub last: usize,
+    places: BTreeMap<usize, usize>,
+}
+
+impl Memo {
+    /// Nothing was met.
+    pub fn new(alloc: Global) -> Memo
+        ensures { result.met.items ≡ [] }
+    {
+        Memo {
+            met: Vec::new(alloc),
+            last: 0,
+            places: BTreeMap::new(alloc),
+        }
+    }
+
+    /// The place of a number, if it was met: mostly that of the one before it.
+    pub fn place(&self, number: usize) -> Option<usize>
+        ensures { IfSome result (λ at. IsMetAt self.now.met.items number at) }
+    {
+        if self.has_at(self.last, number) {
+            return Some(self.last);
+        }
+        let at = *self.places.get(&number)?;
+        if self.has_at(at, number) {
+            return Some(at);
+        }
+        None
+    }
+
+    /// Whether a number was met at a place.
+    fn has_at(&self, at: usize, number: usize) -> bool
+        ensures { result ≡ true → IsMetAt self.now.met.items number at }
+    {
+        at < self.met.len() && self.met[at].old == number
+    }
+
+    /// Notes what an edit made of a number that was not met before, which a path has.
+    pub fn note(&mut self, old: usize, new: usize) -> Result<(), AllocError>
+        ensures { OnOk result (self.new.met.items ≡ self.old.met.items ++ record { old = old; new = new; count = 1 } ∷ []) }
+    {
+        self.last = self.met.len();
+        self.places.insert(old, self.last)?;
+        self.met.push(Met { old, new, count: 1 })?;
+        Ok(())
+    }
+}
+
+/// One path more has the number at a place. Fails where they are more than can be counted, as where memory runs out.
+pub(crate) fn count_again(met: &mut Vec<Met>, at: usize) -> Result<usize, AllocError>
+    requires { at < length met.old.items }
+    ensures { IfOk result (λ number. CountsAgain at met.old.items met.new.items number) }
+{
+    let one = met[at];
+    let Some(count) = one.count.checked_add(1) else {
+        return Err(AllocError);
+    };
+    met[at] = Met {
+        old: one.old,
+        new: one.new,
+        count,
+    };
+    Ok(one.new)
+}
+
+/// The paths of numbers that were met have their new numbers too.
+fn grant_met<N: Drop>(kinds: Kinds<N>, met: &[Met]) -> Result<Kinds<N>, AllocError>
+    requires { AllByRecursion (λ m. IsNode kinds m.new) met.now }
+    ensures { IfOk result (λ new. GrantsMet kinds met.now new) }
+{
+    let mut kinds = kinds;
+    for one in met {
+        kinds = kinds.grant(one.new, one.count)?;
+    }
+    Ok(kinds)
+}
+
+/// The paths of numbers that were met have their old numbers no longer.
+fn release_met<N: Drop>(kinds: Kinds<N>, met: &[Met]) -> Result<Kinds<N>, AllocError>
+    ensures { IfOk result (λ new. ReleasesMet kinds met.now new) }
+{
+    let mut kinds = kinds;
+    for one in met {
+        kinds = kinds.release(one.old, one.count)?;
+    }
+    Ok(kinds)
+}
+
+/// The paths of numbers that were met have their new numbers. All are given before any is taken back, so that a number that
+/// an edit keeps in use is not free in between.
+pub(crate) fn settle<N: Drop>(kinds: Kinds<N>, met: &[Met]) -> Result<Kinds<N>, AllocError>
+    requires { AllByRecursion (λ m. IsNode kinds m.new) met.now }
+    ensures { IfOk result (λ new. Moves kinds met.now new) }
+{
+    let kinds = grant_met(kinds, met)?;
+    release_met(kinds, met)
+}

@@ -1,0 +1,221 @@
+//! Numbers for nodes that come in turn: nodes that are the same get one number.
+
+ghost use Rattle.std.specs.Prelude.{◌≡◌, ◌<◌, true, Some, IfOk, IfSome};
+ghost use Rattle.kinds.specs.Kinds.{node_at, IsNode, Grants};
+ghost use Rattle.kinds.specs.Inner.{HasNumber, CountsRun, GivesNumber};
+
+use crate::kinds::Kinds;
+use std::alloc::{AllocError, Global};
+use std::collections::BTreeMap;
+use std::rc::Rc;
+
+/// What tells nodes apart.
+pub trait Likeness<N> {
+    /// A mark of a node. Nodes that are the same have one mark, and others seldom do.
+    fn mark(&self, node: &N) -> u64;
+
+    /// Whether both are the same.
+    fn is_same(&self, one: &N, other: &N) -> bool
+        ensures { result ≡ true → one.now ≡ other.now };
+}
+
+/// Nodes by numbers, where the paths that got the number given last are not counted yet.
+#[derive(Drop)]
+pub(crate) struct Numbering<N> {
+    pub(crate) kinds: Kinds<N>,
+    /// The numbers that were given, by the marks of their nodes: none until two nodes differ.
+    marks: BTreeMap<u64, usize>,
+    /// The number that was given last.
+    pub(crate) last: usize,
+    /// How many paths got it, one after another: none before the first one.
+    pub(crate) pending: usize,
+}
+
+/// A number, if its node is the same.
+fn number_if<N, L: Likeness<N>>(
+    kinds: &Kinds<N>,
+    number: usize,
+    node: &N,
+    likeness: &L,
+) -> Option<usize>
+    ensures { IfSome result (λ at. node_at kinds.now at ≡ Some node.now) }
+{
+    let other = kinds.get(number)?;
+    if likeness.is_same(other, node) {
+        Some(number)
+    } else {
+        None
+    }
+}
+
+/// The number of a mark, if its node is the same.
+fn number_marked<N, L: Likeness<N>>(
+    kinds: &Kinds<N>,
+    marks: &BTreeMap<u64, usize>,
+    mark: u64,
+    node: &N,
+    likeness: &L,
+) -> Option<usize>
+    ensures { IfSome result (λ at. node_at kinds.now at ≡ Some node.now) }
+{
+    let at = *marks.get(&mark)?;
+    number_if(kinds, at, node, likeness)
+}
+
+/// Notes the only number that was given so far, if none is noted.
+fn note_first<N, L: Likeness<N>>(
+    kinds: &Kinds<N>,
+    marks: &mut BTreeMap<u64, usize>,
+    first: usize,
+    likeness: &L,
+) -> Result<(), AllocError> {
+    if !marks.is_empty() {
+        return Ok(());
+    }
+    if let Some(node) = kinds.get(first) {
+        marks.insert(likeness.mark(node), first)?;
+    }
+    Ok(())
+}
+
+/// A new number for a node. No path is counted.
+fn number_new<N: Drop>(
+    alloc: Global,
+    kinds: Kinds<N>,
+    node: N,
+) -> Result<(Kinds<N>, usize), AllocError>
+    ensures { IfOk result (λ new. HasNumber kinds node new.1 new.0) }
+{
+    let node = Rc::new(alloc, node)?;
+    let (kinds, at) = kinds.add(alloc, node)?;
+    Ok((kinds, at))
+}
+
+/// The number of a node by its mark, or a new one, which is noted. No path is counted.
+fn number_noted<N: Drop, L: Likeness<N>>(
+    alloc: Global,
+    kinds: Kinds<N>,
+    marks: &mut BTreeMap<u64, usize>,
+    node: N,
+    likeness: &L,
+) -> Result<(Kinds<N>, usize), AllocError>
+    ensures { IfOk result (λ new. HasNumber kinds node new.1 new.0) }
+{
+    let mark = likeness.mark(&node);
+    if let Some(at) = number_marked(&kinds, marks, mark, &node, likeness) {
+        return Ok((kinds, at));
+    }
+    let (kinds, at) = number_new(alloc, kinds, node)?;
+    marks.insert(mark, at)?;
+    Ok((kinds, at))
+}
+
+/// The number of a node: the one that was given last, where so many paths got it; or one by its mark; or a new one. No path
+/// is counted.
+fn number_for<N: Drop, L: Likeness<N>>(
+    alloc: Global,
+    kinds: Kinds<N>,
+    marks: &mut BTreeMap<u64, usize>,
+    last: usize,
+    pending: usize,
+    node: N,
+    likeness: &L,
+) -> Result<(Kinds<N>, usize), AllocError>
+    ensures { IfOk result (λ new. HasNumber kinds node new.1 new.0) }
+{
+    if let Some(at) = number_if(&kinds, last, &node, likeness) {
+        return Ok((kinds, at));
+    }
+    if pending == 0 {
+        return number_new(alloc, kinds, node);
+    }
+    note_first(&kinds, marks, last, likeness)?;
+    number_noted(alloc, kinds, marks, node, likeness)
+}
+
+/// So many paths more have a number, if any.
+fn grant_if<N: Drop>(kinds: Kinds<N>, number: usize, more: usize) -> Result<Kinds<N>, AllocError>
+    requires { 0 < more → IsNode kinds number }
+    ensures { IfOk result (λ new. Grants kinds number more new) }
+{
+    if more == 0 {
+        return Ok(kinds);
+    }
+    kinds.grant(number, more)
+}
+
+/// One path more has a number, after a run of paths that have one and are not counted yet: so many are not, of this number.
+fn count_run<N: Drop>(
+    kinds: Kinds<N>,
+    last: usize,
+    pending: usize,
+    number: usize,
+) -> Result<(Kinds<N>, usize), AllocError>
+    requires { 0 < pending → IsNode kinds last }
+    ensures { IfOk result (λ new. CountsRun kinds last pending number new.0 new.1) }
+{
+    if number == last && pending < usize::MAX {
+        return Ok((kinds, pending + 1));
+    }
+    let kinds = grant_if(kinds, last, pending)?;
+    Ok((kinds, 1))
+}
+
+impl<N> Numbering<N> {
+    /// Nodes by numbers, none of which was given.
+    pub(crate) fn new(alloc: Global, kinds: Kinds<N>) -> Numbering<N>
+        ensures kinds { result.kinds ≡ kinds }
+        ensures last { result.last ≡ 0 }
+        ensures pending { result.pending ≡ 0 }
+    {
+        Numbering {
+            kinds,
+            marks: BTreeMap::new(alloc),
+            last: 0,
+            pending: 0,
+        }
+    }
+}
+
+impl<N: Drop> Numbering<N> {
+    /// A number for the node of one path more: that of a node that is the same, if it was given, or else a new one, to which
+    /// the node is moved.
+    pub(crate) fn give<L: Likeness<N>>(
+        self,
+        alloc: Global,
+        node: N,
+        likeness: &L,
+    ) -> Result<Numbering<N>, AllocError>
+        requires { 0 < self.pending → IsNode self.kinds self.last }
+        ensures { IfOk result (λ new. GivesNumber self.kinds self.last self.pending node new.last new.kinds new.pending) }
+    {
+        let Numbering {
+            kinds,
+            mut marks,
+            last,
+            pending,
+        } = self;
+        let (kinds, number) = number_for(alloc, kinds, &mut marks, last, pending, node, likeness)?;
+        let (kinds, pending) = count_run(kinds, last, pending, number)?;
+        Ok(Numbering {
+            kinds,
+            marks,
+            last: number,
+            pending,
+        })
+    }
+
+    /// The nodes, all of whose paths are counted.
+    pub(crate) fn counted(self) -> Result<Kinds<N>, AllocError>
+        requires { 0 < self.pending → IsNode self.kinds self.last }
+        ensures { IfOk result (λ kinds. Grants self.kinds self.last self.pending kinds) }
+    {
+        let Numbering {
+            kinds,
+            marks: _marks,
+            last,
+            pending,
+        } = self;
+        grant_if(kinds, last, pending)
+    }
+}

@@ -1,0 +1,145 @@
+//! Entries put among those of a map: of those that are put, nodes that are the same get one number.
+
+ghost use Rattle.std.specs.Prelude.{◌≡◌, ◌++◌, ◌∷◌, [], true, is_some, map, IfOk};
+ghost use Rattle.std.specs.List.{AllByRecursion};
+ghost use Rattle.path_map.specs.Entries.{IsInOrder, seen, found};
+ghost use Rattle.path_map.specs.Merged.{put_all};
+ghost use Rattle.kinds.specs.Numbered.{entries_in};
+
+use crate::map::{KindMap, release_all};
+use crate::numbering::{Likeness, Numbering};
+use acl_names::Path;
+use path_map::PathMap;
+use std::alloc::{AllocError, Global};
+use std::marker::Model;
+
+/// Entries that are to be put among those of a map: the entries of the map, and those to be put.
+#[derive(Drop)]
+pub struct KindPuts<'a, N> {
+    before: &'a KindMap<N>,
+    numbering: Numbering<N>,
+    entries: Vec<(&'a Path, usize)>,
+}
+
+impl<'a, N> Model for KindPuts<'a, N> {
+    ghost use Rattle.std.specs.Prelude.{List, map};
+    ghost use Rattle.path_map.specs.Entries.{PathOf, seen};
+    ghost use Rattle.kinds.specs.Numbered.{entries_by, entries_in};
+    ghost use Rattle.kinds.specs.Inner.{AddsBut};
+
+    ghost Value = { List (PathOf × N) × List (PathOf × N) };
+
+    ghost view = { λ p. (entries_in p.before.now, entries_by p.numbering.kinds (map seen p.entries.items)) };
+
+    ghost invariant = { λ p. AddsBut p.before.now.0 (entries_by p.numbering.kinds (map seen p.entries.items)) p.numbering.kinds (map seen p.entries.items) p.numbering.last p.numbering.pending };
+}
+
+/// Whether each path that was looked up was found.
+fn are_found(found: &[Option<usize>]) -> bool
+    ensures { result ≡ true → AllByRecursion (λ o. is_some o ≡ true) found.now }
+{
+    for one in found {
+        if one.is_none() {
+            return false;
+        }
+    }
+    true
+}
+
+/// Whether the first of some entries has a number already.
+fn has_first(numbers: &PathMap<usize>, entries: &[(&Path, usize)]) -> bool {
+    match entries {
+        [first, ..] => numbers.get(first.0).is_some(),
+        [] => false,
+    }
+}
+
+/// Numbers with others put, of which some may be of new paths; and the numbers that their paths had.
+fn numbers_put(
+    alloc: Global,
+    numbers: &PathMap<usize>,
+    entries: &[(&Path, usize)],
+) -> Result<(PathMap<usize>, Vec<Option<usize>>), AllocError>
+    requires { IsInOrder (map seen entries.now) }
+    ensures new { IfOk result (λ new. new.0 ≡ put_all (map seen entries.now) numbers.now) }
+    ensures old { IfOk result (λ new. new.1.items ≡ found (map seen entries.now) numbers.now) }
+{
+    let found = numbers.get_all(alloc, entries)?;
+    let new = numbers.put_all(alloc, entries)?;
+    Ok((new, found))
+}
+
+/// Numbers with others put, and the numbers that their paths had. Where each path is there already, both share all paths.
+fn numbers_with(
+    alloc: Global,
+    numbers: &PathMap<usize>,
+    entries: &[(&Path, usize)],
+) -> Result<(PathMap<usize>, Vec<Option<usize>>), AllocError>
+    requires { IsInOrder (map seen entries.now) }
+    ensures new { IfOk result (λ new. new.0 ≡ put_all (map seen entries.now) numbers.now) }
+    ensures old { IfOk result (λ new. new.1.items ≡ found (map seen entries.now) numbers.now) }
+{
+    numbers.order_law();
+    if has_first(numbers, entries) {
+        let (new, found) = numbers.replaced(alloc, entries)?;
+        if are_found(&found) {
+            return Ok((new, found));
+        }
+    }
+    numbers_put(alloc, numbers, entries)
+}
+
+impl<'a, N: Drop> KindPuts<'a, N> {
+    /// Nothing to be put among the entries of a map. Fails only if memory runs out.
+    pub fn new(alloc: Global, map: &'a KindMap<N>) -> Result<KindPuts<'a, N>, AllocError>
+        ensures { IfOk result (λ puts. puts ≡ (entries_in map.now, [])) }
+    {
+        let kinds = map.kinds().share()?;
+        Ok(KindPuts {
+            before: map,
+            numbering: Numbering::new(alloc, kinds),
+            entries: Vec::new(alloc),
+        })
+    }
+
+    /// An entry more to be put; its node is moved. Fails only if memory, or the numbers, run out.
+    pub fn push<L: Likeness<N>>(
+        self,
+        alloc: Global,
+        path: &'a Path,
+        node: N,
+        likeness: &L,
+    ) -> Result<KindPuts<'a, N>, AllocError>
+        ensures { IfOk result (λ new. new ≡ (self.entry.0, self.entry.1 ++ (path.now, node) ∷ [])) }
+    {
+        let KindPuts {
+            before,
+            numbering,
+            mut entries,
+        } = self;
+        let numbering = numbering.give(alloc, node, likeness)?;
+        entries.push((path, numbering.last))?;
+        Ok(KindPuts {
+            before,
+            numbering,
+            entries,
+        })
+    }
+
+    /// The map with the entries put, which are in path order. The map that it is made of stays as it is, and where each
+    /// path is there already both share all paths. Fails only if memory runs out, or if paths are more than can be counted.
+    pub fn finish(self, alloc: Global) -> Result<KindMap<N>, AllocError>
+        requires { IsInOrder self.1 }
+        ensures { IfOk result (λ new. entries_in new ≡ put_all self.entry.1 self.entry.0) }
+    {
+        let KindPuts {
+            before,
+            numbering,
+            entries,
+        } = self;
+        let kinds = numbering.counted()?;
+        let (numbers, found) = numbers_with(alloc, before.numbers(), &entries)?;
+        let kinds = release_all(kinds, &found)?;
+        Ok(KindMap::of(kinds, numbers))
+    }
+}

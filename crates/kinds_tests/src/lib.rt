@@ -1,0 +1,11 @@
+//! Lists in shared blocks, numbers of nodes that are given back and given again, and maps that are built and put into.
+//!
+//! They are apart from `kinds`, since a crate with tests is proved twice. Edits of maps are tested by the commands of `acl_tree`.
+#![tactic(auto)]
+
+#[cfg(test)]
+mod lists;
+#[cfg(test)]
+mod maps;
+#[cfg(test)]
+mod numbers;

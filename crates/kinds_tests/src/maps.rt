@@ -1,0 +1,151 @@
+//! Maps by kinds of three paths. Numbers are compared, since paths that have one share its node.
+use acl_names::{Path, read_path};
+use kinds::{KindMap, KindMapBuilder, KindPuts, Likeness};
+use std::alloc::Global;
+use std::process::Abort;
+
+/// Nodes with one last digit have one mark.
+struct ByLastDigit;
+
+impl Likeness<u32> for ByLastDigit {
+    fn mark(&self, node: &u32) -> u64 {
+        u64::from(*node % 10)
+    }
+
+    fn is_same(&self, one: &u32, other: &u32) -> bool {
+        *one == *other
+    }
+}
+
+fn path(rt: &impl Abort, alloc: Global, text: &[u8]) -> Path {
+    let read = read_path(alloc, text).expect(rt, "memory");
+    read.expect(rt, "a path")
+}
+
+/// The entries with one more.
+fn pushed(
+    rt: &impl Abort,
+    alloc: Global,
+    builder: KindMapBuilder<u32>,
+    text: &[u8],
+    node: u32,
+) -> KindMapBuilder<u32> {
+    let path = path(rt, alloc, text);
+    assert!(rt; builder.takes(&path));
+    builder
+        .push(alloc, path, node, &ByLastDigit)
+        .expect(rt, "memory")
+}
+
+/// The map of the paths a, b and c with these nodes.
+fn built(rt: &impl Abort, alloc: Global, nodes: [u32; 3]) -> KindMap<u32> {
+    let builder = pushed(rt, alloc, KindMapBuilder::new(alloc), b"a", nodes[0]);
+    let builder = pushed(rt, alloc, builder, b"b", nodes[1]);
+    let builder = pushed(rt, alloc, builder, b"c", nodes[2]);
+    builder.finish(alloc).expect(rt, "memory")
+}
+
+/// The map with a node put at a path.
+fn put_one(
+    rt: &impl Abort,
+    alloc: Global,
+    map: &KindMap<u32>,
+    text: &[u8],
+    node: u32,
+) -> KindMap<u32> {
+    let path = path(rt, alloc, text);
+    let puts = KindPuts::new(alloc, map).expect(rt, "memory");
+    let puts = puts
+        .push(alloc, &path, node, &ByLastDigit)
+        .expect(rt, "memory");
+    puts.finish(alloc).expect(rt, "memory")
+}
+
+/// The map with nodes put at two paths, in path order.
+fn put_two(
+    rt: &impl Abort,
+    alloc: Global,
+    map: &KindMap<u32>,
+    texts: [&[u8]; 2],
+    nodes: [u32; 2],
+) -> KindMap<u32> {
+    let first = path(rt, alloc, texts[0]);
+    let second = path(rt, alloc, texts[1]);
+    assert!(rt; first.order(&second).is_lt());
+    let puts = KindPuts::new(alloc, map).expect(rt, "memory");
+    let puts = puts
+        .push(alloc, &first, nodes[0], &ByLastDigit)
+        .expect(rt, "memory");
+    let puts = puts
+        .push(alloc, &second, nodes[1], &ByLastDigit)
+        .expect(rt, "memory");
+    puts.finish(alloc).expect(rt, "memory")
+}
+
+/// A path has this node, by this number.
+fn expect_entry(
+    rt: &impl Abort,
+    alloc: Global,
+    map: &KindMap<u32>,
+    text: &[u8],
+    node: u32,
+    number: usize,
+) {
+    let path = path(rt, alloc, text);
+    assert!(rt; *map.get(&path).expect(rt, "a node") == node);
+    assert!(rt; map.numbers().get(&path).expect(rt, "a number") == number);
+}
+
+#[test]
+fn a_path_is_taken_after_those_before_it(rt: HostRuntime) {
+    let builder = pushed(&rt, rt.alloc(), KindMapBuilder::new(rt.alloc()), b"b", 5);
+    assert!(rt; builder.takes(&path(&rt, rt.alloc(), b"b/x")));
+    assert!(rt; !builder.takes(&path(&rt, rt.alloc(), b"b")));
+    assert!(rt; !builder.takes(&path(&rt, rt.alloc(), b"a")));
+}
+
+#[test]
+fn nodes_that_are_the_same_share_a_number(rt: HostRuntime) {
+    let map = built(&rt, rt.alloc(), [5, 6, 5]);
+    expect_entry(&rt, rt.alloc(), &map, b"a", 5, 0);
+    expect_entry(&rt, rt.alloc(), &map, b"b", 6, 1);
+    expect_entry(&rt, rt.alloc(), &map, b"c", 5, 0);
+}
+
+#[test]
+fn nodes_that_have_one_mark_do_not(rt: HostRuntime) {
+    let map = built(&rt, rt.alloc(), [5, 15, 25]);
+    expect_entry(&rt, rt.alloc(), &map, b"a", 5, 0);
+    expect_entry(&rt, rt.alloc(), &map, b"b", 15, 1);
+    expect_entry(&rt, rt.alloc(), &map, b"c", 25, 2);
+}
+
+#[test]
+fn a_path_that_is_there_gets_another_node(rt: HostRuntime) {
+    let map = built(&rt, rt.alloc(), [5, 6, 5]);
+    let new = put_one(&rt, rt.alloc(), &map, b"a", 7);
+    expect_entry(&rt, rt.alloc(), &new, b"a", 7, 2);
+    expect_entry(&rt, rt.alloc(), &new, b"c", 5, 0);
+    expect_entry(&rt, rt.alloc(), &map, b"a", 5, 0);
+}
+
+// The number of b has no path after the first put, so the second one gets it.
+#[test]
+fn a_number_whose_last_path_goes_is_given_again(rt: HostRuntime) {
+    let map = built(&rt, rt.alloc(), [5, 6, 5]);
+    let map = put_one(&rt, rt.alloc(), &map, b"b", 5);
+    assert!(rt; map.kinds().get(1).is_none());
+    let map = put_one(&rt, rt.alloc(), &map, b"d", 8);
+    expect_entry(&rt, rt.alloc(), &map, b"b", 5, 0);
+    expect_entry(&rt, rt.alloc(), &map, b"d", 8, 1);
+}
+
+#[test]
+fn a_path_that_is_there_is_put_with_one_that_is_not(rt: HostRuntime) {
+    let map = built(&rt, rt.alloc(), [5, 6, 5]);
+    let new = put_two(&rt, rt.alloc(), &map, [b"b", b"b/x"], [9, 9]);
+    expect_entry(&rt, rt.alloc(), &new, b"b", 9, 2);
+    expect_entry(&rt, rt.alloc(), &new, b"b/x", 9, 2);
+    expect_entry(&rt, rt.alloc(), &new, b"c", 5, 0);
+    assert!(rt; new.kinds().get(1).is_none());
+}

@@ -1,0 +1,161 @@
+//! A map made of entries that come in path order: their paths are moved into it.
+
+ghost use Rattle.std.specs.Prelude.{◌≡◌, ◌++◌, ◌<◌, [], ◌∷◌, length, List, IfOk, OnOk, OnErr, MatchOption, is_ok, if◌then◌else◌};
+ghost use Rattle.std.specs.List.{zip};
+ghost use Rattle.std.specs.FinMap.{is_sorted};
+ghost use Rattle.acl_names.specs.Paths.{path_cmp};
+ghost use Rattle.path_map.specs.Entries.{IsInOrder, PathOf, all_in};
+ghost use Rattle.path_map.specs.Inner.{AreGathered, IsLast};
+
+use crate::chunk::{Chunk, MAX_ENTRIES};
+use crate::map::PathMap;
+use crate::run::Run;
+use acl_names::Path;
+use std::alloc::{AllocError, Global};
+use std::marker::Model;
+use std::mem;
+use std::rc::Rc;
+
+/// A map in the making, of entries that come in path order: those so far. Their paths are moved into it.
+#[derive(Drop)]
+pub struct PathMapBuilder<V: Copy> {
+    chunks: Vec<Rc<Chunk<V>>>,
+    paths: Vec<Path>,
+    values: Vec<V>,
+}
+
+impl<V: Copy> Model for PathMapBuilder<V> {
+    ghost Value = { List (PathOf × V) };
+
+    ghost view = { λ b. all_in b.chunks.items ++ zip b.paths.items b.values.items };
+
+    ghost invariant = { λ b. AreGathered (all_in b.chunks.items) b.paths.items b.values.items };
+}
+
+/// Adds paths and as many values as one chunk.
+fn push_chunk<V: Copy>(
+    alloc: Global,
+    chunks: &mut Vec<Rc<Chunk<V>>>,
+    paths: Vec<Path>,
+    values: Vec<V>,
+) -> Result<(), AllocError>
+    requires gathered { AreGathered (all_in chunks.old.items) paths.items values.items }
+    requires some { 0 < length values.items }
+    ensures added { OnOk result (all_in chunks.new.items ≡ all_in chunks.old.items ++ zip paths.items values.items) }
+    ensures kept { OnErr result (all_in chunks.new.items ≡ all_in chunks.old.items) }
+{
+    let chunk = Chunk::new(Rc::new(alloc, paths)?, values);
+    chunks.push(Rc::new(alloc, chunk)?)?;
+    Ok(())
+}
+
+/// Makes a chunk of the paths and values, if they fill one.
+fn make_room<V: Copy>(
+    alloc: Global,
+    chunks: &mut Vec<Rc<Chunk<V>>>,
+    paths: &mut Vec<Path>,
+    values: &mut Vec<V>,
+) -> Result<(), AllocError>
+    requires { AreGathered (all_in chunks.old.items) paths.old.items values.old.items }
+    ensures gathered { AreGathered (all_in chunks.new.items) paths.new.items values.new.items }
+    ensures same { OnOk result (all_in chunks.new.items ++ zip paths.new.items values.new.items
+        ≡ all_in chunks.old.items ++ zip paths.old.items values.old.items) }
+    ensures room { OnOk result (length values.new.items < 32) }
+{
+    if values.len() < MAX_ENTRIES {
+        return Ok(());
+    }
+    let no_paths = Vec::with_capacity(alloc, MAX_ENTRIES)?;
+    let no_values = Vec::with_capacity(alloc, MAX_ENTRIES)?;
+    push_chunk(
+        alloc,
+        chunks,
+        mem::replace(paths, no_paths),
+        mem::replace(values, no_values),
+    )?;
+    Ok(())
+}
+
+/// Adds a path and a value, or neither.
+fn push_both<V: Copy>(
+    paths: &mut Vec<Path>,
+    values: &mut Vec<V>,
+    path: Path,
+    value: V,
+) -> Result<(), AllocError>
+    ensures paths { paths.new.items ≡ (if is_ok result then paths.old.items ++ path ∷ [] else paths.old.items) }
+    ensures values { values.new.items ≡ (if is_ok result then values.old.items ++ value ∷ [] else values.old.items) }
+{
+    values.push(value)?;
+    match paths.push(path) {
+        Ok(()) => Ok(()),
+        Err(error) => {
+            let _value = values.pop();
+            Err(error.into())
+        }
+    }
+}
+
+impl<V: Copy> PathMapBuilder<V> {
+    /// No entries so far. Allocates nothing.
+    pub fn new(alloc: Global) -> PathMapBuilder<V>
+        ensures { result ≡ [] }
+    {
+        PathMapBuilder {
+            chunks: Vec::new(alloc),
+            paths: Vec::new(alloc),
+            values: Vec::new(alloc),
+        }
+    }
+
+    /// The path of the last entry so far.
+    fn last(&self) -> Option<&Path>
+        ensures order { IsInOrder self.now }
+        ensures last { MatchOption result (self.now ≡ []) (λ path. IsLast self.now path.now) }
+    {
+        let run = Run::new(&self.paths, &self.values);
+        if !run.is_empty() {
+            return Some(run.last_path());
+        }
+        match self.chunks.as_slice() {
+            [] => None,
+            [.., chunk] => Some(chunk.run().last_path()),
+        }
+    }
+
+    /// Whether a path is after those of all entries so far: then `push` takes it. Allocates nothing.
+    pub fn takes(&self, path: &Path) -> bool
+        ensures { (value : V) → result ≡ is_sorted path_cmp (self.now ++ (path.now, value) ∷ []) }
+    {
+        match self.last() {
+            Some(last) => last.order(path).is_lt(),
+            None => true,
+        }
+    }
+
+    /// Adds an entry, whose path is after those of all entries so far. Fails only if memory runs out; entries may then
+    /// be missing.
+    pub fn push(&mut self, alloc: Global, path: Path, value: V) -> Result<(), AllocError>
+        requires { IsInOrder (self.old ++ (path, value) ∷ []) }
+        ensures { OnOk result (self.new ≡ self.old ++ (path, value) ∷ []) }
+    {
+        make_room(alloc, &mut self.chunks, &mut self.paths, &mut self.values)?;
+        push_both(&mut self.paths, &mut self.values, path, value)?;
+        Ok(())
+    }
+
+    /// The map of the entries. Fails only if memory runs out.
+    pub fn finish(self, alloc: Global) -> Result<PathMap<V>, AllocError>
+        ensures { IfOk result (λ map. map ≡ self) }
+    {
+        let PathMapBuilder {
+            mut chunks,
+            paths,
+            values,
+        } = self;
+        if !values.is_empty() {
+            push_chunk(alloc, &mut chunks, paths, values)?;
+        }
+        PathMap::of_chunks(alloc, &chunks)
+    }
+}

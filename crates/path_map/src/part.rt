@@ -1,0 +1,210 @@
+//! Parts of a map: entries in path order, at least one.
+
+ghost use Rattle.std.specs.Prelude.{◌≡◌, ◌<◌, ◌++◌, None, length, List, OnOk, slice_index_or, option_map, map};
+ghost use Rattle.std.specs.FinMap.{find, is_sorted};
+ghost use Rattle.acl_names.specs.Paths.{path_cmp};
+ghost use Rattle.path_map.specs.Entries.{IsInOrder, IsCount, PathOf, entries_of_parts, seen, found};
+ghost use Rattle.path_map.specs.Below.{up_to, within};
+ghost use Rattle.path_map.specs.Inner.{IsCountUpTo, IsBegunWithin, IsStart};
+
+use acl_names::Path;
+use std::alloc::AllocError;
+use std::cmp::Ordering;
+use std::rc::Rc;
+
+/// Entries in path order, at least one: a chunk, or a branch of parts.
+pub(crate) trait Part<V> {
+    /// The entries.
+    ghost entries_of: { Self → List (PathOf × V) };
+
+    /// The first path.
+    fn first(&self) -> &Path
+        ensures some { 0 < length (entries_of self.now) }
+        ensures path { (d : PathOf × V) → result.now ≡ (slice_index_or (entries_of self.now) 0 d).0 };
+
+    /// The value of a path.
+    fn get(&self, path: &Path) -> Option<V>
+        ensures { result ≡ find path_cmp path.now (entries_of self.now) };
+
+    /// The last entry that is not after a path.
+    fn up_to(&self, path: &Path) -> Option<(&Path, V)>
+        ensures { option_map seen result ≡ up_to path.now (entries_of self.now) };
+
+    /// How many entries there are.
+    fn len(&self) -> usize
+        ensures { IsCount result (length (entries_of self.now)) };
+
+    /// How many entries are at or below a path.
+    fn count_within(&self, top: &Path) -> usize
+        ensures { IsCount result (length (within top.now (entries_of self.now))) };
+
+    /// Adds the values of paths that are in path order.
+    fn push_found<W>(
+        &self,
+        new: &mut Vec<Option<V>>,
+        asked: &[(&Path, W)],
+    ) -> Result<(), AllocError>
+        requires { IsInOrder (map seen asked.now) }
+        ensures { OnOk result (new.new.items ≡ new.old.items ++ found (map seen asked.now) (entries_of self.now)) };
+}
+
+/// How many entries are before a path.
+pub(crate) fn start<V>(all: &[(&Path, V)], path: &Path) -> usize
+    requires { IsInOrder (map seen all.now) }
+    ensures { IsStart (map seen all.now) path.now result }
+{
+    all.partition_point(|entry| path.order(entry.0).is_gt())
+}
+
+/// How many parts begin at a path or before it.
+pub(crate) fn count_up_to<V, P: Part<V>>(parts: &[Rc<P>], path: &Path) -> usize
+    ensures { IsCountUpTo (λ c. P.entries_of c.value) parts.now path.now result }
+{
+    let mut low = 0;
+    let mut high = parts.len();
+    while low < high {
+        let middle = low + (high - low) / 2;
+        match path.order(parts[middle].first()) {
+            Ordering::Less => high = middle,
+            _ => low = middle + 1,
+        }
+    }
+    low
+}
+
+/// The value of a path, found in the last part that begins at it or before it.
+pub(crate) fn value_in<V, P: Part<V>>(parts: &[Rc<P>], path: &Path) -> Option<V>
+    requires { IsInOrder (entries_of_parts P.entries_of parts.now) }
+    ensures { result ≡ find path_cmp path.now (entries_of_parts P.entries_of parts.now) }
+{
+    let at = count_up_to(parts, path).checked_sub(1)?;
+    parts[at].get(path)
+}
+
+/// The last entry that is not after a path: it is in the last part that begins at the path or before it.
+pub(crate) fn last_up_to<'a, V, P: Part<V>>(
+    parts: &'a [Rc<P>],
+    path: &Path,
+) -> Option<(&'a Path, V)>
+    requires { IsInOrder (entries_of_parts P.entries_of parts.now) }
+    ensures { option_map seen result ≡ up_to path.now (entries_of_parts P.entries_of parts.now) }
+{
+    let at = count_up_to(parts, path).checked_sub(1)?;
+    parts[at].up_to(path)
+}
+
+/// How many entries the parts have.
+pub(crate) fn count_entries<V, P: Part<V>>(parts: &[Rc<P>]) -> usize
+    ensures { IsCount result (length (entries_of_parts P.entries_of parts.now)) }
+{
+    let mut count = 0usize;
+    let mut rest = parts;
+    while let Some((part, more)) = rest.split_first() {
+        count = count.saturating_add(part.len());
+        rest = more;
+    }
+    count
+}
+
+/// How many parts begin at or below a path, of those at the front.
+pub(crate) fn count_begun_within<V, P: Part<V>>(parts: &[Rc<P>], top: &Path) -> usize
+    ensures { IsBegunWithin (λ c. P.entries_of c.value) parts.now top.now result }
+{
+    let mut low = 0;
+    let mut high = parts.len();
+    while low < high {
+        let middle = low + (high - low) / 2;
+        if parts[middle].first().is_within(top) {
+            low = middle + 1;
+        } else {
+            high = middle;
+        }
+    }
+    low
+}
+
+/// How many entries of parts are at or below a path, each part by itself.
+fn count_each_within<V, P: Part<V>>(parts: &[Rc<P>], top: &Path) -> usize
+    ensures { IsCount result (length (within top.now (entries_of_parts P.entries_of parts.now))) }
+{
+    let mut count = 0usize;
+    let mut rest = parts;
+    while let Some((part, more)) = rest.split_first() {
+        count = count.saturating_add(part.count_within(top));
+        rest = more;
+    }
+    count
+}
+
+/// How many entries of parts are at or below a path. Only the first part and the last one that may have some look at
+/// their entries; those between them have no others.
+pub(crate) fn count_within<V, P: Part<V>>(parts: &[Rc<P>], top: &Path) -> usize
+    requires { IsInOrder (entries_of_parts P.entries_of parts.now) }
+    ensures { IsCount result (length (within top.now (entries_of_parts P.entries_of parts.now))) }
+{
+    let begun = count_up_to(parts, top);
+    let before = begun.saturating_sub(1);
+    let (_front, rest) = parts.split_at(before);
+    let (first, more) = rest.split_at(begun - before);
+    let (some, _after) = more.split_at(count_begun_within(more, top));
+    let (all, last) = some.split_at(some.len().saturating_sub(1));
+    count_each_within(first, top)
+        .saturating_add(count_entries(all))
+        .saturating_add(count_each_within(last, top))
+}
+
+/// Adds no value for each path.
+pub(crate) fn push_none<V: Copy, W>(
+    new: &mut Vec<Option<V>>,
+    asked: &[(&Path, W)],
+) -> Result<(), AllocError>
+    ensures { OnOk result (new.new.items ≡ new.old.items ++ map (λ a. None) (map seen asked.now)) }
+{
+    for _entry in asked {
+        new.push(None)?;
+    }
+    Ok(())
+}
+
+/// Adds the values of paths that are in path order: each half of the parts is asked for its own, down to one part.
+pub(crate) fn push_found_in<V: Copy, W, P: Part<V>>(
+    new: &mut Vec<Option<V>>,
+    parts: &[Rc<P>],
+    asked: &[(&Path, W)],
+) -> Result<(), AllocError>
+    requires entries { IsInOrder (entries_of_parts P.entries_of parts.now) }
+    requires asked { IsInOrder (map seen asked.now) }
+    ensures { OnOk result (new.new.items ≡ new.old.items ++ found (map seen asked.now) (entries_of_parts P.entries_of parts.now)) }
+{
+    if asked.is_empty() {
+        return Ok(());
+    }
+    match parts {
+        [] => push_none(new, asked),
+        [part] => {
+            part.push_found(new, asked)?;
+            Ok(())
+        }
+        _ => {
+            let (left, right) = parts.split_at(parts.len() / 2);
+            let (asked_left, asked_right) = asked.split_at(start(asked, right[0].first()));
+            push_found_in(new, left, asked_left)?;
+            push_found_in(new, right, asked_right)?;
+            Ok(())
+        }
+    }
+}
+
+/// Whether entries are in path order, each path once.
+pub fn is_in_order<V>(all: &[(&Path, V)]) -> bool
+    ensures { result ≡ is_sorted path_cmp (map seen all.now) }
+{
+    let mut at = 1;
+    while at < all.len() {
+        if !all[at - 1].0.order(all[at].0).is_lt() {
+            return false;
+        }
+        at += 1;
+    }
+    true
+}

@@ -1,0 +1,224 @@
+//! Entries that follow one another, borrowed: their paths, and as many values.
+
+ghost use Rattle.std.specs.Prelude.{◌≡◌, ◌<◌, ◌≤◌, ◌==◌, length, List, [], ◌∷◌, slice_index_or, option_map, take, drop, map};
+ghost use Rattle.std.specs.List.{zip};
+ghost use Rattle.std.specs.FinMap.{find};
+ghost use Rattle.std.specs.Iterator.{YieldsFirstBy, item_count};
+ghost use Rattle.acl_names.specs.Paths.{path_cmp};
+ghost use Rattle.path_map.specs.Entries.{IsInOrder, PathOf, seen};
+ghost use Rattle.path_map.specs.Below.{up_to};
+ghost use Rattle.path_map.specs.Inner.{IsStart, IsCountUpTo, IsLast, IsWithinFirst};
+
+use acl_names::Path;
+use std::cmp::Ordering;
+use std::marker::Model;
+
+/// What is at a place.
+fn item<T>(items: &[T], at: usize) -> &T
+    requires { at < length items.now }
+    ensures { (d : T) → result.now ≡ slice_index_or items.now at d }
+{
+    &items[at]
+}
+
+/// Entries that follow one another: their paths, and as many values.
+#[derive(Drop)]
+pub(crate) struct Run<'a, V> {
+    paths: &'a [Path],
+    values: &'a [V],
+}
+
+impl<'a, V> Model for Run<'a, V> {
+    ghost Value = { List (PathOf × V) };
+
+    ghost view = { λ r. zip r.paths.now r.values.now };
+
+    ghost invariant = { λ r. length r.values.now ≡ length r.paths.now };
+}
+
+impl<'a, V> Run<'a, V> {
+    /// The entries of these paths and values.
+    pub fn new(paths: &'a [Path], values: &'a [V]) -> Run<'a, V>
+        requires { length values.now ≡ length paths.now }
+        ensures { result ≡ zip paths.now values.now }
+    {
+        Run { paths, values }
+    }
+
+    /// How many entries there are.
+    pub fn len(&self) -> usize
+        ensures { result ≡ length self.now }
+    {
+        self.paths.len()
+    }
+
+    /// Whether there is none.
+    pub fn is_empty(&self) -> bool
+        ensures { result ≡ (length self.now == 0) }
+    {
+        self.paths.is_empty()
+    }
+
+    /// The first entries, so many.
+    pub fn front(&self, count: usize) -> Run<'a, V>
+        requires { count ≤ length self.now }
+        ensures { result ≡ take count self.now }
+    {
+        Run {
+            paths: self.paths.split_at(count).0,
+            values: self.values.split_at(count).0,
+        }
+    }
+
+    /// The entries after so many.
+    pub fn back(&self, count: usize) -> Run<'a, V>
+        requires { count ≤ length self.now }
+        ensures { result ≡ drop count self.now }
+    {
+        Run {
+            paths: self.paths.split_at(count).1,
+            values: self.values.split_at(count).1,
+        }
+    }
+
+    /// The values.
+    pub fn values(&self) -> &'a [V]
+        ensures { result.now ≡ map (λ e. e.1) self.now }
+    {
+        self.values
+    }
+
+    /// The path of an entry.
+    pub fn path(&self, at: usize) -> &'a Path
+        requires { at < length self.now }
+        ensures { (d : PathOf × V) → result.now ≡ (slice_index_or self.now at d).0 }
+    {
+        item(self.paths, at)
+    }
+
+    /// The path of the last entry.
+    pub fn last_path(&self) -> &'a Path
+        requires { 0 < length self.now }
+        ensures { IsLast self.now result.now }
+    {
+        self.path(self.len() - 1)
+    }
+
+    /// How many entries are before a path.
+    pub fn start(&self, path: &Path) -> usize
+        requires { IsInOrder self.now }
+        ensures { IsStart self.now path.now result }
+    {
+        self.paths
+            .partition_point(|other| path.order(other).is_gt())
+    }
+
+    /// How many entries are not after a path.
+    fn end(&self, path: &Path) -> usize
+        requires { IsInOrder self.now }
+        ensures { IsCountUpTo (λ e. e ∷ []) self.now path.now result }
+    {
+        self.paths
+            .partition_point(|other| !path.order(other).is_lt())
+    }
+}
+
+impl<'a, V> Run<'a, V> {
+    /// How many entries are at or below a path, where so many are before it.
+    pub fn count_within_first(&self, before: usize, top: &Path) -> usize
+        requires order { IsInOrder self.now }
+        requires start { IsStart self.now top.now before }
+        ensures { IsWithinFirst self.now top.now before result }
+    {
+        self.paths
+            .split_at(before)
+            .1
+            .partition_point(|path| path.is_within(top))
+    }
+}
+
+impl<'a, V: Copy> Run<'a, V> {
+    /// The value of a path.
+    pub fn get(&self, path: &Path) -> Option<V>
+        requires { IsInOrder self.now }
+        ensures { result ≡ find path_cmp path.now self.now }
+    {
+        self.value_at(self.start(path), path)
+    }
+
+    /// The value of a path, where so many entries are before it.
+    pub fn value_at(&self, before: usize, path: &Path) -> Option<V>
+        requires order { IsInOrder self.now }
+        requires start { IsStart self.now path.now before }
+        ensures { result ≡ find path_cmp path.now self.now }
+    {
+        if before == self.len() {
+            return None;
+        }
+        let (other, value) = self.at(before);
+        match path.order(other) {
+            Ordering::Equal => Some(value),
+            _ => None,
+        }
+    }
+
+    /// How many entries are before a path, and its value, if it has one. The places that are looked at first double, so
+    /// where few are, few are looked at.
+    pub fn find_near(&self, path: &Path) -> (usize, Option<V>)
+        requires { IsInOrder self.now }
+        ensures start { IsStart self.now path.now result.0 }
+        ensures found { result.1 ≡ find path_cmp path.now self.now }
+    {
+        let mut low = 0;
+        let mut high = self.len();
+        while low < high {
+            let step = low.saturating_sub(1).min((high - low) / 2);
+            let at = low + step;
+            let (other, value) = self.at(at);
+            match path.order(other) {
+                Ordering::Greater => low = at + 1,
+                Ordering::Equal => return (at, Some(value)),
+                Ordering::Less => high = at,
+            }
+        }
+        (low, None)
+    }
+
+    /// The last entry that is not after a path.
+    pub fn up_to(&self, path: &Path) -> Option<(&'a Path, V)>
+        requires { IsInOrder self.now }
+        ensures { option_map seen result ≡ up_to path.now self.now }
+    {
+        let at = self.end(path).checked_sub(1)?;
+        Some(self.at(at))
+    }
+
+    /// An entry.
+    pub fn at(&self, at: usize) -> (&'a Path, V)
+        requires { at < length self.now }
+        ensures { (d : PathOf × V) → seen result ≡ slice_index_or self.now at d }
+    {
+        (item(self.paths, at), *item(self.values, at))
+    }
+}
+
+impl<'a, V: Copy> Iterator for Run<'a, V> {
+    type Item = (&'a Path, V);
+
+    ghost next_gives = { YieldsFirstBy seen (λ entries. entries) };
+
+    ghost remaining = { item_count (λ entries. entries) };
+
+    /// The next entry.
+    fn next(&mut self) -> Option<(&'a Path, V)> {
+        let [path, paths @ ..] = self.paths else {
+            return None;
+        };
+        let [value, values @ ..] = self.values else {
+            return None;
+        };
+        self.paths = paths;
+        self.values = values;
+        Some((path, *value))
+    }
+}
