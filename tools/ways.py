@@ -27,7 +27,7 @@ import script  # noqa: E402
 
 PROGRAM = "facl_cli"
 ROWS = os.path.join(script.TOP, "crates.txt")
-MAX_WAYS = 110
+MAX_WAYS = 105
 MAX_CHAIN = 10
 
 

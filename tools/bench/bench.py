@@ -6,8 +6,8 @@ usage: tools/bench/bench.py MEASUREMENT PROGRAM [FOLDER] [--files N,..] [--users
 
   tools    each tool on the trees of tools/lib/texts.py (10000,100000,1000000 files, 1000 users, 3 runs)
   index    the index of who may do what on files of few and of different labels (100000 files, 1000 users, 2 runs)
-  limits   a line of each kind on as many files and users as can be, 1048576 and 65536, of 1000 labels (1 run); it takes
-           14 GB of memory, most for the last line, after which what is reached at all files is made again
+  limits   a line of each kind on as many files and users as can be, but for those that it makes: 1048570 and 65536, of
+           1000 labels (1 run)
   real     the program beside getfacl(1), setfacl(1), chmod(1), touch(1) and rm(1) on one tree, whose real files are
            made in FOLDER, which has to take lists (100000 files, 100 users, 3 runs)
   live     as root, facl-snapshot, facl-plan and facl-apply beside getfacl and setfacl on a tree that is made in FOLDER
@@ -139,7 +139,7 @@ NO_SEARCH = Step("`chmod 700 .`", "chmod 700 .")
 OF_ALL = (Step("`chmod -R .`, a file", "chmod -R 750 .", "1.2 us", "2.5 us"),
           Step("`setfacl -R -m .`, a file", "setfacl -R -m u:u1:rX .", "1.5 us", "1.5 us"),
           Step("`setfacl --restore`, a record", "setfacl --restore=-", "3 us", "3 us"))
-# The steps of the sessions, in their order; the last one of `limits` changes all verdicts along paths.
+# The steps of the sessions, in their order.
 OF_TOOLS = (
     Step("`getfacl -R .`, a file", "getfacl -R ."), Step("`getfacl` of one file", "getfacl {file}"),
     Step("`can`", "can u{user} {file}"), Step("`can --reach`", "can --reach u{user} {file}"), *QUESTIONS,
@@ -464,7 +464,7 @@ class Measurement(NamedTuple):
 MEASUREMENTS = {
     "tools": Measurement(measure_tools, [10_000, 100_000, 1_000_000], 1_000, 3),
     "index": Measurement(measure_index, [100_000], 1_000, 2),
-    "limits": Measurement(measure_limits, [1_048_576], 65_536, 1),
+    "limits": Measurement(measure_limits, [1_048_570], 65_536, 1),
     "real": Measurement(measure_real, [100_000], 100, 3, ("getfacl", "setfacl")),
     "live": Measurement(measure_live, [100_000], 30, 3, ("getfacl", "setfacl")),
     "tree": Measurement(measure_tree, [100_000], 1_000, 1, ("rt",)),

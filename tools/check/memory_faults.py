@@ -30,10 +30,6 @@ COUNT = "a count that does not fit"
 KIND = "the kind of a fault of std or of the kit's crate that says that memory ran out"
 ALONE = "the only fault of the call before it, by a clause or by its type"
 EXCEPTIONS: Dict[Tuple[str, str], str] = {
-    ("crates/acl_verdicts/src/labels.rt", "count"): COUNT,
-    ("crates/acl_verdicts/src/labels.rt", "MoreLabels::add"): COUNT,
-    ("crates/acl_verdicts/src/numbered.rt", "counted"): COUNT,
-    ("crates/acl_verdicts/src/steps.rt", "MoreSteps::number"): COUNT,
     ("crates/kinds/src/blocks.rt", "BlockList::pushed"): COUNT,
     ("crates/kinds/src/kinds.rt", "Kinds::grant"): COUNT,
     ("crates/kinds/src/list.rt", "SharedList::pushed"): COUNT,

@@ -6,7 +6,6 @@ pub mod Edits
 pub mod Left
 pub mod Placed
 pub mod Restored
-pub mod Nearest
 pub mod Ancestors
 pub mod Shared
 pub mod Follows

@@ -1,5 +1,5 @@
 -- The recorded files around a path: at it or below it, and above it.
-use Rattle.std.specs.Prelude.{List, [], ◌∷◌, map, filter}
+use Rattle.std.specs.Prelude.{List, map, filter}
 use Rattle.acl_files.specs.Files.{PathOf, Files}
 use Rattle.acl_names.specs.Below.{encloses, is_above}
 
@@ -10,12 +10,3 @@ within p t = map (λ e. e.0) (filter (λ e. encloses p e.0) t)
 -- the paths of the files that a path is below, in path order: parents first
 abbrev pub ancestors : {V : Type 0} → PathOf → List (PathOf × V) → List PathOf
 ancestors p t = map (λ e. e.0) (filter (λ e. is_above e.0 p) t)
-
--- the last of some alone; if there is none, what is given
-abbrev pub last_or : {A : Type 0} → List A → List A → List A
-last_or found [] = found
-last_or found (x ∷ xs) = last_or (x ∷ []) xs
-
--- of the entries that a path is below the last one, alone: the nearest
-abbrev pub nearest_above : {A : Type 0} → PathOf → List (PathOf × A) → List (PathOf × A)
-nearest_above p es = last_or [] (filter (λ e. is_above e.0 p) es)

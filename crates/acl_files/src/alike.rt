@@ -6,7 +6,7 @@ use acl_edit::{Kind, Node};
 use acl_entry::{Acl, Entry, Key};
 use kinds::Likeness;
 
-/// How nodes are told apart.
+/// How it is seen whether two nodes are the same: by their marks first.
 pub(crate) struct AlikeNodes;
 
 /// What a mark is multiplied by, so that it spreads.

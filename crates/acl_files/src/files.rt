@@ -1,19 +1,17 @@
 //! The recorded files, in path order; those at a path or below it, and above it.
 
-ghost use Rattle.std.specs.Prelude.{◌≡◌, IfOk, map};
+ghost use Rattle.std.specs.Prelude.{◌≡◌, IfOk};
 ghost use Rattle.std.specs.Option.{option_copied};
 ghost use Rattle.std.specs.FinMap.{find};
 ghost use Rattle.acl_names.specs.Paths.{path_cmp};
-ghost use Rattle.path_map.specs.Entries.{seen};
 ghost use Rattle.kinds.specs.Numbered.{entries_in};
 ghost use Rattle.acl_files.specs.Files.{no_files, Recorded, coded_recorded};
 ghost use Rattle.acl_files.specs.Sound.{IsSoundTree};
-ghost use Rattle.acl_files.specs.Walks.{within, ancestors, nearest_above};
+ghost use Rattle.acl_files.specs.Walks.{within, ancestors};
 
 use acl_edit::Node;
 use acl_names::Path;
 use kinds::{KindMap, KindsFinder, KindsIter};
-use path_map::PathMap;
 use std::alloc::{AllocError, Global};
 use std::marker::Model;
 
@@ -70,7 +68,7 @@ impl Files {
         ensures { IfOk result (λ files. files ≡ no_files) }
     {
         Ok(Files {
-            files: KindMap::new(alloc),
+            files: KindMap::new(alloc)?,
             loaded: false,
         })
     }
@@ -157,39 +155,15 @@ impl Files {
     pub fn ancestors(&self, alloc: Global, path: &Path) -> Result<Vec<Path>, AllocError>
         ensures { IfOk result (λ paths. paths.items ≡ ancestors path.now self.now.files) }
     {
-        let numbers = self.files_by_path().numbers();
+        let files = self.files_by_path();
+        files.order_law();
         let mut paths = Vec::new(alloc);
-        let mut above = nearest_above(alloc, numbers, path)?;
-        while let Some(file) = above.pop() {
-            above = nearest_above(alloc, numbers, file.0)?;
+        let mut above = files.nearest_above(path);
+        while let Some(file) = above {
             paths.push(file.0.try_clone(alloc)?)?;
+            above = files.nearest_above(file.0);
         }
         paths.reverse();
         Ok(paths)
     }
-}
-
-/// The nearest path above a path, if there is one, with its number: the last one up to its parent, or else one above what
-/// they have in common. That is a search for each path in the way. Fails only if memory runs out.
-fn nearest_above<'a>(
-    alloc: Global,
-    numbers: &'a PathMap<usize>,
-    path: &Path,
-) -> Result<Vec<(&'a Path, usize)>, AllocError>
-    ensures { IfOk result (λ above. map seen above.items ≡ nearest_above path.now numbers.now) }
-{
-    numbers.order_law();
-    let mut above = Vec::new(alloc);
-    if path.components().is_empty() {
-        return Ok(above);
-    }
-    let mut top = path.parent(alloc)?;
-    while let Some(entry) = numbers.up_to(&top) {
-        if top.is_within(entry.0) {
-            above.push((entry.0, entry.1))?;
-            return Ok(above);
-        }
-        top = top.common(alloc, entry.0)?;
-    }
-    Ok(above)
 }

@@ -31,7 +31,7 @@ pub use differences::Differences;
 pub use edit::{FileFault, NodeEdit, edit_files};
 pub use fault::TreeFault;
 pub use files::{Files, FilesFinder, FilesIter};
-pub use kinds::KindMap;
+pub use kinds::{GivenNode, KindMap, KindTest, KindsIter, Renewal};
 pub use laws::each_record_is_a_file;
 pub use records::{files_of, in_path_order, put_file, without_files};
 pub use region::Region;

@@ -1,5 +1,5 @@
 -- What a line costs.
-use Rattle.std.proofs.Common.{◌≡◌, not, Option, Some, None, length-append, ℕ, zero, suc, ◌+◌, ◌*◌, ◌<◌, ◌≤◌, Bool, true, false, cond, List, [], ◌∷◌, length, filter, refl, sym, ap, subst, ◌∙◌, arith}
+use Rattle.std.proofs.Common.{◌≡◌, not, Option, Some, None, length-append, ℕ, zero, suc, ◌+◌, ◌*◌, ◌<◌, ◌≤◌, true, cond, List, [], ◌∷◌, length, refl, sym, ap, subst, ◌∙◌, arith}
 use Rattle.std.specs.Prelude.{count_by, option_and_then, if◌then◌else◌}
 use Rattle.std.specs.Option.{option_map_or}
 use Rattle.std.specs.FinMap.{find}
@@ -18,8 +18,8 @@ use Rattle.acl_tree.specs.declared.user_change.UserChange.TheVariants.{Unchanged
 use Rattle.path_map.specs.Entries.{IsInOrder}
 use Rattle.acl_rights.specs.Tables.{Verdict, Rows}
 use Rattle.acl_rights.specs.Kept.{GoesFrom}
-use Rattle.acl_verdicts.proofs.Maps.{map_filter, find-filter, same_found, one_more}
-use Rattle.acl_verdicts.proofs.RowLists.{times_le}
+use Rattle.acl_verdicts.proofs.Counted.{few_pass}
+use Rattle.acl_verdicts.proofs.Maps.{map_filter, find-filter, same_found, one_more, times_le}
 use Rattle.acl_rights.proofs.Goes.{moves, moved_user_in, joins}
 use Rattle.acl_rights.specs.Stages.{mentions_one, moves_asked, most_asked}
 
@@ -35,15 +35,9 @@ all_users known = length-map known.users _
 pub within : (t : StagedState) → length t.changed * length t.state.people.users ≤ most_asked t
 within t = left_le (length t.changed * length t.state.people.users) (moves_asked t.user_change t.state.tree.files) _ (most_asked t) refl refl
 
--- the files that mention a group that joined or left
-pub moved_cost : (t : StagedState) (at : ℕ) (groups : List ℕ) → t.user_change ≡ Memberships at groups → length (filter (mentions_one groups) t.state.tree.files) ≤ most_asked t
+-- the files that mention a group that the user joined or left
+pub moved_cost : (t : StagedState) (at : ℕ) (groups : List ℕ) → t.user_change ≡ Memberships at groups → count_by (mentions_one groups) t.state.tree.files ≤ most_asked t
 moved_cost t at groups is =
-    right_le (length t.changed * length t.state.people.users) (moves_asked t.user_change t.state.tree.files) _ (most_asked t) refl
-    (ap (λ m. moves_asked m t.state.tree.files) is ∙ sym (length-filter (mentions_one groups) t.state.tree.files))
-
--- all files, for a user who joined
-pub joined_cost : (t : StagedState) → t.user_change ≡ Added → length t.state.tree.files ≤ most_asked t
-joined_cost t is =
     right_le (length t.changed * length t.state.people.users) (moves_asked t.user_change t.state.tree.files) _ (most_asked t) refl (ap (λ m. moves_asked m t.state.tree.files) is)
 
 -- ---- a line costs no more than every user at every file
@@ -54,14 +48,6 @@ no_times u = grind arith
 some_times : (n u : ℕ) → 0 < u → n ≤ n * u
 some_times zero u h = omega arith
 some_times (suc n) u h = omega (arith, one_more n u, some_times n u h)
-
-pub few_pass : {A : Type 0} (test : A → Bool) (xs : List A) → length (filter test xs) ≤ length xs
-few_pass test [] = omega arith
-few_pass test (x ∷ xs) = by (test x) (few_pass test xs)
-  where
-    by : (b : Bool) → length (filter test xs) ≤ length xs → length (cond b (x ∷ filter test xs) (filter test xs)) ≤ suc (length xs)
-    by true le = omega (arith, le)
-    by false le = omega (arith, le)
 
 unchanged_at : (o : Option Node) → option_and_then (λ n. if option_map_or (λ m. not (same_label m.label n.label)) o true then Some n else None) o ≡ None
 unchanged_at None = refl

@@ -1,13 +1,13 @@
 -- Rows that are those of a state from which a line goes.
 use Rattle.std.proofs.Common.{◌≡◌, ℕ, ◌<◌, List, length, map, sym, ap, subst, ◌∙◌}
 use Rattle.acl_tree.specs.acl_edit.declared.node.Node.{Node}
-use Rattle.acl_tree.specs.Files.{PathOf, Recorded}
+use Rattle.acl_tree.specs.Files.{PathOf}
 use Rattle.acl_tree.specs.acl_people.KnownPeople.{persons}
 use Rattle.acl_tree.specs.acl_people.Moves.{MovesUser, JoinsUser, LeavesUser}
 use Rattle.acl_tree.specs.Reports.{StagedState, UsersMoved}
 use Rattle.acl_tree.specs.declared.user_change.UserChange.TheVariants.{Memberships, Added, Removed}
 use Rattle.path_map.specs.Entries.{IsInOrder}
-use Rattle.acl_rights.specs.Tables.{Verdict, Rows, rows_of}
+use Rattle.acl_rights.specs.Tables.{Verdict, Rows}
 use Rattle.acl_rights.specs.Kept.{GoesFrom}
 use Rattle.acl_verdicts.proofs.Orders.{same_order}
 use Rattle.acl_rights.proofs.Lines.{row_paths, moved_in, moved_long}
@@ -22,9 +22,6 @@ module _ (V : Verdict) (rows : Rows) (t : StagedState) (goes : GoesFrom V rows t
   module _ (at : ℕ) (groups : List ℕ) (is : t.user_change ≡ Memberships at groups) where
     pub moves : (t.state.tree ≡ goes.state.tree) × MovesUser (persons goes.state.people) (persons t.state.people) at groups
     moves = let u = subst (λ m. UsersMoved goes.state t.state m) is goes.reports.users in (u.0, u.1)
-
-    pub moved_rows_are : rows ≡ rows_of V (persons goes.state.people) t.state.tree.files
-    moved_rows_are = goes.rows_are ∙ ap (λ (r : Recorded). rows_of V (persons goes.state.people) r.files) (sym moves.0)
 
     pub moved_user_in : at < length (persons t.state.people)
     moved_user_in = subst (λ n. at < n) (sym (moved_long V (persons goes.state.people) (persons t.state.people) at groups moves.1)) (moved_in V (persons goes.state.people) (persons t.state.people) at groups moves.1)

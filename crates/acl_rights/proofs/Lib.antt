@@ -6,14 +6,10 @@ pub mod AskedAlong
 pub mod Reached
 pub mod Counts
 pub mod Refreshed
-pub mod Listed
-pub mod Replaced
-pub mod Noting
-pub mod Judged
+pub mod Mentions
 pub mod Refreshing
-pub mod After
-pub mod Granted
-pub mod Renumbered
+pub mod Rowed
+pub mod NextRows
 pub use Rattle.acl_tree.proofs.of_acl_dump
 pub use Rattle.acl_tree.proofs.of_acl_entry
 pub use Rattle.acl_tree.proofs.of_acl_files

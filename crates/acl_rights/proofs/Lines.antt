@@ -1,47 +1,19 @@
--- The rows after a line.
-use Rattle.std.proofs.Common.{◌≡◌, ℕ, zero, suc, ◌<◌, Bool, true, false, not, ◌||◌, eqb, List, [], ◌∷◌, ◌++◌, length, map, filter, take, drop, get_or, set, Option, Some, None, refl, sym, ap, subst, ◌∙◌, arith}
-use Rattle.std.specs.Prelude.{option_map, option_and_then, slice_get, if◌then◌else◌}
-use Rattle.std.specs.Option.{option_map_or, option_or}
-use Rattle.std.specs.List.{AllByRecursion, remove}
+-- The rows of users who move, come or go.
+use Rattle.std.proofs.Common.{◌≡◌, ℕ, zero, suc, ◌<◌, Bool, true, false, ◌||◌, eqb, List, [], ◌∷◌, ◌++◌, length, map, take, drop, get_or, set, Some, refl, sym, ap, subst, ◌∙◌, arith}
+use Rattle.std.specs.Prelude.{slice_get}
+use Rattle.std.specs.List.{remove}
 use Rattle.std.specs.FinSet as sets
-use Rattle.std.specs.FinMap.{find}
 use Rattle.std.proofs.lemmas.Bool.{eqb-true}
-use Rattle.std.proofs.lemmas.List.{map-set, map-append, length-map}
+use Rattle.std.proofs.lemmas.List.{map-set, map-append}
 use Rattle.std.proofs.Math.Seq.{map-set_same}
 use Rattle.acl_tree.specs.acl_entry.Mentions.{mentions, meets, is_one_of, AgreeOnMentions}
 use Rattle.acl_tree.specs.acl_entry.Person.{Person}
 use Rattle.acl_tree.specs.acl_entry.declared.label.Label.{Label}
-use Rattle.acl_tree.specs.acl_names.Paths.{path_cmp}
 use Rattle.acl_tree.specs.acl_edit.declared.node.Node.{Node}
 use Rattle.acl_tree.specs.Files.{PathOf, Files}
-use Rattle.acl_tree.specs.Changed.{same_label, changed_between, gone_between}
 use Rattle.acl_tree.specs.acl_people.GroupsOfOne.{in_just_one}
 use Rattle.acl_tree.specs.acl_people.Moves.{MovesUser}
-use Rattle.acl_tree.proofs.of_acl_files.Changes.{label_is_same}
-use Rattle.path_map.specs.Entries.{IsInOrder}
 use Rattle.acl_rights.specs.Tables.{Verdict, cells_of, rows_of}
-use Rattle.acl_rights.specs.Stages.{mentions_one}
-use Rattle.path_map.specs.Merged.{merged, put_all}
-use Rattle.path_map.proofs.Merges.{in_order-put_all}
-use Rattle.path_map.proofs.Rows.{find_put_all, rows_merged}
-use Rattle.acl_verdicts.proofs.Maps.{map_filter, find-values, find-filter, same_found}
-use Rattle.acl_verdicts.proofs.Orders.{in_order-values}
-
--- ---- files that change
-
-module _ (V : Verdict) (us : List Person) where
-  -- a file with another label has another row, at most
-  same_row : (o : Option Node) (n : Node) → option_map_or (λ m. not (same_label m.label n.label)) o true ≡ false → option_map (cells_of V us) o ≡ Some (cells_of V us n)
-  same_row None n h = cc
-  same_row (Some m) n h = ap (λ (f : Label). Some (map (λ u. V u f) us)) (label_is_same m.label n.label (yes (same_label m.label n.label) h))
-    where
-      yes : (b : Bool) → not b ≡ false → b ≡ true
-      yes true h = refl
-      yes false h = cc
-
-  -- rows put where a file changed, and removed where one is gone, are those of the new files
-  pub changed_whole : (old new : Files) → IsInOrder old → IsInOrder new → merged (rows_of V us (changed_between old new)) (gone_between old new) (rows_of V us old) ≡ rows_of V us new
-  changed_whole old new o n = rows_merged (cells_of V us) (λ o m. option_map_or (λ k. not (same_label k.label m.label)) o true) same_row old new o n
 
 -- ---- a user who moves
 
@@ -119,27 +91,6 @@ module _ (V : Verdict) (us ws : List Person) (at : ℕ) (groups : List ℕ) (m :
         (local m.change.after m.change.before n.label (agree us ws at groups m n.label h) ∙ ap (λ u. V u n.label) (sym (read_got us at m.change.before m.change.was))))
         ∙ ap (λ (l : List Person). cells_of V l n) (sym m.change.becomes)
 
-    row_moved : (b : Option Node)
-        → option_or (option_map (cells_of V ws) (option_and_then (λ n. if meets (mentions n.label) groups then Some n else None) b)) (option_map (cells_of V us) b) ≡ option_map (cells_of V ws) b
-    row_moved None = refl
-    row_moved (Some n) = by (meets (mentions n.label) groups) refl
-      where
-        by : (c : Bool) → meets (mentions n.label) groups ≡ c → option_or (option_map (cells_of V ws) (if c then Some n else None)) (Some (cells_of V us n)) ≡ Some (cells_of V ws n)
-        by true is = refl
-        by false is = ap Some (cells_kept n is)
-
-    -- rows put where a label mentions one of the groups are those of the new users
-    pub moved_whole : (fs : Files) → IsInOrder fs → put_all (rows_of V ws (filter (mentions_one groups) fs)) (rows_of V us fs) ≡ rows_of V ws fs
-    moved_whole fs o =
-        let puts = rows_of V ws (filter (mentions_one groups) fs) in
-        let puts_order = in_order-values (λ (e : PathOf × Node). cells_of V ws e.1) (filter (mentions_one groups) fs) (map_filter (mentions_one groups) fs o) in
-        same_found (put_all puts (rows_of V us fs)) (rows_of V ws fs)
-        (in_order-put_all puts (rows_of V us fs) (in_order-values (λ (e : PathOf × Node). cells_of V us e.1) fs o)) (in_order-values (λ (e : PathOf × Node). cells_of V ws e.1) fs o) (λ p.
-        find_put_all p puts (rows_of V us fs) puts_order
-        ∙ (λ i. option_or ((find-values (cells_of V ws) p (filter (mentions_one groups) fs) ∙ ap (option_map (cells_of V ws)) (find-filter (mentions_one groups) p fs o)) i) (find-values (cells_of V us) p fs i))
-        ∙ row_moved (find path_cmp p fs)
-        ∙ sym (find-values (cells_of V ws) p fs))
-
 -- ---- a user who joins, and one who leaves
 
 take_seen : {A B : Type 0} (f : A → B) (n : ℕ) (xs : List A) → take n (map f xs) ≡ map f (take n xs)
@@ -160,17 +111,6 @@ remove_seen f xs at = (λ i. take_seen f at xs i ++ drop_seen f (suc at) xs i) �
 module _ (V : Verdict) where
   pub longer : (us : List Person) (u : Person) (n : Node) → cells_of V us n ++ V u n.label ∷ [] ≡ cells_of V (us ++ u ∷ []) n
   longer us u n = sym (map-append (λ u. V u n.label) us (u ∷ []))
-
-  pub shorter : (us : List Person) (at : ℕ) (fs : Files) → map (λ (r : PathOf × List ℕ). (r.0, remove r.1 at)) (rows_of V us fs) ≡ rows_of V (remove us at) fs
-  shorter us at [] = refl
-  shorter us at (e ∷ fs) =
-      let cells : remove (cells_of V us e.1) at ≡ cells_of V (remove us at) e.1 =
-      (λ i. take_seen (λ (u : Person). V u e.1.label) at us i ++ drop_seen (λ (u : Person). V u e.1.label) (suc at) us i) ∙ sym (map-append (λ (u : Person). V u e.1.label) (take at us) (drop (suc at) us)) in
-      λ i. (e.0, cells i) ∷ shorter us at fs i
-
-  pub wide : (us : List Person) (at : ℕ) (fs : Files) → at < length us → AllByRecursion (λ (r : PathOf × List ℕ). at < length r.1) (rows_of V us fs)
-  wide us at [] lt = tt
-  wide us at (e ∷ fs) lt = (subst (λ n. at < n) (sym (length-map us (λ (u : Person). V u e.1.label))) lt, wide us at fs lt)
 
   pub row_paths : (us : List Person) (fs : Files) → map (λ (r : PathOf × List ℕ). r.0) (rows_of V us fs) ≡ map (λ (e : PathOf × Node). e.0) fs
   row_paths us [] = refl

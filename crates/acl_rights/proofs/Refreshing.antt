@@ -1,25 +1,16 @@
 -- How many verdicts along paths a line makes again.
-use Rattle.std.proofs.Common.{◌≡◌, ℕ, ◌+◌, ◌*◌, ◌^◌, ◌<◌, ◌≤◌, Bool, true, false, cond, ◌||◌, List, [], ◌∷◌, ◌++◌, length, map, Option, Some, length-append, refl, sym, ap, ◌∙◌, arith}
+use Rattle.std.proofs.Common.{◌≡◌, ℕ, ◌+◌, ◌*◌, ◌^◌, ◌<◌, Bool, false, cond, ◌||◌, List, [], ◌∷◌, length, map, refl, sym, ap, ◌∙◌, arith}
 use Rattle.std.specs.Prelude.{count_by}
 use Rattle.std.specs.List.{list_any}
-use Rattle.std.proofs.lemmas.List.Sums.{sum_by-cons}
+use Rattle.std.proofs.lemmas.List.Sums.{sum_by-cons, count_by-le-length}
 use Rattle.acl_tree.specs.acl_names.Below.{encloses}
 use Rattle.acl_tree.specs.acl_edit.declared.node.Node.{Node}
 use Rattle.acl_tree.specs.Files.{PathOf, Files}
 use Rattle.acl_tree.specs.Reports.{StagedState}
 use Rattle.acl_tree.specs.declared.user_change.UserChange.TheVariants.{Unchanged}
-use Rattle.acl_verdicts.specs.Ways.{Numbers}
-use Rattle.path_map.specs.Entries.{IsInOrder}
-use Rattle.path_map.specs.Below.{within, lies_in}
-use Rattle.acl_verdicts.specs.Subtrees.{covers, AreWalked}
-use Rattle.acl_verdicts.proofs.Tops.{tops_walk}
+use Rattle.path_map.specs.Below.{lies_in}
 use Rattle.acl_rights.specs.Reach.{moves_refreshed, verdicts_refreshed}
-use Rattle.acl_rights.proofs.Costs.{few_pass}
-use Rattle.acl_verdicts.proofs.RowLists.{times_le}
-
-pub no_length : {A : Type 0} (xs : List A) → length xs ≡ 0 → xs ≡ []
-no_length [] h = refl
-no_length (x ∷ xs) h = absurd (omega (arith, h))
+use Rattle.acl_verdicts.proofs.Maps.{times_le}
 
 pub pairs_paths : {P : Type 0} (f : P → PathOf) (ps : List P) → map (λ (e : PathOf × PathOf). e.0) (map (λ p. (f p, f p)) ps) ≡ map f ps
 pairs_paths f [] = refl
@@ -56,31 +47,12 @@ count_alike f g h (x ∷ xs) =
     ∙ sym (sum_by-cons (λ y. cond (g y) 1 0) x xs)
 
 -- how many files are at some paths or below them
-pub count_lying : {A : Type 0} (tops : List (PathOf × A)) (ns : Numbers) (others fs : Files) → map (λ (t : PathOf × A). t.0) tops ≡ map (λ (t : PathOf × Node). t.0) others → map (λ (e : PathOf × ℕ). e.0) ns ≡ map (λ (e : PathOf × Node). e.0) fs
-    → count_by (λ (e : PathOf × ℕ). lies_in tops e.0) ns ≡ count_by (λ (e : PathOf × Node). lies_in others e.0) fs
-count_lying tops ns others fs same paths =
-    count_paths (lies_in tops) ns fs paths ∙ count_alike (λ (e : PathOf × Node). lies_in tops e.0) (λ (e : PathOf × Node). lies_in others e.0) (λ e. lies_paths tops others same e.0) fs
+pub count_lying : {A B : Type 0} (tops : List (PathOf × A)) (es : List (PathOf × B)) (others fs : Files) → map (λ (t : PathOf × A). t.0) tops ≡ map (λ (t : PathOf × Node). t.0) others → map (λ (e : PathOf × B). e.0) es ≡ map (λ (e : PathOf × Node). e.0) fs
+    → count_by (λ (e : PathOf × B). lies_in tops e.0) es ≡ count_by (λ (e : PathOf × Node). lies_in others e.0) fs
+count_lying tops es others fs same paths =
+    count_paths (lies_in tops) es fs paths ∙ count_alike (λ (e : PathOf × Node). lies_in tops e.0) (λ (e : PathOf × Node). lies_in others e.0) (λ e. lies_paths tops others same e.0) fs
 
-pub count_most : {A : Type 0} (f : A → Bool) (xs : List A) → count_by f xs ≤ length xs
-count_most f [] = omega arith
-count_most f (x ∷ xs) = let first = sum_by-cons (λ y. cond (f y) 1 0) x xs in let more = count_most f xs in let one = at_most (f x) in omega (arith, first, more, one)
-  where
-    at_most : (b : Bool) → cond b 1 0 ≤ 1
-    at_most true = omega arith
-    at_most false = omega arith
-
--- what is at a top that no top before it covers, and below it, is counted once
-pub count_walked : {A : Type 0} (tops : List (PathOf × A)) (order : IsInOrder tops) (ns : Numbers) (ordered : IsInOrder ns) (t : PathOf × A) (rest more : List (PathOf × A)) (seen : Numbers) (last : Option PathOf)
-    → rest ≡ t ∷ more → AreWalked tops ns rest seen last → covers last t.0 ≡ false → (count one : ℕ) → count ≡ length seen → one ≡ length (within t.0 ns)
-    → AreWalked tops ns more (seen ++ within t.0 ns) (Some t.0) × (count + one ≡ length (seen ++ within t.0 ns)) × (count + one ≤ length ns)
-count_walked tops order ns ordered t rest more seen last is w out count one long longer =
-    let next = tops_walk tops order ns ordered t rest more seen last is w (seen ++ within t.0 ns) out refl in
-    let both = length-append seen (within t.0 ns) in
-    let made = ap length next.made in
-    let most = few_pass (λ (r : PathOf × ℕ). lies_in next.seen r.0) ns in
-    (next, omega (arith, long, longer, both), omega (arith, long, longer, both, made, most))
-
-count_none : (fs : Files) → count_by (λ (e : PathOf × Node). false) fs ≡ 0
+pub count_none : (fs : Files) → count_by (λ (e : PathOf × Node). false) fs ≡ 0
 count_none [] = refl
 count_none (f ∷ fs) = sum_by-cons (λ (e : PathOf × Node). 0) f fs ∙ ap (λ n. 0 + n) (count_none fs)
 
@@ -97,7 +69,7 @@ module _ (t : StagedState) where
 
   pub files_fit : (walked users : ℕ) → walked ≡ count_by (λ (e : PathOf × Node). lies_in t.changed e.0) t.state.tree.files → users ≡ length t.state.people.users → length t.state.tree.files * length t.state.people.users < 2 ^ 64 → walked * users < 2 ^ 64
   files_fit walked users w u fits =
-      let most = count_most (λ (e : PathOf × Node). lies_in t.changed e.0) t.state.tree.files in
+      let most = count_by-le-length (λ (e : PathOf × Node). lies_in t.changed e.0) t.state.tree.files in
       let le = times_le walked (length t.state.tree.files) users (omega (arith, w, most)) in
       let same = ap (λ n. length t.state.tree.files * n) u in
       omega (arith, le, same, fits)

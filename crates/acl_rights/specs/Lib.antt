@@ -6,8 +6,7 @@ pub mod States
 pub mod Verdicts
 pub mod Kept
 pub mod Groups
-pub mod Inner
-pub mod Grants
+pub mod Lines
 pub use Rattle.acl_tree.specs.acl_dump
 pub use Rattle.acl_tree.specs.acl_edit
 pub use Rattle.acl_tree.specs.acl_entry

@@ -14,7 +14,7 @@ use Rattle.acl_tree.specs.Step.{State}
 use Rattle.acl_tree.specs.Reports.{StagedState, place_left}
 use Rattle.acl_tree.specs.declared.user_change.UserChange.{UserChange}
 use Rattle.acl_tree.specs.declared.user_change.UserChange.TheVariants.{Unchanged, Loaded, Memberships, Added, Removed}
-pub use Rattle.acl_verdicts.specs.Reach.{execute, can_search, passes_in, reach_cell, reached_from, reached_rows, reached_at}
+pub use Rattle.acl_verdicts.specs.Reach.{execute, can_search, passes_in, reach_cell, reached_from, reached_rows, reached_at, rows_along}
 use Rattle.acl_verdicts.specs.Differing.{differing}
 use Rattle.path_map.specs.Below.{lies_in}
 use Rattle.acl_rights.specs.Tables.{Verdict, Rows, places_from}
@@ -29,10 +29,6 @@ passes V fs u p = list_all (λ e. not (is_above e.0 p) || has (V u e.1.label) ex
 -- what a user may do with a file, if the user can search each recorded directory above; else nothing
 abbrev pub reach : Verdict → Files → Person → PathOf × Node → ℕ
 reach V fs u e = if passes V fs u e.0 then V u e.1.label else 0
-
--- the rows, or what is left of them where search on the directories above is asked too
-abbrev pub rows_along : Bool → Rows → Rows
-rows_along along rows = if along then reached_rows rows else rows
 
 abbrev pub reach_at : Verdict → State → ℕ → PathOf → Option ℕ
 reach_at V s user p = option_and_then (λ n. option_map (λ u. reach V s.tree.files u (p, n)) (slice_get (persons s.people) user)) (find path_cmp p s.tree.files)

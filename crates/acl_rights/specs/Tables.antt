@@ -1,14 +1,13 @@
 -- The whole table of verdicts of a state.
 use Rattle.std.specs.Prelude.{◌≡◌, ℕ, List, length, map, filter, slice_get, Option, Some, None, option_map, option_and_then, nat_lt, if◌then◌else◌, Result, IfOk, refl}
+use Rattle.std.specs.Borrow.{Bor}
 use Rattle.std.specs.Coded.{Coded, code_by, coded×, coded_ℕ}
 use Rattle.std.specs.FinMap.{find}
 use Rattle.std.specs.declared.alloc.Global.{Global}
-use Rattle.std.specs.declared.rc.Rc.{Rc}
 use Rattle.std.specs.declared.vec.Vec.{Vec}
 use Rattle.acl_tree.specs.acl_entry.Check.{has}
 use Rattle.acl_tree.specs.acl_entry.Perms.{Perms}
 use Rattle.acl_tree.specs.acl_names.Paths.{path_cmp}
-use Rattle.acl_tree.specs.acl_names.Made.{values}
 use Rattle.acl_tree.specs.acl_names.declared.path.Path.{Path}
 use Rattle.acl_tree.specs.acl_people.KnownPeople.{persons}
 use Rattle.acl_tree.specs.Files.{PathOf, Files}
@@ -58,8 +57,8 @@ files_at users rows user q = if nat_lt user users then Some (may_in q user rows)
 abbrev pub FindsUsers : {E : Type 0} → Result (Option (Vec ℕ Global)) E → Option (List ℕ) → Type 0
 FindsUsers r places = IfOk r (λ found. option_map (λ users. users.items) found ≡ places)
 
-abbrev pub FindsFiles : {E : Type 0} → Result (Option (Vec (Rc Path Global) Global)) E → Option (List PathOf) → Type 0
-FindsFiles r paths = IfOk r (λ found. option_map (λ files. values files.items) found ≡ paths)
+abbrev pub FindsFiles : {E : Type 0} → Result (Option (Vec (Bor Path) Global)) E → Option (List PathOf) → Type 0
+FindsFiles r paths = IfOk r (λ found. option_map (λ files. map (λ p. p.now) files.items) found ≡ paths)
 
 -- ---- what is asked of a state
 

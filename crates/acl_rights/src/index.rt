@@ -1,109 +1,59 @@
-//! The index: the whole table of verdicts of a state, and of verdicts along paths.
+//! The index: the whole table of verdicts of a state.
 
 ghost use Rattle.std.specs.Prelude.{◌≡◌, ◌+◌, ◌<◌, ◌≤◌, ◌^◌, length, IfOk, true};
-ghost use Rattle.acl_tree.specs.acl_names.Made.{values};
+ghost use Rattle.acl_tree.specs.acl_files.kinds.Numbered.{entries_in};
 ghost use Rattle.acl_tree.specs.acl_people.KnownPeople.{persons};
 ghost use Rattle.acl_tree.specs.Step.{state_from};
 ghost use Rattle.acl_verdicts.specs.Rows.{Asks};
+ghost use Rattle.acl_verdicts.specs.KindRows.{rowed};
 ghost use Rattle.acl_rights.specs.Costs.{all_pairs};
-ghost use Rattle.acl_rights.specs.Tables.{rows_of};
-ghost use Rattle.acl_rights.specs.Grants.{rows_at, AreGrants, table_of};
+ghost use Rattle.acl_rights.specs.Lines.{HaveLabels, AreBefore, table_of};
 
-use crate::lists::{GroupLists, records};
-use crate::stage::{After, after_line};
+use crate::stage::{NextRows, after_line};
 use acl_tree::{NoMemory, People, Staged, Tree};
-use acl_verdicts::{Grants, Judge, LabelRows, Record, records_of};
+use acl_verdicts::{Judge, KindRows};
 use std::alloc::{AllocError, Global};
 use std::marker::{Model, PhantomData};
 use std::mem;
-use std::rc::Rc;
 
-/// The verdicts on all users and files of a state, with and without search along the files' paths, and for each group the
-/// files that mention it.
+/// The verdicts on all users and files of a state, by kinds of files.
 #[derive(Drop)]
 pub(crate) struct VerdictTable {
     pub users: usize,
     tree: Tree,
-    pub grants: Grants,
-    lists: GroupLists,
+    pub rows: KindRows,
 }
 
 impl Model for VerdictTable {
     ghost use Rattle.acl_rights.specs.Tables.{VerdictTable as Whole, coded_table};
-    ghost use Rattle.acl_rights.specs.Groups.{AreLists};
-    ghost use Rattle.acl_rights.specs.Grants.{AreGrants, table_of};
+    ghost use Rattle.acl_rights.specs.Lines.{HaveLabels, table_of};
+    ghost use Rattle.acl_tree.specs.acl_files.kinds.Numbered.{entries_in};
 
     ghost Value = { Whole };
 
     ghost coded = { coded_table };
 
-    ghost view = { λ a. table_of a.users a.tree.files a.grants };
+    ghost view = { λ a. table_of a.users a.tree.files a.rows };
 
-    ghost invariant = { λ a. AreLists a.tree.files a.lists × AreGrants a.tree.files a.grants };
+    ghost invariant = { λ a. HaveLabels a.tree.files (entries_in a.rows.rows) };
 }
 
 impl VerdictTable {
-    ghost use Rattle.acl_tree.specs.Changed.{changed_between, gone_between};
-    ghost use Rattle.acl_tree.specs.acl_names.Made.{values};
-    ghost use Rattle.acl_rights.specs.Groups.{AreLists};
-
     /// The table of so many users and a tree, which it shares.
-    fn of(
-        users: usize,
-        tree: &Tree,
-        grants: Grants,
-        lists: GroupLists,
-    ) -> Result<VerdictTable, AllocError>
-        requires lists { AreLists tree.now.files lists }
-        requires grants { AreGrants tree.now.files grants }
-        ensures { IfOk result (λ table. table ≡ table_of users tree.now.files grants) }
+    fn of(users: usize, tree: &Tree, rows: KindRows) -> Result<VerdictTable, AllocError>
+        requires { HaveLabels tree.now.files (entries_in rows.rows) }
+        ensures { IfOk result (λ table. table ≡ table_of users tree.now.files rows) }
     {
         Ok(VerdictTable {
             users,
             tree: tree.share()?,
-            grants,
-            lists,
+            rows,
         })
-    }
-
-    /// The table of so many users and a tree with these files, for which the lists are made.
-    fn with_lists(
-        alloc: Global,
-        users: usize,
-        tree: &Tree,
-        files: &[Rc<Record>],
-        grants: Grants,
-    ) -> Result<VerdictTable, AllocError>
-        requires files { values files.now ≡ tree.now.files }
-        requires grants { AreGrants tree.now.files grants }
-        ensures { IfOk result (λ table. table ≡ table_of users tree.now.files grants) }
-    {
-        let lists = GroupLists::of_tree(alloc, tree, files)?;
-        VerdictTable::of(users, tree, grants, lists)
-    }
-
-    /// The table after a line, by what is granted after it.
-    fn after(
-        &self,
-        alloc: Global,
-        staged: &Staged,
-        grants: Grants,
-    ) -> Result<VerdictTable, AllocError>
-        requires changed { staged.now.changed ≡ changed_between self.now.files staged.now.state.tree.files }
-        requires gone { staged.now.gone ≡ gone_between self.now.files staged.now.state.tree.files }
-        requires grants { AreGrants staged.now.state.tree.files grants }
-        ensures { IfOk result (λ table. table ≡ table_of (length staged.now.state.people.users) staged.now.state.tree.files grants) }
-    {
-        let tree = staged.tree();
-        let changed = records_of(alloc, staged.changed())?;
-        let gone = records_of(alloc, staged.gone())?;
-        let lists = self.lists.staged(alloc, &self.tree, tree, &changed, &gone)?;
-        VerdictTable::of(staged.people().users(), tree, grants, lists)
     }
 }
 
-/// The whole table of verdicts of a state: what each user may do with each file, with and without search along
-/// the file's path, and for each group the files that mention it.
+/// The whole table of verdicts of a state: what each user may do with each file. A question asks it with or without search
+/// along the file's path.
 #[derive(Drop)]
 pub struct Index<J> {
     pub(crate) table: VerdictTable,
@@ -146,7 +96,7 @@ impl Rows {
         self.looked
     }
 
-    /// How many verdicts along paths were made again, since they may be new or other ones than before. Allocates nothing.
+    /// How many verdicts along paths may be new or other ones than before. Allocates nothing.
     pub fn refreshed(&self) -> u64
         ensures { result ≡ self.now.refreshed }
     {
@@ -164,24 +114,19 @@ impl Rows {
     }
 }
 
-/// What is granted on all files: a verdict is asked for on every user and every file.
-fn all_granted<J: Judge>(
+/// The rows of all files: a verdict is asked for on every user and every file.
+fn all_rows<J: Judge>(
     alloc: Global,
     judge: &mut J,
     tree: &Tree,
-    files: &[Rc<Record>],
     people: &People,
-) -> Result<Grants, AllocError>
-    requires files { values files.now ≡ tree.now.files }
-    requires room { J.asked_of judge.old + all_pairs (state_from tree.now people.now) < 2 ^ 64 }
-    ensures grants { IfOk result (λ new. AreGrants tree.now.files new) }
-    ensures rows { IfOk result (λ new. rows_at new ≡ rows_of J.verdict_of (persons people.now) tree.now.files) }
+) -> Result<KindRows, AllocError>
+    requires { J.asked_of judge.old + all_pairs (state_from tree.now people.now) < 2 ^ 64 }
+    ensures rows { IfOk result (λ new. entries_in new.rows ≡ rowed J.verdict_of (persons people.now) tree.now.files) }
     ensures asked { Asks result (J.asked_of judge.old) (J.asked_of judge.new) (all_pairs (state_from tree.now people.now)) }
 {
-    tree.soundness_law();
-    let rows = LabelRows::of_files(alloc, judge, files, people.all_subjects())?;
-    let new = Grants::of(alloc, rows, files.len())?;
-    Ok(new)
+    let rows = KindRows::of_files(alloc, judge, tree.files_whole(), people.all_subjects())?;
+    Ok(rows)
 }
 
 impl<J: Judge> Index<J> {
@@ -200,10 +145,8 @@ impl<J: Judge> Index<J> {
         ensures whole { IfOk result (λ index. IsWhole J.verdict_of (state_from tree.now people.now) index) }
         ensures asked { Asks result (J.asked_of judge.old) (J.asked_of judge.new) (all_pairs (state_from tree.now people.now)) }
     {
-        let files = records(alloc, tree)?;
-        let grants = all_granted(alloc, judge, tree, &files, people)?;
-        let table = VerdictTable::with_lists(alloc, people.users(), tree, &files, grants)?;
-        drop(files);
+        let rows = all_rows(alloc, judge, tree, people)?;
+        let table = VerdictTable::of(people.users(), tree, rows)?;
         Ok(Index {
             table,
             judge: PhantomData,
@@ -226,14 +169,14 @@ impl<J: Judge> Index<J> {
     {
         staged.tree().soundness_law();
         let now = &self.table;
-        now.grants.rows.numbers.order_law();
-        let new = after_line(alloc, judge, &now.grants, &now.tree, &now.lists, staged)?;
-        let After {
-            grants,
+        now.rows.rows.order_law();
+        let new = after_line(alloc, judge, &now.rows, staged)?;
+        let NextRows {
+            rows,
             looked,
             refreshed,
         } = new;
-        let table = now.after(alloc, staged, grants)?;
+        let table = VerdictTable::of(staged.people().users(), staged.tree(), rows)?;
         Ok(Rows {
             table,
             looked,

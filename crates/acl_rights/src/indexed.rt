@@ -16,7 +16,6 @@ use acl_verdicts::{FileRows, Judge};
 use std::alloc::{AllocError, Global};
 use std::marker::Model;
 use std::mem;
-use std::rc::Rc;
 
 /// A state with its index of who may do what, which is the whole table of that state. To a contract it is the state.
 #[derive(Drop)]
@@ -149,7 +148,7 @@ impl<'a, J: Judge> Verdicts<'a, J> {
         alloc: Global,
         user: usize,
         request: Perm,
-    ) -> Result<Option<Vec<Rc<Path>>>, AllocError>
+    ) -> Result<Option<Vec<&'a Path>>, AllocError>
         ensures { FindsFiles result (paths_granted J.verdict_of self.now.along self.now.state.now user request) }
     {
         let index = self.state.index();

@@ -8,9 +8,8 @@ ghost use Rattle.acl_tree.specs.Step as step;
 
 use crate::index::Index;
 use acl_tree::{NoMemory, Path, Perm, Requests};
-use acl_verdicts::{FileRows, Judge, granted_paths, granted_users};
+use acl_verdicts::{FileRows, Judge, granted_users};
 use std::alloc::Global;
-use std::rc::Rc;
 
 impl<J: Judge> Index<J> {
     ghost use Rattle.acl_rights.specs.Tables.{IsWhole, FindsUsers, FindsFiles, cell_at, users_at, files_at, verdict_at, row_at, users_granted, files_granted};
@@ -21,7 +20,7 @@ impl<J: Judge> Index<J> {
         ensures { result ≡ cell_at self.now user path.now }
     {
         let now = &self.table;
-        match now.grants.rows.row(path) {
+        match now.rows.row(path) {
             Some(cells) => cells.get(user),
             None => None,
         }
@@ -71,14 +70,14 @@ impl<J: Judge> Index<J> {
         alloc: Global,
         user: usize,
         request: Perm,
-    ) -> Result<Option<Vec<Rc<Path>>>, NoMemory>
+    ) -> Result<Option<Vec<&Path>>, NoMemory>
         ensures { FindsFiles result (files_at self.now.users self.now.rows user request) }
     {
-        if user >= self.table.users {
+        let now = &self.table;
+        if user >= now.users {
             return Ok(None);
         }
-        let rows = &self.table.grants.rows;
-        let paths = granted_paths(alloc, &rows.numbers, &rows.cells, user, request)?;
+        let paths = now.rows.granted_paths(alloc, user, request)?;
         Ok(Some(paths))
     }
 
@@ -89,7 +88,7 @@ impl<J: Judge> Index<J> {
         alloc: Global,
         user: usize,
         request: Perm,
-    ) -> Result<Option<Vec<Rc<Path>>>, NoMemory>
+    ) -> Result<Option<Vec<&Path>>, NoMemory>
         ensures reported { FindsFiles result (files_at self.now.users self.now.rows user request) }
         ensures whole { (s : step.State) → IsWhole J.verdict_of s self.now → FindsFiles result (files_granted J.verdict_of s user request) }
     {
@@ -101,10 +100,7 @@ impl<J: Judge> Index<J> {
         ensures { result ≡ reached_at self.now.rows user path.now }
     {
         let now = &self.table;
-        match now.grants.reach(path) {
-            Some(cells) => cells.get(user),
-            None => None,
-        }
+        now.rows.reach(user, path)
     }
 
     /// What a user may do with a file, if both are there and the user can search each recorded directory above; else
@@ -126,10 +122,10 @@ impl<J: Judge> Index<J> {
         ensures { FindsUsers result (users_at (reached_rows self.now.rows) path.now request) }
     {
         let now = &self.table;
-        let Some(cells) = now.grants.reach(path) else {
+        let Some(row) = now.rows.reached_row(alloc, path)? else {
             return Ok(None);
         };
-        let users = granted_users(alloc, cells.as_slice(), request)?;
+        let users = granted_users(alloc, &row, request)?;
         Ok(Some(users))
     }
 
@@ -153,15 +149,14 @@ impl<J: Judge> Index<J> {
         alloc: Global,
         user: usize,
         request: Perm,
-    ) -> Result<Option<Vec<Rc<Path>>>, NoMemory>
+    ) -> Result<Option<Vec<&Path>>, NoMemory>
         ensures { FindsFiles result (files_at self.now.users (reached_rows self.now.rows) user request) }
     {
         let now = &self.table;
         if user >= now.users {
             return Ok(None);
         }
-        let places = now.grants.ways.places();
-        let paths = granted_paths(alloc, places, &now.grants.reaches, user, request)?;
+        let paths = now.rows.reached_paths(alloc, user, request)?;
         Ok(Some(paths))
     }
 
@@ -172,7 +167,7 @@ impl<J: Judge> Index<J> {
         alloc: Global,
         user: usize,
         request: Perm,
-    ) -> Result<Option<Vec<Rc<Path>>>, NoMemory>
+    ) -> Result<Option<Vec<&Path>>, NoMemory>
         ensures reported { FindsFiles result (files_at self.now.users (reached_rows self.now.rows) user request) }
         ensures whole { (s : step.State) → IsWhole J.verdict_of s self.now → FindsFiles result (files_reached J.verdict_of s user request) }
     {
@@ -184,7 +179,7 @@ impl<J: Judge> Index<J> {
         ensures { option_copied result ≡ find path_cmp path.now self.now.rows }
     {
         let now = &self.table;
-        match now.grants.rows.row(path) {
+        match now.rows.row(path) {
             Some(cells) => Some(cells.as_slice()),
             None => None,
         }
@@ -198,31 +193,12 @@ impl<J: Judge> Index<J> {
         self.cells(path)
     }
 
-    /// Each file with its row.
-    fn rows_alone(&self) -> FileRows<'_>
-        ensures { result ≡ self.now.rows }
-    {
-        let now = &self.table;
-        FileRows::of(&now.grants.rows.numbers, &now.grants.rows.cells)
-    }
-
-    /// Each file with what of its row is left with search along its path.
-    fn rows_reached(&self) -> FileRows<'_>
-        ensures { result ≡ reached_rows self.now.rows }
-    {
-        let now = &self.table;
-        FileRows::of(now.grants.ways.places(), &now.grants.reaches)
-    }
-
     /// Each file with what each user may do with it, in path order; with `along` only where the user can search each
     /// recorded directory above the file. Allocates nothing.
     pub fn file_rows(&self, along: bool) -> FileRows<'_>
         ensures { result ≡ rows_along along self.now.rows }
     {
-        if along {
-            self.rows_reached()
-        } else {
-            self.rows_alone()
-        }
+        let now = &self.table;
+        now.rows.file_rows(along)
     }
 }

@@ -48,7 +48,7 @@ fn is_row(alloc: Global, row: FileRow<'_>, wanted: &Wanted) -> Option<bool> {
     let path = read_path(alloc, wanted.0).ok()??;
     Some(
         row.path.order(&path) == Ordering::Equal
-            && bytes(alloc, row.requests)?.as_slice() == wanted.1.as_slice(),
+            && bytes(alloc, row.requests.as_slice())?.as_slice() == wanted.1.as_slice(),
     )
 }
 
@@ -56,7 +56,7 @@ fn is_row(alloc: Global, row: FileRow<'_>, wanted: &Wanted) -> Option<bool> {
 fn are(alloc: Global, rows: FileRows<'_>, all: &[Wanted]) -> Option<bool> {
     let mut rest = rows;
     for wanted in all {
-        let row = rest.next()?;
+        let row = rest.next(alloc).ok()??;
         if !is_row(alloc, row, wanted)? {
             return Some(false);
         }

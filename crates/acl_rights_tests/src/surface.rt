@@ -4,8 +4,8 @@ use crate::followed::{Followed, follow};
 use crate::judge::OwnerAlone;
 use crate::small_tree::{load, path};
 use acl_rights::{
-    Acl, Command, FileRow, FileRows, Id, Index, Judge, Label, Membership, NoMemory, Path, Perm,
-    Posix, Requests, Subject, read_name,
+    Acl, Cells, Command, FileRow, FileRows, Id, Index, Judge, Label, Membership, NoMemory, Path,
+    Perm, Posix, Requests, Subject, read_name,
 };
 use std::alloc::Global;
 use std::process::Abort;
@@ -67,24 +67,25 @@ fn expect_who(rt: &impl Abort, alloc: Global, index: &Index<OwnerAlone>, f: &Pat
 }
 
 fn expect_may(rt: &impl Abort, alloc: Global, index: &Index<OwnerAlone>) {
-    let may = index.may(alloc, 2, write_request(rt)).expect(rt, "memory");
+    let may: Option<Vec<&Path>> = index.may(alloc, 2, write_request(rt)).expect(rt, "memory");
     assert!(rt; may.expect(rt, "a user").len() == 1);
 }
 
 fn expect_may_along_the_path(rt: &impl Abort, alloc: Global, index: &Index<OwnerAlone>) {
-    let may = index
+    let may: Option<Vec<&Path>> = index
         .may_reach(alloc, 2, write_request(rt))
         .expect(rt, "memory");
     assert!(rt; may.expect(rt, "a user").is_empty());
 }
 
-fn expect_rows(rt: &impl Abort, index: &Index<OwnerAlone>) {
+fn expect_rows(rt: &impl Abort, alloc: Global, index: &Index<OwnerAlone>) {
     let mut rows: FileRows<'_> = index.file_rows(true);
     let next: Option<&Path> = rows.path();
     assert!(rt; next.expect(rt, "the root").components().is_empty());
-    let root: Option<FileRow<'_>> = rows.next();
+    let root: Option<FileRow<'_>> = rows.next(alloc).expect(rt, "memory");
     let FileRow { path, requests } = root.expect(rt, "the root");
-    assert!(rt; path.components().is_empty() && requests.len() == 3);
+    let row: Cells = requests;
+    assert!(rt; path.components().is_empty() && row.as_slice().len() == 3);
 }
 
 #[test]
@@ -96,7 +97,7 @@ fn verdicts_and_questions(rt: HostRuntime) {
     expect_who(&rt, rt.alloc(), &index, &f);
     expect_may(&rt, rt.alloc(), &index);
     expect_may_along_the_path(&rt, rt.alloc(), &index);
-    expect_rows(&rt, &index);
+    expect_rows(&rt, rt.alloc(), &index);
     drop(index);
 }
 

@@ -218,8 +218,8 @@ fn expect_whole(rt: &impl Abort, alloc: Global, path: Path, want: &[u8], parent:
     expect_text(rt, alloc, &path, want);
     let above = path.parent(alloc).expect(rt, "memory");
     expect_text(rt, alloc, &above, parent);
-    let begun = path.common(alloc, &above).expect(rt, "memory");
-    expect_text(rt, alloc, &begun, parent);
+    assert!(rt; path.borrowed().parent().order(&above).is_eq());
+    assert!(rt; path.borrowed().common(&above).order(&above).is_eq());
 }
 
 #[test]
@@ -247,25 +247,49 @@ fn paths_in_parts_of_each_length(rt: HostRuntime) {
     }
 }
 
-fn common(rt: &impl Abort, alloc: Global, left: &[u8], right: &[u8]) -> Path {
-    let left = path(rt, alloc, left);
-    let right = path(rt, alloc, right);
-    left.common(alloc, &right).expect(rt, "memory")
-}
-
-/// Two paths, and what they begin with.
-static COMMON: [(&[u8], &[u8], &[u8]); 4] = [
+/// Two paths, and what they begin with: of one path few components are left, or many.
+static COMMON: [(&[u8], &[u8], &[u8]); 6] = [
     (b"a/b/c", b"a/b/d", b"a/b"),
     (b"a/b", b"a/b", b"a/b"),
     (b"a/b", b"ab", b"."),
     (b"a", b"a/b", b"a"),
+    (b"a/b/1/2/3/4/5/6/7/8/9/0", b"a/b/c", b"a/b"),
+    (b"1/2/3/4/5/6/7/8/9/0", b"0/2/3", b"."),
 ];
+
+fn expect_common(rt: &impl Abort, alloc: Global, left_in_parts: bool, right_in_parts: bool) {
+    for (at, (left, right, want)) in COMMON.iter().enumerate() {
+        let left = held(rt, alloc, left, left_in_parts);
+        let right = held(rt, alloc, right, right_in_parts);
+        let want = path(rt, alloc, want);
+        expect_row(rt, at, left.borrowed().common(&right).order(&want).is_eq());
+    }
+}
 
 #[test]
 fn beginnings_in_common(rt: HostRuntime) {
-    for (left, right, want) in &COMMON {
-        expect_text(&rt, rt.alloc(), &common(&rt, rt.alloc(), left, right), want);
+    for (left, right) in &HELD {
+        expect_common(&rt, rt.alloc(), *left, *right);
     }
+}
+
+/// Whether a path without its last component is the root, and whether it is `a` or below it.
+fn expect_above(rt: &impl Abort, alloc: Global, text: &[u8], is_root: bool, is_within: bool) {
+    let a = path(rt, alloc, b"a");
+    for in_parts in [false, true] {
+        let below = held(rt, alloc, text, in_parts);
+        let above = below.borrowed().parent();
+        assert!(rt; above.is_root() == is_root);
+        assert!(rt; above.is_within(&a) == is_within);
+    }
+}
+
+#[test]
+fn borrowed_parents(rt: HostRuntime) {
+    expect_above(&rt, rt.alloc(), b".", true, false);
+    expect_above(&rt, rt.alloc(), b"a", true, false);
+    expect_above(&rt, rt.alloc(), b"a/b", false, true);
+    expect_above(&rt, rt.alloc(), b"ab/c", false, false);
 }
 
 static USER_NAMES: [(&[u8], bool); 7] = [

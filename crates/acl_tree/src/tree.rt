@@ -130,7 +130,7 @@ impl Tree {
     }
 
     /// The files as one value.
-    pub(crate) fn files_whole(&self) -> &Files
+    pub fn files_whole(&self) -> &Files
         ensures { result.now ≡ self.now }
     {
         &self.files

@@ -1,18 +1,10 @@
-pub mod Places
-pub mod Blocks
-pub mod Reaching
-pub mod Alike
+mod Places
 pub mod Orders
-pub mod Walks
-mod Begins
-pub mod Changes
+mod Walks
 pub mod Tops
-mod Along
-mod Reached
-pub mod NewWays
-mod Walked
 pub mod Maps
-pub mod Numbers
-pub mod RowLists
-pub mod Labelled
-mod Renumbered
+pub mod RowsOfKinds
+pub mod Counted
+mod Known
+mod RowsLeft
+mod Searched

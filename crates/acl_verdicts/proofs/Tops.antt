@@ -1,23 +1,52 @@
 -- The tops of a walk, one after another: what is at each and below it is made once.
-use Rattle.std.proofs.Common.{◌≡◌, Bool, true, false, cond, ◌||◌, List, [], ◌∷◌, filter, is_some, Option, Some, None, Ordering, Less, Equal, Greater, ◌++◌, append_assoc, append-nil, IsTrue, refl, sym, ap, subst, ◌∙◌}
-use Rattle.std.specs.List.{list_any}
-use Rattle.std.specs.Ordering.{is_gt, is_eq}
-use Rattle.std.specs.FinMap.{find, is_sorted}
+use Rattle.std.proofs.Common.{◌≡◌, Bool, true, false, cond, ◌||◌, List, [], ◌∷◌, filter, Option, Some, None, Ordering, Less, Equal, Greater, ◌++◌, append_assoc, append-nil, IsTrue, refl, sym, ap, subst, ◌∙◌}
+use Rattle.std.specs.List.{AllByRecursion}
+use Rattle.std.specs.Ordering.{is_gt, is_lt}
+use Rattle.std.specs.FinMap.{is_sorted}
 use Rattle.std.specs.FinMap.Entries.{below_all}
 use Rattle.std.proofs.lemmas.Bool.{and_parts}
-use Rattle.std.proofs.lemmas.Cmp.{tied_itself}
 use Rattle.acl_files.specs.acl_names.Paths.{path_cmp}
 use Rattle.acl_files.proofs.of_acl_names.PathOrder.{path_total, exact_paths}
-use Rattle.acl_files.specs.acl_names.Below.{encloses, is_above}
+use Rattle.acl_files.specs.acl_names.Below.{encloses}
 use Rattle.path_map.specs.Entries.{PathOf, IsInOrder}
 use Rattle.path_map.specs.Below.{within, lies_in}
-use Rattle.path_map.specs.Merged.{has}
-use Rattle.acl_files.proofs.of_acl_names.Below.{below_within, convex, early_not_within, within_trans}
+use Rattle.acl_files.proofs.of_acl_names.Below.{convex, early_not_within, within_trans}
 use Rattle.acl_verdicts.specs.Walks.{AllBefore}
 use Rattle.acl_verdicts.specs.Subtrees.{covers, AreWalked}
 use Rattle.acl_verdicts.proofs.Walks.{false_from, all_before}
-use Rattle.acl_verdicts.proofs.Begins.{clash, AllFrom, all_from, from_not_below}
-use Rattle.acl_verdicts.proofs.Changes.{or_false, any_less}
+
+less : (o : Ordering) → is_lt o ≡ true → o ≡ Less
+less Less h = refl
+less Equal h = cc
+less Greater h = cc
+
+clash : (b : Bool) → b ≡ true → b ≡ false → ⊥
+clash b h k = cc
+
+-- ---- paths from a path on
+
+abbrev AllFrom : {A : Type 0} → PathOf → List (PathOf × A) → Type 0
+AllFrom p es = AllByRecursion (λ e. is_gt (path_cmp p e.0) ≡ false) es
+
+from_less : (t e r : PathOf) → is_gt (path_cmp t e) ≡ false → path_cmp e r ≡ Less → path_cmp t r ≡ Less
+from_less t e r le lt = by (path_cmp t e) refl
+  where
+    by : (o : Ordering) → path_cmp t e ≡ o → path_cmp t r ≡ Less
+    by Less is = path_total.trans t e r is lt
+    by Equal is = subst (λ z. path_cmp z r ≡ Less) (sym (exact_paths t e is)) lt
+    by Greater is = absurd (clash (is_gt (path_cmp t e)) (ap is_gt is) le)
+
+all_from : {A : Type 0} (t e : PathOf) (es : List (PathOf × A)) → is_gt (path_cmp t e) ≡ false → IsTrue (below_all path_cmp e es) → AllFrom t es
+all_from t e [] le h = tt
+all_from t e (r ∷ es) le h =
+    let parts = and_parts (is_lt (path_cmp e r.0)) (below_all path_cmp e es) h in
+    (ap is_gt (from_less t e r.0 le (less (path_cmp e r.0) parts.0)), all_from t e es le parts.1)
+
+or_false : (a b : Bool) → (a || b) ≡ false → (a ≡ false) × (b ≡ false)
+or_false true b h = cc
+or_false false b h = (refl, h)
+
+-- ---- what lies at some tops or below them
 
 filter_same : {B : Type 0} (f g : PathOf → Bool) → ((p : PathOf) → f p ≡ g p) → (es : List (PathOf × B)) → filter (λ e. f e.0) es ≡ filter (λ e. g e.0) es
 filter_same f g h [] = refl
@@ -159,49 +188,6 @@ module _ {A R : Type 0} (ts : List (PathOf × A)) (order : IsInOrder ts) (reache
               ∙ filter_same (λ p. lies_in w.seen p || encloses t.0 p) (lies_in (w.seen ++ t ∷ [])) (λ p. sym (lies_more w.seen t p)) reached;
           covered = λ p h. lies_more w.seen t p ∙ ap (λ b. b || encloses t.0 p) (lies_late w.seen t.0 p ahead (here ∙ out_last) (ap is_gt (end_before w.seen p h)));
         }
-
-    -- no top is above it
-    pub top_outermost : covers last t.0 ≡ false → list_any (λ s. is_above s.0 t.0) ts ≡ false
-    top_outermost out_last =
-        ap (list_any (λ s. is_above s.0 t.0)) (sym (ap (λ l. w.seen ++ l) (sym is) ∙ w.split))
-        ∙ any_two w.seen (t ∷ more)
-        ∙ (λ i. earlier i || later i)
-      where
-        any_two : (es fs : List (PathOf × A)) → list_any (λ s. is_above s.0 t.0) (es ++ fs) ≡ (list_any (λ s. is_above s.0 t.0) es || list_any (λ s. is_above s.0 t.0) fs)
-        any_two [] fs = refl
-        any_two (e ∷ es) fs = ap (λ b. is_above e.0 t.0 || b) (any_two es fs) ∙ assoc (is_above e.0 t.0) (list_any (λ s. is_above s.0 t.0) es) (list_any (λ s. is_above s.0 t.0) fs)
-          where
-            assoc : (a b c : Bool) → (a || (b || c)) ≡ ((a || b) || c)
-            assoc true b c = refl
-            assoc false b c = refl
-
-        earlier : list_any (λ s. is_above s.0 t.0) w.seen ≡ false
-        earlier = any_less (λ s. encloses s t.0) (λ s. is_above s t.0) (λ s h. below_within s t.0 h) w.seen (here ∙ out_last)
-
-        none_from : (es : List (PathOf × A)) → AllFrom t.0 es → list_any (λ s. is_above s.0 t.0) es ≡ false
-        none_from [] all = refl
-        none_from (e ∷ es) all = ap (λ b. b || list_any (λ s. is_above s.0 t.0) es) (from_not_below t.0 e.0 all.0) ∙ none_from es all.1
-
-        after : (es : List (PathOf × A)) → IsInOrder (es ++ t ∷ more) → IsTrue (below_all path_cmp t.0 more)
-        after [] h = (and_parts (below_all path_cmp t.0 more) (is_sorted path_cmp more) h).0
-        after (e ∷ es) h = after es (and_parts (below_all path_cmp e.0 (es ++ t ∷ more)) (is_sorted path_cmp (es ++ t ∷ more)) h).1
-
-        itself : is_gt (path_cmp t.0 t.0) ≡ false
-        itself = ap is_gt (tied_itself path_total t.0)
-
-        later : list_any (λ s. is_above s.0 t.0) (t ∷ more) ≡ false
-        later = none_from (t ∷ more) (itself, all_from t.0 t.0 more itself (after w.seen ordered))
-
-    pub top_there : has t.0 ts ≡ true
-    top_there = ap (has t.0) (sym (ap (λ l. w.seen ++ l) (sym is) ∙ w.split)) ∙ found w.seen
-      where
-        found : (es : List (PathOf × A)) → has t.0 (es ++ t ∷ more) ≡ true
-        found [] = ap (λ o. is_some (cond (is_eq o) (Some t.1) (find path_cmp t.0 more))) (tied_itself path_total t.0)
-        found (e ∷ es) = by (is_eq (path_cmp t.0 e.0)) (found es)
-          where
-            by : (b : Bool) → has t.0 (es ++ t ∷ more) ≡ true → is_some (cond b (Some e.1) (find path_cmp t.0 (es ++ t ∷ more))) ≡ true
-            by true h = refl
-            by false h = h
 
   pub tops_end : (rest : List (PathOf × A)) (puts : List (PathOf × R)) (last : Option PathOf) → rest ≡ [] → AreWalked ts reached rest puts last → puts ≡ filter (λ r. lies_in ts r.0) reached
   tops_end rest puts last none w = w.made ∙ ap (λ (l : List (PathOf × A)). filter (λ r. lies_in l r.0) reached) (sym (append-nil w.seen) ∙ ap (λ l. w.seen ++ l) (sym none) ∙ w.split)

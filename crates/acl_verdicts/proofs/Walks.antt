@@ -10,8 +10,8 @@ use Rattle.std.proofs.lemmas.List.{length-map}
 use Rattle.std.proofs.lemmas.Cmp.{tied_itself}
 use Rattle.acl_files.specs.acl_names.Paths.{path_cmp}
 use Rattle.acl_files.proofs.of_acl_names.PathOrder.{path_total, exact_paths}
-use Rattle.acl_files.specs.acl_names.Below.{is_above}
-use Rattle.acl_files.proofs.of_acl_names.Below.{convex_below}
+use Rattle.acl_files.specs.acl_names.Below.{encloses, is_above}
+use Rattle.acl_files.proofs.of_acl_names.Below.{below_within, convex_below}
 use Rattle.path_map.specs.Entries.{PathOf, IsInOrder}
 use Rattle.acl_verdicts.specs.Walks.{nearest_from, nearest, last_from, last_of, cut_from, AllBefore}
 
@@ -93,6 +93,13 @@ seen_get f (x ∷ xs) (suc n) d = seen_get f xs n d
 
 -- ---- what is taken off the end
 
+-- what encloses no path is not above it
+pub not_within : (e q : PathOf) → encloses e q ≡ false → is_above e q ≡ false
+not_within e q apart = false_from (is_above e q) (λ below. clash (encloses e q) (below_within e q below) apart)
+  where
+    clash : (b : Bool) → b ≡ true → b ≡ false → ⊥
+    clash b h k = cc
+
 not_above : (e q p : PathOf) → path_cmp e q ≡ Less → is_above e q ≡ false → is_gt (path_cmp q p) ≡ false → is_above e p ≡ false
 not_above e q p before apart le = by (path_cmp q p) refl le
   where
@@ -143,6 +150,12 @@ take_seen f (suc n) (x ∷ xs) = ap (λ l. f x ∷ l) (take_seen f n xs)
 module _ {R : Type 0} {A : Type 0} (f : R → PathOf × A) where
   read : (xs : List R) (n : ℕ) (x : R) → x ≡ get_or xs n x → get_or (map f xs) n (f x) ≡ f x
   read xs n x is = seen_get f xs n x ∙ ap f (sym is)
+
+  -- one of those before a path comes before it
+  pub before_row : (xs : List R) (x : R) (depth : ℕ) (q : PathOf) → x ≡ get_or xs (depth - 1) x → 0 < depth → depth ≤ length xs → AllBefore q (map f xs) → path_cmp (f x).0 q ≡ Less
+  before_row xs x depth q is some most before =
+      let lt : depth - 1 < length (map f xs) = omega (arith, some, most, length-map xs f) in
+      ap (λ (e : PathOf × A). path_cmp e.0 q) (sym (read xs (depth - 1) x is)) ∙ before_at (map f xs) (depth - 1) (f x) q before lt
 
   pub row_last : (xs : List R) (x : R) → 0 < length xs → x ≡ get_or xs (length xs - 1) x → last_of (map f xs) ≡ Some (f x).1
   row_last xs x some is =

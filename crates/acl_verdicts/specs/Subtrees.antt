@@ -1,26 +1,21 @@
--- The rows at and below some paths, walked again.
-use Rattle.std.specs.Prelude.{◌≡◌, Bool, true, false, List, ◌++◌, filter, Option, None, Some}
-use Rattle.std.specs.List.{AllByRecursion}
-use Rattle.acl_files.specs.acl_names.Below.{encloses, is_above}
+-- The entries at some paths and below them, walked one path after another.
+use Rattle.std.specs.Prelude.{◌≡◌, Bool, false, List, ◌++◌, filter, map, Option, None, Some}
+use Rattle.std.specs.Borrow.{Bor}
+use Rattle.acl_files.specs.acl_names.Below.{encloses}
 use Rattle.path_map.specs.Entries.{PathOf}
-use Rattle.path_map.specs.Below.{lies_in, holds_below}
-use Rattle.acl_verdicts.specs.Walks.{nearest, last_of, AllBefore}
+use Rattle.path_map.specs.Below.{lies_in}
+use Rattle.acl_verdicts.specs.Walks.{AllBefore}
 
--- no entry is below one of these paths
-abbrev pub IsApart : {A B : Type 0} → List (PathOf × B) → List (PathOf × A) → Type 0
-IsApart rows gone = AllByRecursion (λ g. holds_below rows g.0 ≡ false) gone
+-- borrowed paths, as entries
+abbrev pub tops_of : List (Bor PathOf) → List (PathOf × PathOf)
+tops_of ps = map (λ p. (p.now, p.now)) ps
 
--- entries above a path, of which the last is the nearest that there is
-pub record IsNearest {A : Type 0} (p : PathOf) (rows above : List (PathOf × A)) : Type 0 where
-  pub below : AllByRecursion (λ r. is_above r.0 p ≡ true) above
-  pub last : last_of above ≡ nearest p rows
+-- ---- for inner functions
 
 -- whether a path is the one given or below it
 abbrev pub covers : Option PathOf → PathOf → Bool
 covers None p = false
 covers (Some top) p = encloses top p
-
--- ---- for inner functions
 
 -- what is to be made at some tops and below them is made, and the rest of the tops is still to come
 pub record AreWalked {A R : Type 0} (tops : List (PathOf × A)) (all : List (PathOf × R)) (rest : List (PathOf × A)) (puts : List (PathOf × R)) (last : Option PathOf) : Type 0 where

@@ -180,7 +180,7 @@ pub(crate) fn without(
 }
 
 /// The request to search.
-fn search() -> Perm
+pub(crate) fn search() -> Perm
     ensures { result ≡ execute }
 {
     match Perm::from_number(1) {
@@ -190,7 +190,7 @@ fn search() -> Perm
 }
 
 /// Whether a row lets a user search.
-fn can_search(above: &[Requests], user: usize) -> bool
+pub(crate) fn can_search(above: &[Requests], user: usize) -> bool
     ensures { result ≡ lets (Some above.now) user }
 {
     match above.get(user) {
@@ -211,7 +211,7 @@ fn let_through(above: &[Requests], user: usize, cell: Requests) -> Requests
 }
 
 /// Takes everything from those who cannot search above.
-fn clear_others(row: &mut [Requests], above: &[Requests])
+pub(crate) fn clear_others(row: &mut [Requests], above: &[Requests])
     ensures { row.new ≡ cut_from (Some above.now) 0 row.old }
 {
     for at in 0..row.len() {

@@ -1,5 +1,5 @@
 -- For inner functions: no public contract names these definitions.
-use Rattle.std.specs.Prelude.{ℕ, ◌==◌, Bool, true, false, if◌then◌else◌, List, [], ◌∷◌, ◌++◌, map, zip, drop, position, slice_get, Option, Some, None, is_some, option_map, option_and_then, unwrap_or}
+use Rattle.std.specs.Prelude.{ℕ, ◌==◌, Bool, true, false, if◌then◌else◌, List, [], ◌∷◌, ◌++◌, zip, drop, position, slice_get, Option, Some, None, is_some, option_map, option_and_then, unwrap_or}
 use Rattle.std.specs.List.{flat_map, list_any}
 use Rattle.std.specs.Option.{option_map_or}
 use Rattle.std.specs.Ordering.{eq_by_cmp}
@@ -138,7 +138,7 @@ abbrev pub lines_of_walk : List (List ℕ) → Walked → List ℕ
 lines_of_walk names files = flat_map (λ file. row_lines file.1.0 names file.1.1) files
 
 abbrev pub shown_row : FileWithRow → List ℕ × List ℕ
-shown_row step = (shown_before (option_map (λ next. next.now) step.next) (step.path.now, step.node.now), step.requests.now)
+shown_row step = (shown_before (option_map (λ next. next.now) step.next) (step.path.now, step.node.now), step.requests)
 
 -- ---- two walks side by side
 

@@ -3,6 +3,7 @@ pub mod Numbers
 pub mod EntriesBy
 pub mod Counts
 pub mod Chosen
+pub mod Nearest
 pub mod Gone
 pub mod InTurn
 pub mod Puts
@@ -10,3 +11,5 @@ pub mod Edited
 pub mod Settled
 pub mod Stopped
 pub mod Replaced
+pub mod Renewals
+pub mod PlacedNodes

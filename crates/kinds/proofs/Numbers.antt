@@ -1,10 +1,10 @@
 -- Nodes by numbers, and counts.
-use Rattle.std.proofs.Common.{◌≡◌, ◌≢◌, ℕ, zero, suc, ◌+◌, ◌-◌, ◌<◌, ◌≤◌, Bool, true, false, cond, List, [], ◌∷◌, ◌++◌, length, set, get_or, get_or-set_same, get_or-set_other, Option, Some, None, refl, sym, ap, ◌∙◌, arith, ltb-true, ltb-false}
-use Rattle.std.specs.Prelude.{◌==◌, nat_lt, slice_get, if◌then◌else◌}
+use Rattle.std.proofs.Common.{◌≡◌, ◌≢◌, ℕ, zero, suc, ◌+◌, ◌-◌, ◌<◌, ◌≤◌, Bool, true, false, cond, List, [], ◌∷◌, ◌++◌, length, map, set, get_or, get_or-set_same, get_or-set_other, Option, Some, None, refl, sym, ap, ◌∙◌, arith, ltb-true, ltb-false}
+use Rattle.std.specs.Prelude.{◌==◌, nat_lt, slice_get, unwrap_or, if◌then◌else◌}
 use Rattle.std.proofs.lemmas.Option.{slice_get_within}
-use Rattle.std.proofs.lemmas.List.{get_or_past}
+use Rattle.std.proofs.lemmas.List.{get_or_past, map-set, map-append, length-map}
 use Rattle.std.proofs.lemmas.Bool.Decides.{nat_tests}
-use Rattle.kinds.specs.Kinds.{Adds, Grants, Releases}
+use Rattle.kinds.specs.Kinds.{KindsOf, kinds_of, node_at, count_at, IsNode, HasRoom, Adds, Grants, Releases}
 
 pub eq_self : (n : ℕ) → (n == n) ≡ true
 eq_self n = grind (arith, nat_tests)
@@ -71,23 +71,57 @@ node_within (y ∷ nodes) (suc n) x h = let lt = node_within nodes n x h in omeg
 
 -- ---- what the code does
 
-pub reused : {N : Type 0} (slots : List (Option N)) (counts : List ℕ) (at : ℕ) (x : N) → slice_get slots at ≡ Some None → Adds (slots, counts) x at (set slots at (Some x), counts)
-reused slots counts at x h = record {
-  free = free slots at h;
-  nodes = λ n. set_read slots at n (Some x) None (slice_get_within slots at None h);
-  counts = λ n. refl;
+-- what a list of parts has at a place
+pub got_at : {A B : Type 0} (f : A → B) (xs : List A) (i : ℕ) (x : A) (d : B) → slice_get xs i ≡ Some x → get_or (map f xs) i d ≡ f x
+got_at f [] i x d h = cc
+got_at f (y ∷ xs) zero x d h = ap (λ o. f (unwrap_or o y)) h
+got_at f (y ∷ xs) (suc i) x d h = got_at f xs i x d h
+
+pub none_at : {A B : Type 0} (f : A → B) (xs : List A) (i : ℕ) (d : B) → slice_get xs i ≡ None → get_or (map f xs) i d ≡ d
+none_at f [] i d h = refl
+none_at f (y ∷ xs) zero d h = cc
+none_at f (y ∷ xs) (suc i) d h = none_at f xs i d h
+
+pub room : {N : Type 0} (slots : List (Option N × ℕ)) → HasRoom (kinds_of slots)
+room slots = length-map slots (λ s. s.1) ∙ sym (length-map slots (λ s. s.0))
+
+set_none_at : {A B : Type 0} (f : A → B) (xs : List A) (i : ℕ) (y : B) → slice_get xs i ≡ None → map f xs ≡ set (map f xs) i y
+set_none_at f [] i y h = refl
+set_none_at f (x ∷ xs) zero y h = cc
+set_none_at f (x ∷ xs) (suc i) y h = ap (λ l. f x ∷ l) (set_none_at f xs i y h)
+
+pub none_counted : {N : Type 0} (slots : List (Option N × ℕ)) (at count : ℕ) → slice_get slots at ≡ None → kinds_of slots ≡ ((kinds_of slots).0, set (kinds_of slots).1 at count)
+none_counted slots at count h = λ i. (map (λ s. s.0) slots, set_none_at (λ s. s.1) slots at count h i)
+
+same_nodes : {N : Type 0} (slots : List (Option N × ℕ)) (at : ℕ) (s : Option N × ℕ) (count : ℕ) → slice_get slots at ≡ Some s → map (λ s. s.0) (set slots at (s.0, count)) ≡ map (λ s. s.0) slots
+same_nodes [] at s count h = refl
+same_nodes (x ∷ slots) zero s count h = ap (λ o. (unwrap_or o x).0 ∷ map (λ s. s.0) slots) (sym h)
+same_nodes (x ∷ slots) (suc at) s count h = ap (λ l. x.0 ∷ l) (same_nodes slots at s count h)
+
+pub counted_at : {N : Type 0} (slots : List (Option N × ℕ)) (at : ℕ) (s : Option N × ℕ) (count : ℕ) → slice_get slots at ≡ Some s → kinds_of (set slots at (s.0, count)) ≡ ((kinds_of slots).0, set (kinds_of slots).1 at count)
+counted_at slots at s count h = λ i. (same_nodes slots at s count h i, map-set (λ (s : Option _ × ℕ). s.1) slots at (s.0, count) i)
+
+pub reused : {N : Type 0} (slots : List (Option N × ℕ)) (at : ℕ) (x : N) → slice_get slots at ≡ Some (None, 0) → Adds (kinds_of slots) x at (kinds_of (set slots at (Some x, 0)))
+reused {N} slots at x h = record {
+  free = got_at (λ s. s.0) slots at (None, 0) None h;
+  nodes = λ n. ap (λ l. get_or l n None) (map-set (λ (s : Option N × ℕ). s.0) slots at (Some x, 0)) ∙ set_read (map (λ s. s.0) slots) at n (Some x) None (omega (arith, lt, length-map slots (λ s. s.0)));
+  counts = λ n. ap (λ l. get_or l n 0) (map-set (λ (s : Option N × ℕ). s.1) slots at (Some x, 0)) ∙ set_read (map (λ s. s.1) slots) at n 0 0 (omega (arith, lt, length-map slots (λ s. s.1))) ∙ same n (n == at) refl;
 }
   where
-    free : {N : Type 0} (slots : List (Option N)) (at : ℕ) → slice_get slots at ≡ Some None → get_or slots at None ≡ None
-    free [] at h = refl
-    free (s ∷ slots) zero h = cc
-    free (s ∷ slots) (suc at) h = free slots at h
+    lt : at < length slots
+    lt = slice_get_within slots at (None, 0) h
 
-pub grown : {N : Type 0} (slots : List (Option N)) (counts : List ℕ) (x : N) → Adds (slots, counts) x (length slots) (slots ++ Some x ∷ [], counts ++ 0 ∷ [])
-grown slots counts x = record {
-  free = get_or_past slots (length slots) None (omega arith);
-  nodes = λ n. push_read slots n (Some x) None;
-  counts = λ n. push_default counts n 0;
+    same : (n : ℕ) (b : Bool) → (n == at) ≡ b → cond b 0 (get_or (map (λ s. s.1) slots) n 0) ≡ get_or (map (λ s. s.1) slots) n 0
+    same n true is = sym (ap (λ k. get_or (map (λ s. s.1) slots) k 0) (eq_true n at is) ∙ got_at (λ s. s.1) slots at (None, 0) 0 h)
+    same n false is = refl
+
+pub grown : {N : Type 0} (slots : List (Option N × ℕ)) (x : N) → Adds (kinds_of slots) x (length slots) (kinds_of (slots ++ (Some x, 0) ∷ []))
+grown {N} slots x = record {
+  free = get_or_past (map (λ s. s.0) slots) (length slots) None (omega (arith, length-map slots (λ s. s.0)));
+  nodes = λ n. ap (λ l. get_or l n None) (map-append (λ (s : Option N × ℕ). s.0) slots ((Some x, 0) ∷ []))
+      ∙ push_read (map (λ s. s.0) slots) n (Some x) None
+      ∙ ap (λ l. cond (n == l) (Some x) (get_or (map (λ s. s.0) slots) n None)) (length-map slots (λ s. s.0));
+  counts = λ n. ap (λ l. get_or l n 0) (map-append (λ (s : Option N × ℕ). s.1) slots ((Some x, 0) ∷ [])) ∙ push_default (map (λ s. s.1) slots) n 0;
 }
 
 pub granted : {N : Type 0} (slots : List (Option N)) (counts : List ℕ) (at more count : ℕ) → at < length counts → count ≡ get_or counts at 0 + more → Grants (slots, counts) at more (slots, set counts at count)
@@ -121,6 +155,14 @@ freed slots counts at fewer count is le = record { nodes = λ n lt. kept n lt; c
     kept n lt = get_or-set_other slots at n None None (λ same.
         let here : get_or (set counts at count) n 0 ≡ get_or counts at 0 - fewer = less_counts counts at fewer count is n ∙ ap (λ k. get_or counts k 0 - cond (k == at) fewer 0) same ∙ ap (λ b. get_or counts at 0 - cond b fewer 0) (eq_self at) in
         absurd (omega arith))
+
+-- a slot that is free
+pub freed_at : {N : Type 0} (slots : List (Option N × ℕ)) (at : ℕ) → kinds_of (set slots at (None, 0)) ≡ (set (kinds_of slots).0 at None, set (kinds_of slots).1 at 0)
+freed_at {N} slots at = λ i. (map-set (λ (s : Option N × ℕ). s.0) slots at (None, 0) i, map-set (λ (s : Option N × ℕ). s.1) slots at (None, 0) i)
+
+-- numbers of nodes are among the counts
+pub counted_within : {N : Type 0} (slots : List (Option N × ℕ)) (n : ℕ) → IsNode (kinds_of slots) n → n < length (kinds_of slots).1
+counted_within slots n is = let lt = node_within (kinds_of slots).0 n is.0 is.1 in omega (arith, lt, room slots)
 
 pub eq_swap : (n m : ℕ) → (n == m) ≡ (m == n)
 eq_swap n m = by (n == m) refl (m == n) refl

@@ -5,3 +5,5 @@ pub mod Puts
 pub mod Inner
 pub mod Memo
 pub mod Stops
+pub mod Renewed
+pub mod Placed

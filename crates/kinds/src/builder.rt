@@ -83,6 +83,7 @@ impl<N: Drop> KindMapBuilder<N> {
         let kinds = numbering.counted()?;
         let numbers = numbers.finish(alloc)?;
         numbers.order_law();
-        Ok(KindMap::of(kinds, numbers))
+        let map = KindMap::of(alloc, kinds, numbers)?;
+        Ok(map)
     }
 }

@@ -1,6 +1,6 @@
 //! Edits of entries by their numbers: what an edit makes of a number is computed once.
 
-ghost use Rattle.std.specs.Prelude.{◌≡◌, ◌+◌, ◌++◌, ◌∷◌, [], map, IfOk, length};
+ghost use Rattle.std.specs.Prelude.{◌≡◌, ◌+◌, ◌++◌, ◌∷◌, [], map, IfOk, OnOk, length};
 ghost use Rattle.std.specs.List.{AllByRecursion};
 ghost use Rattle.path_map.specs.Entries.{IsInOrder, seen};
 ghost use Rattle.kinds.specs.Kinds.{IsNode};
@@ -71,6 +71,21 @@ fn edit_one<N: Drop, E: KindEdit<N>>(
     }
 }
 
+/// Notes what an edit made of a number that was not met before, which a path has.
+fn note_edited<N>(
+    kinds: &Kinds<N>,
+    memo: &mut Memo,
+    old: usize,
+    new: usize,
+) -> Result<(), AllocError>
+    ensures { OnOk result (memo.new.met.items ≡ memo.old.met.items ++ record { old = old; new = new; count = 1 } ∷ []) }
+{
+    if kinds.count(old) == 1 {
+        return memo.note_alone(old, new);
+    }
+    memo.note(old, new)
+}
+
 /// One entry more edited: its number, if it was met, or else its node.
 fn edit_entry<'a, N: Drop, E: KindEdit<N>>(
     alloc: Global,
@@ -93,7 +108,7 @@ fn edit_entry<'a, N: Drop, E: KindEdit<N>>(
     }
     let node = edit_one(alloc, &kinds, path, number, edit)?;
     let (kinds, new) = kinds.add(alloc, node)?;
-    memo.note(number, new)?;
+    note_edited(&kinds, memo, number, new)?;
     puts.push((path, new))?;
     Ok(kinds)
 }
@@ -151,7 +166,7 @@ impl<N: Drop> KindMap<N> {
         let EditedNumbers { kinds, memo, puts } = edited;
         let numbers = self.numbers().with_values(alloc, &puts)?;
         let kinds = settle(kinds, &memo.met)?;
-        let map = KindMap::of(kinds, numbers);
+        let map = KindMap::of(alloc, kinds, numbers)?;
         Ok(EditedMap { map, entries: puts })
     }
 }

@@ -1,27 +1,30 @@
 //! Nodes by numbers, and how many files have each.
 
-ghost use Rattle.std.specs.Prelude.{◌≡◌, ◌+◌, ◌-◌, ◌<◌, [], ℕ, List, Option, Some, None, IfOk, option_map, slice_get, get_or, IfSome};
+ghost use Rattle.std.specs.Prelude.{◌≡◌, ◌+◌, ◌-◌, ◌<◌, ◌≤◌, ◌^◌, [], ℕ, List, Option, Some, None, true, length, IfOk, OnOk, option_map, slice_get, slice_set, IfSome};
 ghost use Rattle.std.specs.Option.{option_copied};
-ghost use Rattle.kinds.specs.Kinds.{KindsOf, node_at, count_at, IsNode, HasRoom, Adds, Grants, Releases};
+ghost use Rattle.kinds.specs.Renewed.{one_where, renewed_if, weight_at, weight_before, Renews};
+ghost use Rattle.kinds.specs.Kinds.{KindsOf, kinds_of, node_at, count_at, IsNode, Adds, Grants, Releases};
 
 use crate::blocks::Same;
 use crate::list::SharedList;
+use crate::renew::{KindTest, Renewal};
 use std::alloc::{AllocError, Global};
 use std::clone::Clone;
 use std::marker::Model;
 use std::rc::Rc;
 
-/// The node of a number, if it has one; else the free number after it.
+/// The node of a number, if it has one, and the count of its files; for a free number the next one that is free.
 #[derive(Drop)]
 pub(crate) struct Slot<N> {
     node: Option<Rc<N>>,
+    count: usize,
     next: usize,
 }
 
 impl<N> Model for Slot<N> {
-    ghost Value = { Option N };
+    ghost Value = { Option N × ℕ };
 
-    ghost view = { λ s. option_map (λ r. r.value) s.node };
+    ghost view = { λ s. (option_map (λ r. r.value) s.node, s.count) };
 }
 
 /// A pointer more to a node, if there is one.
@@ -40,6 +43,7 @@ impl<N: Drop> Clone for Slot<N> {
     fn clone(&self) -> Result<Slot<N>, AllocError> {
         Ok(Slot {
             node: shared(&self.node)?,
+            count: self.count,
             next: self.next,
         })
     }
@@ -61,16 +65,13 @@ const NONE: usize = usize::MAX;
 #[derive(Drop)]
 pub struct Kinds<N> {
     slots: SharedList<Slot<N>>,
-    counts: SharedList<usize>,
     free: usize,
 }
 
 impl<N> Model for Kinds<N> {
     ghost Value = { List (Option N) × List ℕ };
 
-    ghost view = { λ k. (k.slots, k.counts) };
-
-    ghost invariant = { λ k. HasRoom (k.slots, k.counts) };
+    ghost view = { λ k. kinds_of k.slots };
 }
 
 impl<N> Kinds<N> {
@@ -80,7 +81,6 @@ impl<N> Kinds<N> {
     {
         Kinds {
             slots: SharedList::new(alloc),
-            counts: SharedList::new(alloc),
             free: NONE,
         }
     }
@@ -93,6 +93,13 @@ impl<N> Kinds<N> {
             Some(slot) => slot.node(),
             None => None,
         }
+    }
+
+    /// How many paths have a number. Allocates nothing.
+    pub(crate) fn count(&self, number: usize) -> usize
+        ensures { result ≡ count_at self.now number }
+    {
+        count_in(&self.slots, number)
     }
 
     /// The node of a number that has one. Allocates nothing.
@@ -110,12 +117,32 @@ impl<N> Kinds<N> {
 impl<N> Slot<N> {
     /// The node, if there is one.
     fn node(&self) -> Option<&N>
-        ensures { option_copied result ≡ self.now }
+        ensures { option_copied result ≡ self.now.0 }
     {
         match &self.node {
             Some(node) => Some(node),
             None => None,
         }
+    }
+
+    /// The count of the files.
+    fn count(&self) -> usize
+        ensures { result ≡ self.now.1 }
+    {
+        self.count
+    }
+}
+
+impl<N: Drop> Slot<N> {
+    /// The same node with this count.
+    fn with_count(&self, count: usize) -> Result<Slot<N>, AllocError>
+        ensures { IfOk result (λ new. new ≡ (self.now.0, count)) }
+    {
+        Ok(Slot {
+            node: shared(&self.node)?,
+            count,
+            next: self.next,
+        })
     }
 }
 
@@ -126,7 +153,6 @@ impl<N: Drop> Kinds<N> {
     {
         Ok(Kinds {
             slots: self.slots.share()?,
-            counts: self.counts.share()?,
             free: self.free,
         })
     }
@@ -137,30 +163,18 @@ impl<N: Drop> Kinds<N> {
     {
         let slot = Slot {
             node: Some(node),
+            count: 0,
             next: NONE,
         };
-        let Kinds {
-            slots,
-            counts,
-            free,
-        } = self;
+        let Kinds { slots, free } = self;
         if let Some(next) = next_free(&slots, free) {
             let slots = slots.with(free, slot)?;
-            let kinds = Kinds {
-                slots,
-                counts,
-                free: next,
-            };
+            let kinds = Kinds { slots, free: next };
             return Ok((kinds, free));
         }
         let number = slots.len();
         let slots = slots.pushed(alloc, slot)?;
-        let counts = counts.pushed(alloc, 0)?;
-        let kinds = Kinds {
-            slots,
-            counts,
-            free: NONE,
-        };
+        let kinds = Kinds { slots, free: NONE };
         Ok((kinds, number))
     }
 
@@ -169,20 +183,12 @@ impl<N: Drop> Kinds<N> {
         requires { IsNode self number }
         ensures { IfOk result (λ new. Grants self number more new) }
     {
-        let Kinds {
-            slots,
-            counts,
-            free,
-        } = self;
-        let Some(count) = count_in(&counts, number).checked_add(more) else {
+        let Kinds { slots, free } = self;
+        let Some(count) = count_in(&slots, number).checked_add(more) else {
             return Err(AllocError);
         };
-        let counts = counts.with(number, count)?;
-        Ok(Kinds {
-            slots,
-            counts,
-            free,
-        })
+        let slots = slots_with_count(slots, number, count)?;
+        Ok(Kinds { slots, free })
     }
 
     /// So many files fewer have a number; where there are no more, its node is gone, and it is free. Fails only if memory
@@ -190,50 +196,143 @@ impl<N: Drop> Kinds<N> {
     pub fn release(self, number: usize, fewer: usize) -> Result<Kinds<N>, AllocError>
         ensures { IfOk result (λ new. Releases self number fewer new) }
     {
-        let Kinds {
-            slots,
-            counts,
-            free,
-        } = self;
-        let count = count_in(&counts, number);
-        let counts = counts.with(number, count.saturating_sub(fewer))?;
+        let Kinds { slots, free } = self;
+        let count = count_in(&slots, number);
         if count > fewer {
-            return Ok(Kinds {
-                slots,
-                counts,
-                free,
-            });
+            let slots = slots_with_count(slots, number, count.saturating_sub(fewer))?;
+            return Ok(Kinds { slots, free });
         }
         let slot = Slot {
             node: None,
+            count: 0,
             next: free,
         };
         let slots = slots.with(number, slot)?;
         Ok(Kinds {
             slots,
-            counts,
             free: number,
+        })
+    }
+}
+
+impl<N> Kinds<N> {
+    /// The slot of a number with what its node becomes, if a path has it; else a slot that is free where this one is.
+    fn renewed_slot<M: Drop, S, R: Renewal<N, M, S>>(
+        &self,
+        alloc: Global,
+        state: &mut S,
+        renewal: &R,
+        number: usize,
+    ) -> Result<Slot<M>, AllocError>
+        requires room { R.counted state.old + weight_at (R.weight renewal.now) self.now number < 2 ^ 64 }
+        ensures slot { IfOk result (λ slot. slot ≡ (renewed_if (R.renewed renewal.now) (node_at self.now number) (count_at self.now number), count_at self.now number)) }
+        ensures exact { OnOk result (R.is_exact ≡ true → R.counted state.new ≡ R.counted state.old + weight_at (R.weight renewal.now) self.now number) }
+        ensures at_most { R.counted state.new ≤ R.counted state.old + weight_at (R.weight renewal.now) self.now number }
+    {
+        let paths = count_in(&self.slots, number);
+        match self.get(number) {
+            Some(node) if paths > 0 => {
+                let node = renewal.renew(alloc, state, node, paths)?;
+                Ok(Slot {
+                    node: Some(Rc::new(alloc, node)?),
+                    count: paths,
+                    next: NONE,
+                })
+            }
+            _ => Ok(Slot {
+                node: None,
+                count: paths,
+                next: self.next_of(number),
+            }),
+        }
+    }
+
+    /// How many paths have a number, if its node passes a test; else none.
+    fn passing<T: KindTest<N>>(&self, test: &T, number: usize) -> usize
+        ensures { result ≡ weight_at (one_where (T.passes test.now)) self.now number }
+    {
+        match self.get(number) {
+            Some(node) if test.passes(node) => count_in(&self.slots, number),
+            _ => 0,
+        }
+    }
+
+    /// How many paths have a node that passes a test. Allocates nothing.
+    pub(crate) fn count_where<T: KindTest<N>>(&self, test: &T) -> usize
+        requires { weight_before (one_where (T.passes test.now)) self.now (length self.now.0) < 18446744073709551616 }
+        ensures { result ≡ weight_before (one_where (T.passes test.now)) self.now (length self.now.0) }
+    {
+        let mut count = 0;
+        for number in 0..self.slots.len() {
+            count += self.passing(test, number);
+        }
+        count
+    }
+
+    /// The number after a free one.
+    fn next_of(&self, number: usize) -> usize {
+        match self.slots.get(number) {
+            Some(slot) => slot.next,
+            None => NONE,
+        }
+    }
+
+    /// For each number that paths have what its node becomes, with the same counts. Fails only if memory runs out.
+    pub(crate) fn renewed<M: Drop, S, R: Renewal<N, M, S>>(
+        &self,
+        alloc: Global,
+        state: &mut S,
+        renewal: &R,
+    ) -> Result<Kinds<M>, AllocError>
+        requires room { R.counted state.old + weight_before (R.weight renewal.now) self.now (length self.now.0) < 2 ^ 64 }
+        ensures renews { IfOk result (λ new. Renews (R.renewed renewal.now) self.now new) }
+        ensures exact { OnOk result (R.is_exact ≡ true → R.counted state.new ≡ R.counted state.old + weight_before (R.weight renewal.now) self.now (length self.now.0)) }
+        ensures at_most { R.counted state.new ≤ R.counted state.old + weight_before (R.weight renewal.now) self.now (length self.now.0) }
+    {
+        let mut slots = SharedList::new(alloc);
+        for number in 0..self.slots.len() {
+            let slot = self.renewed_slot(alloc, state, renewal, number)?;
+            slots = slots.pushed(alloc, slot)?;
+        }
+        Ok(Kinds {
+            slots,
+            free: self.free,
         })
     }
 }
 
 /// The number after a free one.
 fn next_free<N>(slots: &SharedList<Slot<N>>, free: usize) -> Option<usize>
-    ensures { IfSome result (λ _. slice_get slots.now free ≡ Some None) }
+    ensures { IfSome result (λ _. slice_get slots.now free ≡ Some (None, 0)) }
 {
     let slot = slots.get(free)?;
-    if slot.node().is_some() {
+    if slot.node().is_some() || slot.count() > 0 {
         return None;
     }
     Some(slot.next)
 }
 
 /// The count of a number.
-fn count_in(counts: &SharedList<usize>, number: usize) -> usize
-    ensures { result ≡ get_or counts.now number 0 }
+fn count_in<N>(slots: &SharedList<Slot<N>>, number: usize) -> usize
+    ensures { result ≡ count_at (kinds_of slots.now) number }
 {
-    match counts.get(number) {
-        Some(count) => *count,
+    match slots.get(number) {
+        Some(slot) => slot.count(),
         None => 0,
     }
+}
+
+/// Slots where a number has this count.
+fn slots_with_count<N: Drop>(
+    slots: SharedList<Slot<N>>,
+    number: usize,
+    count: usize,
+) -> Result<SharedList<Slot<N>>, AllocError>
+    ensures { IfOk result (λ new. kinds_of new ≡ ((kinds_of slots).0, slice_set (kinds_of slots).1 number count)) }
+{
+    let slot = match slots.get(number) {
+        Some(slot) => slot.with_count(count)?,
+        None => return Ok(slots),
+    };
+    slots.with(number, slot)
 }

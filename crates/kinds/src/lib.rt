@@ -2,6 +2,7 @@
 //! each number a node with the count of its paths. A map and its copies share what did not change.
 #![tactic(auto)]
 
+mod above;
 mod blocks;
 mod builder;
 mod edit;
@@ -12,7 +13,9 @@ mod list;
 mod map;
 mod memo;
 mod numbering;
+mod placed;
 mod put;
+mod renew;
 
 pub use blocks::{BlockList, Same};
 pub use builder::KindMapBuilder;
@@ -24,4 +27,6 @@ pub use list::SharedList;
 pub use map::KindMap;
 pub use memo::{Memo, Met};
 pub use numbering::Likeness;
+pub use placed::GivenNode;
 pub use put::KindPuts;
+pub use renew::{KindTest, Renewal};

@@ -1,6 +1,6 @@
 //! The map by kinds.
 
-ghost use Rattle.std.specs.Prelude.{◌≡◌, ◌<◌, ◌∷◌, [], length, map, IfOk};
+ghost use Rattle.std.specs.Prelude.{◌≡◌, ◌<◌, ◌∷◌, [], Some, length, map, IfOk, IfSome};
 ghost use Rattle.std.specs.Option.{option_copied};
 ghost use Rattle.std.specs.FinMap.{find};
 ghost use Rattle.acl_names.specs.Paths.{path_cmp};
@@ -10,7 +10,8 @@ ghost use Rattle.acl_names.specs.Below.{encloses};
 ghost use Rattle.path_map.specs.Below.{from, within};
 ghost use Rattle.path_map.specs.Merged.{without_all};
 ghost use Rattle.kinds.specs.Numbered.{AreSound, entries_in};
-ghost use Rattle.kinds.specs.Kinds.{Releases};
+ghost use Rattle.kinds.specs.Kinds.{node_at, Releases};
+ghost use Rattle.kinds.specs.Placed.{IsOfEntry};
 ghost use Rattle.kinds.specs.Inner.{ReleasesAll, ReleasesRun};
 
 use crate::iter::KindsIter;
@@ -19,12 +20,13 @@ use acl_names::Path;
 use path_map::{PathMap, Within};
 use std::alloc::{AllocError, Global};
 use std::marker::Model;
+use std::rc::Rc;
 
 /// A map from paths to nodes: for each path a number, for each number a node and the count of its paths. Contracts see
 /// both; what a caller has of it are its entries, by [`entries_in`].
 #[derive(Drop)]
 pub struct KindMap<N> {
-    kinds: Kinds<N>,
+    kinds: Rc<Kinds<N>>,
     numbers: PathMap<usize>,
 }
 
@@ -33,30 +35,12 @@ impl<N> Model for KindMap<N> {
 
     ghost Value = { Kept N };
 
-    ghost view = { λ m. (m.kinds, m.numbers) };
+    ghost view = { λ m. (m.kinds.value, m.numbers) };
 
-    ghost invariant = { λ m. AreSound m.kinds m.numbers };
+    ghost invariant = { λ m. AreSound m.kinds.value m.numbers };
 }
 
 impl<N> KindMap<N> {
-    /// No entries.
-    pub fn new(alloc: Global) -> KindMap<N>
-        ensures { entries_in result ≡ [] }
-    {
-        KindMap {
-            kinds: Kinds::new(alloc),
-            numbers: PathMap::new(alloc),
-        }
-    }
-
-    /// The map of these numbers and their nodes.
-    pub fn of(kinds: Kinds<N>, numbers: PathMap<usize>) -> KindMap<N>
-        requires { AreSound kinds numbers }
-        ensures { result ≡ (kinds, numbers) }
-    {
-        KindMap { kinds, numbers }
-    }
-
     /// The nodes by their numbers.
     pub fn kinds(&self) -> &Kinds<N>
         ensures all { result.now ≡ self.now.0 }
@@ -98,6 +82,21 @@ impl<N> KindMap<N> {
         }
     }
 
+    /// The node of a number, if a path has it. Allocates nothing.
+    pub fn used(&self, number: usize) -> Option<&N>
+        ensures node { IfSome result (λ node. node_at self.now.0 number ≡ Some node.now) }
+        ensures entry { IfSome result (λ node. IsOfEntry node.now (entries_in self.now)) }
+    {
+        let kinds = self.kinds();
+        if kinds.count(number) == 0 {
+            return None;
+        }
+        match kinds.get(number) {
+            Some(node) => Some(node),
+            None => None,
+        }
+    }
+
     /// The entries in path order. Allocates nothing.
     pub fn iter(&self) -> KindsIter<'_, N>
         ensures { result ≡ entries_in self.now }
@@ -128,12 +127,37 @@ impl<N> KindMap<N> {
 }
 
 impl<N: Drop> KindMap<N> {
+    /// No entries. Fails only if memory runs out.
+    pub fn new(alloc: Global) -> Result<KindMap<N>, AllocError>
+        ensures { IfOk result (λ map. entries_in map ≡ []) }
+    {
+        Ok(KindMap {
+            kinds: Rc::new(alloc, Kinds::new(alloc))?,
+            numbers: PathMap::new(alloc),
+        })
+    }
+
+    /// The map of these numbers and their nodes. Fails only if memory runs out.
+    pub fn of(
+        alloc: Global,
+        kinds: Kinds<N>,
+        numbers: PathMap<usize>,
+    ) -> Result<KindMap<N>, AllocError>
+        requires { AreSound kinds numbers }
+        ensures { IfOk result (λ map. map ≡ (kinds, numbers)) }
+    {
+        Ok(KindMap {
+            kinds: Rc::new(alloc, kinds)?,
+            numbers,
+        })
+    }
+
     /// A copy that shares the entries. Fails only if memory runs out.
     pub fn share(&self) -> Result<KindMap<N>, AllocError>
         ensures { IfOk result (λ same. same ≡ self.now) }
     {
         Ok(KindMap {
-            kinds: self.kinds.share()?,
+            kinds: self.kinds.clone()?,
             numbers: self.numbers.share()?,
         })
     }
@@ -151,7 +175,8 @@ impl<N: Drop> KindMap<N> {
         let found = self.numbers().get_all(alloc, gone)?;
         let numbers = self.numbers().without_all(alloc, gone)?;
         let kinds = release_all(self.kinds().share()?, &found)?;
-        Ok(KindMap { kinds, numbers })
+        let map = KindMap::of(alloc, kinds, numbers)?;
+        Ok(map)
     }
 }
 

@@ -63,8 +63,15 @@ impl Memo {
     pub fn note(&mut self, old: usize, new: usize) -> Result<(), AllocError>
         ensures { OnOk result (self.new.met.items ≡ self.old.met.items ++ record { old = old; new = new; count = 1 } ∷ []) }
     {
+        self.places.insert(old, self.met.len())?;
+        self.note_alone(old, new)
+    }
+
+    /// Notes what an edit made of a number that no other path has, so that it is not looked for again.
+    pub(crate) fn note_alone(&mut self, old: usize, new: usize) -> Result<(), AllocError>
+        ensures { OnOk result (self.new.met.items ≡ self.old.met.items ++ record { old = old; new = new; count = 1 } ∷ []) }
+    {
         self.last = self.met.len();
-        self.places.insert(old, self.last)?;
         self.met.push(Met { old, new, count: 1 })?;
         Ok(())
     }

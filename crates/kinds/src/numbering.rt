@@ -19,12 +19,25 @@ pub trait Likeness<N> {
         ensures { result ≡ true → one.now ≡ other.now };
 }
 
+/// The numbers that were given, by the marks of their nodes: none until two nodes differ.
+#[derive(Drop)]
+struct Marks {
+    numbers: BTreeMap<u64, usize>,
+    /// How many nodes in a row were not found.
+    missed: usize,
+}
+
+/// How many nodes in a row may be missed before only some are looked for.
+const MANY: usize = 64;
+
+/// How many nodes there are then for one that is looked for.
+const SELDOM: usize = 32;
+
 /// Nodes by numbers, where the paths that got the number given last are not counted yet.
 #[derive(Drop)]
 pub(crate) struct Numbering<N> {
     pub(crate) kinds: Kinds<N>,
-    /// The numbers that were given, by the marks of their nodes: none until two nodes differ.
-    marks: BTreeMap<u64, usize>,
+    marks: Marks,
     /// The number that was given last.
     pub(crate) last: usize,
     /// How many paths got it, one after another: none before the first one.
@@ -51,29 +64,29 @@ fn number_if<N, L: Likeness<N>>(
 /// The number of a mark, if its node is the same.
 fn number_marked<N, L: Likeness<N>>(
     kinds: &Kinds<N>,
-    marks: &BTreeMap<u64, usize>,
+    marks: &Marks,
     mark: u64,
     node: &N,
     likeness: &L,
 ) -> Option<usize>
     ensures { IfSome result (λ at. node_at kinds.now at ≡ Some node.now) }
 {
-    let at = *marks.get(&mark)?;
+    let at = *marks.numbers.get(&mark)?;
     number_if(kinds, at, node, likeness)
 }
 
 /// Notes the only number that was given so far, if none is noted.
 fn note_first<N, L: Likeness<N>>(
     kinds: &Kinds<N>,
-    marks: &mut BTreeMap<u64, usize>,
+    marks: &mut Marks,
     first: usize,
     likeness: &L,
 ) -> Result<(), AllocError> {
-    if !marks.is_empty() {
+    if !marks.numbers.is_empty() {
         return Ok(());
     }
     if let Some(node) = kinds.get(first) {
-        marks.insert(likeness.mark(node), first)?;
+        marks.numbers.insert(likeness.mark(node), first)?;
     }
     Ok(())
 }
@@ -95,7 +108,7 @@ fn number_new<N: Drop>(
 fn number_noted<N: Drop, L: Likeness<N>>(
     alloc: Global,
     kinds: Kinds<N>,
-    marks: &mut BTreeMap<u64, usize>,
+    marks: &mut Marks,
     node: N,
     likeness: &L,
 ) -> Result<(Kinds<N>, usize), AllocError>
@@ -103,11 +116,18 @@ fn number_noted<N: Drop, L: Likeness<N>>(
 {
     let mark = likeness.mark(&node);
     if let Some(at) = number_marked(&kinds, marks, mark, &node, likeness) {
+        marks.missed = 0;
         return Ok((kinds, at));
     }
+    marks.missed = marks.missed.saturating_add(1);
     let (kinds, at) = number_new(alloc, kinds, node)?;
-    marks.insert(mark, at)?;
+    marks.numbers.insert(mark, at)?;
     Ok((kinds, at))
+}
+
+/// Whether the next node is looked for: where many in a row were not found, only one of some is.
+fn is_looked_for(marks: &Marks) -> bool {
+    marks.missed < MANY || marks.missed % SELDOM == 0
 }
 
 /// The number of a node: the one that was given last, where so many paths got it; or one by its mark; or a new one. No path
@@ -115,7 +135,7 @@ fn number_noted<N: Drop, L: Likeness<N>>(
 fn number_for<N: Drop, L: Likeness<N>>(
     alloc: Global,
     kinds: Kinds<N>,
-    marks: &mut BTreeMap<u64, usize>,
+    marks: &mut Marks,
     last: usize,
     pending: usize,
     node: N,
@@ -127,6 +147,10 @@ fn number_for<N: Drop, L: Likeness<N>>(
         return Ok((kinds, at));
     }
     if pending == 0 {
+        return number_new(alloc, kinds, node);
+    }
+    if !is_looked_for(marks) {
+        marks.missed = marks.missed.saturating_add(1);
         return number_new(alloc, kinds, node);
     }
     note_first(&kinds, marks, last, likeness)?;
@@ -170,7 +194,10 @@ impl<N> Numbering<N> {
     {
         Numbering {
             kinds,
-            marks: BTreeMap::new(alloc),
+            marks: Marks {
+                numbers: BTreeMap::new(alloc),
+                missed: 0,
+            },
             last: 0,
             pending: 0,
         }
@@ -196,6 +223,27 @@ impl<N: Drop> Numbering<N> {
             pending,
         } = self;
         let (kinds, number) = number_for(alloc, kinds, &mut marks, last, pending, node, likeness)?;
+        let (kinds, pending) = count_run(kinds, last, pending, number)?;
+        Ok(Numbering {
+            kinds,
+            marks,
+            last: number,
+            pending,
+        })
+    }
+
+    /// One path more has a number that has a node.
+    pub(crate) fn give_at(self, number: usize) -> Result<Numbering<N>, AllocError>
+        requires { 0 < self.pending → IsNode self.kinds self.last }
+        ensures run { IfOk result (λ new. CountsRun self.kinds self.last self.pending number new.kinds new.pending) }
+        ensures last { IfOk result (λ new. new.last ≡ number) }
+    {
+        let Numbering {
+            kinds,
+            marks,
+            last,
+            pending,
+        } = self;
         let (kinds, pending) = count_run(kinds, last, pending, number)?;
         Ok(Numbering {
             kinds,

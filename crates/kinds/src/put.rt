@@ -4,7 +4,8 @@ ghost use Rattle.std.specs.Prelude.{◌≡◌, ◌++◌, ◌∷◌, [], true, is
 ghost use Rattle.std.specs.List.{AllByRecursion};
 ghost use Rattle.path_map.specs.Entries.{IsInOrder, seen, found};
 ghost use Rattle.path_map.specs.Merged.{put_all};
-ghost use Rattle.kinds.specs.Numbered.{entries_in};
+ghost use Rattle.kinds.specs.Numbered.{entries_in, entries_by};
+ghost use Rattle.kinds.specs.Inner.{AddsBut};
 
 use crate::map::{KindMap, release_all};
 use crate::numbering::{Likeness, Numbering};
@@ -89,6 +90,24 @@ fn numbers_with(
     numbers_put(alloc, numbers, entries)
 }
 
+/// A map with entries put by their numbers. Where each path is there already, both share all paths.
+pub(crate) fn put_numbered<N: Drop>(
+    alloc: Global,
+    before: &KindMap<N>,
+    numbering: Numbering<N>,
+    entries: &[(&Path, usize)],
+) -> Result<KindMap<N>, AllocError>
+    requires added { AddsBut before.now.0 (entries_by numbering.kinds (map seen entries.now)) numbering.kinds (map seen entries.now) numbering.last numbering.pending }
+    requires order { IsInOrder (entries_by numbering.kinds (map seen entries.now)) }
+    ensures { IfOk result (λ new. entries_in new ≡ put_all (entries_by numbering.kinds (map seen entries.now)) (entries_in before.now)) }
+{
+    let kinds = numbering.counted()?;
+    let (numbers, found) = numbers_with(alloc, before.numbers(), entries)?;
+    let kinds = release_all(kinds, &found)?;
+    let map = KindMap::of(alloc, kinds, numbers)?;
+    Ok(map)
+}
+
 impl<'a, N: Drop> KindPuts<'a, N> {
     /// Nothing to be put among the entries of a map. Fails only if memory runs out.
     pub fn new(alloc: Global, map: &'a KindMap<N>) -> Result<KindPuts<'a, N>, AllocError>
@@ -137,9 +156,7 @@ impl<'a, N: Drop> KindPuts<'a, N> {
             numbering,
             entries,
         } = self;
-        let kinds = numbering.counted()?;
-        let (numbers, found) = numbers_with(alloc, before.numbers(), &entries)?;
-        let kinds = release_all(kinds, &found)?;
-        Ok(KindMap::of(kinds, numbers))
+        let map = put_numbered(alloc, before, numbering, &entries)?;
+        Ok(map)
     }
 }

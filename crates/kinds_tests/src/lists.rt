@@ -19,20 +19,20 @@ fn expect_item(rt: &impl Abort, list: &SharedList<usize>, at: usize, want: usize
 
 #[test]
 fn a_list_is_changed_and_its_copies_are_not(rt: HostRuntime) {
-    let list = numbers(&rt, rt.alloc(), 1_100);
+    let list = numbers(&rt, rt.alloc(), 4_200);
     let copy = list.share().expect(&rt, "memory");
-    let changed = list.with(1_050, 7).expect(&rt, "memory");
-    expect_item(&rt, &changed, 1_050, 7);
-    expect_item(&rt, &changed, 1_049, 1_049);
-    expect_item(&rt, &copy, 1_050, 1_050);
-    assert!(rt; changed.len() == 1_100);
-    assert!(rt; changed.get(1_100).is_none());
+    let changed = list.with(4_150, 7).expect(&rt, "memory");
+    expect_item(&rt, &changed, 4_150, 7);
+    expect_item(&rt, &changed, 4_149, 4_149);
+    expect_item(&rt, &copy, 4_150, 4_150);
+    assert!(rt; changed.len() == 4_200);
+    assert!(rt; changed.get(4_200).is_none());
 }
 
 #[test]
 fn each_item_is_at_its_place(rt: HostRuntime) {
-    let list = numbers(&rt, rt.alloc(), 1_100);
-    for at in 0..1_100 {
+    let list = numbers(&rt, rt.alloc(), 4_200);
+    for at in 0..4_200 {
         expect_item(&rt, &list, at, at);
     }
 }

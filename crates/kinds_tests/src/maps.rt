@@ -1,8 +1,9 @@
 //! Maps by kinds of three paths. Numbers are compared, since paths that have one share its node.
 use acl_names::{Path, read_path};
-use kinds::{KindMap, KindMapBuilder, KindPuts, Likeness};
+use kinds::{GivenNode, KindMap, KindMapBuilder, KindPuts, Likeness};
 use std::alloc::Global;
 use std::process::Abort;
+use std::rc::Rc;
 
 /// Nodes with one last digit have one mark.
 struct ByLastDigit;
@@ -144,6 +145,64 @@ fn a_number_whose_last_path_goes_is_given_again(rt: HostRuntime) {
 fn a_path_that_is_there_is_put_with_one_that_is_not(rt: HostRuntime) {
     let map = built(&rt, rt.alloc(), [5, 6, 5]);
     let new = put_two(&rt, rt.alloc(), &map, [b"b", b"b/x"], [9, 9]);
+    expect_entry(&rt, rt.alloc(), &new, b"b", 9, 2);
+    expect_entry(&rt, rt.alloc(), &new, b"b/x", 9, 2);
+    expect_entry(&rt, rt.alloc(), &new, b"c", 5, 0);
+    assert!(rt; new.kinds().get(1).is_none());
+}
+
+/// The nearest entry above a path is that of this path, with this node.
+fn expect_nearest(
+    rt: &impl Abort,
+    alloc: Global,
+    map: &KindMap<u32>,
+    text: &[u8],
+    above: &[u8],
+    node: u32,
+) {
+    let below = path(rt, alloc, text);
+    let above = path(rt, alloc, above);
+    let found = map.nearest_above(&below).expect(rt, "an entry above");
+    assert!(rt; found.0.order(&above).is_eq());
+    assert!(rt; *found.1 == node);
+}
+
+#[test]
+fn the_nearest_entry_above_a_path(rt: HostRuntime) {
+    let map = built(&rt, rt.alloc(), [5, 6, 5]);
+    let map = put_one(&rt, rt.alloc(), &map, b"b/x", 7);
+    expect_nearest(&rt, rt.alloc(), &map, b"b/x/y/z", b"b/x", 7);
+    expect_nearest(&rt, rt.alloc(), &map, b"b/xy/z", b"b", 6);
+    expect_nearest(&rt, rt.alloc(), &map, b"c/d", b"c", 5);
+    for text in [b"b".as_slice(), b".", b"bb/x"] {
+        let below = path(&rt, rt.alloc(), text);
+        assert!(rt; map.nearest_above(&below).is_none());
+    }
+}
+
+/// The map with one node put at two paths, in path order.
+fn put_at_both(
+    rt: &impl Abort,
+    alloc: Global,
+    map: &KindMap<u32>,
+    texts: [&[u8]; 2],
+    node: u32,
+) -> KindMap<u32> {
+    let first = path(rt, alloc, texts[0]);
+    let second = path(rt, alloc, texts[1]);
+    assert!(rt; first.order(&second).is_lt());
+    let node = Rc::new(alloc, node).expect(rt, "memory");
+    let (new, numbers) = map
+        .put_placed(alloc, &[(&first, 0), (&second, 0)], &[GivenNode::New(node)])
+        .expect(rt, "memory");
+    assert!(rt; numbers.len() == 1);
+    new
+}
+
+#[test]
+fn entries_of_one_place_share_a_number(rt: HostRuntime) {
+    let map = built(&rt, rt.alloc(), [5, 6, 5]);
+    let new = put_at_both(&rt, rt.alloc(), &map, [b"b", b"b/x"], 9);
     expect_entry(&rt, rt.alloc(), &new, b"b", 9, 2);
     expect_entry(&rt, rt.alloc(), &new, b"b/x", 9, 2);
     expect_entry(&rt, rt.alloc(), &new, b"c", 5, 0);

@@ -10,7 +10,7 @@ use Rattle.acl_names.proofs.Below.{convex, not_before}
 use Rattle.path_map.specs.Entries.{PathOf, IsInOrder}
 use Rattle.path_map.specs.Below.{within}
 use Rattle.path_map.specs.Changed.{each, changed_within}
-use Rattle.path_map.specs.Inner.{IsStart, IsCountUpTo, IsBegunWithin, IsWithinFirst, BeginsBy, BeginsIn, Before, From, After, Are}
+use Rattle.path_map.specs.Inner.{IsStart, IsCountUpTo, AreFirstWithin, IsWithinFirst, BeginsBy, BeginsIn, Before, From, After, Are}
 use Rattle.path_map.proofs.Places.{above, rises}
 use Rattle.path_map.proofs.Chunks.{around, rest_after, in_order-right, flat_map-append}
 use Rattle.path_map.proofs.Joined.{halves, no_part}
@@ -182,8 +182,8 @@ module _ {A V : Type 0} (f : A → List (PathOf × V)) where
       (before_left (flat_map f (take n (x ∷ parts))) (f (get_or (x ∷ parts) n x)) (flat_map f (drop (n + 1) (x ∷ parts))) p (subst IsInOrder (around f (x ∷ parts) n x lt) h) here)
 
   -- the parts after those that begin within the path, which begin after it, have none
-  pub after_none : (more : List A) (p : PathOf) (m : ℕ) → IsInOrder (flat_map f more) → From p (flat_map f more) → IsBegunWithin f more p m → Are false p (flat_map f (drop m more))
-  after_none more p m h from begun = by (drop m more) refl
+  pub after_none : (more : List A) (p : PathOf) (m : ℕ) → IsInOrder (flat_map f more) → From p (flat_map f more) → AreFirstWithin f more p m → Are false p (flat_map f (drop m more))
+  after_none more p m h from started = by (drop m more) refl
     where
       whole : flat_map f (take m more) ++ flat_map f (drop m more) ≡ flat_map f more
       whole = halves f m more (take m more) (drop m more) refl refl
@@ -200,7 +200,7 @@ module _ {A V : Type 0} (f : A → List (PathOf × V)) where
       by (c ∷ cs) e =
           let here : get_or more m c ≡ c = ap (λ k. get_or more k c) {x = m} {y = m + 0} (omega arith) ∙ sym (get_or-drop m more 0 c) ∙ ap (λ l. get_or l 0 c) e in
           let is : flat_map f (drop m more) ≡ f c ++ flat_map f cs = ap (flat_map f) e in
-          entries (f c) (flat_map f cs) (subst (λ x. BeginsIn false (f x) p) here (begun.next c (in_parts (c ∷ cs) e (omega arith))))
+          entries (f c) (flat_map f cs) (subst (λ x. BeginsIn false (f x) p) here (started.next c (in_parts (c ∷ cs) e (omega arith))))
           (subst IsInOrder is (in_order-right (flat_map f (take m more)) (flat_map f (drop m more)) (subst IsInOrder (sym whole) h)))
           (subst (λ l. From p l) is (from-right p (flat_map f (take m more)) (flat_map f (drop m more)) (subst (λ l. From p l) (sym whole) from)))
 
@@ -212,15 +212,15 @@ module _ {A V : Type 0} (f : A → List (PathOf × V)) where
   pub changed_joined : (change : V → V) (p : PathOf) (parts front rest first more within after : List A) (n b m : ℕ) (old new_1 new_2 new_3 new_4 : List (PathOf × V))
       → IsInOrder (flat_map f parts) → IsCountUpTo f parts p n → b ≡ n - 1
       → front ≡ take b parts → rest ≡ drop b parts → first ≡ take (n - b) rest → more ≡ drop (n - b) rest
-      → IsBegunWithin f more p m → within ≡ take m more → after ≡ drop m more
+      → AreFirstWithin f more p m → within ≡ take m more → after ≡ drop m more
       → new_1 ≡ old ++ flat_map f front → new_2 ≡ new_1 ++ changed_within p change (flat_map f first)
       → new_3 ≡ new_2 ++ changed_within p change (flat_map f within) → new_4 ≡ new_3 ++ flat_map f after
       → new_4 ≡ old ++ changed_within p change (flat_map f parts)
-  changed_joined change p parts front rest first more within after n b m old new_1 new_2 new_3 new_4 h counted is_b is_front is_rest is_first is_more begun is_within is_after e_1 e_2 e_3 e_4 =
+  changed_joined change p parts front rest first more within after n b m old new_1 new_2 new_3 new_4 h counted is_b is_front is_rest is_first is_more started is_within is_after e_1 e_2 e_3 e_4 =
       let g = changed_within p change in
       let is : more ≡ drop n parts = is_more ∙ ap (drop (n - b)) is_rest ∙ drop-drop (n - b) b parts ∙ ap (λ k. drop k parts) {x = b + (n - b)} {y = n} (omega (arith, is_b)) in
       let ordered = more_from parts more p n h counted is in
-      let none : Are false p (flat_map f after) = subst (λ l. Are false p (flat_map f l)) (sym is_after) (after_none more p m ordered.0 ordered.1 begun) in
+      let none : Are false p (flat_map f after) = subst (λ l. Are false p (flat_map f l)) (sym is_after) (after_none more p m ordered.0 ordered.1 started) in
       let none_front : Are false p (flat_map f front) = subst (λ l. Are false p (flat_map f l)) (sym is_front) (before_are p (flat_map f (take b parts)) (front_before parts p n b h counted is_b)) in
       let whole : flat_map f front ++ (flat_map f first ++ (flat_map f within ++ flat_map f after)) ≡ flat_map f parts =
       ap (λ l. flat_map f front ++ (flat_map f first ++ l)) (halves f m more within after is_within is_after)
@@ -241,9 +241,9 @@ module _ {A V : Type 0} (f : A → List (PathOf × V)) where
       )
 
   -- the parts that lie between two that begin within the path have no others
-  pub all_are : (more some all last : List A) (p : PathOf) (m j : ℕ) → IsInOrder (flat_map f more) → From p (flat_map f more) → IsBegunWithin f more p m
+  pub all_are : (more some all last : List A) (p : PathOf) (m j : ℕ) → IsInOrder (flat_map f more) → From p (flat_map f more) → AreFirstWithin f more p m
       → some ≡ take m more → j ≡ length some - 1 → all ≡ take j some → last ≡ drop j some → Are true p (flat_map f all)
-  all_are more some all last p m j h from begun is_some is_j is_all is_last = by last refl
+  all_are more some all last p m j h from started is_some is_j is_all is_last = by last refl
     where
       joined : all ++ last ≡ some
       joined = (λ i. is_all i ++ is_last i) ∙ take-append-drop j some
@@ -273,7 +273,7 @@ module _ {A V : Type 0} (f : A → List (PathOf × V)) where
       by (c ∷ cs) e =
           let count : length last ≡ suc (length cs) = ap length e in
           let lt : j < length some = omega (arith, long, count, is_j) in
-          let most : m ≤ length more = begun.in_range in
+          let most : m ≤ length more = started.in_range in
           let at_m : j ≡ m - 1 = omega (arith, is_j, longer, length-drop m more, most) in
           let some_m : 0 < m = omega (arith, lt, longer, length-drop m more, most) in
           let here : get_or more (m - 1) c ≡ c =
@@ -282,7 +282,7 @@ module _ {A V : Type 0} (f : A → List (PathOf × V)) where
           in
           let tail : flat_map f last ++ flat_map f (drop m more) ≡ f c ++ (flat_map f cs ++ flat_map f (drop m more)) = ap (λ l. flat_map f l ++ flat_map f (drop m more)) e ∙ append_assoc (f c) (flat_map f cs) (flat_map f (drop m more)) in
           let split : flat_map f all ++ (f c ++ (flat_map f cs ++ flat_map f (drop m more))) ≡ flat_map f more = ap (λ l. flat_map f all ++ l) (sym tail) ∙ in_two in
-          entries (f c) (flat_map f cs ++ flat_map f (drop m more)) (flat_map f all) (subst (λ x. BeginsIn true (f x) p) here (begun.last c some_m))
+          entries (f c) (flat_map f cs ++ flat_map f (drop m more)) (flat_map f all) (subst (λ x. BeginsIn true (f x) p) here (started.last c some_m))
           (subst IsInOrder (sym split) h)
           (from-left p (flat_map f all) (f c ++ (flat_map f cs ++ flat_map f (drop m more))) (subst (λ l. From p l) (sym split) from))
 
@@ -290,35 +290,35 @@ module _ {A V : Type 0} (f : A → List (PathOf × V)) where
   pub changed_whole_joined : (change : V → V) (p : PathOf) (parts front rest first more some after all last : List A) (n b m j : ℕ) (old new_1 new_2 new_3 new_4 new_5 : List (PathOf × V))
       → IsInOrder (flat_map f parts) → IsCountUpTo f parts p n → b ≡ n - 1
       → front ≡ take b parts → rest ≡ drop b parts → first ≡ take (n - b) rest → more ≡ drop (n - b) rest
-      → IsBegunWithin f more p m → some ≡ take m more → after ≡ drop m more → j ≡ length some - 1 → all ≡ take j some → last ≡ drop j some
+      → AreFirstWithin f more p m → some ≡ take m more → after ≡ drop m more → j ≡ length some - 1 → all ≡ take j some → last ≡ drop j some
       → new_1 ≡ old ++ flat_map f front → new_2 ≡ new_1 ++ changed_within p change (flat_map f first)
       → new_3 ≡ new_2 ++ each (λ q v. change v) (flat_map f all) → new_4 ≡ new_3 ++ changed_within p change (flat_map f last)
       → new_5 ≡ new_4 ++ flat_map f after
       → new_5 ≡ old ++ changed_within p change (flat_map f parts)
-  changed_whole_joined change p parts front rest first more some after all last n b m j old new_1 new_2 new_3 new_4 new_5 h counted is_b is_front is_rest is_first is_more begun is_some is_after is_j is_all is_last e_1 e_2 e_3 e_4 e_5 =
+  changed_whole_joined change p parts front rest first more some after all last n b m j old new_1 new_2 new_3 new_4 new_5 h counted is_b is_front is_rest is_first is_more started is_some is_after is_j is_all is_last e_1 e_2 e_3 e_4 e_5 =
       let g = changed_within p change in
       let is : more ≡ drop n parts = is_more ∙ ap (drop (n - b)) is_rest ∙ drop-drop (n - b) b parts ∙ ap (λ k. drop k parts) {x = b + (n - b)} {y = n} (omega (arith, is_b)) in
       let ordered = more_from parts more p n h counted is in
-      let every : Are true p (flat_map f all) = all_are more some all last p m j ordered.0 ordered.1 begun is_some is_j is_all is_last in
+      let every : Are true p (flat_map f all) = all_are more some all last p m j ordered.0 ordered.1 started is_some is_j is_all is_last in
       let both : new_4 ≡ new_2 ++ g (flat_map f some) =
       e_4
       ∙ ap (λ l. l ++ g (flat_map f last)) (e_3 ∙ ap (λ l. new_2 ++ l) (changed_each p change (flat_map f all) every))
       ∙ append_assoc new_2 (g (flat_map f all)) (g (flat_map f last))
       ∙ ap (λ l. new_2 ++ l) (sym (each-append _ (flat_map f all) (flat_map f last)) ∙ ap g (halves f j some all last is_all is_last))
       in
-      changed_joined change p parts front rest first more some after n b m old new_1 new_2 new_4 new_5 h counted is_b is_front is_rest is_first is_more begun is_some is_after e_1 e_2 both e_5
+      changed_joined change p parts front rest first more some after n b m old new_1 new_2 new_4 new_5 h counted is_b is_front is_rest is_first is_more started is_some is_after e_1 e_2 both e_5
 
   pub count_joined : (p : PathOf) (parts front rest first more some after all last : List A) (n b m j : ℕ)
       → IsInOrder (flat_map f parts) → IsCountUpTo f parts p n → b ≡ n - 1
       → front ≡ take b parts → rest ≡ drop b parts → first ≡ take (n - b) rest → more ≡ drop (n - b) rest
-      → IsBegunWithin f more p m → some ≡ take m more → after ≡ drop m more → j ≡ length some - 1 → all ≡ take j some → last ≡ drop j some
+      → AreFirstWithin f more p m → some ≡ take m more → after ≡ drop m more → j ≡ length some - 1 → all ≡ take j some → last ≡ drop j some
       → length (within p (flat_map f parts)) ≡ (length (within p (flat_map f first)) + length (flat_map f all)) + length (within p (flat_map f last))
-  count_joined p parts front rest first more some after all last n b m j h counted is_b is_front is_rest is_first is_more begun is_some is_after is_j is_all is_last =
+  count_joined p parts front rest first more some after all last n b m j h counted is_b is_front is_rest is_first is_more started is_some is_after is_j is_all is_last =
       let is : more ≡ drop n parts = is_more ∙ ap (drop (n - b)) is_rest ∙ drop-drop (n - b) b parts ∙ ap (λ k. drop k parts) {x = b + (n - b)} {y = n} (omega (arith, is_b)) in
       let ordered = more_from parts more p n h counted is in
-      let none : Are false p (flat_map f after) = subst (λ l. Are false p (flat_map f l)) (sym is_after) (after_none more p m ordered.0 ordered.1 begun) in
+      let none : Are false p (flat_map f after) = subst (λ l. Are false p (flat_map f l)) (sym is_after) (after_none more p m ordered.0 ordered.1 started) in
       let none_front : Are false p (flat_map f front) = subst (λ l. Are false p (flat_map f l)) (sym is_front) (before_are p (flat_map f (take b parts)) (front_before parts p n b h counted is_b)) in
-      let every : Are true p (flat_map f all) = all_are more some all last p m j ordered.0 ordered.1 begun is_some is_j is_all is_last in
+      let every : Are true p (flat_map f all) = all_are more some all last p m j ordered.0 ordered.1 started is_some is_j is_all is_last in
       let whole : flat_map f front ++ (flat_map f first ++ ((flat_map f all ++ flat_map f last) ++ flat_map f after)) ≡ flat_map f parts =
       ap (λ l. flat_map f front ++ (flat_map f first ++ (l ++ flat_map f after))) (halves f j some all last is_all is_last)
       ∙ ap (λ l. flat_map f front ++ (flat_map f first ++ l)) (halves f m more some after is_some is_after)

@@ -5,9 +5,9 @@ ghost use Rattle.std.specs.FinMap.{find, is_sorted};
 ghost use Rattle.acl_names.specs.Paths.{path_cmp};
 ghost use Rattle.path_map.specs.Entries.{IsInOrder, IsCount, PathOf, entries_of_parts, seen, found};
 ghost use Rattle.path_map.specs.Below.{up_to, within};
-ghost use Rattle.path_map.specs.Inner.{IsCountUpTo, IsBegunWithin, IsStart};
+ghost use Rattle.path_map.specs.Inner.{IsCountUpTo, AreFirstWithin, IsStart};
 
-use acl_names::Path;
+use acl_names::{Path, PathRef};
 use std::alloc::AllocError;
 use std::cmp::Ordering;
 use std::rc::Rc;
@@ -27,7 +27,7 @@ pub(crate) trait Part<V> {
         ensures { result ≡ find path_cmp path.now (entries_of self.now) };
 
     /// The last entry that is not after a path.
-    fn up_to(&self, path: &Path) -> Option<(&Path, V)>
+    fn up_to(&self, path: &PathRef<'_>) -> Option<(&Path, V)>
         ensures { option_map seen result ≡ up_to path.now (entries_of self.now) };
 
     /// How many entries there are.
@@ -60,6 +60,13 @@ pub(crate) fn start<V>(all: &[(&Path, V)], path: &Path) -> usize
 pub(crate) fn count_up_to<V, P: Part<V>>(parts: &[Rc<P>], path: &Path) -> usize
     ensures { IsCountUpTo (λ c. P.entries_of c.value) parts.now path.now result }
 {
+    count_up_to_borrowed(parts, &path.borrowed())
+}
+
+/// How many parts begin at a borrowed path or before it.
+fn count_up_to_borrowed<V, P: Part<V>>(parts: &[Rc<P>], path: &PathRef<'_>) -> usize
+    ensures { IsCountUpTo (λ c. P.entries_of c.value) parts.now path.now result }
+{
     let mut low = 0;
     let mut high = parts.len();
     while low < high {
@@ -84,12 +91,12 @@ pub(crate) fn value_in<V, P: Part<V>>(parts: &[Rc<P>], path: &Path) -> Option<V>
 /// The last entry that is not after a path: it is in the last part that begins at the path or before it.
 pub(crate) fn last_up_to<'a, V, P: Part<V>>(
     parts: &'a [Rc<P>],
-    path: &Path,
+    path: &PathRef<'_>,
 ) -> Option<(&'a Path, V)>
     requires { IsInOrder (entries_of_parts P.entries_of parts.now) }
     ensures { option_map seen result ≡ up_to path.now (entries_of_parts P.entries_of parts.now) }
 {
-    let at = count_up_to(parts, path).checked_sub(1)?;
+    let at = count_up_to_borrowed(parts, path).checked_sub(1)?;
     parts[at].up_to(path)
 }
 
@@ -106,9 +113,9 @@ pub(crate) fn count_entries<V, P: Part<V>>(parts: &[Rc<P>]) -> usize
     count
 }
 
-/// How many parts begin at or below a path, of those at the front.
-pub(crate) fn count_begun_within<V, P: Part<V>>(parts: &[Rc<P>], top: &Path) -> usize
-    ensures { IsBegunWithin (λ c. P.entries_of c.value) parts.now top.now result }
+/// How many parts at the front have their first path at or below a path.
+pub(crate) fn count_parts_within<V, P: Part<V>>(parts: &[Rc<P>], top: &Path) -> usize
+    ensures { AreFirstWithin (λ c. P.entries_of c.value) parts.now top.now result }
 {
     let mut low = 0;
     let mut high = parts.len();
@@ -142,11 +149,11 @@ pub(crate) fn count_within<V, P: Part<V>>(parts: &[Rc<P>], top: &Path) -> usize
     requires { IsInOrder (entries_of_parts P.entries_of parts.now) }
     ensures { IsCount result (length (within top.now (entries_of_parts P.entries_of parts.now))) }
 {
-    let begun = count_up_to(parts, top);
-    let before = begun.saturating_sub(1);
+    let started = count_up_to(parts, top);
+    let before = started.saturating_sub(1);
     let (_front, rest) = parts.split_at(before);
-    let (first, more) = rest.split_at(begun - before);
-    let (some, _after) = more.split_at(count_begun_within(more, top));
+    let (first, more) = rest.split_at(started - before);
+    let (some, _after) = more.split_at(count_parts_within(more, top));
     let (all, last) = some.split_at(some.len().saturating_sub(1));
     count_each_within(first, top)
         .saturating_add(count_entries(all))

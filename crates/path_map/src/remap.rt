@@ -13,7 +13,7 @@ use crate::branch::Branch;
 use crate::chunk::Chunk;
 use crate::map::PathMap;
 use crate::merge::share_all;
-use crate::part::{Part, count_begun_within, count_up_to, push_none, start};
+use crate::part::{Part, count_parts_within, count_up_to, push_none, start};
 use crate::run::Run;
 use acl_names::Path;
 use std::alloc::{AllocError, Global};
@@ -258,11 +258,11 @@ fn push_changed_within<V: Copy, P: Remap<V>, C: Change<V>>(
         ≡ entries_of_parts P.entries_of new.old.items ++ changed_within top.now (C.changed change.now) (entries_of_parts P.entries_of parts.now)) }
     ensures count { OnOk result (length new.new.items ≡ length new.old.items + length parts.now) }
 {
-    let begun = count_up_to(parts, top);
-    let before = begun.saturating_sub(1);
+    let started = count_up_to(parts, top);
+    let before = started.saturating_sub(1);
     let (front, rest) = parts.split_at(before);
-    let (first, more) = rest.split_at(begun - before);
-    let (some, after) = more.split_at(count_begun_within(more, top));
+    let (first, more) = rest.split_at(started - before);
+    let (some, after) = more.split_at(count_parts_within(more, top));
     let (all, last) = some.split_at(some.len().saturating_sub(1));
     share_all(new, front)?;
     push_changed(alloc, new, first, top, change)?;

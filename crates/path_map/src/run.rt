@@ -9,7 +9,7 @@ ghost use Rattle.path_map.specs.Entries.{IsInOrder, PathOf, seen};
 ghost use Rattle.path_map.specs.Below.{up_to};
 ghost use Rattle.path_map.specs.Inner.{IsStart, IsCountUpTo, IsLast, IsWithinFirst};
 
-use acl_names::Path;
+use acl_names::{Path, PathRef};
 use std::cmp::Ordering;
 use std::marker::Model;
 
@@ -114,7 +114,7 @@ impl<'a, V> Run<'a, V> {
     }
 
     /// How many entries are not after a path.
-    fn end(&self, path: &Path) -> usize
+    fn end(&self, path: &PathRef<'_>) -> usize
         requires { IsInOrder self.now }
         ensures { IsCountUpTo (λ e. e ∷ []) self.now path.now result }
     {
@@ -185,7 +185,7 @@ impl<'a, V: Copy> Run<'a, V> {
     }
 
     /// The last entry that is not after a path.
-    pub fn up_to(&self, path: &Path) -> Option<(&'a Path, V)>
+    pub fn up_to(&self, path: &PathRef<'_>) -> Option<(&'a Path, V)>
         requires { IsInOrder self.now }
         ensures { option_map seen result ≡ up_to path.now self.now }
     {

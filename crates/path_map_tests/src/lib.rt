@@ -4,6 +4,8 @@
 #![tactic(auto)]
 
 #[cfg(test)]
+mod above;
+#[cfg(test)]
 mod branches;
 #[cfg(test)]
 mod made;

@@ -17,6 +17,16 @@ pub fn path(rt: &impl Abort, alloc: Global, text: &[u8]) -> Path {
 /// Paths with numbers.
 pub type Row = (Path, usize);
 
+/// The paths of texts, with their numbers.
+pub fn rows(rt: &impl Abort, alloc: Global, texts: &[(&[u8], usize)]) -> Vec<Row> {
+    let mut rows = Vec::new(alloc);
+    for (text, value) in texts {
+        rows.push((path(rt, alloc, text), *value))
+            .expect(rt, "memory");
+    }
+    rows
+}
+
 /// Borrowed paths with their numbers.
 pub fn entries<'a>(rt: &impl Abort, alloc: Global, rows: &'a [Row]) -> Vec<(&'a Path, usize)> {
     let mut entries = Vec::new(alloc);
@@ -59,7 +69,7 @@ pub fn merged(
 
 /// The value of the last entry that is not after the path.
 pub fn value_up_to(map: &PathMap<usize>, path: &Path) -> Option<usize> {
-    match map.up_to(path) {
+    match map.up_to(&path.borrowed()) {
         Some(entry) => Some(entry.1),
         None => None,
     }

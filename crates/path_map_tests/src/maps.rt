@@ -1,20 +1,11 @@
 //! A map of four paths. What is found is printed, each path with its value.
-use crate::made::{Row, built, digit, entries, map_of, merged, path, value_up_to};
+use crate::made::{built, digit, entries, map_of, merged, path, rows, value_up_to};
 use acl_names::{Path, append_path};
 use path_map::{Entries, PathMap, PathMapBuilder, Renumbered, Within, is_in_order};
 use std::alloc::Global;
 use std::process::Abort;
 
 static FOUR: [(&[u8], usize); 4] = [(b".", 1), (b"a", 2), (b"a/b", 3), (b"ab", 4)];
-
-fn rows(rt: &impl Abort, alloc: Global, texts: &[(&[u8], usize)]) -> Vec<Row> {
-    let mut rows = Vec::new(alloc);
-    for (text, value) in texts {
-        rows.push((path(rt, alloc, text), *value))
-            .expect(rt, "memory");
-    }
-    rows
-}
 
 fn four(rt: &impl Abort, alloc: Global) -> PathMap<usize> {
     map_of(rt, alloc, &rows(rt, alloc, &FOUR))
@@ -224,4 +215,17 @@ fn many_paths_are_looked_up(rt: HostRuntime) {
     assert!(rt; is_in_order(&asked));
     let found = map.get_all(rt.alloc(), &asked).expect(&rt, "memory");
     assert!(rt; found.as_slice() == [Some(2), None, Some(4)].as_slice());
+}
+
+#[test]
+fn a_map_takes_values_of_another_type(rt: HostRuntime) {
+    let mut builder = PathMapBuilder::new(rt.alloc());
+    let first = path(&rt, rt.alloc(), b"a");
+    assert!(rt; builder.takes(&first));
+    builder
+        .push(rt.alloc(), first, 1usize)
+        .expect(&rt, "memory");
+    let map = builder.finish(rt.alloc()).expect(&rt, "memory");
+    let new = map.valued(rt.alloc(), &[true]).expect(&rt, "memory");
+    assert!(rt; new.get(&path(&rt, rt.alloc(), b"a")) == Some(true));
 }

@@ -1,6 +1,6 @@
 //! What `changes` prints: what each user may do with each file, beside what the user might do before; and its lines.
 
-ghost use Rattle.std.specs.Prelude.{◌≡◌, ◌&&◌, true, drop, IfOk, ◌∷◌, not};
+ghost use Rattle.std.specs.Prelude.{◌≡◌, ◌&&◌, true, drop, IfOk, OnOk, ◌∷◌, not};
 ghost use Rattle.acl_rights.specs.acl_names.Appends.{Appends};
 ghost use Rattle.std.specs.List.{list_all, flat_map};
 ghost use Rattle.acl_rights.specs.acl_files.path_map.Entries.{first, IsInOrder};
@@ -40,12 +40,12 @@ fn push_gone(
     before: &mut Walk<'_>,
 ) -> Result<(), AllocError>
     ensures lines { Appends result text.old text.new (gone_lines users.now (first before.old)) }
-    ensures rest { before.new ≡ drop 1 before.old }
+    ensures rest { OnOk result (before.new ≡ drop 1 before.old) }
 {
-    let Some(file) = before.next() else {
+    let Some(file) = before.next(alloc)? else {
         return Ok(());
     };
-    push_file(alloc, text, users, &file, file.requests, &[])?;
+    push_file(alloc, text, users, &file, file.requests.as_slice(), &[])?;
     Ok(())
 }
 
@@ -58,12 +58,12 @@ fn push_new(
     after: &mut Walk<'_>,
 ) -> Result<(), AllocError>
     ensures lines { Appends result text.old text.new (new_lines users.now (first after.old)) }
-    ensures rest { after.new ≡ drop 1 after.old }
+    ensures rest { OnOk result (after.new ≡ drop 1 after.old) }
 {
-    let Some(file) = after.next() else {
+    let Some(file) = after.next(alloc)? else {
         return Ok(());
     };
-    push_file(alloc, text, users, &file, &[], file.requests)?;
+    push_file(alloc, text, users, &file, &[], file.requests.as_slice())?;
     Ok(())
 }
 
@@ -79,21 +79,23 @@ fn push_kept(
 ) -> Result<(), AllocError>
     requires same { keep_places ≡ true → list_all keeps_place users.now ≡ true }
     ensures lines { Appends result text.old text.new (kept_lines users.now (first before.old) (first after.old)) }
-    ensures before { before.new ≡ drop 1 before.old }
-    ensures after { after.new ≡ drop 1 after.old }
+    ensures before { OnOk result (before.new ≡ drop 1 before.old) }
+    ensures after { OnOk result (after.new ≡ drop 1 after.old) }
 {
-    let old = before.next();
-    let new = after.next();
+    let old = before.next(alloc)?;
+    let new = after.next(alloc)?;
     let Some(old) = old else {
         return Ok(());
     };
     let Some(new) = new else {
         return Ok(());
     };
-    if keep_places && same_row(old.requests, new.requests) {
+    let had = old.requests.as_slice();
+    let has = new.requests.as_slice();
+    if keep_places && same_row(had, has) {
         return Ok(());
     }
-    push_file(alloc, text, users, &new, old.requests, new.requests)?;
+    push_file(alloc, text, users, &new, had, has)?;
     Ok(())
 }
 
@@ -125,8 +127,8 @@ fn push_next(
 ) -> Result<(), AllocError>
     requires same { keep_places ≡ true → list_all keeps_place users.now ≡ true }
     ensures lines { Appends result text.old text.new (next_lines users.now order before.old after.old) }
-    ensures before { before.new ≡ left_before order before.old }
-    ensures after { after.new ≡ left_after order after.old }
+    ensures before { OnOk result (before.new ≡ left_before order before.old) }
+    ensures after { OnOk result (after.new ≡ left_after order after.old) }
 {
     match order {
         Ordering::Less => push_gone(alloc, text, users, before),

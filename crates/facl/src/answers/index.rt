@@ -88,7 +88,7 @@ fn push_file(
     ensures { Appends result text.old text.new (row_lines (shown_row file.now).0 (map (λ n. n.items) names.now) (shown_row file.now).1) }
 {
     let path = shown(alloc, file)?;
-    push_row(text, names, file.requests, &path)
+    push_row(text, names, file.requests.as_slice(), &path)
 }
 
 /// Adds the lines of the files of a walk.
@@ -101,7 +101,7 @@ fn push_files(
     ensures { Appends result text.old text.new (lines_of_walk (map (λ n. n.items) names.now) files.entry) }
 {
     let mut rest = files;
-    while let Some(file) = rest.next() {
+    while let Some(file) = rest.next(alloc)? {
         push_file(alloc, text, names, &file)?;
     }
     Ok(())

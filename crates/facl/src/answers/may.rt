@@ -12,11 +12,10 @@ use acl_rights::{FilesIter, Found, Judge, Node, Path, Perm, Tree, Verdicts};
 use facl_output::push_path_shown;
 use std::alloc::{AllocError, Global};
 use std::cmp::Ordering;
-use std::rc::Rc;
 
 /// Whether the first of some paths is this one.
-fn is_first(paths: &[Rc<Path>], path: &Path) -> bool
-    ensures { result ≡ is_first path.now (map (λ p. p.value) paths.now) }
+fn is_first(paths: &[&Path], path: &Path) -> bool
+    ensures { result ≡ is_first path.now (map (λ p. p.now) paths.now) }
 {
     match paths {
         [first, ..] => first.order(path) == Ordering::Equal,
@@ -47,8 +46,8 @@ fn push_before(
 }
 
 /// Adds the files of some paths, in one walk over both.
-fn push_files(text: &mut Vec<u8>, tree: &Tree, paths: &[Rc<Path>]) -> Result<(), AllocError>
-    ensures { Appends result text.old text.new (flat_map file_line (in_step (map (λ p. p.value) paths.now) (found_in tree.now.files tree.now.files))) }
+fn push_files(text: &mut Vec<u8>, tree: &Tree, paths: &[&Path]) -> Result<(), AllocError>
+    ensures { Appends result text.old text.new (flat_map file_line (in_step (map (λ p. p.now) paths.now) (found_in tree.now.files tree.now.files))) }
 {
     tree.soundness_law();
     let mut rest = paths;

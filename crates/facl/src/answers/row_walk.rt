@@ -1,21 +1,22 @@
 //! A walk over all files of a state, each with its row of verdicts.
 
-ghost use Rattle.std.specs.Prelude.{◌≡◌, drop, option_map};
+ghost use Rattle.std.specs.Prelude.{◌≡◌, drop, option_map, IfOk, OnOk};
 ghost use Rattle.acl_rights.specs.acl_files.path_map.Entries.{first, IsInOrder};
 ghost use Rattle.acl_rights.specs.acl_tree.Found.{found_file};
 ghost use Rattle.facl.specs.Inner.{has_next_below, walk_of, shown_row};
 ghost use Rattle.acl_rights.specs.Verdicts.{rows_granted};
 
-use acl_rights::{FileRows, FilesIter, Found, Judge, Node, Path, Requests, Tree, Verdicts};
+use acl_rights::{Cells, FileRows, FilesIter, Found, Judge, Node, Path, Tree, Verdicts};
+use std::alloc::{AllocError, Global};
 use std::marker::Model;
 
 /// A file, the next one after it, and what each user may do with it.
-#[derive(Clone, Copy)]
+#[derive(Drop)]
 pub(crate) struct FileWithRow<'a> {
     pub path: &'a Path,
     pub node: &'a Node,
     pub next: Option<&'a Path>,
-    pub requests: &'a [Requests],
+    pub requests: Cells,
 }
 
 /// Whether a file, if there is one, is below a path.
@@ -86,18 +87,22 @@ impl<'a> Walk<'a> {
         }
     }
 
-    /// The next file.
-    pub fn next(&mut self) -> Option<FileWithRow<'a>>
-        ensures first { option_map shown_row result ≡ option_map (λ file. file.1) (first self.old) }
-        ensures rest { self.new ≡ drop 1 self.old }
+    /// The next file. Fails only if memory runs out.
+    pub fn next(&mut self, alloc: Global) -> Result<Option<FileWithRow<'a>>, AllocError>
+        ensures first { IfOk result (λ next. option_map shown_row next ≡ option_map (λ file. file.1) (first self.old)) }
+        ensures rest { OnOk result (self.new ≡ drop 1 self.old) }
     {
-        let row = self.rows.next()?;
-        let file = self.files.next()?;
-        Some(FileWithRow {
+        let Some(row) = self.rows.next(alloc)? else {
+            return Ok(None);
+        };
+        let Some(file) = self.files.next() else {
+            return Ok(None);
+        };
+        Ok(Some(FileWithRow {
             path: file.0,
             node: file.1,
             next: self.files.peek(),
             requests: row.requests,
-        })
+        }))
     }
 }

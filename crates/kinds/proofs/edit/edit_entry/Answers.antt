@@ -26,6 +26,6 @@ returns-clause-made g c =
     let puts : Numbers = map seen c.args.puts.now.items in
     let pushed : map (seen {V = ℕ}) c.push-2.new.self.items ≡ puts ++ (c.args.path.now, c.in_ok-kinds.new) ∷ [] =
     ap (map seen) c.in_ok-push-2.ensures.items ∙ map-append seen c.args.puts.now.items ((c.args.path, c.in_ok-kinds.new) ∷ []) in
-    subst (λ (ms : List Met). EditsOneMore edit e c.args.kinds met puts c.in_ok-kinds.kinds ms (map seen c.push-2.new.self.items)) (sym c.in_ok-note.ensures)
+    subst (λ (ms : List Met). EditsOneMore edit e c.args.kinds met puts c.in_ok-kinds.kinds ms (map seen c.push-2.new.self.items)) (sym c.in_ok-note_edited.ensures)
     (subst (λ (ps : Numbers). EditsOneMore edit e c.args.kinds met puts c.in_ok-kinds.kinds (met ++ record { old = e.1; new = c.in_ok-kinds.new; count = 1 } ∷ []) ps) (sym pushed)
     (met_first edit e c.args.kinds c.in_ok-kinds.kinds met puts c.in_ok-node.node.value c.in_ok-kinds.new c.in_ok-node.ensures c.in_ok-kinds.ensures))

@@ -1,25 +1,9 @@
-use Rattle.std.proofs.Common.{◌≡◌, ℕ, List, Some, None, sym, ap, ◌∙◌}
-use Rattle.std.specs.Prelude.{slice_get, option_and_then}
-use Rattle.std.specs.Option.{option_copied}
-use Rattle.std.specs.FinMap.{find}
-use Rattle.acl_tree.specs.acl_names.Paths.{path_cmp}
+use Rattle.std.proofs.Common.{ap, ◌∙◌}
 use Rattle.acl_rights.specs.Tables.{VerdictTable, Rows}
-use Rattle.acl_rights.specs.Reach.{reached_rows}
-use Rattle.acl_rights.proofs.Granted.{reach_there}
+use Rattle.acl_rights.specs.Reach.{reached_at}
 use Rattle.acl_rights.proofs.index.Index.reach_cell.Goals as goal
 
-pub returns-in-Some : goal.returns-in-Some
-returns-in-Some g c =
-    let t = c.now.inside in
-    let p = c.args.path.now in
+pub returns : goal.returns
+returns g c =
     let same = ap (λ (t : VerdictTable). t.rows) (c.now.view_is ∙ c.self.view_is) in
-    let here : Some c.in-Some.cells.now ≡ find path_cmp p (reached_rows c.args.self.now.rows) = sym (ap option_copied c.in-Some.is) ∙ c.reach.ensures ∙ reach_there t.tree.files t.grants c.now.invariant.1 p ∙ ap (λ (rows : Rows). find path_cmp p (reached_rows rows)) same in
-    c.get.ensures ∙ ap (option_and_then (λ (cells : List ℕ). slice_get cells c.args.user)) here
-
-pub returns-in-None : goal.returns-in-None
-returns-in-None g c =
-    let t = c.now.inside in
-    let p = c.args.path.now in
-    let same = ap (λ (t : VerdictTable). t.rows) (c.now.view_is ∙ c.self.view_is) in
-    let here : None ≡ find path_cmp p (reached_rows c.args.self.now.rows) = sym (ap option_copied c.in-None.is) ∙ c.reach.ensures ∙ reach_there t.tree.files t.grants c.now.invariant.1 p ∙ ap (λ (rows : Rows). find path_cmp p (reached_rows rows)) same in
-    ap (option_and_then (λ (cells : List ℕ). slice_get cells c.args.user)) here
+    c.reach.ensures ∙ ap (λ (rows : Rows). reached_at rows c.args.user c.args.path.now) same

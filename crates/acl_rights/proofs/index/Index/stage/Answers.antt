@@ -1,15 +1,18 @@
-use Rattle.std.proofs.Common.{◌≤◌, ℕ, [], get_or, ap, sym, subst, ◌∙◌, arith}
-use Rattle.path_map.specs.Entries.{IsInOrder}
-use Rattle.acl_tree.specs.acl_people.KnownPeople.{persons}
-use Rattle.acl_tree.specs.Files.{PathOf, Files, Recorded}
+use Rattle.std.proofs.Common.{◌≤◌, length, ap, sym, subst, ◌∙◌, arith}
+use Rattle.path_map.specs.Entries.{PathOf, IsInOrder}
+use Rattle.acl_tree.specs.acl_files.kinds.Numbered.{entries_in}
+use Rattle.acl_tree.specs.acl_people.KnownPeople.{KnownPeople, persons}
+use Rattle.acl_tree.specs.Files.{Files, Recorded}
+use Rattle.acl_verdicts.specs.declared.kind_rows.LabelRow.{LabelRow}
+use Rattle.acl_verdicts.proofs.Orders.{in_order-values}
 use Rattle.acl_rights.specs.Tables.{VerdictTable, Rows, rows_of}
 use Rattle.acl_rights.specs.Reach.{unlike}
 use Rattle.acl_rights.specs.Kept.{GoesFrom}
-use Rattle.acl_rights.specs.Grants.{AreGrants}
-use Rattle.acl_verdicts.proofs.Orders.{in_order-values}
+use Rattle.acl_rights.specs.Lines.{HaveLabels}
 use Rattle.acl_rights.proofs.Costs.{most_le}
-use Rattle.acl_rights.proofs.Listed.{moves_looked_le}
+use Rattle.acl_rights.proofs.Mentions.{moves_looked_le}
 use Rattle.acl_rights.proofs.Refreshed.{line_most}
+use Rattle.acl_rights.proofs.Rowed.{rowed_is, rowed_rows, rowed_labels_are}
 use Rattle.acl_rights.proofs.index.Index.stage.Goals as goal
 
 pub after_line-requires-clause-room : goal.after_line-requires-clause-room
@@ -19,16 +22,31 @@ after_line-requires-clause-room g c =
     let goes : GoesFrom V c.args.self.now.rows t = record { state = c.requires.goes.state; rows_are = c.requires.goes.whole.rows; reports = c.requires.goes.reports } in
     omega (arith, most_le V c.args.self.now.rows t goes (subst (λ (r : Recorded). IsInOrder r.files) c.tree.ensures c.soundness_law.ensures.order), c.requires.room)
 
-pub after_line-requires-clause-goes : goal.after_line-requires-clause-goes
-after_line-requires-clause-goes g c =
-    let rows = ap (λ (x : VerdictTable). x.rows) (c.now.view_is ∙ c.self.view_is) in
-    let files = ap (λ (x : VerdictTable). x.files) (c.now.view_is ∙ c.self.view_is) in
+pub after_line-requires-clause-before : goal.after_line-requires-clause-before
+after_line-requires-clause-before g c =
+    let V = g.J.Judge.verdict_of in
+    let s = c.requires.goes.state in
+    let es = entries_in c.now.inside.rows.rows in
+    let rows = ap (λ (x : VerdictTable). x.rows) (c.now.view_is ∙ c.self.view_is) ∙ c.requires.goes.whole.rows in
+    let files = ap (λ (x : VerdictTable). x.files) (c.now.view_is ∙ c.self.view_is) ∙ c.requires.goes.whole.files in
     record {
-      goes = record {
-        goes = record { state = c.requires.goes.state; rows_are = rows ∙ c.requires.goes.whole.rows; reports = c.requires.goes.reports };
-        kept = subst (λ (fs : Files). AreGrants fs c.now.inside.grants) (files ∙ c.requires.goes.whole.files) c.now.invariant.1;
-      };
-      files = sym (files ∙ c.requires.goes.whole.files);
+      goes = record { state = s; rows_are = rows; reports = c.requires.goes.reports };
+      are = rowed_is V (persons s.people) es s.tree.files (subst (λ (fs : Files). HaveLabels fs es) files c.now.invariant) rows;
+    }
+
+pub of-requires : goal.of-requires
+of-requires g c =
+    let t = c.args.staged.now in
+    subst (λ (r : Recorded). HaveLabels r.files (entries_in c.in_ok-new.new.rows.rows)) (sym c.tree-2.ensures)
+    (rowed_labels_are g.J.Judge.verdict_of (persons t.state.people) (entries_in c.in_ok-new.new.rows.rows) t.state.tree.files c.in_ok-new.ensures.after.rows)
+
+pub returns-clause-whole : goal.returns-clause-whole
+returns-clause-whole g c =
+    let t = c.args.staged.now in
+    record {
+      users = ap (λ (x : VerdictTable). x.users) c.in_ok-table.ensures ∙ c.users.ensures ∙ ap (λ (known : KnownPeople). length known.users) c.people.ensures;
+      files = ap (λ (x : VerdictTable). x.files) c.in_ok-table.ensures ∙ ap (λ (r : Recorded). r.files) c.tree-2.ensures;
+      rows = ap (λ (x : VerdictTable). x.rows) c.in_ok-table.ensures ∙ rowed_rows g.J.Judge.verdict_of (persons t.state.people) (entries_in c.in_ok-new.new.rows.rows) t.state.tree.files c.in_ok-new.ensures.after.rows;
     }
 
 pub returns-in_err-new-clause-bounded : goal.returns-in_err-new-clause-bounded
@@ -59,10 +77,11 @@ returns-clause-refreshed_least g c =
     let old : Rows = c.args.self.now.rows in
     let goes : GoesFrom V old t = record { state = c.requires.goes.state; rows_are = c.requires.goes.whole.rows; reports = c.requires.goes.reports } in
     let rows = ap (λ (x : VerdictTable). x.rows) (c.now.view_is ∙ c.self.view_is) in
-    let order : IsInOrder old = subst IsInOrder rows (in_order-values (λ (e : PathOf × ℕ). get_or c.now.inside.grants.rows.cells e.1 []) c.now.inside.grants.rows.numbers c.order_law.ensures) in
+    let order : IsInOrder old = subst IsInOrder rows (in_order-values (λ (e : PathOf × LabelRow). e.1.row) (entries_in c.now.inside.rows.rows) c.order_law.ensures) in
     let most = line_most V g.met.J.Judge.local old t goes order (subst (λ (r : Recorded). IsInOrder r.files) c.tree.ensures c.soundness_law.ensures.order) in
-    subst (λ (rs : Rows). unlike t.user_change old rs ≤ c.in_ok-new.new.refreshed) (sym (ap (λ (x : VerdictTable). x.rows) c.in_ok-table.ensures ∙ c.in_ok-new.ensures.made.rows))
-    (subst (λ n. unlike t.user_change old (rows_of V (persons t.state.people) t.state.tree.files) ≤ n) (sym c.in_ok-new.ensures.made.refreshed) most)
+    subst (λ (rs : Rows). unlike t.user_change old rs ≤ c.in_ok-new.new.refreshed)
+    (sym (ap (λ (x : VerdictTable). x.rows) c.in_ok-table.ensures ∙ rowed_rows V (persons t.state.people) (entries_in c.in_ok-new.new.rows.rows) t.state.tree.files c.in_ok-new.ensures.after.rows))
+    (subst (λ n. unlike t.user_change old (rows_of V (persons t.state.people) t.state.tree.files) ≤ n) (sym c.in_ok-new.ensures.after.refreshed) most)
 
 pub returns-in_err-table-clause-at_most : goal.returns-in_err-table-clause-at_most
 returns-in_err-table-clause-at_most g c = c.after_line.ensures.at_most
@@ -70,4 +89,4 @@ returns-in_err-table-clause-at_most g c = c.after_line.ensures.at_most
 pub returns-clause-looked_most : goal.returns-clause-looked_most
 returns-clause-looked_most g c =
     let t = c.args.staged.now in
-    omega (arith, c.in_ok-new.ensures.made.looked, moves_looked_le t.user_change t.state.tree.files)
+    omega (arith, c.in_ok-new.ensures.after.looked, moves_looked_le t.user_change t.state.tree.files)

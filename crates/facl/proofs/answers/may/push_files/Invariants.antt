@@ -3,7 +3,7 @@ use Rattle.facl.proofs.FileLines.{IsInStep}
 use Rattle.facl.proofs.answers.may.push_files.Given as goal
 
 abbrev pub invariant-loop-file : goal.invariant-loop-file
-invariant-loop-file l = IsInStep l.tree.files (map (λ p. p.value) l.paths) l.initial.text.items l.files (map (λ p. p.value) l.rest) l.text.items
+invariant-loop-file l = IsInStep l.tree.files (map (λ p. p.now) l.paths) l.initial.text.items l.files (map (λ p. p.now) l.rest) l.text.items
 
 abbrev pub decreases-loop-file : goal.decreases-loop-file
 decreases-loop-file l = length l.files

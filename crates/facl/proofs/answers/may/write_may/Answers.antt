@@ -15,10 +15,10 @@ returns g c =
     let V = g.J.Judge.verdict_of in
     let along = c.args.verdicts.now.along in
     let s = c.args.verdicts.now.state.now in
-    let paths = map (λ p. p.value) c.in-Some.paths.items in
-    let found : Some paths ≡ paths_granted V along s c.args.user c.args.request = ap (option_map (λ paths. map (λ p. p.value) paths.items)) (sym c.in-Some.is) ∙ c.in_ok-paths.ensures in
+    let paths = map (λ p. p.now) c.in-Some.paths.items in
+    let found : Some paths ≡ paths_granted V along s c.args.user c.args.request = ap (option_map (λ paths. map (λ p. p.now) paths.items)) (sym c.in-Some.is) ∙ c.in_ok-paths.ensures in
     let of_state = ap (λ (known : State). known.tree) c.state-state.ensures in
     let order : IsInOrder s.tree.files = subst (λ (t : Recorded). IsInOrder t.files) (c.tree.ensures ∙ of_state) c.soundness_law.ensures.order in
     let walked = c.tree-2.ensures ∙ of_state in
-    ap Some (c.in_ok-push_files.ensures ∙ (λ i. c.new-text.ensures.items i ++ flat_map file_line (in_step (map (λ p. p.value) (c.deref.ensures.value i)) (found_in (walked i).files (walked i).files))))
+    ap Some (c.in_ok-push_files.ensures ∙ (λ i. c.new-text.ensures.items i ++ flat_map file_line (in_step (map (λ p. p.now) (c.deref.ensures.value i)) (found_in (walked i).files (walked i).files))))
     ∙ may_lines V along s c.args.user c.args.request (Some paths) order found

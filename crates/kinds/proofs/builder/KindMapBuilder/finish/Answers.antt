@@ -14,7 +14,7 @@ of-requires g c =
 pub returns : goal.returns
 returns g c =
     let was = c.self.inside.numbering in
-    ap (λ (m : Kept g.row.N.Denot). entries_in m) c.of.ensures
+    ap (λ (m : Kept g.row.N.Denot). entries_in m) c.in_ok-map.ensures
     ∙ ap (entries_by c.in_ok-kinds.kinds) c.in_ok-numbers.ensures
     ∙ entries_built was.kinds c.in_ok-kinds.kinds c.self.inside.numbers was.last was.pending c.self.invariant c.in_ok-kinds.ensures
     ∙ c.self.view_is

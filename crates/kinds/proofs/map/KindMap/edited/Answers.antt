@@ -28,8 +28,8 @@ settle-requires g c =
     subst (λ (ms : List Met). AllByRecursion (λ m. IsNode e.kinds m.new) ms) (sym c.deref-2.ensures.value)
     (met_used (g.E.KindEdit.edited c.args.edit.now) c.in_ok-share.field-0 e.kinds e.memo.met.items c.in_ok-edited.ensures.made.known)
 
-pub of-map-requires : goal.of-map-requires
-of-map-requires g c =
+pub of-requires : goal.of-requires
+of-requires g c =
     let e = c.in_ok-edited.edited in
     let k0 = c.args.self.now.0 in
     let ns = c.args.self.now.1 in
@@ -56,7 +56,7 @@ returns-clause-made g c =
     let made : AreEdited edit k0 done e.kinds e.memo.met.items puts = subst (λ (k : KindsOf g.row.N.Denot). AreEdited edit k done e.kinds e.memo.met.items puts) (c.in_ok-share.ensures ∙ c.kinds.ensures.all) c.in_ok-edited.ensures.made in
     let moves : Moves e.kinds e.memo.met.items c.in_ok-kinds.kinds = subst (λ (ms : List Met). Moves e.kinds ms c.in_ok-kinds.kinds) c.deref-2.ensures.value c.in_ok-kinds.ensures in
     edits_are edit k0 e.kinds c.in_ok-kinds.kinds ns done puts e.memo.met.items c.kinds.ensures.sound c.requires.order c.requires.among made moves
-    ∙ ap (λ (m : Kept g.row.N.Denot). Ok (entries_by m.0 puts)) (sym c.of-map.ensures)
+    ∙ ap (λ (m : Kept g.row.N.Denot). Ok (entries_by m.0 puts)) (sym c.in_ok-map.ensures)
 
 pub returns-clause-put : goal.returns-clause-put
 returns-clause-put g c =
@@ -72,5 +72,5 @@ returns-clause-put g c =
     c.in_ok-numbers.ensures ∙ (λ i. with_values (map seen (c.deref.ensures.value i)) (c.numbers.ensures.all i))
     ∙ numbers_after edit k0 e.kinds c.in_ok-kinds.kinds ns done puts e.memo.met.items c.kinds.ensures.sound c.requires.order c.requires.among made moves
     in
-    subst (λ (m : Kept g.row.N.Denot). ArePut c.args.self.now m puts) (sym (c.of-map.ensures ∙ ap (λ (l : Numbers). let m : Kept g.row.N.Denot = (c.in_ok-kinds.kinds, l) in m) numbers))
+    subst (λ (m : Kept g.row.N.Denot). ArePut c.args.self.now m puts) (sym (c.in_ok-map.ensures ∙ ap (λ (l : Numbers). let m : Kept g.row.N.Denot = (c.in_ok-kinds.kinds, l) in m) numbers))
     (are_put edit k0 e.kinds c.in_ok-kinds.kinds ns done puts e.memo.met.items c.kinds.ensures.sound c.requires.order c.requires.among made moves)

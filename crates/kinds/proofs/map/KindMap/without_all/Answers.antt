@@ -2,13 +2,13 @@ use Rattle.std.proofs.Common.{◌≡◌, ℕ, List, Option, map, sym, ap, subst,
 use Rattle.path_map.specs.Entries.{PathOf, seen, found}
 use Rattle.path_map.specs.Merged.{without_all}
 use Rattle.kinds.specs.Kinds.{KindsOf}
-use Rattle.kinds.specs.Numbered.{Numbers, AreSound, entries_by}
+use Rattle.kinds.specs.Numbered.{Numbers, Kept, AreSound, entries_by, entries_in}
 use Rattle.kinds.specs.Inner.{ReleasesAll}
 use Rattle.kinds.proofs.Puts.{sound_without, entries_without}
 use Rattle.kinds.proofs.map.KindMap.without_all.Goals as goal
 
-pub invariant_of-result : goal.invariant_of-result
-invariant_of-result g c =
+pub of-requires : goal.of-requires
+of-requires g c =
     let k0 = c.args.self.now.0 in
     let ns = c.args.self.now.1 in
     let k1 = c.in_ok-kinds.kinds in
@@ -31,4 +31,4 @@ returns g c =
     let releases : ReleasesAll k0 (found gone ns) k1 =
     subst (λ (k : KindsOf g.row.N.Denot). ReleasesAll k (found gone ns) k1) shared (subst (λ (os : List (Option ℕ)). ReleasesAll c.in_ok-share.field-0 os k1) looked c.in_ok-kinds.ensures) in
     let numbers : c.in_ok-numbers.numbers ≡ without_all gone ns = c.in_ok-numbers.ensures ∙ ap (without_all gone) c.numbers-2.ensures.all in
-    ap (λ (l : Numbers). entries_by k1 l) numbers ∙ entries_without k0 k1 ns gone c.kinds.ensures.sound c.requires releases
+    ap (λ (m : Kept g.row.N.Denot). entries_in m) c.in_ok-map.ensures ∙ ap (λ (l : Numbers). entries_by k1 l) numbers ∙ entries_without k0 k1 ns gone c.kinds.ensures.sound c.requires releases

@@ -1,52 +1,24 @@
-use Rattle.std.proofs.Common.{◌≡◌, ℕ, List, Option, map, sym, ap, subst, ◌∙◌}
-use Rattle.path_map.specs.Entries.{PathOf, IsInOrder, seen, found}
+use Rattle.std.proofs.Common.{◌≡◌, List, map, sym, ap, subst, ◌∙◌}
+use Rattle.path_map.specs.Entries.{PathOf, IsInOrder, seen}
 use Rattle.path_map.specs.Merged.{put_all}
-use Rattle.kinds.specs.Numbered.{Numbers, Kept, AreSound, entries_by, entries_in}
-use Rattle.kinds.specs.Inner.{AddsAll, ReleasesAll}
-use Rattle.kinds.proofs.InTurn.{adds_all, adds_order}
-use Rattle.kinds.proofs.Puts.{sound_put, entries_put}
+use Rattle.kinds.specs.Numbered.{Numbers, entries_by, entries_in}
+use Rattle.kinds.specs.Inner.{AddsBut}
 use Rattle.kinds.proofs.put.KindPuts.finish.Goals as goal
 
-pub numbers_with-requires : goal.numbers_with-requires
-numbers_with-requires g c =
-    let k0 = c.self.inside.before.now.0 in
+pub put_numbered-requires-clause-added : goal.put_numbered-requires-clause-added
+put_numbered-requires-clause-added g c =
     let was = c.self.inside.numbering in
-    let k1 = c.in_ok-kinds.kinds in
-    let es : Numbers = map seen c.self.inside.entries.items in
-    let puts : List (PathOf × g.row.N.Denot) = entries_by was.kinds es in
-    let adds : AddsAll k0 puts k1 es = adds_all k0 was.kinds k1 puts es was.last was.pending c.self.invariant c.in_ok-kinds.ensures in
-    subst (λ (l : Numbers). IsInOrder l) (sym (ap (map seen) c.deref.ensures.value))
-    (adds_order k0 k1 puts es adds (subst (λ (s : List (PathOf × g.row.N.Denot) × List (PathOf × g.row.N.Denot)). IsInOrder s.1) (sym c.self.view_is) c.requires))
+    subst (λ (es : Numbers). AddsBut c.self.inside.before.now.0 (entries_by was.kinds es) was.kinds es was.last was.pending) (sym (ap (map seen) c.deref.ensures.value)) c.self.invariant
 
-pub of-requires : goal.of-requires
-of-requires g c =
-    let k0 = c.self.inside.before.now.0 in
-    let ns = c.self.inside.before.now.1 in
+pub put_numbered-requires-clause-order : goal.put_numbered-requires-clause-order
+put_numbered-requires-clause-order g c =
     let was = c.self.inside.numbering in
-    let k1 = c.in_ok-kinds.kinds in
-    let k2 = c.in_ok-kinds-2.kinds in
-    let es : Numbers = map seen c.self.inside.entries.items in
-    let puts : List (PathOf × g.row.N.Denot) = entries_by was.kinds es in
-    let adds : AddsAll k0 puts k1 es = adds_all k0 was.kinds k1 puts es was.last was.pending c.self.invariant c.in_ok-kinds.ensures in
-    let order = adds_order k0 k1 puts es adds (subst (λ (s : List (PathOf × g.row.N.Denot) × List (PathOf × g.row.N.Denot)). IsInOrder s.1) (sym c.self.view_is) c.requires) in
-    let looked : c.deref-2.result.now ≡ found es ns = c.deref-2.ensures.value ∙ c.in_ok-numbers.ensures.old ∙ (λ i. found (map seen (c.deref.ensures.value i)) (c.numbers.ensures.all i)) in
-    let releases : ReleasesAll k1 (found es ns) k2 = subst (λ (os : List (Option ℕ)). ReleasesAll k1 os k2) looked c.in_ok-kinds-2.ensures in
-    let numbers : c.in_ok-numbers.numbers ≡ put_all es ns = c.in_ok-numbers.ensures.new ∙ (λ i. put_all (map seen (c.deref.ensures.value i)) (c.numbers.ensures.all i)) in
-    subst (λ (l : Numbers). AreSound k2 l) (sym numbers) (sound_put k0 k1 k2 ns es puts c.numbers.ensures.sound order adds releases)
+    subst (λ (es : Numbers). IsInOrder (entries_by was.kinds es)) (sym (ap (map seen) c.deref.ensures.value))
+    (subst (λ (s : List (PathOf × g.row.N.Denot) × List (PathOf × g.row.N.Denot)). IsInOrder s.1) (sym c.self.view_is) c.requires)
 
 pub returns : goal.returns
 returns g c =
-    let k0 = c.self.inside.before.now.0 in
-    let ns = c.self.inside.before.now.1 in
     let was = c.self.inside.numbering in
-    let k1 = c.in_ok-kinds.kinds in
-    let k2 = c.in_ok-kinds-2.kinds in
-    let es : Numbers = map seen c.self.inside.entries.items in
-    let puts : List (PathOf × g.row.N.Denot) = entries_by was.kinds es in
-    let adds : AddsAll k0 puts k1 es = adds_all k0 was.kinds k1 puts es was.last was.pending c.self.invariant c.in_ok-kinds.ensures in
-    let order = adds_order k0 k1 puts es adds (subst (λ (s : List (PathOf × g.row.N.Denot) × List (PathOf × g.row.N.Denot)). IsInOrder s.1) (sym c.self.view_is) c.requires) in
-    let looked : c.deref-2.result.now ≡ found es ns = c.deref-2.ensures.value ∙ c.in_ok-numbers.ensures.old ∙ (λ i. found (map seen (c.deref.ensures.value i)) (c.numbers.ensures.all i)) in
-    let releases : ReleasesAll k1 (found es ns) k2 = subst (λ (os : List (Option ℕ)). ReleasesAll k1 os k2) looked c.in_ok-kinds-2.ensures in
-    let numbers : c.in_ok-numbers.numbers ≡ put_all es ns = c.in_ok-numbers.ensures.new ∙ (λ i. put_all (map seen (c.deref.ensures.value i)) (c.numbers.ensures.all i)) in
-    ap (λ (m : Kept g.row.N.Denot). entries_in m) c.of.ensures ∙ ap (λ (l : Numbers). entries_by k2 l) numbers ∙ entries_put k0 k1 k2 ns es puts c.numbers.ensures.sound order adds releases
+    c.in_ok-map.ensures
+    ∙ ap (λ (es : Numbers). put_all (entries_by was.kinds es) (entries_in c.self.inside.before.now)) (ap (map seen) c.deref.ensures.value)
     ∙ ap (λ (s : List (PathOf × g.row.N.Denot) × List (PathOf × g.row.N.Denot)). put_all s.1 s.0) c.self.view_is

@@ -1,0 +1,39 @@
+-- For inner functions: the rows of a state from which a line goes, and those after the line.
+use Rattle.std.specs.Prelude.{◌≡◌, ℕ, List, map}
+use Rattle.acl_tree.specs.acl_entry.declared.label.Label.{Label}
+use Rattle.acl_tree.specs.acl_files.kinds.Numbered.{entries_in}
+use Rattle.acl_tree.specs.acl_people.KnownPeople.{persons}
+use Rattle.acl_tree.specs.Files.{PathOf, Files}
+use Rattle.acl_tree.specs.Reports.{StagedState}
+use Rattle.acl_verdicts.specs.KindRows.{RowedPaths, rowed}
+use Rattle.acl_verdicts.specs.declared.kind_rows.KindRows.{KindRows}
+pub use Rattle.acl_verdicts.specs.KindRows.{rows_at}
+use Rattle.acl_rights.specs.Tables.{Verdict, VerdictTable}
+use Rattle.acl_rights.specs.Stages.{moves_looked}
+use Rattle.acl_rights.specs.Reach.{verdicts_refreshed}
+use Rattle.acl_rights.specs.Kept.{GoesFrom}
+use Rattle.acl_rights.specs.declared.stage.NextRows.{NextRows}
+
+-- the labels of files
+abbrev pub labels_of : Files → List (PathOf × Label)
+labels_of fs = map (λ e. (e.0, e.1.label)) fs
+
+-- each file's row is kept with the file's label
+abbrev pub HaveLabels : Files → RowedPaths → Type 0
+HaveLabels fs es = map (λ e. (e.0, e.1.label)) es ≡ labels_of fs
+
+-- the table of so many users and of files with their rows
+abbrev pub table_of : ℕ → Files → KindRows → VerdictTable
+table_of users fs rows = record { users = users; files = fs; rows = rows_at (entries_in rows.rows) }
+
+-- the rows are those of some state, from which the line goes
+pub record AreBefore (V : Verdict) (es : RowedPaths) (t : StagedState) : Type 0 where
+  pub goes : GoesFrom V (rows_at es) t
+  pub are : es ≡ rowed V (persons goes.state.people) goes.state.tree.files
+
+-- the rows are those of the state after the line; with the labels that the users' move fetches, and the verdicts along paths
+-- that may be other ones
+pub record IsAfter (V : Verdict) (t : StagedState) (new : NextRows) : Type 0 where
+  pub rows : entries_in new.rows.rows ≡ rowed V (persons t.state.people) t.state.tree.files
+  pub looked : new.looked ≡ moves_looked t.user_change t.state.tree.files
+  pub refreshed : new.refreshed ≡ verdicts_refreshed t

@@ -1,6 +1,0 @@
-use Rattle.std.proofs.Common.{◌≡◌, ◌++◌, drop}
-use Rattle.acl_verdicts.specs.Ways.{reaches_from, reaches_of}
-use Rattle.acl_verdicts.proofs.reaches.reaches_after.Given as goal
-
-abbrev pub invariant-loop-number : goal.invariant-loop-number
-invariant-loop-number l = reaches_from l.cells (l.first ++ l.more.items) (drop l.number l.steps) ≡ reaches_of l.cells l.steps

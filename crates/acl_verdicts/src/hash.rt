@@ -1,0 +1,35 @@
+//! A number that is made of a label, by which labels that differ are looked up.
+
+use acl_files::{Entry, Key, Label};
+
+/// Some odd number whose bits have no order: the golden ratio's, as hashes use it.
+const SPREAD: u64 = 0x9E37_79B9_7F4A_7C15;
+
+/// A hash with a number worked into it.
+fn mixed(hash: u64, number: u64) -> u64 {
+    (hash ^ number).wrapping_mul(SPREAD).rotate_left(29)
+}
+
+/// A number of an entry: its tag, its permissions and the id that it names.
+fn number_of(entry: &Entry) -> u64 {
+    let (tag, id) = match entry.key {
+        Key::Owner => (0, 0),
+        Key::User(id) => (1, id.number()),
+        Key::OwningGroup => (2, 0),
+        Key::Group(id) => (3, id.number()),
+        Key::Mask => (4, 0),
+        Key::Other => (5, 0),
+    };
+    let head: u64 = tag << 3 | u64::from(entry.perm.number());
+    head << 32 | u64::from(id)
+}
+
+/// A hash of a label. Equal labels have equal hashes, and other labels seldom do. Allocates nothing.
+pub(crate) fn hash_of(label: &Label) -> u64 {
+    let ids = u64::from(label.owner.number()) << 32 | u64::from(label.group.number());
+    let mut hash = mixed(0, ids);
+    for entry in label.acl.entries() {
+        hash = mixed(hash, number_of(entry));
+    }
+    hash
+}

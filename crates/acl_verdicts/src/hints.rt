@@ -1,0 +1,143 @@
+//! Numbers by hashes, as hints where to look first.
+
+use std::alloc::{AllocError, Global};
+use std::collections::BTreeMap;
+use std::rc::Rc;
+
+/// The number that a label of this hash was given.
+#[derive(Clone, Copy)]
+struct Hint {
+    hash: u64,
+    number: usize,
+}
+
+/// For each hash the number that a label of this hash was given last. Nothing rests on it: whoever is given a number compares
+/// what has it. So labels whose hashes are the same cost time and memory alone.
+///
+/// Copies share what they have in common: hints are in a few blocks, each in the order of its hashes, and each more than
+/// twice as long as the next.
+#[derive(Drop)]
+pub(crate) struct Hints {
+    blocks: Vec<Rc<Vec<Hint>>>,
+}
+
+/// Where there are more hints than these, all are dropped before others are added.
+const MAX_HINTS: usize = 1 << 20;
+
+/// The number of a hash in a block.
+fn number_in(block: &[Hint], hash: u64) -> Option<usize> {
+    match block.binary_search_by(|hint| hint.hash.cmp(&hash)) {
+        Ok(place) => match block.get(place) {
+            Some(hint) => Some(hint.number),
+            None => None,
+        },
+        Err(_) => None,
+    }
+}
+
+/// The hints of two blocks, in the order of their hashes; where both have a hash, the later one's.
+fn joined(alloc: Global, block: &[Hint], later: &[Hint]) -> Result<Vec<Hint>, AllocError> {
+    let mut all = Vec::with_capacity(alloc, block.len())?;
+    let mut left = block;
+    let mut rest = later;
+    while let Some((hint, more)) = left.split_first() {
+        match rest.split_first() {
+            Some((other, others)) if other.hash <= hint.hash => {
+                all.push(*other)?;
+                rest = others;
+                if other.hash == hint.hash {
+                    left = more;
+                }
+            }
+            _ => {
+                all.push(*hint)?;
+                left = more;
+            }
+        }
+    }
+    all.extend_from_slice(rest)?;
+    Ok(all)
+}
+
+/// A block of the numbers at these places, by hashes.
+fn block_of(
+    alloc: Global,
+    places: &BTreeMap<u64, usize>,
+    numbers: &[usize],
+) -> Result<Vec<Hint>, AllocError> {
+    let mut block = Vec::new(alloc);
+    for (hash, place) in places {
+        if let Some(number) = numbers.get(*place) {
+            block.push(Hint {
+                hash: *hash,
+                number: *number,
+            })?;
+        }
+    }
+    Ok(block)
+}
+
+impl Hints {
+    /// No hints. Allocates nothing.
+    pub fn new(alloc: Global) -> Hints {
+        Hints {
+            blocks: Vec::new(alloc),
+        }
+    }
+
+    /// The number that a hash was given last. Allocates nothing.
+    pub fn get(&self, hash: u64) -> Option<usize> {
+        let mut rest: &[Rc<Vec<Hint>>] = &self.blocks;
+        while let Some((block, before)) = rest.split_last() {
+            if let Some(number) = number_in(block, hash) {
+                return Some(number);
+            }
+            rest = before;
+        }
+        None
+    }
+
+    /// How many hints there are. Allocates nothing.
+    fn len(&self) -> usize {
+        let mut count = 0usize;
+        for block in &self.blocks {
+            count = count.saturating_add(block.len());
+        }
+        count
+    }
+
+    /// The blocks that are kept when hints are added.
+    fn kept(&self, alloc: Global) -> Result<Vec<Rc<Vec<Hint>>>, AllocError> {
+        if self.len() > MAX_HINTS {
+            return Ok(Vec::new(alloc));
+        }
+        self.blocks.clone()
+    }
+
+    /// A copy, which shares all hints. Fails only if memory runs out.
+    pub fn share(&self) -> Result<Hints, AllocError> {
+        Ok(Hints {
+            blocks: self.blocks.clone()?,
+        })
+    }
+
+    /// These hints, and those of the numbers at some places, by hashes. Fails only if memory runs out.
+    pub fn with(
+        &self,
+        alloc: Global,
+        places: &BTreeMap<u64, usize>,
+        numbers: &[usize],
+    ) -> Result<Hints, AllocError> {
+        let mut blocks = self.kept(alloc)?;
+        let mut last = block_of(alloc, places, numbers)?;
+        while let Some(block) = blocks.pop() {
+            if block.len() / 2 > last.len() {
+                blocks.push(block)?;
+                break;
+            }
+            last = joined(alloc, &block, &last)?;
+        }
+        blocks.push(Rc::new(alloc, last)?)?;
+        Ok(Hints { blocks })
+    }
+}

@@ -1,0 +1,50 @@
+use Rattle.std.proofs.Common.{◌≡◌, ℕ, List, Option, map, sym, ap, subst, ◌∙◌}
+use Rattle.path_map.specs.Entries.{PathOf, IsInOrder, seen, found}
+use Rattle.path_map.specs.Merged.{put_all}
+use Rattle.kinds.specs.Numbered.{Numbers, Kept, AreSound, entries_by, entries_in}
+use Rattle.kinds.specs.Inner.{AddsAll, ReleasesAll}
+use Rattle.kinds.proofs.InTurn.{adds_all, adds_order}
+use Rattle.kinds.proofs.Puts.{sound_put, entries_put}
+use Rattle.kinds.proofs.put.put_numbered.Goals as goal
+
+pub numbers_with-requires : goal.numbers_with-requires
+numbers_with-requires g c =
+    let k0 = c.args.before.now.0 in
+    let was = c.args.numbering in
+    let k1 = c.in_ok-kinds.kinds in
+    let es : Numbers = map seen c.args.entries.now in
+    let puts : List (PathOf × g.row.N.Denot) = entries_by was.kinds es in
+    let adds : AddsAll k0 puts k1 es = adds_all k0 was.kinds k1 puts es was.last was.pending c.requires.added c.in_ok-kinds.ensures in
+    adds_order k0 k1 puts es adds c.requires.order
+
+pub of-requires : goal.of-requires
+of-requires g c =
+    let k0 = c.args.before.now.0 in
+    let ns = c.args.before.now.1 in
+    let was = c.args.numbering in
+    let k1 = c.in_ok-kinds.kinds in
+    let k2 = c.in_ok-kinds-2.kinds in
+    let es : Numbers = map seen c.args.entries.now in
+    let puts : List (PathOf × g.row.N.Denot) = entries_by was.kinds es in
+    let adds : AddsAll k0 puts k1 es = adds_all k0 was.kinds k1 puts es was.last was.pending c.requires.added c.in_ok-kinds.ensures in
+    let order = adds_order k0 k1 puts es adds c.requires.order in
+    let looked : c.deref.result.now ≡ found es ns = c.deref.ensures.value ∙ c.in_ok-numbers.ensures.old ∙ ap (found es) c.numbers.ensures.all in
+    let releases : ReleasesAll k1 (found es ns) k2 = subst (λ (os : List (Option ℕ)). ReleasesAll k1 os k2) looked c.in_ok-kinds-2.ensures in
+    let numbers : c.in_ok-numbers.numbers ≡ put_all es ns = c.in_ok-numbers.ensures.new ∙ ap (put_all es) c.numbers.ensures.all in
+    subst (λ (l : Numbers). AreSound k2 l) (sym numbers) (sound_put k0 k1 k2 ns es puts c.numbers.ensures.sound order adds releases)
+
+pub returns : goal.returns
+returns g c =
+    let k0 = c.args.before.now.0 in
+    let ns = c.args.before.now.1 in
+    let was = c.args.numbering in
+    let k1 = c.in_ok-kinds.kinds in
+    let k2 = c.in_ok-kinds-2.kinds in
+    let es : Numbers = map seen c.args.entries.now in
+    let puts : List (PathOf × g.row.N.Denot) = entries_by was.kinds es in
+    let adds : AddsAll k0 puts k1 es = adds_all k0 was.kinds k1 puts es was.last was.pending c.requires.added c.in_ok-kinds.ensures in
+    let order = adds_order k0 k1 puts es adds c.requires.order in
+    let looked : c.deref.result.now ≡ found es ns = c.deref.ensures.value ∙ c.in_ok-numbers.ensures.old ∙ ap (found es) c.numbers.ensures.all in
+    let releases : ReleasesAll k1 (found es ns) k2 = subst (λ (os : List (Option ℕ)). ReleasesAll k1 os k2) looked c.in_ok-kinds-2.ensures in
+    let numbers : c.in_ok-numbers.numbers ≡ put_all es ns = c.in_ok-numbers.ensures.new ∙ ap (put_all es) c.numbers.ensures.all in
+    ap (λ (m : Kept g.row.N.Denot). entries_in m) c.in_ok-map.ensures ∙ ap (λ (l : Numbers). entries_by k2 l) numbers ∙ entries_put k0 k1 k2 ns es puts c.numbers.ensures.sound order adds releases

@@ -1,0 +1,125 @@
+//! Entries put among those of a map, whose nodes are at places of a list: each of these nodes gets one number.
+
+ghost use Rattle.std.specs.Prelude.{◌≡◌, ◌<◌, ◌++◌, ◌∷◌, [], Option, Some, List, ℕ, length, map, get_or, IfOk};
+ghost use Rattle.std.specs.List.{AllByRecursion};
+ghost use Rattle.path_map.specs.Entries.{IsInOrder, seen};
+ghost use Rattle.path_map.specs.Merged.{put_all};
+ghost use Rattle.kinds.specs.Kinds.{IsNode, KindsOf};
+ghost use Rattle.kinds.specs.Numbered.{entries_in, entries_by};
+ghost use Rattle.kinds.specs.Inner.{AddsBut};
+ghost use Rattle.kinds.specs.Placed.{placed, given, AreGiven, ArePlaces, by_place, AddsNodes};
+
+use crate::kinds::Kinds;
+use crate::map::KindMap;
+use crate::numbering::Numbering;
+use crate::put::put_numbered;
+use acl_names::Path;
+use std::alloc::{AllocError, Global};
+use std::rc::Rc;
+
+/// A node that is given for entries: a new one, or the one that a number has.
+#[derive(Drop)]
+pub enum GivenNode<N> {
+    New(Rc<N>),
+    Known(usize),
+}
+
+/// The number of a node that is given; a new one is added. Fails only if memory, or the numbers, run out.
+fn add_node<N: Drop>(
+    alloc: Global,
+    kinds: Kinds<N>,
+    node: &GivenNode<N>,
+) -> Result<(Kinds<N>, usize), AllocError>
+    ensures { IfOk result (λ new. (old : KindsOf N) → (nodes : List (Option N)) → (numbers : List ℕ) → AddsNodes old nodes numbers kinds
+        → AddsNodes old (nodes ++ given old node.now ∷ []) (numbers ++ new.1 ∷ []) new.0) }
+{
+    match node {
+        GivenNode::New(node) => {
+            let new = kinds.add(alloc, node.clone()?)?;
+            Ok(new)
+        }
+        GivenNode::Known(number) => Ok((kinds, *number)),
+    }
+}
+
+/// Numbers for nodes that are given.
+fn add_nodes<N: Drop>(
+    alloc: Global,
+    kinds: Kinds<N>,
+    nodes: &[GivenNode<N>],
+) -> Result<(Kinds<N>, Vec<usize>), AllocError>
+    ensures { IfOk result (λ new. AddsNodes kinds (map (given kinds) nodes.now) new.1.items new.0) }
+{
+    let mut kinds = kinds;
+    let mut numbers = Vec::with_capacity(alloc, nodes.len())?;
+    for node in nodes {
+        let (added, number) = add_node(alloc, kinds, node)?;
+        kinds = added;
+        numbers.push(number)?;
+    }
+    Ok((kinds, numbers))
+}
+
+/// The number at a place.
+fn number_at(numbers: &[usize], place: usize) -> usize
+    requires { place < length numbers.now }
+    ensures { result ≡ get_or numbers.now place 0 }
+{
+    numbers[place]
+}
+
+/// Entries with the numbers at their places, and nodes that count their paths but for the last ones.
+#[derive(Drop)]
+struct NumberedEntries<'a, N> {
+    numbering: Numbering<N>,
+    entries: Vec<(&'a Path, usize)>,
+}
+
+/// Entries with the numbers at their places, counted.
+fn number_entries<'a, N: Drop>(
+    alloc: Global,
+    kinds: Kinds<N>,
+    numbers: &[usize],
+    entries: &[(&'a Path, usize)],
+) -> Result<NumberedEntries<'a, N>, AllocError>
+    requires nodes { AllByRecursion (λ n. IsNode kinds n) numbers.now }
+    requires places { ArePlaces (length numbers.now) (map seen entries.now) }
+    ensures entries { IfOk result (λ new. map seen new.entries.items ≡ by_place numbers.now (map seen entries.now)) }
+    ensures added { IfOk result (λ new. AddsBut kinds (entries_by kinds (by_place numbers.now (map seen entries.now)))
+        new.numbering.kinds (map seen new.entries.items) new.numbering.last new.numbering.pending) }
+{
+    let mut numbering = Numbering::new(alloc, kinds);
+    let mut numbered = Vec::with_capacity(alloc, entries.len())?;
+    for entry in entries {
+        let number = number_at(numbers, entry.1);
+        numbering = numbering.give_at(number)?;
+        numbered.push((entry.0, number))?;
+    }
+    Ok(NumberedEntries {
+        numbering,
+        entries: numbered,
+    })
+}
+
+impl<N: Drop> KindMap<N> {
+    /// The map with entries put, which are in path order and whose nodes are at places of a list; all entries of a place have
+    /// one kind, which may be one that paths of the map have. The numbers of the nodes are returned too. This map stays as it is, and where each path is there already both share all paths. Fails only if memory,
+    /// or the numbers, run out, or if paths are more than can be counted.
+    pub fn put_placed(
+        &self,
+        alloc: Global,
+        entries: &[(&Path, usize)],
+        nodes: &[GivenNode<N>],
+    ) -> Result<(KindMap<N>, Vec<usize>), AllocError>
+        requires order { IsInOrder (map seen entries.now) }
+        requires given { AreGiven self.now.0 nodes.now }
+        requires places { ArePlaces (length nodes.now) (map seen entries.now) }
+        ensures { IfOk result (λ new. entries_in new.0 ≡ put_all (placed (map (given self.now.0) nodes.now) (map seen entries.now)) (entries_in self.now)) }
+    {
+        let (kinds, numbers) = add_nodes(alloc, self.kinds().share()?, nodes)?;
+        let new = number_entries(alloc, kinds, &numbers, entries)?;
+        let NumberedEntries { numbering, entries } = new;
+        let map = put_numbered(alloc, self, numbering, &entries)?;
+        Ok((map, numbers))
+    }
+}

@@ -1,0 +1,72 @@
+//! Maps of the same paths whose kinds have other nodes, which may be of another type.
+
+ghost use Rattle.std.specs.Prelude.{◌≡◌, ◌+◌, ◌*◌, ◌<◌, ◌≤◌, ◌^◌, ℕ, Bool, true, length, count_by, IfOk, OnOk};
+ghost use Rattle.kinds.specs.Numbered.{entries_in};
+ghost use Rattle.kinds.specs.Renewed.{renewed, weight_of};
+
+use crate::map::KindMap;
+use std::alloc::{AllocError, Global};
+
+/// Makes of each node another one. What that takes counts in a state, as the verdicts of a judge.
+pub trait Renewal<N, M, S> {
+    /// What a node becomes.
+    ghost renewed: { Self → N → M };
+
+    /// What was counted.
+    ghost counted: { S → ℕ };
+
+    /// What counts for each path that has a node.
+    ghost weight: { Self → N → ℕ };
+
+    /// Whether just this counts; else it may be less.
+    ghost is_exact: { Bool };
+
+    /// What a node becomes that so many paths have. Fails only if memory runs out.
+    fn renew(&self, alloc: Global, state: &mut S, node: &N, paths: usize) -> Result<M, AllocError>
+        requires some { 0 < paths }
+        requires room { counted state.old + paths * weight self.now node.now < 2 ^ 64 }
+        ensures node { IfOk result (λ new. new ≡ renewed self.now node.now) }
+        ensures exact { OnOk result (is_exact ≡ true → counted state.new ≡ counted state.old + paths * weight self.now node.now) }
+        ensures at_most { counted state.new ≤ counted state.old + paths * weight self.now node.now };
+}
+
+/// Tells nodes that pass from those that do not.
+pub trait KindTest<N> {
+    /// Whether a node passes.
+    ghost passes: { Self → N → Bool };
+
+    /// Whether a node passes. Allocates nothing.
+    fn passes(&self, node: &N) -> bool
+        ensures { result ≡ passes self.now node.now };
+}
+
+impl<N> KindMap<N> {
+    /// How many paths have a node that passes a test: each kind is tested once. Allocates nothing.
+    pub fn count_where<T: KindTest<N>>(&self, test: &T) -> usize
+        requires few { length (entries_in self.now) < 18446744073709551616 }
+        ensures { result ≡ count_by (λ e. T.passes test.now e.1) (entries_in self.now) }
+    {
+        self.kinds().count_where(test)
+    }
+}
+
+impl<N: Drop> KindMap<N> {
+    /// The map of the same paths with what their nodes become. Each kind is renewed once, and both maps share the paths
+    /// and their numbers. Fails only if memory runs out.
+    pub fn renewed<M: Drop, S, R: Renewal<N, M, S>>(
+        &self,
+        alloc: Global,
+        state: &mut S,
+        renewal: &R,
+    ) -> Result<KindMap<M>, AllocError>
+        requires room { R.counted state.old + weight_of (R.weight renewal.now) (entries_in self.now) < 2 ^ 64 }
+        ensures entries { IfOk result (λ new. entries_in new ≡ renewed (R.renewed renewal.now) (entries_in self.now)) }
+        ensures exact { OnOk result (R.is_exact ≡ true → R.counted state.new ≡ R.counted state.old + weight_of (R.weight renewal.now) (entries_in self.now)) }
+        ensures at_most { R.counted state.new ≤ R.counted state.old + weight_of (R.weight renewal.now) (entries_in self.now) }
+    {
+        let kinds = self.kinds().renewed(alloc, state, renewal)?;
+        let numbers = self.numbers().share()?;
+        let map = KindMap::of(alloc, kinds, numbers)?;
+        Ok(map)
+    }
+}
