@@ -10,8 +10,8 @@ from hashlib import blake2b
 from typing import Dict, Iterable, Iterator, List, NamedTuple, Optional, Tuple
 
 from .names import path_order, read_path, write_name
-from .page_tree import HEAD
-from .program import Region
+from .program import OutputSlice
+from .protocol import FILE_HEAD
 
 SIZE = 16  # Letters of a checksum.
 
@@ -22,10 +22,10 @@ class Recorded(NamedTuple):
     label: bytes  # The snapshot, as it was given.
     users: Dict[str, int]  # Ids by name.
     groups: Dict[str, int]
-    files: Region
+    files: OutputSlice
 
 
-def blocks_of(listings: Iterable[Region]) -> Iterator[bytes]:
+def blocks_of(listings: Iterable[OutputSlice]) -> Iterator[bytes]:
     """The line of each directory, with names as the program prints them."""
     inside: Dict[bytes, List[bytes]] = {}
     known: Dict[bytes, bytes] = {}
@@ -34,13 +34,13 @@ def blocks_of(listings: Iterable[Region]) -> Iterator[bytes]:
         checksum = known.get(body)
         if checksum is None:
             checksum = known[body] = blake2b(body, digest_size=SIZE // 2).hexdigest().encode()
-        above, _, name = first[len(HEAD) :].rstrip(b"/").rpartition(b"/")
+        above, _, name = first[len(FILE_HEAD) :].rstrip(b"/").rpartition(b"/")
         inside.setdefault(above, []).append(checksum + name)
     for above, files in inside.items():
         yield above + b"\0" + b"\0".join(files) + b"\n"
 
 
-def directories_of(files: Region) -> Iterator[Tuple[bytes, Region]]:
+def directories_of(files: OutputSlice) -> Iterator[Tuple[bytes, OutputSlice]]:
     """The directories, each with its line."""
     place = files.start
     for line in files.lines():
@@ -50,7 +50,7 @@ def directories_of(files: Region) -> Iterator[Tuple[bytes, Region]]:
 
 def differing_file(parts: List[Recorded]) -> Optional[bytes]:
     """The first path that two snapshots record differently, and which these are."""
-    lines: Dict[bytes, List[Tuple[bytes, Region]]] = {}
+    lines: Dict[bytes, List[Tuple[bytes, OutputSlice]]] = {}
     for part in parts:
         for above, line in directories_of(part.files):
             lines.setdefault(above, []).append((part.label, line))
@@ -61,7 +61,7 @@ def differing_file(parts: List[Recorded]) -> Optional[bytes]:
     return b"/" + write_name(path) + b": is recorded differently in " + first + b" and in " + second
 
 
-def differences_in(above: bytes, shared: List[Tuple[bytes, Region]]) -> Iterator[Tuple[bytes, bytes, bytes]]:
+def differences_in(above: bytes, shared: List[Tuple[bytes, OutputSlice]]) -> Iterator[Tuple[bytes, bytes, bytes]]:
     """The paths in a directory that have other records in one snapshot than in another one before it."""
     known: Dict[bytes, Tuple[bytes, bytes]] = {}
     for label, line in shared:

@@ -6,29 +6,17 @@ from typing import Iterable, Iterator, List, Optional
 
 from .messages import Command
 from .names import shown
-from .program import Answer, Region, Session
+from .program import Answer, OutputSlice, Session
+from .protocol import PROGRAM, TEXT_WITHOUT_END, is_refused, message_of
 from .scripts import Unit
 from .tools import EMPTY_ANSWERS
 
-TEXT_WITHOUT_END = b"facl: text without end"
-WARNING = b"setfacl: warning: default entries dropped"  # The one message of a line that is accepted.
-NO_FILE = b": no such file"
 NOTHING = b"(nothing)"
-
-
-def is_refused(messages: List[bytes]) -> bool:
-    """Whether a line with these messages is refused."""
-    return any(message != WARNING for message in messages)
-
-
-def lacks_file(messages: List[bytes]) -> bool:
-    """Whether a line is refused since a file is not there."""
-    return messages[:1] != [] and messages[0].endswith(NO_FILE)
 
 
 def answer_unit(session: Session, unit: Unit) -> Answer:
     if not unit.is_ended:
-        return Answer(Region(session.output, 0, 0), [TEXT_WITHOUT_END])
+        return Answer(OutputSlice(session.output, 0, 0), [message_of(PROGRAM, TEXT_WITHOUT_END)])
     return session.ask(unit.text())
 
 

@@ -11,16 +11,16 @@ from types import FrameType
 from typing import Callable, Dict, Iterable, Iterator, List, NoReturn, Optional
 
 from . import overview, texts
-from .answering import answer_unit, below_heading, is_refused, write_messages
+from .answering import answer_unit, below_heading, write_messages
 from .messages import SIGNALS, Command, Failure, parser_of, reason
 from .names import shown
 from .program import Session, environment_of_called, find_program
+from .protocol import ANSWERED, REFUSED, is_refused
 from .scripts import Unit, read_script, read_text, read_units
 from .snapshot import check_texts
 from .stops import marked
 from .texts import Source
 
-ANSWERED, REFUSED = 0, 1
 HELP = """\
 Answers questions and edits over a snapshot, by the program facl.
 
@@ -183,11 +183,11 @@ def dim(line: bytes) -> bytes:
     return b"\x1b[2m" + line.rstrip(b"\n") + b"\x1b[0m\n"
 
 
-def prompt(command: Command, program: str, source: Source, with_root: bool) -> int:
+def run_prompt(command: Command, program: str, source: Source, with_root: bool) -> int:
     """Answers a person's lines. Only a prompt needs these parts of the package."""
     from . import manual, meta, terminal
     from .completion import Completer
-    from .desk import WORDS_OF_PROMPT, Desk, refuse_early_end
+    from .prompt import WORDS_OF_PROMPT, Prompt, refuse_early_end
     from .superuser import Superusers, ids_in
 
     found = overview.read_texts(source.folder)
@@ -199,9 +199,9 @@ def prompt(command: Command, program: str, source: Source, with_root: bool) -> i
 
     take_signals()
     superusers = Superusers({} if with_root else ids_in(found.passwd))
-    desk = Desk(lambda: Session(program, source.folder), completer.page, completer, out, dim, superusers)
-    with kept_terminal(), contextlib.closing(desk):
-        refuse_early_end(desk.session)
+    prompt = Prompt(lambda: Session(program, source.folder), completer.page, completer, out, dim, superusers)
+    with kept_terminal(), contextlib.closing(prompt):
+        refuse_early_end(prompt.session)
         name = meta.named(source.shown, meta.meta_of(source.folder))
         out(shown(overview.summary(found, name)) + b"; `help` lists the tools, control-D ends\n")
         overview.say_notices(command, source, has_masks=False)
@@ -209,7 +209,7 @@ def prompt(command: Command, program: str, source: Source, with_root: bool) -> i
             command.say(warning)
         if terminal.find_toolkit() is None:
             command.say(b"without python3-prompt-toolkit, which is not installed: no completion")
-        desk.run(terminal.reader(completer))
+        prompt.run(terminal.reader(completer))
     return ANSWERED
 
 
@@ -218,11 +218,11 @@ def answer_one(command: Command, given: argparse.Namespace, source: Source) -> i
     os.close(check_texts(source.folder))
     program = find_program(given.program)
     if given.part:
-        from . import part
+        from . import shard_worker
 
-        return part.write_part(command, program, source.folder, read_text("-"), given.records)
+        return shard_worker.write_part(command, program, source.folder, read_text("-"), given.records)
     if not given.scripts and os.isatty(0) and os.isatty(1):
-        return prompt(command, program, source, given.with_root)
+        return run_prompt(command, program, source, given.with_root)
     if len(given.scripts) > 1 or given.headings:
         overview.say_notices(command, source)
         units = [unit for name in given.scripts or ["-"] for unit in read_text(name).units()]
@@ -246,11 +246,11 @@ def body(command: Command, words: List[str]) -> int:
     if given.each and given.hosts:
         raise Failure(b"--each is for parts of one tree, and --hosts for servers: give one of them")
     if given.each or given.hosts:
-        from . import each, servers
+        from . import servers, shards
 
         if given.dump is not None:
             raise Failure(b"--dump is one dump: make a folder of passwd, group and dump for each of several")
-        answer = each.body if given.each else servers.body
+        answer = shards.body if given.each else servers.body
         return answer(command, [given.snapshot, *given.scripts], given)
     with texts.opened(given) as source:
         return answer_one(command, given, source)

@@ -13,6 +13,7 @@ from . import by_hand_texts as texts
 from .messages import counted
 from .names import live_path, parent_of, path_order, shell_word
 from .people import ADD_MEMBER, ADD_USER, CHANGE_GROUP, REMOVE_MEMBER, REMOVE_USER, PeopleChange, shown_change
+from .protocol import FILE_HEAD, FLAGS_HEAD
 from .records import Changes, File, Files
 from .snapshot import Identity
 
@@ -149,7 +150,7 @@ def relative(path: bytes, top: bytes) -> bytes:
 def record_of(path: bytes, top: bytes, file: File) -> bytes:
     """The record of a made file: twice where it has flags, as end_tree has it."""
     name = escaped(relative(path, top)).replace(b" ", b"\\040")
-    return (b"# file: ./" + name + b"\n" + file.body + b"\n") * (2 if b"# flags: " in file.body else 1)
+    return (FILE_HEAD + b"./" + name + b"\n" + file.body + b"\n") * (2 if FLAGS_HEAD in file.body else 1)
 
 
 def tree_lines(number: int, tree: List[bytes], things: Things) -> bytes:

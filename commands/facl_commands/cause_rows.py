@@ -12,6 +12,7 @@ from .cause_tests import (
     SHELLS, UNKNOWN, WORDS, Cause, always, first, has, has_open_comma, has_unquoted, is_about, is_comment,
     number_of_operands, row,
 )
+from .protocol import LINE_TOO_LONG, NOT_UTF8, OPEN_QUOTE, PROGRAM, TEXT_WITHOUT_END, UNKNOWN_TOOL, by
 from .remedies import (
     as_user, as_written, before_pipe, escaped_bytes, found_files, members, nearest_tool, parts, quotes_for_backslash,
     replaced,
@@ -39,13 +40,13 @@ AS_SUCH: List[Cause] = [
     row("typographic quotes", rb".*", has(rb"\xe2\x80[\x98-\x9f]"),
         "The line has the quotes of a word processor, which do not quote. A word is quoted by '",
         replaced(rb"\xe2\x80[\x98-\x9f]", b"'"), "who r \u2018srv/share/plan 2 \u2019", "who r 'srv/share/plan 2 '"),
-    row("not UTF-8", rb"facl: not UTF-8", always,
+    row("not UTF-8", by(PROGRAM, NOT_UTF8), always,
         "A byte of the line is no UTF-8. It is written as a backslash and three octal digits.",
         escaped_bytes, "who r srv/share/p\udce9q", "who r srv/share/p\\351q"),
-    row("open quote", rb"facl: open quote", has(rb"'"),
+    row("open quote", by(PROGRAM, OPEN_QUOTE), has(rb"'"),
         "A single quote starts a quote that goes on to the next one. In a name it is written \\047",
         with_quote_escaped, "who r srv/share/it's", "who r srv/share/it\\047s"),
-    row("line too long", rb"facl: line too long", always,
+    row("line too long", by(PROGRAM, LINE_TOO_LONG), always,
         "A line has at most 65,536 bytes. Cut it into several lines, or give its entries in a text, by -M -", "",
         "getfacl" + " FILE" * 5000),
     row("two commands in a line", SHELLS, has_unquoted(rb";|&&|\|\||&\s*\Z"),
@@ -81,7 +82,7 @@ UNKNOWN_TOOLS: List[Cause] = [
     row("a quoted line", UNKNOWN, lambda line: b" " in line.tool(),
         "The first word is the tool, so quotes are around other words alone.",
         lambda line: [line.text.strip(b" \t'")], "'who r FILE'", "who r FILE"),
-    row("chown in a question", rb"facl: unknown tool", first("chown chgrp"),
+    row("chown in a question", by(PROGRAM, UNKNOWN_TOOL), first("chown chgrp"),
         "facl-plan takes this line in its scripts. Here an owner and a group are set by a record of setfacl "
         "--restore=- alone.", "", "chown ines FILE"),
     row("namei", UNKNOWN, first("namei ancestors"), "What decides on each directory of a path is asked of a user:",
@@ -169,7 +170,7 @@ UNKNOWN_TOOLS: List[Cause] = [
         "facl-ask.", "", "for u in ines ben; do can $u FILE; done"),
     row("a tool's name", UNKNOWN, lambda line: line.tool() not in OPTIONS and nearest_tool(line) is not None,
         "There is no tool of this name. Nearly so:", with_nearest_tool, "getfac FILE", "getfacl FILE"),
-    row("a word that takes a text", rb"facl: text without end", always,
+    row("a word that takes a text", by(PROGRAM, TEXT_WITHOUT_END), always,
         "The lines after it are its text, up to a line with a dot alone, which is not there. A file of the name - is "
         "written ./-", "", "getfacl -"),
 ]

@@ -4,22 +4,25 @@ from __future__ import annotations
 import re
 from typing import Callable, NamedTuple, Union
 
+from .protocol import (
+    ANY_TOOL, BAD_PATH, BAD_PERMISSIONS, BAD_TAG, NO_FILE, NO_GROUP, NO_PERMISSIONS, NO_USER, PROGRAM, TEXT_WITHOUT_END,
+    UNKNOWN_GROUP, UNKNOWN_TOOL, UNKNOWN_USER, USAGE, by, of_entry, of_name,
+)
 from .refused_line import Line
-from .remedies import WORDS_OF_TOOLS, Remedy, as_written, none
-from .tools import OPTIONS, lists_of_chacl
+from .remedies import Remedy, as_written, none
+from .tools import (
+    ENTRIES, EXCLUDED, LOADERS, OPTIONS, PART, RECORDS, TEXT, VALUES, WHOLE, WITH_ENTRIES, letters_of, operand_kinds,
+    operands_of, options_that, options_with,
+)
 
-NO_NAME = rb"[a-z]+: .*: no such (user|group)"
-NO_FILE = rb"[a-z]+: .*: no such file"
-USAGE = rb"[a-z]+: usage"
-ENTRY = rb"[a-z]+: (default )?entry \d+: (bad tag|bad permissions|unknown user|unknown group|permissions missing)"
-BAD_PATH = rb"[a-z]+: operand \d+: bad path"
-UNKNOWN = rb"facl: (unknown tool|text without end)"
-WORDS = b"|".join((USAGE, NO_FILE, NO_NAME, ENTRY, BAD_PATH))
+NO_NAME = of_name(ANY_TOOL, NO_USER, NO_GROUP)
+NO_SUCH_FILE = of_name(ANY_TOOL, NO_FILE)
+WRONG_WORDS = by(ANY_TOOL, USAGE)
+ENTRY = of_entry(ANY_TOOL, BAD_TAG, BAD_PERMISSIONS, UNKNOWN_USER, UNKNOWN_GROUP, NO_PERMISSIONS)
+NO_PATH = by(ANY_TOOL, rb"operand \d+: " + BAD_PATH)
+UNKNOWN = by(PROGRAM, UNKNOWN_TOOL, TEXT_WITHOUT_END)
+WORDS = b"|".join((WRONG_WORDS, NO_SUCH_FILE, NO_NAME, ENTRY, NO_PATH))
 SHELLS = WORDS + b"|" + UNKNOWN
-EXCLUDED = ({b"--modify", b"--modify-file"}, {b"--remove", b"--remove-file"}, {b"--no-mask", b"--mask"},
-            {b"--all-effective", b"--no-effective"})
-PARTS = {b"--modify", b"--modify-file", b"--remove", b"--remove-file", b"--remove-all", b"--remove-default"}
-MODIFIERS = {b"--no-mask", b"--mask", b"--default", b"--recursive", b"--test"}
 OF_LINKS = (b"-h", b"-P", b"--no-dereference")
 Fits = Callable[[Line], bool]
 Test = Callable[[bytes], bool]
@@ -112,7 +115,7 @@ def is_comment(line: Line) -> bool:
 
 
 def has_open_comma(line: Line) -> bool:
-    is_of_entries = line.tool() in (b"setfacl", b"chacl") and any(word[-1:] == b"," for word in line.words[1:])
+    is_of_entries = line.tool() in WITH_ENTRIES and any(word[-1:] == b"," for word in line.words[1:])
     return is_of_entries and (line.subject is None or b":" in line.subject)
 
 
@@ -126,51 +129,62 @@ def is_twice(line: Line) -> bool:
 
 
 def has_no_action(line: Line) -> bool:
-    return not set(line.options()) - MODIFIERS
+    modifiers = OPTIONS[line.tool()] - options_that(line.tool(), PART, WHOLE, RECORDS)
+    return modifiers.issuperset(line.options())
 
 
 def sets_and_changes(line: Line) -> bool:
     options = set(line.options())
-    wholes = {b"--set", b"--set-file"} & options
-    return len(wholes) == 2 or len(wholes) == 1 and bool(PARTS & options)
+    wholes = options_that(line.tool(), WHOLE) & options
+    return len(wholes) == 2 or len(wholes) == 1 and bool(options_that(line.tool(), PART) & options)
 
 
 def excludes(line: Line) -> bool:
-    return any(both <= set(line.options()) for both in EXCLUDED)
+    return any(both.issubset(line.options()) for both in EXCLUDED.get(line.tool(), ()))
 
 
 def takes_file(line: Line) -> bool:
-    names = (b"-M", b"-X", b"--modify-file", b"--remove-file", b"--set-file", b"--restore")
+    names = options_with(line.tool(), TEXT)
     return any(option.name in names and option.value not in (b"", b"-") for option in line.given)
 
 
-def lacks_words_of_chacl(line: Line) -> bool:
-    return len(line.operands) <= lists_of_chacl(line.split)
-
-
 def has_equals_in_entries(line: Line) -> bool:
-    options = (b"-m", b"-x", b"--modify", b"--remove", b"--set")
-    words = line.operands[:1] if line.tool() == b"chacl" else [it.value for it in line.given if it.name in options]
-    return any(b"=" in word for word in words)
+    options = options_with(line.tool(), ENTRIES)
+    words = [it.value for it in line.given if it.name in options]
+    is_list = operand_kinds(line.tool(), line.split)[:1] == [ENTRIES]
+    return any(b"=" in word for word in words + (line.operands[:1] if is_list else []))
 
 
 def has_letters_as_entries(line: Line) -> bool:
-    return any(it.name in (b"-m", b"-x") and re.fullmatch(rb"[Rdnbk]+", it.value) is not None for it in line.given)
+    """Whether the value of a short option is letters of others, which take none."""
+    names, letters = options_with(line.tool(), ENTRIES), flag_letters(line.tool())
+    return any(len(it.name) == 2 and it.name in names and it.value != b"" and it.value.strip(letters) == b""
+               for it in line.given)
+
+
+def flag_letters(tool: bytes) -> bytes:
+    """The letters of a tool's options that take no value."""
+    return letters_of(OPTIONS[tool].difference(VALUES[tool]))
 
 
 def lacks_a_word(line: Line) -> bool:
-    return len(line.operands) < len(WORDS_OF_TOOLS.get(line.tool(), b"").split())
+    """Not of a line that loads, as the texts of a snapshot are loaded already."""
+    return line.tool() not in LOADERS and has_too_few_words(line)
+
+
+def has_too_few_words(line: Line) -> bool:
+    return len(line.operands) < len(operands_of(line.tool(), line.split))
 
 
 def has_words_for_permissions(line: Line) -> bool:
     """Whether a question has its PERMS in capital letters or in words."""
-    word = line.operand(0 if line.tool() == b"who" else 1, b"")
+    word = line.operand(operands_of(line.tool(), line.split).index("PERMS"), b"")
     return len(line.operands) == 2 and re.fullmatch(rb"[rwxRWX-]+|read|write|exec|execute|search|all|full",
                                                     word) is not None
 
 
 def has_too_many_files(line: Line) -> bool:
-    return len(line.operands) > (2 if line.tool() in (b"can", b"who") else 1)
+    return len(line.operands) > len(operands_of(line.tool(), line.split))
 
 
 def has_links_alone(line: Line) -> bool:

@@ -8,8 +8,8 @@ from typing import Dict, List, Optional
 from .cause_rows import TABLE, Cause
 from .names import json_text, shown
 from .refused_line import Line, line_of
-from .scripts import TEXT_WORDS, Unit
-from .tools import OPTIONS, options_of_tool, split
+from .scripts import Unit
+from .tools import LOADERS, OPTIONS, TEXT, TEXT_WORDS, options_of_tool, options_with, split
 
 __all__ = ["TABLE", "advice", "explained", "explained_by_number", "find_cause"]
 
@@ -63,10 +63,9 @@ def explained_by_number(units: Dict[int, Unit], message: bytes) -> List[bytes]:
 def swallowed(unit: Unit) -> List[bytes]:
     """Says of lines that a refused line took, where nobody meant them as its text."""
     taken = len(unit.lines) - 1
-    # A line takes its text by an option of setfacl, or is one of load.
-    names = (b"-M", b"-X", b"--modify-file", b"--remove-file", b"--set-file", b"--restore")
-    is_option = unit.is_of(b"setfacl") and any(it.name in names and it.value == b"-" for it in split(unit.words).given)
-    if taken == 0 or unit.is_ended and (is_option or unit.is_of(b"load")):
+    names = options_with(unit.tool(), TEXT)
+    is_option = any(it.name in names and it.value == b"-" for it in split(unit.words).given)
+    if taken == 0 or unit.is_ended and (is_option or unit.is_of(*LOADERS)):
         return []
     word = next((word for word in unit.words[1:] if word in TEXT_WORDS), None)
     which = b"line %d was" % (unit.number + 1) if taken == 1 else b"lines %d to %d were" % (unit.number + 1,

@@ -8,13 +8,12 @@ from typing import Callable, Iterator, List, NamedTuple, Optional, Tuple
 from .manual import Page
 from .names import read_path, shown, sorting_key
 from .people import rows_of
+from .protocol import FILE_LINE
 from .scripts import words_of
-from .tools import (
-    ENTRIES, FILE, GROUP, OTHER, TOOLS, USER, VALUES, lists_of_chacl, operand_kinds, options_of_tool, split,
-)
+from .tools import ENTRIES, FILE, GROUP, OTHER, TOOLS, USER, VALUES, operand_kinds, options_of_tool, split
 
 CANDIDATES = 200  # The most that one word is offered.
-OPERANDS = {tool.decode(): operand_kinds(tool) for tool in TOOLS}
+TOOL_WORDS = [tool.decode() for tool in TOOLS]
 NAMED_ENTRY = re.compile(r"((?:d(?:efault)?:)?(u(?:ser)?|g(?:roup)?):)([^:]*)\Z")
 PLAIN_WORD = re.compile(r"[A-Za-z0-9_./:=@%+,~^-]*\Z")
 
@@ -45,7 +44,7 @@ class Paths:
     """The recorded paths, in an order in which those below a directory follow it."""
 
     def __init__(self, dump: bytes) -> None:
-        names = re.findall(rb"^# file: (.*)$", dump, re.MULTILINE)
+        names = re.findall(FILE_LINE, dump, re.MULTILINE)
         self.keys = sorted({sorting_key(read_path(name)) for name in names})
 
     def add(self, path: bytes) -> None:
@@ -115,7 +114,7 @@ class Completer:
 
     def words(self, started: Started) -> Iterator[str]:
         if not started.before:
-            return (word + " " for word in [*OPERANDS, *self.more] if word.startswith(started.word))
+            return (word + " " for word in [*TOOL_WORDS, *self.more] if word.startswith(started.word))
         tool = started.before[0]
         if tool == b"help":
             topics = [*self.page.tools, *self.page.sections] if self.page else []
@@ -168,7 +167,5 @@ def kind_of(words: List[bytes]) -> str:
     if len(words) > 1 and words[-1] in values:
         return values[words[-1]]
     line = split(words)
-    if words[0] == b"chacl":
-        return ENTRIES if len(line.operands) < lists_of_chacl(line) else FILE
-    kinds = operand_kinds(words[0]) or [OTHER]
+    kinds = operand_kinds(words[0], line) or [OTHER]
     return kinds[min(len(line.operands), len(kinds) - 1)]

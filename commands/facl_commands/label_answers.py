@@ -10,7 +10,8 @@ from typing import Dict, Iterable, List, NamedTuple
 
 from .names import script_word
 from .people import rows_of, user_word
-from .program import Region, Session, parts_of, session_over
+from .program import OutputSlice, Session, parts_of, session_over
+from .protocol import DEFAULT_ENTRY, ENTRIES_OF, FILE_HEAD, INDEX, LIST_NAMES
 from .rights import users_of
 
 ROOM = 60_000  # Bytes of names in a line, which may have 65,536.
@@ -40,7 +41,7 @@ class Answers(NamedTuple):
 def dump_of(bodies: List[bytes]) -> bytes:
     """A dump of a file for each body; one that has a default list is a directory."""
     slash = {True: b"/", False: b""}
-    return b"".join(b"# file: /" + WORD % k + slash[b"\ndefault:" in body] + b"\n" + body + b"\n" for k,
+    return b"".join(FILE_HEAD + b"/" + WORD % k + slash[DEFAULT_ENTRY in body] + b"\n" + body + b"\n" for k,
                     body in enumerate(bodies))
 
 
@@ -51,7 +52,7 @@ def operands_of(count: int) -> List[bytes]:
 
 def ask_records(session: Session, lines: Iterable[bytes]) -> List[bytes]:
     """The records that lines of our own print, without the names of the files."""
-    text = session.ask_surely(b"\n".join(lines)).read()
+    text = session.ask_accepted(b"\n".join(lines)).read()
     return [record.partition(b"\n")[2] for record in text.split(b"\n\n")[:-1]]
 
 
@@ -63,14 +64,14 @@ def ask_reasons(session: Session, passwd: bytes, users: List[bytes], count: int)
     known: Dict[bytes, bytes] = {}  # Each text once.
     for user in users:
         word = None if user.isdigit() and user not in rows else user_word(passwd, user)
-        lines = [] if word is None else [b"why -- %s %s" % (script_word(word), part) for part in parts]
+        lines = [] if word is None else [b" ".join([ENTRIES_OF, script_word(word), part]) for part in parts]
         for reasons, record in zip(found, ask_records(session, lines) if lines else [b""] * count):
             entries = re.sub(rb"\t+", b"  ", record)  # Two blanks before an effective permission.
             reasons.append(known.setdefault(entries, entries))
     return found
 
 
-def vectors_of(table: Region, count: int, users: List[bytes]) -> List[bytes]:
+def vectors_of(table: OutputSlice, count: int, users: List[bytes]) -> List[bytes]:
     """Two digits of each user for each file. The lines of a file follow each other, and those of a user have one
     length."""
     places, size = [], 0
@@ -86,12 +87,12 @@ def ask_some(program: str, people: People, bodies: List[bytes]) -> Answers:
     """Asks of bodies that one session has room for."""
     with session_over(program, people.passwd, people.group, dump_of(bodies)) as session:
         if people.lines:
-            session.ask_surely(people.lines.rstrip(b"\n"))
-        table = session.ask_surely(b"index")
+            session.ask_accepted(people.lines.rstrip(b"\n"))
+        table = session.ask_accepted(INDEX)
         users = users_of(table)
         vectors = vectors_of(table, len(bodies), users)
         reasons = ask_reasons(session, people.passwd, users, len(bodies))
-        lists = ask_records(session, [b"getfacl -E -- " + part for part in operands_of(len(bodies))])
+        lists = ask_records(session, [LIST_NAMES + b" " + part for part in operands_of(len(bodies))])
         return Answers(users, vectors, lists, reasons)
 
 

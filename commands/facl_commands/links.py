@@ -14,14 +14,17 @@ from typing import Dict, Iterator, List, Optional, Set
 from . import program
 from .names import read_path, script_word, shown_path, sorting_key
 from .program import Session
+from .protocol import LIST_NUMBERS, OWNER_ENTRY, RESTORE, SET_LIST
 from .records import File, Files, list_all, read_listing, write_record
 from .scripts import LINE_LIMIT, Unit
-from .tools import CHANGES_OF_PEOPLE, WITH_FILES
+from .tools import CHANGES_OF_PEOPLE, DEEP, VALUES, WITH_FILES, letters_of, options_that
 
+DEEP_NAMES = {name for tool in WITH_FILES for name in options_that(tool, DEEP)}
 # A word that sends a line to whole subtrees: the option alone, or among letters before one that has a value.
-RECURSIVE = re.compile(rb"--recursive\Z|-[^-mxMX]*[rR]")
+RECURSIVE = re.compile(rb"(?:%s)\Z|-[^-%s]*[%s]" % (
+    b"|".join(sorted(name for name in DEEP_NAMES if len(name) > 2)),
+    letters_of({name for tool in WITH_FILES for name in VALUES[tool]}), letters_of(DEEP_NAMES)))
 RECORD = re.compile(rb"\s*#\s*file: ?(.*)", re.DOTALL)  # The first line of a record of a restore.
-QUESTION = b"getfacl -n -E --"
 FEW_NAMES = 8  # So many are asked for one by one where a line of them is refused.
 LONGEST_LIST = 4_000  # Bytes of a list in a line.
 ROOM_FOR_NAMES = 1 << 24  # Bytes of questions by names in a session; after them a directory is listed, by a short line.
@@ -84,12 +87,12 @@ class Links:
                 self.set_list(session, entries, names)
         if alone:
             records = b"".join([write_record(path, File(False, self.known[path])) for path in alone])
-            session.ask_surely(b"setfacl --restore=-\n" + records + b".")
+            session.ask_accepted(RESTORE + b"\n" + records + b".")
 
     def set_list(self, session: Session, entries: bytes, names: List[bytes]) -> None:
-        head = b"setfacl -n --set=%s --" % entries
+        head = SET_LIST % entries
         for part in parts_of(names, len(head)):
-            session.ask_surely(b" ".join([head, *map(word_of, part)]))
+            session.ask_accepted(b" ".join([head, *map(word_of, part)]))
 
     def follow(self, session: Session, unit: Unit) -> Optional[List[bytes]]:
         """After an edit: each name of a file has what one of them got. Where two names of a file got different lists,
@@ -156,17 +159,17 @@ def word_of(path: bytes) -> bytes:
 
 
 def question(paths: List[bytes]) -> bytes:
-    return b" ".join([QUESTION, *map(word_of, paths)]) + b"\n"
+    return b" ".join([LIST_NUMBERS, *map(word_of, paths)]) + b"\n"
 
 
 def list_to_set(old: bytes, new: bytes) -> bytes:
     """The list, as a word, that makes one record of another: of a file with the same owner, group and flags. Nothing
     where these are others, or the list is long."""
-    old_head, head = old.partition(b"\nuser::")[0], new.partition(b"\nuser::")[0]
+    old_head, head = old.partition(OWNER_ENTRY)[0], new.partition(OWNER_ENTRY)[0]
     entries = new[len(head) + 1 :].rstrip(b"\n").replace(b"\n", b",")
     return entries if old_head == head and len(entries) < LONGEST_LIST else b""
 
 
-def parts_of(paths: List[bytes], head: int = len(QUESTION)) -> Iterator[List[bytes]]:
+def parts_of(paths: List[bytes], head: int = len(LIST_NUMBERS)) -> Iterator[List[bytes]]:
     """The names in their order, as many in each part as a line has room for, after a head of so many bytes."""
     return program.parts_of(paths, LINE_LIMIT - head, word_of)

@@ -7,14 +7,14 @@ from typing import Dict, FrozenSet, Iterator, List, NamedTuple, Optional, Set, T
 
 from .messages import counted
 from .names import PLAIN_SHELL_WORD, script_word, sorting_key
-from .owners import ESCAPED_IN_NAMES, OWNER
+from .owners import ESCAPED_IN_NAMES, MASK, OWNER, OWNING_GROUP
 from .people import Group, People, User
 from .program import Session
+from .protocol import EFFECTIVE, ENTRIES_OF, NAMED_LINE
 from .records import Files
 from .rights import NOTHING, SEARCH, Answers, directories_to_find, directory_of, lanes, places_in
 
-NAMED = re.compile(rb"^(user|group):([0-9]+):(...)$", re.MULTILINE)
-MASK, OWNING_GROUP = re.compile(rb"^mask::(...)$", re.MULTILINE), re.compile(rb"^group::(...)$", re.MULTILINE)
+NAMED = re.compile(NAMED_LINE, re.MULTILINE)
 ONE_OR_NONE = bytes([0]) + bytes([1]) * 255
 MOST_DIRECTORIES = 8  # So many at most are opened by one line.
 ROOM_FOR_NAMES = 60_000  # Bytes of their words in a line.
@@ -57,7 +57,7 @@ def below(number: int) -> bytes:
 
 
 def shown_entry(entry: bytes) -> bytes:
-    return re.sub(rb"\t+#effective:", b", effective ", entry)
+    return re.sub(rb"\t+" + EFFECTIVE, b", effective ", entry)
 
 
 class Named(NamedTuple):
@@ -292,14 +292,14 @@ def operand(name: bytes) -> bytes:
 def question(user: User, names: List[bytes]) -> bytes:
     """What decides on a user on directories in path order."""
     asked = b"%d" % user.uid if user.name.isdigit() else name_in_index(user.name)
-    return b"why -- " + b" ".join(map(script_word, [asked, *names]))
+    return b" ".join([ENTRIES_OF, *map(script_word, [asked, *names])])
 
 
 def ask_entries(session: Session, questions: List[Tuple[User, List[bytes]]]) -> Iterator[List[List[bytes]]]:
     """The entries that decide on each user, of each directory."""
     for start in range(0, len(questions), AT_ONCE):
         part = questions[start : start + AT_ONCE]
-        text = session.ask_surely(b"\n".join(question(*it) for it in part)).read()
+        text = session.ask_accepted(b"\n".join(question(*it) for it in part)).read()
         blocks = iter(text.split(b"\n\n"))
         for _, names in part:
             yield [next(blocks).split(b"\n")[1:] for _ in names]

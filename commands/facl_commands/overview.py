@@ -12,14 +12,15 @@ from . import texts as source_texts
 from .messages import Command, counted
 from .names import live_name
 from .people import rows_of
-from .records import EMPTY_MASK, OTHERS_WITH_SOMETHING
+from .protocol import EMPTY_MASK, FILE_HEAD, FILE_LINE, GROUP_ID_LINE, USER_ID_LINE
+from .records import EMPTY_MASKS_OF_LISTS, OTHERS_WITH_SOMETHING
 from .snapshot import NEEDED, read_links
 from .texts import Source
 from .trusted import read_trusted
 
-FILE_NAME = re.compile(rb"^# file: (.*)$", re.MULTILINE)
-GROUP_IDS = re.compile(rb"^(?:# group: |(?:default:)?group:)([0-9]+)(?:$|:)", re.MULTILINE)
-USER_IDS = re.compile(rb"^(?:# owner: |(?:default:)?user:)([0-9]+)(?:$|:)", re.MULTILINE)
+FILE_NAME = re.compile(FILE_LINE, re.MULTILINE)
+GROUP_IDS = re.compile(GROUP_ID_LINE, re.MULTILINE)
+USER_IDS = re.compile(USER_ID_LINE, re.MULTILINE)
 EMPTY_MASKS = (b"lists with an empty mask whose others have something, which Linux grants to named users and groups "
                b"too, and facl does not")
 
@@ -48,13 +49,13 @@ def summary(texts: Texts, name: bytes) -> bytes:
 
 def open_empty_masks(dump: bytes) -> Iterator[bytes]:
     """The files that have an empty mask, and something for others."""
-    if b"\nmask::---\n" not in dump:  # Which is quicker to see.
+    if EMPTY_MASK not in dump:  # Which is quicker to see.
         return
-    for mask in EMPTY_MASK.finditer(dump):
-        start = dump.rfind(b"# file: ", 0, mask.start())
+    for mask in EMPTY_MASKS_OF_LISTS.finditer(dump):
+        start = dump.rfind(FILE_HEAD, 0, mask.start())
         end = dump.find(b"\n\n", mask.end())
         if OTHERS_WITH_SOMETHING.search(dump[start : end if end >= 0 else len(dump)]):
-            yield dump[start + len(b"# file: ") : dump.index(b"\n", start)]
+            yield dump[start + len(FILE_HEAD) : dump.index(b"\n", start)]
 
 
 def ids_without_row(texts: Texts) -> List[bytes]:

@@ -10,17 +10,22 @@ from .names import SAFE, live_name, live_path, read_name, script_word, shell_wor
 from .people import People
 from .planned import HEAD_OF_RECORD
 from .program import Session, parts_of
+from .protocol import (
+    FLAGS_HEAD, GROUP_HEAD, LIST_ALL, LIST_NUMBERS, MASK_LINE, NAMED_USER_LINE, NO_GROUP, NO_USER, ONLY_DIRECTORIES,
+    OWNER_HEAD, OWNER_LINES, OWNING_GROUP_LINE, PROGRAM, RESTORE, SET_DEFAULT, SET_FLAGS_LINE, TOO_MANY_FILES, USAGE,
+    has_text, message_of,
+)
 from .records import File, Files, read_listing, write_records
 from .scripts import LINE_LIMIT, WORD, Unit, takes_text
+from .tools import ALL, OPTIONS
 
-RESTORE = b"setfacl --restore=-"
 TEXT_LIMIT = 60 << 20  # A run of the program takes 64 MiB, of which others have a part.
 NO_ID = 0xFFFFFFFF  # chown(2) takes it for "stays".
-SET_FLAGS = re.compile(rb"\n# flags: (?:s|-s)")
-MASK, OWNING_GROUP = re.compile(rb"^mask::..([x-])", re.MULTILINE), re.compile(rb"^group::..([x-])", re.MULTILINE)
+SET_FLAGS = re.compile(SET_FLAGS_LINE)
+MASK, OWNING_GROUP = re.compile(MASK_LINE, re.MULTILINE), re.compile(OWNING_GROUP_LINE, re.MULTILINE)
 ESCAPED_IN_NAMES = re.compile(rb"[\\\n\r\t :,#]")  # As the program prints names of users and groups.
-OWNER = re.compile(rb"# owner: ([0-9]+)\n# group: ([0-9]+)\n")
-NAMED_USER = re.compile(rb"^(?:default:)?user:([0-9]+):", re.MULTILINE)
+OWNER = re.compile(OWNER_LINES)
+NAMED_USER = re.compile(NAMED_USER_LINE, re.MULTILINE)
 
 
 class Refused(Exception):
@@ -59,11 +64,12 @@ def restoring(session: Session, people: People, unit: Unit) -> Union[Unit, bytes
         ids = read_ids(line, people)
         files = ask_files(session, line)
     except Refused as refused:
-        return refused.text if refused.text.startswith(b"facl: ") else unit.words[0] + b": " + refused.text
+        is_of_line = refused.text.startswith(message_of(PROGRAM, b""))
+        return refused.text if is_of_line else message_of(unit.words[0], refused.text)
     changed = changed_files(session, line, files, ids)
     text = write_records(changed, changed)
     if len(text) > TEXT_LIMIT:
-        return unit.words[0] + b": too many files"
+        return message_of(unit.words[0], TOO_MANY_FILES)
     return Unit(unit.script, unit.number, RESTORE.split(b" "), [RESTORE, *text.split(b"\n")[:-1], b"."], True)
 
 
@@ -73,7 +79,7 @@ def restoring(session: Session, people: People, unit: Unit) -> Union[Unit, bytes
 def read_line(unit: Unit) -> Line:
     """The words of a line; an option may be anywhere before --, and once."""
     if takes_text(unit.words):
-        raise Refused(b"usage")
+        raise Refused(USAGE)
     options, operands = [], []
     is_ended = False
     for word, written in zip(unit.words[1:], WORD.findall(unit.lines[0])[1:]):
@@ -83,41 +89,41 @@ def read_line(unit: Unit) -> Line:
             is_ended = True
         else:
             options.append(word)
-    if options not in ([], [b"-R"], [b"--recursive"]) or len(operands) < 2:
-        raise Refused(b"usage")
+    if len(options) > 1 or not OPTIONS[unit.tool()].issuperset(options) or len(operands) < 2:
+        raise Refused(USAGE)
     user, group = read_owner(unit.words[0], operands[0][0])
     return Line(bool(options), user, group, [written for _, written in operands[1:]])
 
 
 def read_owner(tool: bytes, word: bytes) -> Tuple[Optional[bytes], Optional[bytes]]:
     """USER, USER:GROUP, USER: or :GROUP; of chgrp GROUP."""
-    if tool == b"chgrp":
+    if ALL[tool].operands.startswith("GROUP"):
         user, colon, group = b"", b":", word
     else:
         user, colon, group = word.partition(b":")
     is_login_group = bool(colon) and not group
     if not user and not group or is_login_group and read_name(user.strip(b" \t")).isdigit():
-        raise Refused(b"usage")
+        raise Refused(USAGE)
     return user or None, group if colon else None
 
 
 def read_ids(line: Line, people: People) -> Ids:
     uid = gid = None
     if line.user is not None:
-        uid = read_id(line.user, ((user.name, user.uid) for user in people.users), b"user")
+        uid = read_id(line.user, ((user.name, user.uid) for user in people.users), NO_USER)
     if line.user is not None and line.group == b"":
-        gid = read_id(line.user, ((user.name, user.gid) for user in people.users), b"user")
+        gid = read_id(line.user, ((user.name, user.gid) for user in people.users), NO_USER)
     elif line.group is not None:
-        gid = read_id(line.group, ((group.name, group.gid) for group in people.groups), b"group")
+        gid = read_id(line.group, ((group.name, group.gid) for group in people.groups), NO_GROUP)
     return Ids(uid, gid)
 
 
-def read_id(word: bytes, rows: Iterable[Tuple[bytes, int]], kind: bytes) -> int:
+def read_id(word: bytes, rows: Iterable[Tuple[bytes, int]], fault: bytes) -> int:
     """The id of a USER or a GROUP; digits alone are an id, also one without a row."""
     name = read_name(word.strip(b" \t"))
     found = int(name) if name.isdigit() else dict(reversed(list(rows))).get(name, NO_ID)
     if found >= NO_ID:
-        raise Refused(ESCAPED_IN_NAMES.sub(lambda it: b"\\%03o" % it[0][0], name) + b": no such " + kind)
+        raise Refused(ESCAPED_IN_NAMES.sub(lambda it: b"\\%03o" % it[0][0], name) + b": " + fault)
     return found
 
 
@@ -127,7 +133,7 @@ def read_id(word: bytes, rows: Iterable[Tuple[bytes, int]], kind: bytes) -> int:
 def ask_files(session: Session, line: Line) -> Files:
     """The files of a line as they are now."""
     found: Files = {}
-    begin = b"getfacl -n -E -R --" if line.is_recursive else b"getfacl -n -E --"
+    begin = LIST_ALL if line.is_recursive else LIST_NUMBERS
     place = 0
     for words in parts_of(line.files, LINE_LIMIT - len(begin)):
         answer = session.ask(b" ".join([begin, *words]) + b"\n")
@@ -140,9 +146,10 @@ def ask_files(session: Session, line: Line) -> Files:
 
 def fault_of(message: bytes, place: int) -> bytes:
     """The fault of a listing as that of a line whose operands begin that much earlier."""
-    if not message.startswith(b"getfacl: "):
+    listing = message_of(LIST_ALL.split()[0], b"")
+    if not message.startswith(listing):
         return message
-    fault = message[len(b"getfacl: ") :]
+    fault = message[len(listing) :]
     operand = re.match(rb"operand ([0-9]+)(: .*)", fault, re.DOTALL)
     return fault if operand is None else b"operand %d" % (int(operand[1]) + place) + operand[2]
 
@@ -168,15 +175,14 @@ def new_body(body: bytes, keeps_flags: bool, ids: Ids) -> bytes:
     old, flags = (int(head[1]), int(head[2])), b"".join(head.groups(b"-")[2:])
     uid, gid = (now if new is None else new for now, new in zip(old, ids))
     flags = flags if keeps_flags else cleared(flags, body)
-    return b"# owner: %d\n# group: %d\n" % (uid, gid) + (b"" if flags == b"---" else b"# flags: " + flags
-                                                         + b"\n") + body[head.end() :]
+    owner = OWNER_HEAD + b"%d\n" % uid + GROUP_HEAD + b"%d\n" % gid
+    return owner + (b"" if flags == b"---" else FLAGS_HEAD + flags + b"\n") + body[head.end() :]
 
 
 def asks_as_directory(session: Session, path: bytes) -> bool:
     """Whether the program takes a file for a directory, which a listing of it alone does not show."""
-    question = b"setfacl --test -m d:u::rwx -- " + script_word(shown_path(path)) + b"\n"
-    return not any(message.endswith(b": only directories have default lists")
-                   for message in session.ask(question).messages)
+    question = SET_DEFAULT + b" " + script_word(shown_path(path)) + b"\n"
+    return not any(has_text(message, ONLY_DIRECTORIES) for message in session.ask(question).messages)
 
 
 def cleared(flags: bytes, body: bytes) -> bytes:
@@ -184,7 +190,7 @@ def cleared(flags: bytes, body: bytes) -> bytes:
     mandatory locking then."""
     group_class = MASK.search(body) or OWNING_GROUP.search(body)
     assert group_class is not None
-    return b"-" + (b"-" if group_class[1] == b"x" else flags[1:2]) + flags[2:]
+    return b"-" + (b"-" if group_class[1].endswith(b"x") else flags[1:2]) + flags[2:]
 
 
 # --- what a user who is removed leaves

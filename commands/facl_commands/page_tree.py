@@ -8,12 +8,11 @@ from __future__ import annotations
 from typing import Dict, Generic, Hashable, Iterable, Iterator, List, NamedTuple, Set, Tuple, TypeVar
 
 from .names import read_name, sorting_key
-from .program import Region
+from .program import OutputSlice
+from .protocol import DEFAULT_ENTRY, FILE_HEAD
 
 ABOVE = -1  # What no recorded directory is above.
 GONE = -1  # The label of a file that is not there.
-HEAD = b"# file: "
-
 
 Value = TypeVar("Value", bound=Hashable)
 
@@ -26,13 +25,13 @@ class Record(NamedTuple):
     body: bytes
 
 
-def records_of(listing: Region) -> Iterator[Record]:
+def records_of(listing: OutputSlice) -> Iterator[Record]:
     """The records of a listing of the program, one after another."""
     for record in listing.records():
         first, _, body = record.partition(b"\n")
-        name = first[len(HEAD) :]
+        name = first[len(FILE_HEAD) :]
         path = b"" if name == b"." else (read_name(name) if b"\\" in name else name).rstrip(b"/")
-        yield Record(path, path == b"" or name.endswith(b"/") or b"\ndefault:" in body, body + b"\n")
+        yield Record(path, path == b"" or name.endswith(b"/") or DEFAULT_ENTRY in body, body + b"\n")
 
 
 class Table(Generic[Value]):

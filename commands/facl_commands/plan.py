@@ -8,23 +8,24 @@ import re
 from typing import Dict, List, Union
 
 from . import meta, no_gain, overview, owners, people, plan_folder, planned, rights, texts
-from .answering import WARNING, answer_unit, is_refused
+from .answering import answer_unit
 from .links import Links
 from .messages import Command, Failure, counted, parser_of
 from .names import live_path
 from .plan_report import Asked, Message, answers_text, json_report, text_report
 from .plan_report import Outcome as Outcome
 from .program import Session, find_program
+from .protocol import WARNING, is_refused
 from .records import Changes, Files, Listing, compare, has_open_empty_mask, list_files, write_records
 from .scripts import Script, Unit, read_text
 from .snapshot import Snapshot, read_snapshot
-from .tools import CHANGES_OF_PEOPLE, EDITS, EMPTY_ANSWERS, TOOLS_OF_PLANS
+from .tools import CHANGES_OF_PEOPLE, EDITS, EMPTY_ANSWERS, OF_RECORDS, TOOLS_OF_PLANS
 from .trusted import read_trusted
 
 SOMETHING, REFUSED, NOTHING = 0, 1, 3
 # In a dump: a name that does not start at the root.
 RELATIVE_NAME = re.compile(rb"^[ \t]*#[ \t]*file:(?! ?/)", re.MULTILINE)
-QUESTIONS_WITH_EMPTY_ANSWERS = set(EMPTY_ANSWERS) - {b"getfacl"}
+QUESTIONS_WITH_EMPTY_ANSWERS = set(EMPTY_ANSWERS).difference(OF_RECORDS)
 HELP = """\
 Answers the lines of each SCRIPT over a snapshot, as facl does, and prints what would change in who may do what: one
 line for each user and kind of change, with the number of files and the first of them. A right counts where the user
@@ -115,7 +116,7 @@ class Run:
 
 def list_below(session: Session, tops: List[bytes]) -> Listing:
     """The files as they are now, from those on that no recorded directory is above."""
-    return list_files(b"".join(region.read() for region in texts.list_below(session, tops)))
+    return list_files(b"".join(output.read() for output in texts.list_below(session, tops)))
 
 
 def answer_scripts(given: argparse.Namespace, snapshot: Snapshot, units: List[Unit], is_whole: bool = True) -> Outcome:

@@ -9,13 +9,14 @@ from typing import TYPE_CHECKING, Dict, Iterable, List, NamedTuple, Optional, Tu
 from .lists import Record
 from .messages import Failure
 from .names import path_order
+from .protocol import ATTRIBUTE_LINES, ATTRIBUTES_OF, FILE_HEAD, FLAGS_LINE, OWNER_LINES
 from .snapshot import Identity, Snapshot
 
 if TYPE_CHECKING:
     from .records import Changes, Files
 
-HEAD_OF_RECORD = re.compile(rb"# owner: ([0-9]+)\n# group: ([0-9]+)\n(?:# flags: ([s-])([s-])([t-])\n)?")
-ATTRIBUTES = re.compile(rb"system\.posix_acl_access=0x([0-9a-f]+)\n(?:system\.posix_acl_default=0x([0-9a-f]+)\n)?\n")
+HEAD_OF_RECORD = re.compile(OWNER_LINES + b"(?:" + FLAGS_LINE + b")?")
+ATTRIBUTES = re.compile(ATTRIBUTE_LINES)
 PORTION = 10_000  # Questions that are sent at once.
 NOWHERE = Identity(0, 0, 0)  # Of a file of a snapshot without inodes.
 
@@ -42,12 +43,12 @@ def ask_records(program: str, bodies: Iterable[bytes]) -> Dict[bytes, Record]:
 
     known = list(dict.fromkeys(bodies))
     # Directories that have these bodies; their names are their numbers.
-    dump = b"".join(b"# file: %d/\n%s\n" % (number, body) for number, body in enumerate(known))
+    dump = b"".join(FILE_HEAD + b"%d/\n%s\n" % (number, body) for number, body in enumerate(known))
     found: List[Tuple[bytes, bytes]] = []
     with session_over(program, b"", b"", dump) as session:
         for place in range(0, len(known), PORTION):
-            lines = b"\n".join(b"attr %d" % number for number in range(place, min(place + PORTION, len(known))))
-            found += ATTRIBUTES.findall(session.ask_surely(lines).read())
+            lines = b"\n".join(ATTRIBUTES_OF % number for number in range(place, min(place + PORTION, len(known))))
+            found += ATTRIBUTES.findall(session.ask_accepted(lines).read())
     assert len(found) == len(known)
     return {body: record_of(body, *lists) for body, lists in zip(known, found)}
 

@@ -10,6 +10,7 @@ from types import TracebackType
 from typing import IO, Callable, Dict, Iterable, Iterator, List, NamedTuple, Optional, Type
 
 from .messages import Failure
+from .protocol import DUMP_NOT_READ, IN_LINE, PROBE, PROBE_REFUSED, SETUP
 
 # What would have a called program take other words, or read other files, than it is given.
 LEFT_OUT = ("POSIXLY_CORRECT", "PYTHONPATH", "PYTHONHOME", "PERL5LIB", "PERL5OPT", "PARALLEL")
@@ -42,7 +43,7 @@ def lines_of(pieces: Iterable[bytes], end: bytes = b"\n") -> Iterator[bytes]:
         yield from whole
 
 
-class Region(NamedTuple):
+class OutputSlice(NamedTuple):
     """A part of what the program printed."""
 
     file: IO[bytes]
@@ -71,7 +72,7 @@ class Region(NamedTuple):
 class Answer(NamedTuple):
     """What the program printed for lines, and its messages without their line numbers."""
 
-    output: Region
+    output: OutputSlice
     messages: List[bytes]
 
 
@@ -113,8 +114,8 @@ class Session:
         start = os.fstat(self.output.fileno()).st_size
         first = self.number + 1
         self.number += lines.count(b"\n") + 1
-        self.send(lines + b"getfacl " + token + b"\n")
-        end = b"line %d: getfacl: %s: no such file\n" % (self.number, token)
+        self.send(lines + PROBE % token + b"\n")
+        end = IN_LINE % self.number + PROBE_REFUSED % token + b"\n"
         messages: List[bytes] = []
         while True:
             message = self.run.stderr.readline()
@@ -123,11 +124,11 @@ class Session:
             if not message:
                 raise self.early_end(messages)
             messages.append(message.rstrip(b"\n"))
-        region = Region(self.output, start, os.fstat(self.output.fileno()).st_size)
-        begin = b"line %d: " % first  # The number is that of our own stream of lines.
-        return Answer(region, [it[len(begin) :] if it.startswith(begin) else it for it in messages])
+        output = OutputSlice(self.output, start, os.fstat(self.output.fileno()).st_size)
+        begin = IN_LINE % first  # The number is that of our own stream of lines.
+        return Answer(output, [it[len(begin) :] if it.startswith(begin) else it for it in messages])
 
-    def ask_surely(self, line: bytes) -> Region:
+    def ask_accepted(self, line: bytes) -> OutputSlice:
         """Answers a line of our own, which cannot be refused."""
         answer = self.ask(line + b"\n")
         if answer.messages:
@@ -146,9 +147,9 @@ class Session:
         """Why the program ended before it was asked to."""
         status = self.run.wait()
         last = messages[-1] if messages else b"status %d" % status
-        if last.startswith(b"facl: setup: "):
+        if last.startswith(SETUP):
             return Failure(b"%s: the program does not load it: %s" % (self.folder, last))
-        if last == b"facl: dump: cannot read" and os.path.getsize(os.path.join(self.folder, b"dump")) > FILE_LIMIT:
+        if last == DUMP_NOT_READ and os.path.getsize(os.path.join(self.folder, b"dump")) > FILE_LIMIT:
             return Failure(self.folder + b": its dump has more than 268,435,456 bytes, the most that the program "
                                          b"reads: take several "
                            b"snapshots by facl-snapshot --split")

@@ -8,9 +8,10 @@ from typing import Dict, Iterable, List, NamedTuple, Tuple
 from .messages import Failure
 from .names import read_path, script_word, shown_path, sorting_key, write_name
 from .program import Session
+from .protocol import DEFAULT_ENTRY, EMPTY_MASK_LINE, FILE_HEAD, LIST_ALL, OPEN_OTHERS_LINE, lacks_file
 
-EMPTY_MASK = re.compile(rb"^mask::---$", re.MULTILINE)
-OTHERS_WITH_SOMETHING = re.compile(rb"^other::(?!---)", re.MULTILINE)
+EMPTY_MASKS_OF_LISTS = re.compile(EMPTY_MASK_LINE, re.MULTILINE)
+OTHERS_WITH_SOMETHING = re.compile(OPEN_OTHERS_LINE, re.MULTILINE)
 
 
 class File(NamedTuple):
@@ -49,9 +50,9 @@ def write_records(files: Files, paths: Iterable[bytes]) -> bytes:
     for path in paths:
         is_directory, body = files[path]
         if is_directory or b"\\" in path or b"\n" in path or b"\r" in path:
-            parts += (b"# file: /", write_name(path), b"/" * (is_directory and path != b""), b"\n", body, b"\n")
+            parts += (FILE_HEAD + b"/", write_name(path), b"/" * (is_directory and path != b""), b"\n", body, b"\n")
         else:
-            parts += (b"# file: /", path, b"\n", body, b"\n")
+            parts += (FILE_HEAD + b"/", path, b"\n", body, b"\n")
     return b"".join(parts)
 
 
@@ -78,7 +79,7 @@ def read_bodies(text: bytes) -> Tuple[List[bytes], List[bytes]]:
     for record in text.split(b"\n\n"):
         if record:
             first, _, rest = record.partition(b"\n")
-            names.append(first[len(b"# file: ") :])
+            names.append(first[len(FILE_HEAD) :])
             body = known.get(rest)
             if body is None:
                 body = known[rest] = rest + b"\n"
@@ -98,7 +99,7 @@ def list_files(text: bytes) -> Listing:
         is_directory = name[-1:] == b"/" or path in parents
         file = known[is_directory].get(body)
         if file is None:
-            file = known[is_directory][body] = File(is_directory or b"\ndefault:" in body, body)
+            file = known[is_directory][body] = File(is_directory or DEFAULT_ENTRY in body, body)
         found[path] = file
     return Listing(found, names)
 
@@ -110,8 +111,8 @@ def read_listing(text: bytes) -> Files:
 def list_all(session: Session, top: bytes = b"") -> Listing:
     """The files as they are now, a directory and those below it; none where it is not there, and so where the root was
     removed, which removes all."""
-    answer = session.ask(b"getfacl -R -n -E -- " + script_word(shown_path(top)) + b"\n")
-    if answer.messages and not answer.messages[0].endswith(b": no such file"):
+    answer = session.ask(LIST_ALL + b" " + script_word(shown_path(top)) + b"\n")
+    if answer.messages and not lacks_file(answer.messages):
         raise Failure(b"the program refused to list the files: " + answer.messages[0])
     return list_files(answer.output.read())
 
@@ -130,4 +131,4 @@ def compare(old: Files, new: Files) -> Changes:
 @lru_cache(maxsize=4096)
 def has_open_empty_mask(file: File) -> bool:
     """Whether Linux grants named users and groups what others have, as the mask is empty."""
-    return bool(EMPTY_MASK.search(file.body)) and bool(OTHERS_WITH_SOMETHING.search(file.body))
+    return bool(EMPTY_MASKS_OF_LISTS.search(file.body)) and bool(OTHERS_WITH_SOMETHING.search(file.body))

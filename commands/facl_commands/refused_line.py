@@ -4,6 +4,7 @@ from __future__ import annotations
 import re
 from typing import List, NamedTuple, Optional
 
+from .protocol import ANY_TOOL, EXISTS, IS_DIRECTORY, NO_FILE, NO_GROUP, NO_USER, NOT_DIRECTORY, USER_EXISTS
 from .scripts import WORD, words_of
 from .tools import LONG_NAMES, OPTIONS, Option, Split, split
 
@@ -11,8 +12,8 @@ __all__ = ["OPTIONS", "Line", "line_of", "quoted"]
 
 QUOTED = re.compile(rb"'[^']*'|\"[^\"]*\"")
 SUBJECT = re.compile(
-    rb"[a-z]+: (.*): (?:no such (?:file|user|group)|exists|is a directory|not a directory|user exists)\Z", re.DOTALL
-)
+    ANY_TOOL + b": (.*): (?:"
+    + b"|".join((NO_FILE, NO_USER, NO_GROUP, EXISTS, IS_DIRECTORY, NOT_DIRECTORY, USER_EXISTS)) + rb")\Z", re.DOTALL)
 
 
 class Line(NamedTuple):

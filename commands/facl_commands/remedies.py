@@ -3,21 +3,16 @@ fill in."""
 from __future__ import annotations
 
 import re
-from typing import Callable, Dict, FrozenSet, List, Optional
+from typing import Callable, Dict, List, Optional
 
-from . import tools
 from .refused_line import Line, quoted
-from .tools import ALL, OPTIONS
+from .tools import HARMLESS, OPTIONS, operands_of
 
 CLAUSE = re.compile(rb"([ugoa]*)((?:[-+=](?:[rwxXst]*|[ugo]))+)\Z")
 TRIADS = re.compile(rb"[-dlbcps]?(([r-])([w-])([xsS-]))(([r-])([w-])([xsS-]))(([r-])([w-])([xtT-]))[.+]?\Z")
 REDIRECTION = re.compile(rb"\s*\d?(?:>>?|<{1,3})(?:&\d|\s*[^\s|;&<>]+)?")
 PARTS = re.compile(rb"\s*(?:;|&&|\|\|)\s*")
-TOOLS = frozenset(tools.TOOLS)
 PLACEHOLDERS = (b"USER", b"GROUP", b"FILE", b"PERMS", b"MODE", b"UID", b"NAME", b"NEWFILE")
-# The operands of tools whose missing words have no cause of their own.
-WORDS_OF_TOOLS: Dict[bytes, bytes] = {name: ALL[name].operands.encode() for name in
-                  b"can who may why getfacl chmod rm attr userdel chown chgrp".split()}
 
 Remedy = Callable[[Line], List[bytes]]
 # What words of a remedy in braces stand for.
@@ -150,14 +145,14 @@ def found_files(line: Line) -> List[bytes]:
 
 def one_file_each(line: Line) -> List[bytes]:
     """Of a tool that takes one FILE: a name with spaces, or a line for each FILE."""
-    first = 0 if line.tool() in (b"attr", b"creat") else 1
+    first = len(operands_of(line.tool(), line.split)) - 1
     head = [line.tool(), *[it.name + b"=" * bool(it.value) + it.value for it in line.given], *line.operands[:first]]
     files = line.operands[first:]
     return [built(*head, file) for file in (files if all(b"/" in file for file in files) else [b" ".join(files)])]
 
 
 def with_placeholders(line: Line) -> List[bytes]:
-    wanted = WORDS_OF_TOOLS[line.tool()].split()
+    wanted = [word.encode() for word in operands_of(line.tool(), line.split)]
     operands = line.operands[: len(wanted)]
     if len(wanted) == 2 and len(operands) == 1 and b"/" in operands[0]:
         operands = [wanted[0], *operands]
@@ -241,20 +236,11 @@ def letters_as_digits(line: Line) -> List[bytes]:
 
 # --- options and entries
 
-SAYING_MORE = frozenset((b"-v", b"-c", b"-f", b"--verbose", b"--changes", b"--silent", b"--quiet"))
-# Options of the system's tools without which a line does the same here.
-HARMLESS: Dict[bytes, FrozenSet[bytes]] = {
-    b"getfacl": frozenset((b"-p", b"-t", b"-L", b"-P", b"--absolute-names", b"--tabular", b"--logical", b"--physical")),
-    b"setfacl": frozenset((b"-L", b"-P", b"--logical", b"--physical")), b"rm": frozenset((b"-i", b"-I", b"-v")),
-    b"userdel": frozenset((b"-r", b"-f", b"--remove", b"--force")), b"chmod": SAYING_MORE,
-    b"chown": SAYING_MORE | {b"--preserve-root"}, b"chgrp": SAYING_MORE | {b"--preserve-root"},
-}
-
 
 def without_harmless(line: Line) -> List[bytes]:
     """The line without options that say nothing here, where it has no others."""
     known, words = OPTIONS[line.tool()], [line.tool()]
-    if any(option.name not in known.union(HARMLESS.get(line.tool(), ())) for option in line.given):
+    if any(option.name not in known.union(HARMLESS[line.tool()]) for option in line.given):
         return []
     for name, value in line.given:
         if name in known:

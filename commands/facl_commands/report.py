@@ -23,6 +23,7 @@ from .new_file import NewFile
 from .page_tree import ABOVE, GONE, Labels, Listing, Record, Table, Tree, records_of
 from .people import rows_of
 from .program import Session, find_program
+from .protocol import ACCESS_GROUP_LINE, ADD_USER_WITH
 from .records import File, Files
 from .scripts import Unit, read_text
 from .snapshot import Snapshot, read_snapshot
@@ -116,7 +117,7 @@ class Probes:
     """A user for each group that lists name, who has that group alone, and one for everybody."""
 
     def __init__(self, snapshot: Snapshot, bodies: List[bytes], changes: bytes) -> None:
-        named = {it for body in bodies for it in re.findall(rb"^(?:# group: |group:)([0-9]+)", body, re.MULTILINE)}
+        named = {it for body in bodies for it in re.findall(ACCESS_GROUP_LINE, body, re.MULTILINE)}
         groups = rows_of(snapshot.group)
         unnamed = next((row for row in groups if row[2] not in named), None)
         wanted = [("group", row[0], row) for row in groups if row[2] in named]
@@ -125,7 +126,7 @@ class Probes:
         token = os.urandom(8).hex().encode()
         self.whos = [Who(kind, name, b"probe-%s-%d" % (token, place)) for place, (kind, name, _) in enumerate(wanted)]
         self.lines = b"".join(
-            b"useradd -u %d -g %s -- %s\n" % (next(ids), row[2], who.user)
+            ADD_USER_WITH % (next(ids), row[2], who.user) + b"\n"
             for who, (_, _, row) in zip(self.whos, wanted)
         )
 
@@ -274,7 +275,7 @@ def page_of(data: Dict[str, object]) -> bytes:
 
 def list_files(session: Session, tops: List[bytes]) -> Iterator[Record]:
     """The files as they are now; none where the tops were removed, which removes all."""
-    return (record for region in texts.list_below(session, tops) for record in records_of(region))
+    return (record for output in texts.list_below(session, tops) for record in records_of(output))
 
 
 def keep(records: Iterator[Record], wanted: List[List[bytes]], kept: Files) -> Iterator[Record]:

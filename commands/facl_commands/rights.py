@@ -11,7 +11,8 @@ import struct
 from typing import Collection, Container, Dict, Iterator, List, NamedTuple, Optional, Set, Tuple
 
 from .messages import Failure
-from .program import Region, Session
+from .program import OutputSlice, Session
+from .protocol import INDEX
 from .names import sorting_key
 from .records import Listing
 
@@ -95,7 +96,7 @@ def places_in(numbers: bytes) -> Iterator[int]:
     return (found.start() for found in NOT_ZERO.finditer(numbers))
 
 
-def users_of(table: Region) -> List[bytes]:
+def users_of(table: OutputSlice) -> List[bytes]:
     """The users of an index, in their order: those of its first file."""
     users: List[bytes] = []
     first = None
@@ -108,7 +109,7 @@ def users_of(table: Region) -> List[bytes]:
     return users
 
 
-def read_table(table: Region, users: List[bytes], listing: Listing) -> Dict[bytes, Vector]:
+def read_table(table: OutputSlice, users: List[bytes], listing: Listing) -> Dict[bytes, Vector]:
     """For each record what `index` has of the first file that has it. All lines of a file have one length but for the
     user; without the name, the digits have the same places in each file's lines."""
     found: Dict[bytes, Vector] = {}
@@ -119,7 +120,7 @@ def read_table(table: Region, users: List[bytes], listing: Listing) -> Dict[byte
     for name, file in zip(listing.names, listing.files.values()):
         end = place + fixed + len(users) * len(name)
         if file.body not in found:
-            text = Region(table.file, place, end).read().replace(b" " + name + b"\n", b"\n")
+            text = OutputSlice(table.file, place, end).read().replace(b" " + name + b"\n", b"\n")
             if len(text) != digits.size or list(rest.unpack(text)) != ends:
                 raise Failure(b"the program does not list the users and files of `index` in their order: " + name)
             found[file.body] = bytes.fromhex(b"".join(digits.unpack(text)).decode())
@@ -161,7 +162,7 @@ def directories_to_find(directory: bytes, found: Container[bytes]) -> List[bytes
 
 def ask_rights(session: Session, listing: Listing, along_paths: bool) -> Answers:
     """Asks what all users may do with all files that are listed."""
-    table = session.ask_surely(b"index")
+    table = session.ask_accepted(INDEX)
     users = users_of(table)
     of_record = read_table(table, users, listing)
     names = dict(zip(listing.files, listing.names))

@@ -6,10 +6,10 @@ import re
 from typing import Iterable, Iterator, List, NamedTuple, Optional
 
 from .messages import Failure, reason
+from .tools import LOADERS, TEXT_WORDS
 
 LINE_LIMIT = 65536
 WORD = re.compile(rb"(?:[^ \t']|'[^']*')+")
-TEXT_WORDS = {b"-", b"-M-", b"-X-", b"--modify-file=-", b"--remove-file=-", b"--set-file=-", b"--restore=-"}
 
 
 class Unit(NamedTuple):
@@ -48,7 +48,7 @@ def is_empty(line: bytes) -> bool:
 
 
 def takes_text(words: List[bytes]) -> bool:
-    return words[:1] == [b"load"] or any(word in TEXT_WORDS for word in words[1:])
+    return any(word in LOADERS for word in words[:1]) or any(word in TEXT_WORDS for word in words[1:])
 
 
 def read_units(name: bytes, lines: Iterable[bytes]) -> Iterator[Unit]:

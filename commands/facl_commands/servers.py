@@ -12,14 +12,14 @@ from typing import Dict, Iterator, List, NamedTuple
 
 from . import overview
 from .answering import heading, lines_to_show, write_messages
-from .each import superusers_of
 from .messages import UNUSABLE, Command, Failure
 from .names import shown
+from .protocol import ANSWERED, REFUSED
 from .scripts import Unit, read_text
+from .shards import superusers_of
 from .side_by_side import HERE, HOST, Answered, Part, checked_operand, program_option, run_hosts
 from .superuser import Superusers
 
-ANSWERED, REFUSED = 0, 1
 THIS = b"localhost"  # The name of this machine, which needs no ssh.
 
 

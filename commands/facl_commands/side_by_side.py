@@ -11,10 +11,10 @@ import sys
 import tempfile
 from typing import IO, Dict, List, NamedTuple, Optional, Union
 
-from .answering import is_refused
 from .messages import Failure
-from .part import Head, Header, read_head, read_header
-from .program import HOME, Region, environment_of_called
+from .program import HOME, OutputSlice, environment_of_called
+from .protocol import is_refused
+from .shard_worker import Head, Header, read_head, read_header
 
 NAME_OF_HOST = rb"[A-Za-z0-9_][A-Za-z0-9._-]*"
 HOST = re.compile(rb"((?:" + NAME_OF_HOST + rb"@)?" + NAME_OF_HOST + rb"):(.*)\Z", re.DOTALL)
@@ -27,7 +27,7 @@ class Answered(NamedTuple):
     """A line's answer by one snapshot."""
 
     header: Header
-    output: Region
+    output: OutputSlice
 
     def is_refused(self) -> bool:
         return is_refused(self.header.messages)
@@ -38,7 +38,7 @@ class Part(NamedTuple):
 
     label: bytes  # The snapshot, as it was given.
     head: Head
-    files: Region
+    files: OutputSlice
     answers: Dict[int, Answered]  # By the number of the line.
 
 
@@ -161,7 +161,7 @@ def read_parts(run: Run, host: bytes) -> List[Part]:
             header = read_header(line)
             place = out.tell()
             out.seek(header.size + 1, os.SEEK_CUR)
-            parts[-1].answers[header.line] = Answered(header, Region(out, place, place + header.size))
+            parts[-1].answers[header.line] = Answered(header, OutputSlice(out, place, place + header.size))
     if is_open:
         raise Failure(b"a snapshot did not answer to the end")
     return parts
@@ -176,4 +176,4 @@ def open_part(out: IO[bytes], line: bytes, host: bytes) -> Part:
     place = out.tell()
     out.seek(head.size, os.SEEK_CUR)
     label = head.part if host == HERE else host + b":" + head.part
-    return Part(label, head, Region(out, place, place + head.size), {})
+    return Part(label, head, OutputSlice(out, place, place + head.size), {})

@@ -5,17 +5,19 @@ from __future__ import annotations
 from typing import Iterable, Iterator, List, Set
 
 from .names import directories_above, read_path
+from .protocol import FILE_HEAD
 from .scripts import Unit
-from .tools import split
+from .tools import OF_RECORDS, OPTIONS, REACH, split
 
-HEAD = b"# file: "
 MARK = b"    <-- here is no search: nothing below is reached"
+# Those that print the entries which decide, also of the directories above.
+BY_ENTRIES = tuple(tool for tool in OF_RECORDS if REACH in OPTIONS[tool])
 
 
 def marked(unit: Unit, lines: Iterable[bytes]) -> Iterator[bytes]:
     """The lines of an answer; of a line that asks why along paths, with the mark on the first directory above each FILE
     whose entries do not grant its user search. A directory comes after those above it."""
-    if not unit.is_of(b"why") or b"--reach" not in unit.words:
+    if not unit.is_of(*BY_ENTRIES) or REACH not in unit.words:
         yield from lines
         return
     files = [read_path(name) for name in split(unit.words).operands[1:]]
@@ -24,7 +26,7 @@ def marked(unit: Unit, lines: Iterable[bytes]) -> Iterator[bytes]:
     for line in lines:
         block.append(line)
         if not line:
-            path = read_path(block[0][len(HEAD) :])
+            path = read_path(block[0][len(FILE_HEAD) :])
             if not any(entry.endswith(b"x") for entry in block[1:-1]):
                 # The files below that nothing above has stopped.
                 stopped = [file for file in files if path in directories_above(file)]

@@ -4,9 +4,9 @@ from __future__ import annotations
 from typing import Dict, Iterable, Iterator, Set
 
 from .names import read_name
-from .people import rows_of
+from .people import ADD_USER, rows_of
 from .scripts import Unit
-from .tools import split
+from .tools import ABOUT_USERS, split, user_in
 
 NOTE = b"left out of who, index and changes: %s, to whom the kernel grants nearly everything; --with-root for all"
 
@@ -20,7 +20,7 @@ class Superusers:
 
     def follow(self, unit: Unit) -> None:
         """A user whom an accepted line makes may be one too."""
-        if unit.is_of(b"useradd"):
+        if unit.is_of(ADD_USER):
             line = split(unit.words)
             if line.has(b"-u") and not line.value(b"-u").strip(b"0") and self.names:
                 self.names.update(map(read_name, line.operands[:1]))
@@ -34,15 +34,12 @@ class Superusers:
         """The lines of an answer without those about them; a question of one user is answered as it is."""
         if not self.is_about_people(unit) or not self.names:
             yield from lines
-        elif unit.is_of(b"who"):
-            yield from (line for line in lines if self.is_kept(line))
         else:
-            place = 1 if unit.is_of(b"index") else 0
-            yield from (line for line in lines if self.is_kept(line.split(b" ", place + 1)[place]))
+            yield from (line for line in lines if self.is_kept(user_in(unit.tool(), line)))
 
     def is_about_people(self, unit: Unit) -> bool:
         """Whether its answer has names of users."""
-        return unit.is_of(b"who", b"index", b"changes")
+        return unit.is_of(*ABOUT_USERS)
 
     def note(self) -> bytes:
         """What is said once, where somebody was left out."""

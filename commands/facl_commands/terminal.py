@@ -10,8 +10,8 @@ from typing import Any, Iterator, Optional
 
 from . import trusted
 from .completion import Completer
-from .desk import Read
 from .messages import Failure
+from .prompt import Read
 
 HISTORY = ".facl_history"
 PRIVATE = 0o600

@@ -17,7 +17,8 @@ from typing import Iterator, List, NamedTuple, Optional, Set
 from .messages import Failure, reason
 from .names import directories_above, path_order, read_name, read_path, script_word, shown_path
 from .people import rows_of
-from .program import Region, Session, environment_of_called, parts_of
+from .program import OutputSlice, Session, environment_of_called, parts_of
+from .protocol import FILE_HEAD, FREE_FILE_LINE, LIST, LIST_ALL, lacks_file
 from .trusted import open_trusted, read_trusted
 
 DUMP = b"dump"
@@ -25,8 +26,8 @@ KINDS = ("user", "group")
 NAMED = {"passwd": re.compile(rb"[ \t]*(?:#[ \t]*owner:[ ]?|(?:d(?:efault)?:)?u(?:ser)?:)([^:#]+)"),
          "group": re.compile(rb"[ \t]*(?:#[ \t]*group:[ ]?|(?:d(?:efault)?:)?g(?:roup)?:)([^:#]+)")}
 KEYS_AT_ONCE = 500  # Of getent.
-LIVE_ROOT = b"# file: /\n"  # As facl-snapshot writes it.
-FILE_NAME = re.compile(rb"[ \t]*#[ \t]*file:[ ]?(.*)", re.DOTALL)
+LIVE_ROOT = FILE_HEAD + b"/\n"  # As facl-snapshot writes it.
+FILE_NAME = re.compile(FREE_FILE_LINE, re.DOTALL)
 PIECE = 1 << 20
 ROOM = 60_000  # Bytes of names in a line, which may have 65,536.
 
@@ -97,7 +98,7 @@ def distinct_lines(dump: bytes) -> Set[bytes]:
     """The lines of a dump without those of files' names; most of the others are there often."""
     lines: Set[bytes] = set()
     for piece in pieces_of(dump):
-        lines.update(line for line in set(piece) if line[:7] != b"# file:")
+        lines.update(line for line in set(piece) if line[:7] != FILE_HEAD[:7])
     return lines
 
 
@@ -148,7 +149,7 @@ def tops_of(dump: bytes) -> List[bytes]:
 
 def find_tops(session: Session, folder: bytes) -> List[bytes]:
     """The tops of the files that a session starts with."""
-    if not session.ask(b"getfacl -- .\n").messages:
+    if not session.ask(LIST + b" .\n").messages:
         return [b""]
     return tops_of(read_trusted(os.path.join(folder, DUMP)))
 
@@ -158,16 +159,16 @@ def operands_of(paths: List[bytes]) -> List[List[bytes]]:
     return list(parts_of([script_word(shown_path(path)) for path in paths], ROOM))
 
 
-def list_below(session: Session, tops: List[bytes]) -> List[Region]:
+def list_below(session: Session, tops: List[bytes]) -> List[OutputSlice]:
     """Listings of the files as they are now, in path order, with ids as numbers; a top that is gone has none."""
-    return [region for words in operands_of(tops) for region in list_words(session, words)]
+    return [output for words in operands_of(tops) for output in list_words(session, words)]
 
 
-def list_words(session: Session, words: List[bytes]) -> List[Region]:
+def list_words(session: Session, words: List[bytes]) -> List[OutputSlice]:
     """The listings of some tops, one by one where not all of them are there."""
-    answer = session.ask(b"getfacl -R -n -E -- " + b" ".join(words) + b"\n")
+    answer = session.ask(b" ".join([LIST_ALL, *words]) + b"\n")
     if not answer.messages:
         return [answer.output]
-    if not answer.messages[0].endswith(b": no such file"):
+    if not lacks_file(answer.messages):
         raise Failure(b"the program refused to list the files: " + answer.messages[0])
-    return [region for word in words for region in list_words(session, [word])] if len(words) > 1 else []
+    return [output for word in words for output in list_words(session, [word])] if len(words) > 1 else []

@@ -1,90 +1,200 @@
-"""The tools of the program, one row each, and how the words of a line are split into options and operands."""
+"""The tools of the script language, one record each; and how the words of a line are split into options and operands.
+
+All other modules make what they know of tools from these; tools/check/tool_rows.py compares them with the program's
+sources.
+"""
 from __future__ import annotations
 
-from typing import Dict, FrozenSet, List, NamedTuple, Optional, Tuple
+import re
+from typing import Dict, FrozenSet, Iterable, List, NamedTuple, Optional, Tuple
 
+# What a line of a tool does.
 QUESTION, EDIT, PEOPLE, LOAD, OF_PLANS = "question", "edit", "people", "load", "of plans"
-FILE, USER, GROUP, ENTRIES, OTHER = "file", "user", "group", "entries", "other"  # Kinds of words.
+# Kinds of words; the value of an option of the kind TEXT is -, and the lines after the line are its text.
+FILE, USER, GROUP, ENTRIES, TEXT, OTHER = "file", "user", "group", "entries", "text", "other"
 # By the names of operands; those of others are OTHER.
 KINDS = {"FILE": FILE, "USER": USER, "GROUP": GROUP, "LIST": ENTRIES}
+# What an option means for its line.
+DEEP = "deep"  # It goes to all files below.
+LOOK = "look"  # It prints what it would do, or what is there, and changes nothing.
+PART = "part"  # It changes a part of the lists,
+WHOLE = "whole"  # or gives them anew,
+RECORDS = "records"  # or gives the records of files.
+FILE_RECORDS = "# file: PATH"  # The form of answers that have a record of some lines for each file.
+MAKES, REMOVES = "makes", "removes"  # What a tool does with its FILEs.
+REACH = b"--reach"  # Search on the directories above counts too.
+TEST = b"--test"  # The lists that would result are printed.
+
+
+class OptionRow(NamedTuple):
+    names: Tuple[bytes, ...]  # The short one first.
+    value: str  # The kind of its value, or nothing where it takes none.
+    meaning: str
+
+
+def option(names: str, value: str = "", meaning: str = "") -> OptionRow:
+    return OptionRow(tuple(names.encode().split(b" ")), value, meaning)
 
 
 class Tool(NamedTuple):
+    name: bytes
     kind: str
-    operands: str  # Those that it has at least, or the last of which may be there several times.
-    options: str  # Each as SHORT|LONG:KIND, with the kind of its value where it has one.
+    operands: str  # As the synopsis has them, `..` after one that may be there several times.
+    options: Tuple[OptionRow, ...] = ()
+    # The form of each line of its answer, where it is about a user or a file: their names are USER and PATH in it.
+    prints: str = ""
     empty: bytes = b""  # What is shown of an answer that has nothing.
+    takes_text: bool = False  # Whether each of its lines takes a text.
+    is_request: bool = False  # Whether it asks what is granted; a person is told then what --reach would do.
+    files: str = ""  # Whether it makes or removes its FILEs.
+    other_operands: Tuple[Tuple[str, str], ...] = ()  # Those of lines with one of some options; the first pair counts.
+    excluded: Tuple[str, ...] = ()  # Long names of which a line has one.
+    others: str = ""  # Options of the system's tool that have values, and are none here.
+    harmless: str = ""  # Options of the system's tool without which a line does the same here.
 
-    def rows(self) -> List[Tuple[List[bytes], str]]:
-        """The names of each option, and the kind of its value, or nothing."""
-        cut = [option.partition(":") for option in self.options.split()]
-        return [(names.encode().split(b"|"), kind) for names, _, kind in cut]
 
-
-ALL: Dict[bytes, Tool] = {
-    b"can": Tool(QUESTION, "USER FILE", "--reach"),
-    b"who": Tool(QUESTION, "PERMS FILE", "--reach", b"(nobody)\n"),
-    b"may": Tool(QUESTION, "USER PERMS", "--reach", b"(nothing)\n"),
-    b"why": Tool(QUESTION, "USER FILE", "--reach"),
-    b"changes": Tool(QUESTION, "", "--reach", b"(nothing)\n"),
-    b"index": Tool(QUESTION, "", "", b"(nothing)\n"),
-    b"getfacl": Tool(
-        QUESTION, "FILE",
-        "-a|--access -c|--omit-header -e|--all-effective -E|--no-effective -s|--skip-base -R|--recursive -n|--numeric",
-        b"(nothing)\n",
+BY_REACH = (option("--reach"),)
+RECURSIVE = option("-R --recursive", meaning=DEEP)
+SAYING_MORE = "-v -c -f --verbose --changes --silent --quiet"
+ROWS = (
+    Tool(b"can", QUESTION, "USER FILE", BY_REACH, is_request=True),
+    Tool(b"who", QUESTION, "PERMS FILE", BY_REACH, "USER", b"(nobody)\n", is_request=True),
+    Tool(b"may", QUESTION, "USER PERMS", BY_REACH, "PATH", b"(nothing)\n", is_request=True),
+    Tool(b"why", QUESTION, "USER FILE..", BY_REACH, FILE_RECORDS),
+    Tool(b"changes", QUESTION, "", BY_REACH, "USER HOW REQUESTS PATH", b"(nothing)\n"),
+    Tool(b"index", QUESTION, "", (), "RIGHTS USER PATH", b"(nothing)\n"),
+    Tool(
+        b"getfacl", QUESTION, "FILE..",
+        (option("-a --access"), option("-c --omit-header"), option("-e --all-effective"), option("-E --no-effective"),
+         option("-s --skip-base"), RECURSIVE, option("-n --numeric")),
+        FILE_RECORDS, b"(nothing)\n", excluded=("--all-effective --no-effective",),
+        harmless="-p -t -L -P --absolute-names --tabular --logical --physical",
     ),
-    b"setfacl": Tool(
-        EDIT, "FILE",
-        "-b|--remove-all -k|--remove-default -x|--remove:entries -X|--remove-file:other -m|--modify:entries "
-        "-M|--modify-file:other -n|--no-mask --mask -d|--default -R|--recursive --set:entries --set-file:other "
-        "--restore:other --test",
+    Tool(
+        b"setfacl", EDIT, "FILE..",
+        (option("-b --remove-all", "", PART), option("-k --remove-default", "", PART),
+         option("-x --remove", ENTRIES, PART), option("-X --remove-file", TEXT, PART),
+         option("-m --modify", ENTRIES, PART), option("-M --modify-file", TEXT, PART),
+         option("-n --no-mask"), option("--mask"), option("-d --default"), RECURSIVE,
+         option("--set", ENTRIES, WHOLE), option("--set-file", TEXT, WHOLE), option("--restore", TEXT, RECORDS),
+         option("--test", "", LOOK)),
+        "PATH: LISTS",
+        excluded=("--modify --modify-file", "--remove --remove-file", "--no-mask --mask"),
+        harmless="-L -P --logical --physical",
     ),
-    b"chacl": Tool(EDIT, "LIST FILE", "-b -B -d -D -l -r -R"),
-    b"chmod": Tool(EDIT, "MODE FILE", "-R"),
-    b"creat": Tool(EDIT, "FILE", "-d --user:user --mode:other --umask:other"),
-    b"rm": Tool(EDIT, "FILE", "-r"),
-    b"attr": Tool(QUESTION, "FILE", ""),
-    b"setattr": Tool(EDIT, "BYTES FILE", ""),
-    b"gpasswd": Tool(PEOPLE, "GROUP", "-a:user -d:user"),
-    b"usermod": Tool(PEOPLE, "USER", "-g:group"),
-    b"useradd": Tool(PEOPLE, "NAME", "-g:group -u:other"),
-    b"userdel": Tool(PEOPLE, "USER", ""),
-    b"load": Tool(LOAD, "TABLE", ""),
+    Tool(
+        b"chacl", EDIT, "LIST FILE..",
+        (option("-b"), option("-B"), option("-d"), option("-D"), option("-l", "", LOOK), option("-r", "", DEEP),
+         option("-R")),
+        "PATH [LISTS]", other_operands=(("-R -D -B -l", "FILE.."), ("-b", "LIST LIST FILE..")),
+    ),
+    Tool(b"chmod", EDIT, "MODE FILE..", (option("-R", "", DEEP),), others="--reference", harmless=SAYING_MORE),
+    Tool(b"creat", EDIT, "FILE",
+         (option("-d"), option("--user", USER), option("--mode", OTHER), option("--umask", OTHER)), files=MAKES),
+    Tool(b"rm", EDIT, "FILE..", (option("-r", "", DEEP),), files=REMOVES, harmless="-i -I -v"),
+    Tool(b"attr", QUESTION, "FILE", (), FILE_RECORDS),
+    Tool(b"setattr", EDIT, "BYTES FILE"),
+    Tool(b"gpasswd", PEOPLE, "GROUP", (option("-a", USER), option("-d", USER)), others="-M -A"),
+    Tool(b"usermod", PEOPLE, "USER", (option("-g", GROUP),), others="-G -u -s -d -l -c -e"),
+    Tool(b"useradd", PEOPLE, "NAME", (option("-g", GROUP), option("-u", OTHER)), others="-G -s -d -c -e -k -p"),
+    Tool(b"userdel", PEOPLE, "USER", harmless="-r -f --remove --force"),
+    Tool(b"load", LOAD, "TABLE", takes_text=True),
     # In scripts of facl-plan alone.
-    b"chown": Tool(OF_PLANS, "USER FILE", "-R|--recursive"),
-    b"chgrp": Tool(OF_PLANS, "GROUP FILE", "-R|--recursive"),
+    Tool(b"chown", OF_PLANS, "USER FILE..", (RECURSIVE,), others="--from --reference",
+         harmless=SAYING_MORE + " --preserve-root"),
+    Tool(b"chgrp", OF_PLANS, "GROUP FILE..", (RECURSIVE,), others="--reference",
+         harmless=SAYING_MORE + " --preserve-root"),
+)
+ALL = {tool.name: tool for tool in ROWS}
+# Options with values of commands that are no tools.
+VALUES_OF_COMMANDS = {
+    b"groupmems": "-g -a -d", b"sudo": "-u -g", b"doas": "-u", b"su": "-c -s", b"runuser": "-c -s -u",
+    b"install": "-m -o -g", b"mkdir": "-m", b"adduser": "--ingroup --uid --gid --home --shell --gecos",
+    b"setfattr": "-n -v -x", b"getfattr": "-n -e",
 }
+BEFORE_OTHERS = (b"sudo", b"doas")  # The options after the first operand are those of another command.
+
+
+# --- tables made of the records
+
+
+def names_in(text: str) -> FrozenSet[bytes]:
+    return frozenset(text.encode().split())
 
 
 def of_kind(*kinds: str) -> Tuple[bytes, ...]:
-    return tuple(name for name, tool in ALL.items() if tool.kind in kinds)
+    return tuple(tool.name for tool in ROWS if tool.kind in kinds)
+
+
+def options_that(tool: bytes, *meanings: str) -> FrozenSet[bytes]:
+    """The names of a tool's options that have one of these meanings."""
+    rows = ALL[tool].options if tool in ALL else ()
+    return frozenset(name for row in rows if row.meaning in meanings for name in row.names)
+
+
+def options_with(tool: bytes, *kinds: str) -> FrozenSet[bytes]:
+    """The names of a tool's options whose values are of one of these kinds."""
+    rows = ALL[tool].options if tool in ALL else ()
+    return frozenset(name for row in rows if row.value in kinds for name in row.names)
+
+
+def letters_of(names: Iterable[bytes]) -> bytes:
+    """The letters of the short names among these."""
+    return b"".join(sorted(name[1:] for name in names if len(name) == 2))
 
 
 EDITS, CHANGES_OF_PEOPLE = of_kind(EDIT), of_kind(PEOPLE)
 QUESTIONS, TOOLS_OF_PLANS = of_kind(QUESTION), of_kind(OF_PLANS)
 TOOLS = tuple(name for name in ALL if name not in TOOLS_OF_PLANS)
-WITH_FILES = tuple(name for name in TOOLS if "FILE" in ALL[name].operands)  # They look at files that their words name.
-EMPTY_ANSWERS = {name: tool.empty for name, tool in ALL.items() if tool.empty}
-OPTIONS = {name: frozenset(it for names, _ in tool.rows() for it in names) for name, tool in ALL.items()}
-LONG_NAMES = {name: {names[0]: names[1] for names, _ in tool.rows() if len(names) > 1} for name, tool in ALL.items()}
-VALUES = {name: {it: kind for names, kind in tool.rows() if kind for it in names} for name, tool in ALL.items()}
-# Options of the system's tools that have values, and are none here.
+# They look at files that their words name.
+WITH_FILES = tuple(name for name in TOOLS if "FILE" in ALL[name].operands)
+WITH_ENTRIES = tuple(name for name in TOOLS if "LIST" in ALL[name].operands or options_with(name, ENTRIES))
+ABOUT_USERS = tuple(name for name in TOOLS if "USER" in ALL[name].prints.split())  # The names of users are in answers.
+OF_RECORDS = tuple(name for name in TOOLS if ALL[name].prints == FILE_RECORDS)
+REQUESTS = tuple(name for name in TOOLS if ALL[name].is_request)
+MAKERS, REMOVERS = (tuple(name for name in TOOLS if ALL[name].files == how) for how in (MAKES, REMOVES))
+LOADERS = tuple(name for name in TOOLS if ALL[name].takes_text)
+EMPTY_ANSWERS = {tool.name: tool.empty for tool in ROWS if tool.empty}
+OPTIONS = {tool.name: frozenset(it for row in tool.options for it in row.names) for tool in ROWS}
+LONG_NAMES = {tool.name: {row.names[0]: row.names[1] for row in tool.options if len(row.names) > 1} for tool in ROWS}
+VALUES = {tool.name: {it: row.value for row in tool.options if row.value for it in row.names} for tool in ROWS}
 VALUES_OF_OTHERS: Dict[bytes, FrozenSet[bytes]] = {
-    tool: frozenset(options.split())
-    for tool, options in {
-        b"gpasswd": b"-M -A", b"usermod": b"-G -u -s -d -l -c -e", b"useradd": b"-G -s -d -c -e -k -p",
-        b"chown": b"--from --reference", b"chgrp": b"--reference", b"chmod": b"--reference", b"groupmems": b"-g -a -d",
-        b"sudo": b"-u -g", b"doas": b"-u", b"su": b"-c -s", b"runuser": b"-c -s -u", b"install": b"-m -o -g",
-        b"mkdir": b"-m",
-        b"adduser": b"--ingroup --uid --gid --home --shell --gecos", b"setfattr": b"-n -v -x", b"getfattr": b"-n -e",
-    }.items()
+    **{tool.name: names_in(tool.others) for tool in ROWS},
+    **{name: names_in(names) for name, names in VALUES_OF_COMMANDS.items()},
 }
-BEFORE_OTHERS = (b"sudo", b"doas")  # The options after the first operand are those of another command.
+HARMLESS = {tool.name: names_in(tool.harmless) for tool in ROWS}
+EXCLUDED = {tool.name: [names_in(names) for names in tool.excluded] for tool in ROWS}
+# How words by which a line gives the records of files begin.
+RESTORING = tuple(sorted(name for tool in ALL for name in options_that(tool, RECORDS)))
+# Words by which a line takes a text.
+TEXT_WORDS = {b"-"} | {name + (b"=-" if len(name) > 2 else b"-") for tool in ALL for name in options_with(tool, TEXT)}
 
 
-def operand_kinds(tool: bytes) -> List[str]:
-    """What operands of a tool are, the last for all that follow."""
-    return [KINDS.get(word, OTHER) for word in ALL[tool].operands.split()] if tool in ALL else []
+def operands_of(tool: bytes, line: Split) -> List[str]:
+    """The names of the operands of a line; the last is that of all that follow."""
+    if tool not in ALL:
+        return []
+    others = (names for options, names in ALL[tool].other_operands if line.has(*names_in(options)))
+    return next(others, ALL[tool].operands).replace("..", "").split()
+
+
+def operand_kinds(tool: bytes, line: Split) -> List[str]:
+    """What the operands of a line are, the last for all that follow."""
+    return [KINDS.get(word, OTHER) for word in operands_of(tool, line)]
+
+
+def user_in(tool: bytes, line: bytes) -> bytes:
+    """The name of the user in a line of a tool's answer."""
+    place = ALL[tool].prints.split().index("USER")
+    return line.split(b" ", place + 1)[place]
+
+
+def path_in(tool: bytes, line: bytes) -> bytes:
+    """The name of the file in a line of a tool's answer, up to what its form has after it."""
+    before, _, after = ALL[tool].prints.partition("PATH")
+    name = line.split(b" ", before.count(" "))[-1]
+    end = re.match("[^A-Z]*", after)
+    return name.rpartition(end[0].encode())[0] if end and end[0] else name
 
 
 def options_of_tool(tool: bytes, has_long: bool = True) -> List[bytes]:
@@ -92,6 +202,9 @@ def options_of_tool(tool: bytes, has_long: bool = True) -> List[bytes]:
     with."""
     names = OPTIONS.get(tool, frozenset()) - (set() if has_long else set(LONG_NAMES.get(tool, {}).values()))
     return sorted(names, key=lambda name: (len(name) > 2, name.lower(), name.swapcase()))
+
+
+# --- the words of a line
 
 
 class Option(NamedTuple):
@@ -148,7 +261,3 @@ def options_of(word: bytes, values: FrozenSet[bytes]) -> List[Tuple[bytes, Optio
         found.append((name, None))
     return found
 
-
-def lists_of_chacl(line: Split) -> int:
-    """How many operands of a line of chacl are lists."""
-    return 0 if line.has(b"-R", b"-D", b"-B", b"-l") else 2 if line.has(b"-b") else 1

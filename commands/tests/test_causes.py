@@ -11,7 +11,7 @@ from common import COMMANDS, HERE
 
 sys.path.insert(0, COMMANDS)
 
-from facl_commands import causes, completion, manual, owners, refused_line, remedies, tools  # noqa: E402
+from facl_commands import causes, manual, owners, refused_line, remedies, tools  # noqa: E402
 from facl_commands.people import People  # noqa: E402
 from facl_commands.program import Session, find_program  # noqa: E402
 from facl_commands.scripts import Unit, read_script  # noqa: E402
@@ -94,7 +94,6 @@ class Rows(Asked):
     def test_the_options_are_those_of_the_manual(self) -> None:
         self.assertEqual({name: set(options) for name, options in tools.OPTIONS.items() if name not in tools.TOOLS_OF_PLANS},
                          options_of_manual())
-        self.assertEqual(remedies.TOOLS, {name.encode() for name in completion.OPERANDS})
 
 
 

@@ -17,10 +17,10 @@ from common import COMMANDS, HERE, Case, Done, outside_the_gate, restore_signals
 
 sys.path.insert(0, COMMANDS)
 
-from facl_commands import agreement, each, part, servers, texts  # noqa: E402
+from facl_commands import agreement, servers, shard_worker, shards, texts  # noqa: E402
 from facl_commands.messages import Failure  # noqa: E402
 from facl_commands.names import path_order, read_path  # noqa: E402
-from facl_commands.program import Region, Session, find_program  # noqa: E402
+from facl_commands.program import OutputSlice, Session, find_program  # noqa: E402
 from facl_commands.scripts import read_script  # noqa: E402
 
 GETFACL = b"""\
@@ -141,14 +141,14 @@ class Joined(unittest.TestCase):
     def joined(self, line: bytes, *outputs: bytes) -> bytes:
         unit = read_script(b"s", line)[0]
         with tempfile.TemporaryFile() as file:
-            regions = []
+            slices = []
             for output in outputs:
                 start = file.tell()
                 file.write(output)
-                regions.append(Region(file, start, file.tell()))
+                slices.append(OutputSlice(file, start, file.tell()))
             file.flush()
-            streams = [each.items_of(unit, place, region) for place, region in enumerate(regions)]
-            return b"".join(each.merged([it for it in streams if it is not None]))
+            streams = [shards.items_of(unit, place, output) for place, output in enumerate(slices)]
+            return b"".join(shards.merged([it for it in streams if it is not None]))
 
     def test_changes_are_in_path_order(self) -> None:
         self.assertEqual(self.joined(b"changes", b"ben gains r-- srv\nmara gains -w-,rw- srv/b\nmara loses --x srv/b\nguest gains r-- srv/b/z\n",
@@ -170,10 +170,10 @@ class Agreement(unittest.TestCase):
         file.write(b"".join(b"# file: " + name + b"\n" + body + b"\n" for name, body in files.items()))
         file.flush()
         size = file.tell()
-        blocks = b"".join(agreement.blocks_of([Region(file, 0, size)]))
+        blocks = b"".join(agreement.blocks_of([OutputSlice(file, 0, size)]))
         file.write(blocks)
         file.flush()
-        return agreement.Recorded(label, users, groups, Region(file, size, size + len(blocks)))
+        return agreement.Recorded(label, users, groups, OutputSlice(file, size, size + len(blocks)))
 
     def expect(self, wanted: Optional[bytes], first: Dict[bytes, bytes], second: Dict[bytes, bytes], users: Dict[str, int] = {},
                groups: Dict[str, int] = {}) -> None:
@@ -217,11 +217,11 @@ class Tops(Case):
         with Session(find_program(None), folder) as session:
             tops = texts.find_tops(session, folder)
             self.assertEqual((len(tops), tops[0]), (11, b"srv/other"))
-            whole = b"".join(region.read() for region in texts.list_below(session, tops))
+            whole = b"".join(output.read() for output in texts.list_below(session, tops))
             self.assertEqual(names_of(whole)[0], b"srv/other")
             self.assertEqual(len(names_of(whole)), len(names_of(dump)) - 2)
-            session.ask_surely(b"rm srv/share/one")
-            self.assertEqual(len(names_of(b"".join(region.read() for region in texts.list_below(session, tops)))), len(names_of(whole)) - 1)
+            session.ask_accepted(b"rm srv/share/one")
+            self.assertEqual(len(names_of(b"".join(output.read() for output in texts.list_below(session, tops)))), len(names_of(whole)) - 1)
 
 
 class Servers(Case):
@@ -267,7 +267,7 @@ class Files(unittest.TestCase):
     """Which files a line that edits has."""
 
     def expect(self, line: bytes, *names: bytes) -> None:
-        self.assertEqual(part.files_of(read_script(b"s", line)[0]), list(names))
+        self.assertEqual(shard_worker.files_of(read_script(b"s", line)[0]), list(names))
 
     def test_files(self) -> None:
         self.expect(b"setfacl -R -m u:ines:r a 'b c' --test", b"a", b"b c")
@@ -287,7 +287,7 @@ class Files(unittest.TestCase):
         self.expect(b"why --reach ines a b", b"a", b"b")
         self.expect(b"who r a")
         self.expect(b"changes --reach")
-        self.assertEqual(each.hosts_of([b"a", b"host:b", b"./c:d", b"me@host.x:/b c", b"host:e"]),
+        self.assertEqual(shards.hosts_of([b"a", b"host:b", b"./c:d", b"me@host.x:/b c", b"host:e"]),
                          {b":": [b"a", b"./c:d"], b"host": [b"b", b"e"], b"me@host.x": [b"/b c"]})
 
 

@@ -114,7 +114,7 @@ class Moments(Case):
         """For each moment the requests of each user, as bits."""
         self.write("asked/dump", b"".join(record_text(b"%05d" % number, it) for number, it in enumerate(moments)))
         with Session(find_program(None), os.fsencode(self.path("asked"))) as session:
-            rows = [int(line[:2], 16) for line in session.ask_surely(b"index").lines()]
+            rows = [int(line[:2], 16) for line in session.ask_accepted(b"index").lines()]
         users = len(rows) // len(moments)
         return [rows[k : k + users] for k in range(0, len(rows), users)]
 

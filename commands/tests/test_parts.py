@@ -12,7 +12,7 @@ from common import COMMANDS, HERE, Case
 
 sys.path.insert(0, COMMANDS)
 
-from facl_commands import names, people, records, scripts, tools  # noqa: E402
+from facl_commands import links, names, people, records, scripts, superuser, tools  # noqa: E402
 from facl_commands.program import Session, find_program  # noqa: E402
 
 
@@ -123,6 +123,32 @@ class People(unittest.TestCase):
         self.assertIsNone(found.change([b"gpasswd", b"-a", b"x", b"g"]))
         change = found.change([b"gpasswd", b"-d", b"1", b"5"])
         self.assertEqual(change, people.PeopleChange(people.REMOVE_MEMBER, people.User(b"x", 1, 1), b"g", 5))
+
+
+class Tools(unittest.TestCase):
+    """What other modules make of the records of tools."""
+
+    def test_users_and_files_of_answers(self) -> None:
+        for tool, line, path in ((b"may", b"a b", b"a b"), (b"index", b"ff joe a b", b"a b"), (b"chacl", b"a [b [u::r]", b"a [b"),
+                                 (b"changes", b"joe gains r--,-w- a b", b"a b"), (b"setfacl", b"a: b: u::r", b"a: b")):
+            self.assertEqual(tools.path_in(tool, line), path)
+        for tool, line in ((b"who", b"joe"), (b"index", b"ff joe a b"), (b"changes", b"joe loses r-- a b")):
+            self.assertEqual(tools.user_in(tool, line), b"joe")
+        self.assertEqual([name for name in tools.ABOUT_USERS if name not in superuser.NOTE], [])
+
+    def test_operands_by_options(self) -> None:
+        for words, operands in (("-r", ["LIST", "FILE"]), ("-d", ["LIST", "FILE"]), ("-b", ["LIST", "LIST", "FILE"]),
+                                ("-rR", ["FILE"]), ("-l", ["FILE"]), ("-b -D", ["FILE"])):
+            line = tools.split([b"chacl", *words.encode().split()])
+            self.assertEqual(tools.operands_of(b"chacl", line), operands)
+        self.assertEqual(tools.operands_of(b"frob", tools.split([b"frob"])), [])
+
+    def test_what_options_mean(self) -> None:
+        self.assertEqual(tools.TEXT_WORDS, {b"-", b"-M-", b"-X-", b"--modify-file=-", b"--remove-file=-", b"--set-file=-", b"--restore=-"})
+        self.assertEqual({name: tools.options_that(name, tools.DEEP) for name in (b"rm", b"chacl", b"getfacl", b"can")},
+                         {b"rm": {b"-r"}, b"chacl": {b"-r"}, b"getfacl": {b"-R", b"--recursive"}, b"can": set()})
+        for word, is_deep in ((b"-R", True), (b"-nRm", True), (b"--recursive", True), (b"-mR", False), (b"--recursively", False), (b"R", False)):
+            self.assertEqual(links.RECURSIVE.match(word) is not None, is_deep)
 
 
 if __name__ == "__main__":

@@ -98,7 +98,7 @@ class Reports(Case):
                 rows = [line.split(b"\t") for line in done.out.splitlines() if b"\t->\t" in line]
                 with Session(find_program(None), os.fsencode(self.path("before"))) as session:
                     session.ask(script)
-                    printed = list(session.ask_surely(b"changes " + option.encode()).lines())
+                    printed = list(session.ask_accepted(b"changes " + option.encode()).lines())
                 found = [b" ".join([user, word, b",".join(it for it in REQUESTS if it in more - less), file])
                          for user, old, _, new, file in rows
                          for word, more, less in ((b"gains", requests_of(new), requests_of(old)), (b"loses", requests_of(old), requests_of(new)))
@@ -327,7 +327,7 @@ class ManyHardLinks(Case):
         lines = b"rm srv/share/many/a7\nrm -r srv/share/many\nsetfacl -R -m u:guest:r srv/share/more\n"
         sent = self.planned(lines)
         # After the second line the question for its names is refused, and so is that for their directory: all files are listed.
-        self.assertEqual((sent.count(b"getfacl -n -E --"), sent.count(b"getfacl -R -n -E --")), (3, 4))
+        self.assertEqual((sent.count(b"getfacl -n -E --"), sent.count(b"getfacl -n -E -R --")), (3, 4))
         self.assertEqual(self.read("before.plan/by_hand").count(b"\nremove_file "), self.SETS)
         self.assertEqual(self.read("before.plan/new").count(b"# file: /srv/share/more/b"), self.SETS)
 

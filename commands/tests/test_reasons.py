@@ -100,9 +100,9 @@ class Random(Case):
 
     def asked(self, session: Session) -> Dict[Key, str]:
         """By user and path what the program's `why` prints now, each user and file asked of alone."""
-        pairs = [line.split(b" ", 2)[1:] for line in session.ask_surely(b"index").lines()]
+        pairs = [line.split(b" ", 2)[1:] for line in session.ask_accepted(b"index").lines()]
         lines = [b"why -- %s %s" % (script_word(b"1005" if user == b"77" else user), script_word(path)) for user, path in pairs]
-        records = session.ask_surely(b"\n".join(lines)).read().replace(b"m\351", b"m\\351").decode().split("\n\n")
+        records = session.ask_accepted(b"\n".join(lines)).read().replace(b"m\351", b"m\\351").decode().split("\n\n")
         found: Dict[Key, str] = {}
         for (user, path), record in zip(pairs, records):
             name = user.replace(b"m\351", b"m\\351").decode()
@@ -157,7 +157,7 @@ class Random(Case):
         """What the side has to say of a user: the greatest requests that `can` prints, and the entries that `why` prints, along
         the path those of the first directory without search in any."""
         words = option + script_word(word) + b" " + script_word(path.replace("'", "\\047").encode())
-        can, _, text = session.ask_surely(b"can " + words + b"\nwhy " + words).read().replace(b"m\351", b"m\\351").decode().partition("\n")
+        can, _, text = session.ask_accepted(b"can " + words + b"\nwhy " + words).read().replace(b"m\351", b"m\\351").decode().partition("\n")
         records = text.split("\n\n")[:-1]
         closed = next((it for it in records[:-1] if not any("x" in line[-3:] for line in it.split("\n")[1:])), None)
         reason = "by " + ", ".join(entries_of(closed or records[-1]))

@@ -26,7 +26,7 @@ from facl_commands.label_answers import Answers  # noqa: E402
 from facl_commands.messages import Failure  # noqa: E402
 from facl_commands.names import path_order, write_name  # noqa: E402
 from facl_commands.new_file import NewFile  # noqa: E402
-from facl_commands.program import Region, Session, find_program  # noqa: E402
+from facl_commands.program import OutputSlice, Session, find_program  # noqa: E402
 
 HOSTILE = [b"<script>alert(1)", b"<!--", b"</title><img src=x onerror=alert(1)>", b"&amp;", b"\\033[31m", b"\\351", b"\\342\\200\\250",
            b"\\342\\200\\256x", b"{{7*7}}", b"'\"`", b"c\\012d"]
@@ -50,7 +50,7 @@ class Report(Case):
             for user in ("root", "ines", "ben", "mara", "guest"):
                 for request in range(8):
                     for option, is_reached in ((b"", False), (b"--reach ", True)):
-                        answer = session.ask_surely(b"may %s%s %d" % (option, user.encode(), request)).read().decode("utf-8", "backslashreplace")
+                        answer = session.ask_accepted(b"may %s%s %d" % (option, user.encode(), request)).read().decode("utf-8", "backslashreplace")
                         wanted = {line.rstrip("/").replace("\\xe9", "\\351") for line in answer.splitlines()}
                         place = places["user", user]
                         found = {path for path, node in nodes.items() if granted(data, node, place, request)
@@ -237,13 +237,13 @@ class Output(unittest.TestCase):
 BODY = b"# owner: %d\n# group: 100\nuser::rwx\ngroup::r-x\nother::r-x\n"
 
 
-def listing_of(names: Iterable[bytes], bodies: Iterable[bytes]) -> Region:
+def listing_of(names: Iterable[bytes], bodies: Iterable[bytes]) -> OutputSlice:
     """A listing of these names, as the program prints it."""
     file = tempfile.TemporaryFile()
     for name, body in zip(names, bodies):
         file.write(b"# file: " + name + b"\n" + body + b"\n")
     file.flush()
-    return Region(file, 0, file.tell())
+    return OutputSlice(file, 0, file.tell())
 
 
 class Trees(unittest.TestCase):
@@ -271,9 +271,9 @@ class Trees(unittest.TestCase):
             tree, labels = page_tree.Tree(), page_tree.Labels()
             listings = []
             for paths in kept:
-                region = listing_of((write_name(path) or b"." for path in paths), (BODY % len(path) for path in paths))
-                listings.append(tree.add(page_tree.records_of(region), labels))
-                region.file.close()
+                output = listing_of((write_name(path) or b"." for path in paths), (BODY % len(path) for path in paths))
+                listings.append(tree.add(page_tree.records_of(output), labels))
+                output.file.close()
             order = tree.order()
             shown = self.paths_of(tree, order)
             self.assertEqual(shown, sorted({*kept[0], *kept[1]}, key=path_order))
@@ -292,9 +292,9 @@ class Deep(Case):
         tree, labels = page_tree.Tree(), page_tree.Labels()
         last = b"a/" * self.LEVELS
         names = [b"."] + [b"a/" * k for k in range(1, self.LEVELS + 1)] + [b"a/" * k + b"f" for k in range(self.LEVELS, -1, -1)]
-        region = listing_of(names, (BODY % (name == last) for name in names))
-        listing = tree.add(page_tree.records_of(region), labels)
-        region.file.close()
+        output = listing_of(names, (BODY % (name == last) for name in names))
+        listing = tree.add(page_tree.records_of(output), labels)
+        output.file.close()
         vectors, lists = [b"ffff", b"ff01"], [b"other::r-x", b"other::---"]
         answers = Answers([b"ines", b"ben"], vectors, lists, [[b"other::r-x"] * 2, [b"user::rwx", b"other::---"]])
         tables, whos = report.Tables(), [report.Who("user", name, name) for name in answers.users]

@@ -9,7 +9,9 @@ usage: tools/check/documents.py [--write | --files [CRATE]..]
 - Tables: limits have the values of their constants; the map of crates and the table of tests have each crate of
   crates.txt; the line of docs/PROOFS.md that starts with "Trusted" has the kit's crates that crates.txt lists.
 - docs/SPECIFICATION.md, docs/facl.1: a number in thousands, with commas, is a limit, or one from a limit.
-- docs/facl.1: each tool has the options that the program reads, and no others.
+- Each tool and option that the program reads is in docs/facl.1, in the records of commands/facl_commands/tools.py, of
+  which completion is made, and in docs/SPECIFICATION.md; each tool in the README's table and the table of causes. The
+  first two and the README have no others (tool_rows.py).
 - docs/READING.md: each line of its examples is one of the sources or definitions.
 - tools/README.md names each script of tools/, and none that is not there.
 - The blocks `<!-- graph -->` of docs/ARCHITECTURE.md and `<!-- index -->` of docs/PROOFS.md are as the sources have
@@ -33,6 +35,7 @@ sys.dont_write_bytecode = True
 sys.path.insert(0, os.path.join(os.path.dirname(os.path.realpath(__file__)), ".."))
 
 from memory_faults import TOP, Function, Library, found_in, is_of_tests, text_of  # noqa: E402
+from tool_rows import ToolRows  # noqa: E402
 from ways import Crates  # noqa: E402
 
 PROOFS, ARCHITECTURE, READING, PAGE = "docs/PROOFS.md", "docs/ARCHITECTURE.md", "docs/READING.md", "docs/facl.1"
@@ -48,7 +51,6 @@ IN_PARENTHESES = re.compile(r"\(((?:[^()]|\([^()]*\))*)\)")
 PIECE = re.compile(r"`([^`]*)`|(\w+|[();])")
 BLOCK = re.compile(r"^<!-- (graph|index) -->\n(.*?)^<!-- end -->$", re.M | re.S)
 LAW = re.compile(r"^ */// Proof only.*\n(?: *(?:///|#\[).*\n)* *(?:pub )?fn ", re.M)
-SWITCH = re.compile(r"\b(both|by_letter|by_name)!\((?:'(\w)', )?\"([\w-]+)\"")
 SOURCES = ("crates/*/src/**/*.rt", "crates/*/specs/*.antt")
 SCRIPTS = ("commands/facl-*", "commands/facl_commands/*.py",
            *(f"tools/{file}" for file in ("*.py", "*.sh", "*/*.py", "*/*.sh", "*/*.c")))
@@ -101,13 +103,6 @@ def head_of(top: str, path: str) -> str:
     text = re.sub(r"\A#!.*\n", "", text_of(top, path))
     match = re.match(r'"""((?s:.+?))(?:"""|\n\n)|(?:/\* |(//!|--|#) )(.+\n(?:\2 .+\n)*)', text)
     return " ".join(re.sub(r"^(?://!|--|#) |\*/", "", match[1] or match[3], flags=re.M).split()) if match else ""
-
-
-def options_shown(text: str) -> Set[str]:
-    """The options that heads and tags of a part of the page have."""
-    tags = re.sub(r"\\f[BIRP]", "", "\n".join(re.findall(r"^(?:\.SS|\.T[PQ]\n)(.*)", text, re.M))).replace("\\-", "-")
-    letters = {f"-{letter}" for word in re.findall(r"(?<![\w-])-([A-Za-z]+)", tags) for letter in word}
-    return letters | set(re.findall(r"(?<![\w-])--[A-Za-z][A-Za-z-]*", tags))
 
 
 class Checks:
@@ -223,23 +218,6 @@ class Checks:
         if not trusted or set(codes_of(trusted[0].text)) != kit:
             number = trusted[0].number if trusted else 1
             yield PROOFS, number, f"no line that starts with Trusted has the kit's crates, {' '.join(sorted(kit))}"
-
-    def options(self) -> Iterator[Fault]:
-        """Tools and options that the program has and the page has not, or the other way round."""
-        names = re.findall(r'Tool::\w+ => "(\w+)"', text_of(self.top, "crates/facl/src/tools.rt"))
-        files = {"facl": "facl_words/src/args.rt", **{name: f"facl/src/tools/{name}.rt" for name in names}}
-        sections = dict(re.findall(r"^\.SH (.*)\n((?:(?!\.SH ).*\n)*)", self.texts[PAGE], re.M))
-        shown = {"facl": sections.get("OPTIONS", "")}
-        for name, part in re.findall(r"^\.SS (\w+)(.*\n(?:(?!\.SS ).*\n)*)", sections.get("TOOLS", ""), re.M):
-            shown[name] = shown.get(name, "") + ".SS" + part
-        yield from ((PAGE, 1, f"the tool {name} is not in the page") for name in set(files) - set(shown))
-        yield from ((PAGE, 1, f"the program has no tool {name}") for name in set(shown) - set(files))
-        for name in set(files) & set(shown):
-            rows, tags = SWITCH.findall(text_of(self.top, "crates", files[name])), options_shown(shown[name])
-            read = {f"--{word}" for kind, _, word in rows if kind != "by_letter"}
-            read |= {f"-{letter}" for _, letter, _ in rows if letter}
-            yield from ((PAGE, 1, f"{name} does not read {option}") for option in tags - read)
-            yield from ((PAGE, 1, f"{name} has no {option} here") for option in read - tags)
 
     def examples(self) -> Iterator[Fault]:
         """Lines of examples that are in no source and no definition."""
@@ -358,8 +336,8 @@ class Checks:
 
     def all_faults(self) -> List[str]:
         """What is wrong in all documents, one line each."""
-        found = {*self.names(), *self.limits(), *self.maps(), *self.options(), *self.examples(),
-                 *self.scripts(), *self.blocks(), *self.links()}
+        found = {*self.names(), *self.limits(), *self.maps(), *self.examples(), *self.scripts(),
+                 *self.blocks(), *self.links(), *ToolRows(self.top).all_faults()}
         found |= {(path, 1, "has no sentence at its head") for path, head in self.heads([]) if not head}
         return [f"{path}:{number}: {fault}" for path, number, fault in sorted(found)]
 

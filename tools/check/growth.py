@@ -34,7 +34,7 @@ from typing import Dict, Iterable, Iterator, List, NamedTuple, Optional, Set, Tu
 sys.dont_write_bytecode = True
 HERE = os.path.dirname(os.path.realpath(__file__))
 sys.path.insert(0, os.path.join(HERE, "..", "lib"))
-from random_lines import TEXT_WORDS, Unit, numbers_of, script_of  # noqa: E402
+from random_lines import LOADERS, TEXT_WORDS, Unit, numbers_of, script_of  # noqa: E402
 from script import Failed, run  # noqa: E402
 from session import TEXTS, conclude, options_of, words_of, write_text  # noqa: E402
 from texts import ROOT_AND_FILE, dump_of  # noqa: E402
@@ -165,7 +165,7 @@ def units_of(text: str) -> Units:
     units, lines = [], iter(text.encode().split(b"\n"))
     for line in lines:
         words = line.decode().split()
-        takes = words[0] == "load" or TEXT_WORDS & set(words[1:])
+        takes = words[0] in LOADERS or TEXT_WORDS & set(words[1:])
         units.append(Unit(line, list(iter(lines.__next__, b".")) if takes else None))
     return units
 

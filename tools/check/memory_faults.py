@@ -31,13 +31,14 @@ KIND = "the kind of a fault of std or of the kit's crate that says that memory r
 ALONE = "the only fault of the call before it, by a clause or by its type"
 EXCEPTIONS: Dict[Tuple[str, str], str] = {
     ("crates/kinds/src/blocks.rt", "BlockList::pushed"): COUNT,
+    ("crates/kinds/src/counted.rt", "count_one"): COUNT,
     ("crates/kinds/src/kinds.rt", "Kinds::grant"): COUNT,
     ("crates/kinds/src/list.rt", "SharedList::pushed"): COUNT,
     ("crates/kinds/src/memo.rt", "count_again"): COUNT,
     ("crates/acl_tree/src/edit_command.rt", "prepare_chmod"):
         "the operands were looked up before, and a mode is put into each file that is found",
     ("crates/acl_tree/src/creat.rt", "node_of"): ALONE,
-    ("crates/facl/src/session.rt", "FaclSession::accept"): ALONE,
+    ("crates/facl/src/session.rt", "FaclSession::finish_line"): ALONE,
     ("crates/facl/src/line.rt", "text_of_unit"): "TextFound::Lost: the room for the line's text was refused",
     ("crates/facl_cli/src/args.rt", "words_fault"): KIND,
     ("crates/facl_cli/src/files.rt", "From<io::Error> for Unread"): KIND,

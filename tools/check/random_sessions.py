@@ -24,8 +24,10 @@ each user and request, `can --reach` and `who --reach` of each file.
 
 With --memory the tree of tools/lib/texts.py, --files (100,000) and --users (1,000), gets --lines (20,000) that are all
 accepted: most change one file or one user or ask something, one of 50 a directory with its hundred files, one of 1,000
-all files. After each --report (2,000) it prints the memory that the program has and the most that it had; at the end it
-has to have at most a tenth more than a new session on the same state, and to answer the same.
+all files. After each --report (2,000) it prints the memory that the program has and the most that it had. A session keeps
+two states: the one after the load, of which `changes` tells what differs, and the present one. So at the end it has to
+have at most a tenth more than it had after the load and a new session on the present state has, together; and to answer
+the same.
 
 The same seed gives the same lines. The exit status is 1 where something is not so, 2 where the words are others.
 """
@@ -403,7 +405,7 @@ def memory(given: argparse.Namespace, folder: str) -> Tuple[str, List[str]]:
     lines = Lines(given.seed, given.files, first)
     with KeptSession(given.program, first) as old:
         answer(old, [])
-        present = show(f"{given.files} files, {given.users} users, loaded", old)
+        present = loaded = show(f"{given.files} files, {given.users} users, loaded", old)
         for done in range(0, given.lines, given.report):
             count = min(given.report, given.lines - done)
             answer(old, [lines.next() for _ in range(count)])
@@ -413,11 +415,12 @@ def memory(given: argparse.Namespace, folder: str) -> Tuple[str, List[str]]:
             write_text(folder, name, [text])
         with KeptSession(given.program, folder) as new:
             answer(new, [])
-            part = present / show("the same state, loaded by a new session", new)
+            part = present / (loaded + show("the same state, loaded by a new session", new))
             asked = lines.questions()
             is_same = answer(old, asked) == answer(new, asked)
     faults = ["more than a tenth more memory"] * (part > 1.1) + ["answers differ"] * (not is_same)
-    return f"{given.files} files, {given.users} users, {given.lines} lines, {part:.2f} times the memory", faults
+    amount = f"{given.files} files, {given.users} users, {given.lines} lines"
+    return f"{amount}, {part:.2f} times the memory of both states", faults
 
 
 def read_words() -> argparse.Namespace:

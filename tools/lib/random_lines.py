@@ -1,9 +1,15 @@
 """Random lines over small trees, more than a third of them faulty, with the users and groups that they are about."""
 from __future__ import annotations
 
+import os
 import random
 import re
+import sys
 from typing import Iterable, List, NamedTuple, Optional, Sequence, Tuple, TypeVar
+
+sys.path.append(os.path.join(os.path.dirname(os.path.realpath(__file__)), "..", "..", "commands"))
+
+from facl_commands import tools  # noqa: E402
 
 PASSWD = b"""root:x:0:0:root:/root:/bin/sh
 lisa:x:1001:50:Lisa:/home/lisa:/bin/sh
@@ -25,12 +31,10 @@ USERS = ["lisa", "joe", "ann", "root", "'al b'", "al\\040b", "1000", "1004", "42
 GROUPS = ["staff", "users", "cool", "adm", "50", "70", "a\\043b\\054c", "4294967294"]
 NOBODY = ["nosuch", "7", "4294967295", "99999999999999999999", "''", "LISA", "\\400"]
 FILES = ["", "/a", "/a/b", "/a/b/c", "/f", "/g", "/d", "/d/e", "/d/e/f", "/x y"]
-TOOLS = [
-    "load", "getfacl", "setfacl", "chacl", "chmod", "creat", "rm", "gpasswd", "usermod", "useradd", "userdel",
-    "attr", "setattr", "can", "who", "may", "why", "index", "changes",
-]  # fmt: skip
-TEXT_WORDS = {"-", "-M-", "-X-", "--modify-file=-", "--remove-file=-", "--set-file=-", "--restore=-"}
-OF_PEOPLE = (b"gpasswd", b"usermod", b"useradd", b"userdel")
+TOOLS = [name.decode() for name in tools.TOOLS]
+TEXT_WORDS = {word.decode() for word in tools.TEXT_WORDS}
+LOADERS = {name.decode() for name in tools.LOADERS}
+OF_PEOPLE = tools.CHANGES_OF_PEOPLE
 Thing = TypeVar("Thing")
 Words = Tuple[List[str], List[str]]
 
@@ -291,7 +295,7 @@ class Grammar:
             words = self.with_fault(words, top)
         line = self.one(" ", " ", "  ", "\t").join(words) + (" #" if self.chance(0.04) else self.one("", "", "", " "))
         seen = [word.replace("'", "") for word in self.split(line)]
-        takes = seen and (seen[0] == "load" or TEXT_WORDS & set(seen[1:]))
+        takes = seen and (seen[0] in LOADERS or TEXT_WORDS & set(seen[1:]))
         text = [it.encode().replace(b"\n", b"") for it in text] if takes else None
         return Unit(line.encode(), [b" ." if it == b"." else it for it in text] if takes else None)
 

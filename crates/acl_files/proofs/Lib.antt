@@ -4,6 +4,7 @@ pub mod Changes
 pub mod Selected
 pub mod Edits
 pub mod Left
+pub mod Outside
 pub mod Placed
 pub mod Restored
 pub mod Ancestors
@@ -19,4 +20,5 @@ pub use Rattle.acl_dump.proofs as of_acl_dump
 pub use Rattle.acl_edit.proofs as of_acl_edit
 pub use Rattle.acl_entry.proofs as of_acl_entry
 pub use Rattle.acl_names.proofs as of_acl_names
+pub use Rattle.kinds.proofs as of_kinds
 pub use Rattle.path_map.proofs as of_path_map

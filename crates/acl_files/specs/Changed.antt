@@ -7,6 +7,7 @@ use Rattle.acl_entry.specs.Perms.{number}
 use Rattle.acl_entry.specs.Lists.{entries}
 use Rattle.acl_entry.specs.declared.entry.Entry.{Entry}
 use Rattle.acl_entry.specs.declared.label.Label.{Label}
+use Rattle.acl_names.specs.Below.{encloses}
 use Rattle.acl_names.specs.Paths.{path_cmp}
 use Rattle.acl_edit.specs.declared.node.Node.{Node}
 use Rattle.acl_files.specs.Files.{PathOf, Files}
@@ -47,6 +48,16 @@ differs by_label (Some m) n = by_label && not (same_label m.label n.label)
 -- the files of a state that are others in the other one
 abbrev pub differing : Bool → Files → Files → Files
 differing by_label other es = filter (λ e. differs by_label (find path_cmp e.0 other) e.1) es
+
+-- the entries that are neither at a path nor below it
+abbrev pub outside : {V : Type 0} → PathOf → List (PathOf × V) → List (PathOf × V)
+outside top es = filter (λ e. not (encloses top e.0)) es
+
+-- the first of some files is taken, with all that are below it
+pub record IsTop (top : PathOf × Node) (old new : Files) : Type 0 where
+  pub more : Files
+  pub first : old ≡ top ∷ more
+  pub left : new ≡ outside top.0 more
 
 -- two states have the same files, but where a test passes
 abbrev pub SameBut : (PathOf → Bool) → Files → Files → Type 0

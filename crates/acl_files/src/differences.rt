@@ -1,10 +1,12 @@
 //! What changed from one state of the files to another: where the check of access may answer otherwise.
 
-ghost use Rattle.std.specs.Prelude.{◌≡◌, true, false};
+ghost use Rattle.std.specs.Prelude.{◌≡◌, [], ◌∷◌, true, false, IfSome, MatchOption};
 ghost use Rattle.std.specs.Iterator.{YieldsFirstBy, item_count};
 ghost use Rattle.std.specs.Option.{option_copied};
+ghost use Rattle.path_map.specs.Inner.{From};
+ghost use Rattle.kinds.specs.Numbered.{entries_by, AreUsed};
 ghost use Rattle.kinds.specs.Puts.{borrowed};
-ghost use Rattle.acl_files.specs.Changed.{same_label, differs, differing, changed_between, gone_between, SameBut};
+ghost use Rattle.acl_files.specs.Changed.{same_label, differs, differing, changed_between, gone_between, SameBut, IsTop};
 ghost use Rattle.acl_files.specs.Operands.{in_region};
 
 use crate::files::{Files, FilesFinder};
@@ -30,6 +32,31 @@ fn differs(by_label: bool, other: Option<&Node>, node: &Node) -> bool
         Some(other) => by_label && !is_same_label(other, node),
         None => true,
     }
+}
+
+/// The next entry of a walk whose node is another one than what the other state has at its path.
+fn next_differing<'a>(
+    walk: &mut Walk<'a, 'a>,
+    kinds: &'a Kinds<Node>,
+    other: &mut FilesFinder<'a>,
+    by_label: bool,
+) -> Option<(&'a Path, &'a Node)>
+    requires { AreUsed kinds.now walk.old.0 }
+    ensures other { other.new ≡ other.old }
+    ensures used { AreUsed kinds.now walk.new.0 }
+    ensures first { MatchOption result
+        ((differing by_label other.old (entries_by kinds.now walk.old.0) ≡ []) × (differing by_label other.old (entries_by kinds.now walk.new.0) ≡ []))
+        (λ file. differing by_label other.old (entries_by kinds.now walk.old.0) ≡ borrowed file ∷ differing by_label other.old (entries_by kinds.now walk.new.0)) }
+    ensures from { IfSome result (λ file. From file.0.now walk.new.1) }
+{
+    walk.order_law();
+    while let Some(entry) = walk.next() {
+        let node = kinds.node(entry.1);
+        if differs(by_label, other.get(entry.0), node) {
+            return Some((entry.0, node));
+        }
+    }
+    None
 }
 
 /// A cursor over files of a state that are others in another state: those that are still to come, in path order.
@@ -64,13 +91,21 @@ impl<'a> Iterator for Differences<'a> {
 
     /// The next file in path order. Allocates nothing.
     fn next(&mut self) -> Option<(&'a Path, &'a Node)> {
-        while let Some(entry) = self.walk.next() {
-            let node = self.kinds.node(entry.1);
-            if differs(self.by_label, self.other.get(entry.0), node) {
-                return Some((entry.0, node));
-            }
-        }
-        None
+        next_differing(&mut self.walk, self.kinds, &mut self.other, self.by_label)
+    }
+}
+
+impl<'a> Differences<'a> {
+    /// The next file in path order. Those below it are passed over, by search. Allocates nothing.
+    pub fn next_top(&mut self) -> Option<(&'a Path, &'a Node)>
+        ensures { MatchOption result ((self.old ≡ []) × (self.new ≡ [])) (λ top. IsTop (borrowed top) self.old self.new) }
+    {
+        let Some(top) = next_differing(&mut self.walk, self.kinds, &mut self.other, self.by_label)
+        else {
+            return None;
+        };
+        self.walk.pass_within(top.0);
+        Some(top)
     }
 }
 

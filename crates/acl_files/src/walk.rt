@@ -1,7 +1,9 @@
 //! A walk over the entries of a map that operands in path order mean, found by search.
 
 ghost use Rattle.std.specs.Prelude.{◌≡◌, option_map};
-ghost use Rattle.path_map.specs.Entries.{first, seen};
+ghost use Rattle.path_map.specs.Entries.{IsInOrder, first, seen};
+ghost use Rattle.path_map.specs.Inner.{From};
+ghost use Rattle.acl_files.specs.Changed.{outside};
 ghost use Rattle.acl_files.specs.Inner.{Ascend, TakesFirst};
 ghost use Rattle.acl_files.specs.Operands.{means, files_meant};
 
@@ -77,6 +79,27 @@ impl<'a, 'p> Walk<'a, 'p> {
             }
         }
         None
+    }
+
+    /// Proof only: the entries that are still to come are in path order.
+    pub fn order_law(&self)
+        ensures { IsInOrder self.now.1 }
+    {
+        self.numbers.order_law();
+    }
+
+    /// Passes over the entries at or below a path, by search, where none that is to come is before it. Allocates nothing.
+    pub fn pass_within(&mut self, top: &Path)
+        requires { From top.now self.old.1 }
+        ensures { self.new ≡ (outside top.now self.old.0, outside top.now self.old.1) }
+    {
+        self.numbers.order_law();
+        let Some(path) = self.rest.peek() else {
+            return;
+        };
+        if path.is_within(top) {
+            self.rest = self.numbers.after(top);
+        }
     }
 
     /// The path of the map's entry after those that were passed. Allocates nothing.

@@ -12,7 +12,7 @@ use Rattle.acl_tree.specs.acl_names.Paths.{path_cmp}
 use Rattle.acl_tree.specs.acl_edit.declared.node.Node.{Node}
 use Rattle.acl_tree.specs.Files.{PathOf, Files}
 use Rattle.acl_tree.specs.acl_people.KnownPeople.{person, persons}
-use Rattle.acl_tree.specs.Step.{State}
+use Rattle.acl_tree.specs.State.{State}
 use Rattle.acl_rights.specs.Tables.{Verdict, VerdictTable, IsWhole, Rows, cells_of, rows_of, cell_at, places_from, who_in, grants_to, may_in, verdict_at, users_granted, files_granted}
 use Rattle.acl_verdicts.proofs.Maps.{find-values}
 

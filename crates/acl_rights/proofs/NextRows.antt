@@ -19,10 +19,9 @@ use Rattle.path_map.specs.Merged.{merged}
 use Rattle.path_map.specs.Below.{lies_in}
 use Rattle.acl_verdicts.specs.declared.kind_rows.LabelRow.{LabelRow}
 use Rattle.acl_verdicts.specs.KindRows.{RowedPaths, AreRowsOf, with_label, rowed, rowed_labels, each_row, with_last, without_at, with_again, mentions_any}
-use Rattle.acl_verdicts.specs.Subtrees.{tops_of}
 use Rattle.acl_verdicts.proofs.Counted.{no_length}
 use Rattle.acl_verdicts.proofs.RowsOfKinds.{rowed_rows}
-use Rattle.acl_verdicts.proofs.Maps.{map_filter, map_twice}
+use Rattle.acl_verdicts.proofs.Maps.{map_filter, map_twice, times_le}
 use Rattle.acl_verdicts.proofs.Orders.{same_order}
 use Rattle.acl_rights.specs.Tables.{Verdict}
 use Rattle.acl_rights.specs.Stages.{mentions_one, moves_looked, most_asked}
@@ -31,7 +30,7 @@ use Rattle.acl_rights.specs.Lines.{rows_at, labels_of, AreBefore}
 use Rattle.acl_rights.proofs.Costs.{all_users, within, nothing_changed, moved_cost}
 use Rattle.acl_rights.proofs.Counts.{person_same}
 use Rattle.acl_rights.proofs.Goes.{moves, joins, leaves}
-use Rattle.acl_rights.proofs.Refreshing.{pairs_paths, count_lying, users_refreshed, count_none}
+use Rattle.acl_rights.proofs.Refreshing.{count_paths, count_lying, users_refreshed, count_none}
 use Rattle.acl_rights.proofs.Rowed.{rowed_paths, rowed_long, rows_changed, rows_moved, rows_unmoved, rows_joined, rows_left, rows_mentioning, paths_mentioning}
 
 abbrev paths : {A : Type 0} → List (PathOf × A) → List PathOf
@@ -54,19 +53,20 @@ seen_paths fs ls are =
     ∙ sym (map_twice with_label (λ (l : PathOf × Label). l.0) ls)
     ∙ label_paths fs (map with_label ls) are
 
-pub tops_paths : (fs : Files) (ls : List (Bor PathOf × Bor Label)) (tops : List (Bor PathOf)) → map with_label ls ≡ labels_of fs → map (λ (p : Bor PathOf). p.now) tops ≡ map (λ (l : Bor PathOf × Bor Label). l.0.now) ls → paths (tops_of tops) ≡ paths fs
-tops_paths fs ls tops are same =
-    pairs_paths (λ (p : Bor PathOf). p.now) tops
-    ∙ same
-    ∙ sym (map_twice with_label (λ (l : PathOf × Label). l.0) ls)
-    ∙ label_paths fs (map with_label ls) are
-
 -- what is asked for labels of changed files
 pub files_cost : (t : StagedState) (labels : List (Bor PathOf × Bor Label)) (users : List Person) → map with_label labels ≡ labels_of t.changed → users ≡ persons t.state.people → length labels * length users ≤ most_asked t
 files_cost t labels users are same =
     let files : length labels ≡ length t.changed = sym (length-map labels with_label) ∙ ap length are ∙ length-map t.changed (λ (f : PathOf × Node). (f.0, f.1.label)) in
     let people : length users ≡ length t.state.people.users = ap length same ∙ all_users t.state.people in
     subst (λ n. n ≤ most_asked t) (λ i. sym files i * sym people i) (within t)
+
+-- what is asked for the kinds of a tree, where as many files changed
+pub kinds_cost : (t : StagedState) (many : ℕ) (users : List Person) → many ≤ length t.changed → users ≡ persons t.state.people → many * length users ≤ most_asked t
+kinds_cost t many users few same =
+    let people : length users ≡ length t.state.people.users = ap length same ∙ all_users t.state.people in
+    let cost = times_le many (length t.changed) (length t.state.people.users) few in
+    let whole = within t in
+    omega (arith, cost, whole, ap (λ n. many * n) people)
 
 module _ (V : Verdict) (es : RowedPaths) (t : StagedState) (b : AreBefore V es t) (ordered : IsInOrder es) (n : IsInOrder t.state.tree.files) where
   abbrev us : List Person
@@ -97,7 +97,7 @@ module _ (V : Verdict) (es : RowedPaths) (t : StagedState) (b : AreBefore V es t
     pub rows_known : (users : List Person) → users ≡ us → AreRowsOf V users es
     rows_known users same = subst (λ (l : List Person). AreRowsOf V l es) (sym (same ∙ same_users)) (subst (λ (rows : RowedPaths). AreRowsOf V before rows) (sym b.are) (rowed_rows V before fs))
 
-    order_changed : IsInOrder t.changed
+    pub order_changed : IsInOrder t.changed
     order_changed = subst IsInOrder (sym b.goes.reports.changed) (map_filter (is_changed fs) gs n)
 
     pub changed_order : (labels : List (PathOf × Label)) → labels ≡ labels_of t.changed → IsInOrder labels
@@ -105,9 +105,6 @@ module _ (V : Verdict) (es : RowedPaths) (t : StagedState) (b : AreBefore V es t
 
     pub gone_order : {W : Type 0} (gone : List (PathOf × W)) → paths gone ≡ paths t.gone → IsInOrder gone
     gone_order gone are = same_order gone t.gone are (subst IsInOrder (sym b.goes.reports.gone) (map_filter _ fs old_order))
-
-    pub tops_order : {A : Type 0} (tops : List (PathOf × A)) → paths tops ≡ paths t.changed → IsInOrder tops
-    tops_order tops are = same_order tops t.changed are order_changed
 
     pub rows_after : {W : Type 0} (labels : List (PathOf × Label)) (gone : List (PathOf × W)) (users : List Person) (new : RowedPaths) → labels ≡ labels_of t.changed → paths gone ≡ paths t.gone → users ≡ us
         → new ≡ merged (rowed_labels V users labels) gone es → new ≡ rowed V us gs
@@ -117,9 +114,9 @@ module _ (V : Verdict) (es : RowedPaths) (t : StagedState) (b : AreBefore V es t
         ∙ rows_changed V before fs gs labels gone (are ∙ ap labels_of b.goes.reports.changed) (are_gone ∙ ap (λ (es : Files). paths es) b.goes.reports.gone) old_order n
         ∙ ap (λ (l : List Person). rowed V l gs) (sym same_users)
 
-    pub walked_after : {A : Type 0} (tops : List (PathOf × A)) (new : RowedPaths) (count : ℕ) → paths tops ≡ paths t.changed → new ≡ rowed V us gs → count ≡ count_by (λ (e : PathOf × LabelRow). lies_in tops e.0) new
+    pub walked_after : (new : RowedPaths) (count : ℕ) → new ≡ rowed V us gs → count ≡ count_by (λ (e : PathOf × LabelRow). lies_in t.changed e.0) new
         → count ≡ count_by (λ (e : PathOf × Node). lies_in t.changed e.0) gs
-    walked_after tops new count are made counted = counted ∙ count_lying tops new t.changed gs are (rowed_paths V us new gs made)
+    walked_after new count made counted = counted ∙ count_paths (lies_in t.changed) new gs (rowed_paths V us new gs made)
 
   -- ---- a user joins or leaves groups
 
@@ -136,18 +133,16 @@ module _ (V : Verdict) (es : RowedPaths) (t : StagedState) (b : AreBefore V es t
     pub looked_moved : (count : ℕ) → count ≡ count_by (λ (e : PathOf × LabelRow). mentions_any groups e.1) es → count ≡ moves_looked t.user_change gs
     looked_moved count counted = counted ∙ looked_are ∙ ap (λ (c : UserChange). moves_looked c gs) (sym is)
 
-    module _ {A : Type 0} (tops : List (PathOf × A)) (are : paths tops ≡ map (λ (e : PathOf × LabelRow). e.0) (filter (λ (e : PathOf × LabelRow). mentions_any groups e.1) es)) where
-      are_files : paths tops ≡ paths (filter (mentions_one groups) gs)
-      are_files = are ∙ paths_mentioning V before groups es gs es_here
-
-      pub tops_moved : IsInOrder tops
-      tops_moved = same_order tops (filter (mentions_one groups) gs) are_files (map_filter (mentions_one groups) gs n)
-
-      pub refreshed_moved : (count : ℕ) → count ≡ count_by (λ (e : PathOf × LabelRow). lies_in tops e.0) es → count ≡ verdicts_refreshed t
-      refreshed_moved count counted =
-          let m = moves V (rows_at es) t b.goes at groups is in
-          users_refreshed t count (nothing_changed V (rows_at es) t b.goes n m.0)
-          (counted ∙ count_lying tops es (filter (mentions_one groups) gs) gs are_files (rowed_paths V before es gs es_here) ∙ ap (λ (c : UserChange). moves_refreshed c gs) (sym is))
+    pub refreshed_moved : (count : ℕ) → count ≡ count_by (λ (e : PathOf × LabelRow). lies_in (filter (λ (d : PathOf × LabelRow). mentions_any groups d.1) es) e.0) es → count ≡ verdicts_refreshed t
+    refreshed_moved count counted =
+        let m = moves V (rows_at es) t b.goes at groups is in
+        let tops = filter (λ (e : PathOf × LabelRow). mentions_any groups e.1) es in
+        users_refreshed t count (nothing_changed V (rows_at es) t b.goes n m.0)
+        (
+        counted
+        ∙ count_lying tops es (filter (mentions_one groups) gs) gs (paths_mentioning V before groups es gs es_here) (rowed_paths V before es gs es_here)
+        ∙ ap (λ (c : UserChange). moves_refreshed c gs) (sym is)
+        )
 
     pub refreshed_unmoved : count_by (λ (e : PathOf × LabelRow). mentions_any groups e.1) es ≡ 0 → 0 ≡ verdicts_refreshed t
     refreshed_unmoved none =

@@ -15,7 +15,7 @@ use Rattle.acl_tree.specs.acl_edit.declared.node.Node.{Node}
 use Rattle.acl_tree.specs.acl_names.Below.{is_above}
 use Rattle.acl_tree.specs.Files.{PathOf, Files}
 use Rattle.acl_tree.specs.acl_people.KnownPeople.{person, persons}
-use Rattle.acl_tree.specs.Step.{State}
+use Rattle.acl_tree.specs.State.{State}
 use Rattle.acl_rights.specs.Tables.{Verdict, VerdictTable, IsWhole, Rows, cells_of, rows_of, places_from, who_in, grants_to, may_in}
 use Rattle.acl_rights.specs.Reach.{execute, passes, reach, reach_at, users_reaching, files_reached, can_search, passes_in, reach_cell, reached_from, reached_rows, reached_at}
 use Rattle.acl_verdicts.proofs.Maps.{find-values}

@@ -12,10 +12,6 @@ use Rattle.path_map.specs.Below.{lies_in}
 use Rattle.acl_rights.specs.Reach.{moves_refreshed, verdicts_refreshed}
 use Rattle.acl_verdicts.proofs.Maps.{times_le}
 
-pub pairs_paths : {P : Type 0} (f : P → PathOf) (ps : List P) → map (λ (e : PathOf × PathOf). e.0) (map (λ p. (f p, f p)) ps) ≡ map f ps
-pairs_paths f [] = refl
-pairs_paths f (p ∷ ps) = ap (λ l. f p ∷ l) (pairs_paths f ps)
-
 -- paths alone decide
 pub count_paths : {A B : Type 0} (f : PathOf → Bool) (es : List (PathOf × A)) (fs : List (PathOf × B)) → map (λ (e : PathOf × A). e.0) es ≡ map (λ (e : PathOf × B). e.0) fs
     → count_by (λ (e : PathOf × A). f e.0) es ≡ count_by (λ (e : PathOf × B). f e.0) fs

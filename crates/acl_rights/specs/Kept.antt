@@ -1,7 +1,7 @@
 -- For inner functions: rows of the state from which a line goes.
 use Rattle.std.specs.Prelude.{◌≡◌}
 use Rattle.acl_tree.specs.acl_people.KnownPeople.{persons}
-use Rattle.acl_tree.specs.Step.{State}
+use Rattle.acl_tree.specs.State.{State}
 use Rattle.acl_tree.specs.Reports.{StagedState, Reports}
 use Rattle.acl_rights.specs.Tables.{Verdict, Rows, rows_of}
 

@@ -1,7 +1,7 @@
 -- A line on a table.
 use Rattle.std.specs.Prelude.{ℕ, ◌+◌, ◌*◌, Bool, true, false, length, count_by}
 use Rattle.acl_tree.specs.Files.{Files}
-use Rattle.acl_tree.specs.Step.{State}
+use Rattle.acl_tree.specs.State.{State}
 use Rattle.acl_tree.specs.Reports.{StagedState, Reports}
 use Rattle.acl_tree.specs.declared.user_change.UserChange.{UserChange}
 use Rattle.acl_tree.specs.declared.user_change.UserChange.TheVariants.{Unchanged, Loaded, Memberships, Added, Removed}

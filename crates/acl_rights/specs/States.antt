@@ -1,7 +1,7 @@
 -- The states that the lines of a script see: the one after the texts were loaded, and the present one.
 use Rattle.std.specs.Prelude.{ℕ, Bool, if◌then◌else◌, Option, IfSome}
 use Rattle.std.specs.Option.{option_map_or}
-use Rattle.acl_tree.specs.Step.{State}
+use Rattle.acl_tree.specs.State.{State}
 use Rattle.acl_tree.specs.Reports.{StagedState, Reports}
 use Rattle.acl_tree.specs.declared.user_change.UserChange.TheVariants.{Unchanged}
 use Rattle.acl_rights.specs.Costs.{most_between}

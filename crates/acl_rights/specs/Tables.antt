@@ -11,7 +11,7 @@ use Rattle.acl_tree.specs.acl_names.Paths.{path_cmp}
 use Rattle.acl_tree.specs.acl_names.declared.path.Path.{Path}
 use Rattle.acl_tree.specs.acl_people.KnownPeople.{persons}
 use Rattle.acl_tree.specs.Files.{PathOf, Files}
-use Rattle.acl_tree.specs.Step.{State}
+use Rattle.acl_tree.specs.State.{State}
 use Rattle.acl_tree.specs.Reports.{coded_files}
 pub use Rattle.acl_verdicts.specs.Rows.{Verdict, Rows, cells_of, rows_of, coded_rows, places_from, who_in, grants_to, may_in}
 

@@ -8,7 +8,7 @@ use Rattle.acl_tree.specs.acl_syntax.declared.rows.PasswdRow.{PasswdRow}
 use Rattle.acl_tree.specs.acl_edit.declared.node.Node.{Node}
 use Rattle.acl_tree.specs.acl_people.KnownPeople.{person, persons}
 use Rattle.acl_tree.specs.Files.{PathOf}
-use Rattle.acl_tree.specs.Step.{State}
+use Rattle.acl_tree.specs.State.{State}
 use Rattle.acl_rights.specs.Tables.{Verdict, Rows, places_from, rows_of}
 use Rattle.acl_rights.specs.Reach.{reach, rows_along}
 

@@ -3,7 +3,7 @@
 ghost use Rattle.std.specs.Prelude.{◌≡◌, ◌+◌, ◌<◌, ◌≤◌, ◌^◌, length, IfOk, true};
 ghost use Rattle.acl_tree.specs.acl_files.kinds.Numbered.{entries_in};
 ghost use Rattle.acl_tree.specs.acl_people.KnownPeople.{persons};
-ghost use Rattle.acl_tree.specs.Step.{state_from};
+ghost use Rattle.acl_tree.specs.State.{state_from};
 ghost use Rattle.acl_verdicts.specs.Rows.{Asks};
 ghost use Rattle.acl_verdicts.specs.KindRows.{rowed};
 ghost use Rattle.acl_rights.specs.Costs.{all_pairs};

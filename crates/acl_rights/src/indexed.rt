@@ -25,7 +25,7 @@ pub struct IndexedState<J: Judge> {
 }
 
 impl<J: Judge> Model for IndexedState<J> {
-    ghost use Rattle.acl_tree.specs.Step.{State as Whole, coded_state};
+    ghost use Rattle.acl_tree.specs.State.{State as Whole, coded_state};
     ghost use Rattle.acl_rights.specs.Tables.{IsWhole};
 
     ghost Value = { Whole };

@@ -4,7 +4,7 @@ ghost use Rattle.std.specs.Prelude.{◌≡◌};
 ghost use Rattle.std.specs.Option.{option_copied};
 ghost use Rattle.std.specs.FinMap.{find};
 ghost use Rattle.acl_tree.specs.acl_names.Paths.{path_cmp};
-ghost use Rattle.acl_tree.specs.Step as step;
+ghost use Rattle.acl_tree.specs.State as states;
 
 use crate::index::Index;
 use acl_tree::{NoMemory, Path, Perm, Requests};
@@ -29,7 +29,7 @@ impl<J: Judge> Index<J> {
     /// What a user may do with a file, if both are there. Allocates nothing.
     pub fn get(&self, user: usize, path: &Path) -> Option<Requests>
         ensures cell { result ≡ cell_at self.now user path.now }
-        ensures verdict { (s : step.State) → IsWhole J.verdict_of s self.now → result ≡ verdict_at J.verdict_of s user path.now }
+        ensures verdict { (s : states.State) → IsWhole J.verdict_of s self.now → result ≡ verdict_at J.verdict_of s user path.now }
     {
         self.cell(user, path)
     }
@@ -59,7 +59,7 @@ impl<J: Judge> Index<J> {
         request: Perm,
     ) -> Result<Option<Vec<usize>>, NoMemory>
         ensures reported { FindsUsers result (users_at self.now.rows path.now request) }
-        ensures whole { (s : step.State) → IsWhole J.verdict_of s self.now → FindsUsers result (users_granted J.verdict_of s path.now request) }
+        ensures whole { (s : states.State) → IsWhole J.verdict_of s self.now → FindsUsers result (users_granted J.verdict_of s path.now request) }
     {
         self.users(alloc, path, request)
     }
@@ -90,7 +90,7 @@ impl<J: Judge> Index<J> {
         request: Perm,
     ) -> Result<Option<Vec<&Path>>, NoMemory>
         ensures reported { FindsFiles result (files_at self.now.users self.now.rows user request) }
-        ensures whole { (s : step.State) → IsWhole J.verdict_of s self.now → FindsFiles result (files_granted J.verdict_of s user request) }
+        ensures whole { (s : states.State) → IsWhole J.verdict_of s self.now → FindsFiles result (files_granted J.verdict_of s user request) }
     {
         self.paths(alloc, user, request)
     }
@@ -107,7 +107,7 @@ impl<J: Judge> Index<J> {
     /// nothing. Allocates nothing.
     pub fn get_reach(&self, user: usize, path: &Path) -> Option<Requests>
         ensures cell { result ≡ reached_at self.now.rows user path.now }
-        ensures reach { (s : step.State) → IsWhole J.verdict_of s self.now → result ≡ reach_at J.verdict_of s user path.now }
+        ensures reach { (s : states.State) → IsWhole J.verdict_of s self.now → result ≡ reach_at J.verdict_of s user path.now }
     {
         self.reach_cell(user, path)
     }
@@ -138,7 +138,7 @@ impl<J: Judge> Index<J> {
         request: Perm,
     ) -> Result<Option<Vec<usize>>, NoMemory>
         ensures reported { FindsUsers result (users_at (reached_rows self.now.rows) path.now request) }
-        ensures whole { (s : step.State) → IsWhole J.verdict_of s self.now → FindsUsers result (users_reaching J.verdict_of s path.now request) }
+        ensures whole { (s : states.State) → IsWhole J.verdict_of s self.now → FindsUsers result (users_reaching J.verdict_of s path.now request) }
     {
         self.reaching(alloc, path, request)
     }
@@ -169,7 +169,7 @@ impl<J: Judge> Index<J> {
         request: Perm,
     ) -> Result<Option<Vec<&Path>>, NoMemory>
         ensures reported { FindsFiles result (files_at self.now.users (reached_rows self.now.rows) user request) }
-        ensures whole { (s : step.State) → IsWhole J.verdict_of s self.now → FindsFiles result (files_reached J.verdict_of s user request) }
+        ensures whole { (s : states.State) → IsWhole J.verdict_of s self.now → FindsFiles result (files_reached J.verdict_of s user request) }
     {
         self.reached_paths(alloc, user, request)
     }
@@ -188,7 +188,7 @@ impl<J: Judge> Index<J> {
     /// What each user may do with a file, in the order of the users, if the file is there. Allocates nothing.
     pub fn row(&self, path: &Path) -> Option<&[Requests]>
         ensures row { option_copied result ≡ find path_cmp path.now self.now.rows }
-        ensures verdicts { (s : step.State) → IsWhole J.verdict_of s self.now → option_copied result ≡ row_at J.verdict_of s path.now }
+        ensures verdicts { (s : states.State) → IsWhole J.verdict_of s self.now → option_copied result ≡ row_at J.verdict_of s path.now }
     {
         self.cells(path)
     }

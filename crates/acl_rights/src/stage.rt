@@ -1,10 +1,10 @@
 //! The rows of verdicts after a line, by how the line moves the users.
 
-ghost use Rattle.std.specs.Prelude.{◌≡◌, ◌+◌, ◌-◌, ◌<◌, ◌≤◌, ◌^◌, true, Some, length, map, slice_get, IfOk};
+ghost use Rattle.std.specs.Prelude.{◌≡◌, ◌+◌, ◌-◌, ◌<◌, ◌≤◌, ◌^◌, true, Some, length, map, slice_get, IfOk, MatchOption};
 ghost use Rattle.acl_tree.specs.Files.{Files};
 ghost use Rattle.acl_tree.specs.acl_files.kinds.Numbered.{entries_in};
 ghost use Rattle.acl_tree.specs.acl_people.KnownPeople.{persons};
-ghost use Rattle.acl_verdicts.specs.KindRows.{with_label};
+ghost use Rattle.acl_verdicts.specs.KindRows.{rowed, with_label};
 ghost use Rattle.acl_rights.specs.Costs.{all_pairs};
 ghost use Rattle.acl_rights.specs.Stages.{most_asked, moves_groups};
 ghost use Rattle.acl_rights.specs.Lines.{labels_of, AreBefore, IsAfter};
@@ -36,18 +36,73 @@ fn labels<'a>(
     Ok(labels)
 }
 
-/// The paths alone.
-fn paths<'a>(alloc: Global, labels: &[(&'a Path, &'a Label)]) -> Result<Vec<&'a Path>, AllocError>
-    ensures { IfOk result (λ paths. map (λ p. p.now) paths.items ≡ map (λ l. l.0.now) labels.now) }
+/// The labels of files that are still to come, where they are fewer than so many. No more of them are looked at.
+fn fewer_labels<'a>(
+    alloc: Global,
+    files: Differences<'a>,
+    many: usize,
+) -> Result<Option<Vec<(&'a Path, &'a Label)>>, AllocError>
+    ensures { IfOk result (λ labels. MatchOption labels (many ≤ length files.entry) (λ few. map with_label few.items ≡ labels_of files.entry)) }
 {
-    let mut paths = Vec::with_capacity(alloc, labels.len())?;
-    for label in labels {
-        paths.push(label.0)?;
+    let mut labels = Vec::new(alloc);
+    let mut rest = files;
+    while let Some(file) = rest.next() {
+        labels.push((file.0, &file.1.label))?;
+        if labels.len() >= many {
+            return Ok(None);
+        }
     }
-    Ok(paths)
+    Ok(Some(labels))
 }
 
-/// The rows after a line by which files change and no user does: each label of a file that changed is asked for once.
+/// The rows with those of files that changed put, and without those of files that are gone.
+fn with_changed<J: Judge>(
+    alloc: Global,
+    judge: &mut J,
+    rows: &KindRows,
+    staged: &Staged,
+    changed: &[(&Path, &Label)],
+) -> Result<KindRows, AllocError>
+    requires room { J.asked_of judge.old + most_asked staged.now < 2 ^ 64 }
+    requires before { AreBefore J.verdict_of (entries_in rows.now.rows) staged.now }
+    requires moved { staged.now.user_change ≡ UserChange.Unchanged }
+    requires changed { map with_label changed.now ≡ labels_of staged.now.changed }
+    ensures rows { IfOk result (λ new. entries_in new.rows ≡ rowed J.verdict_of (persons staged.now.state.people) staged.now.state.tree.files) }
+    ensures at_most { J.asked_of judge.new ≤ J.asked_of judge.old + most_asked staged.now }
+{
+    staged.tree().soundness_law();
+    rows.rows.order_law();
+    let users = staged.people().all_subjects();
+    let gone = labels(alloc, staged.gone())?;
+    let new = rows.with_files(alloc, judge, users, changed, &gone)?;
+    Ok(new)
+}
+
+/// The rows after a line by which files change and no user does: each label of a file that changed is asked for once. Where
+/// as many files changed as the tree has numbers of kinds, no list of them is made.
+fn changed_rows<J: Judge>(
+    alloc: Global,
+    judge: &mut J,
+    rows: &KindRows,
+    staged: &Staged,
+) -> Result<KindRows, AllocError>
+    requires room { J.asked_of judge.old + most_asked staged.now < 2 ^ 64 }
+    requires before { AreBefore J.verdict_of (entries_in rows.now.rows) staged.now }
+    requires moved { staged.now.user_change ≡ UserChange.Unchanged }
+    ensures rows { IfOk result (λ new. entries_in new.rows ≡ rowed J.verdict_of (persons staged.now.state.people) staged.now.state.tree.files) }
+    ensures at_most { J.asked_of judge.new ≤ J.asked_of judge.old + most_asked staged.now }
+{
+    staged.tree().soundness_law();
+    rows.rows.order_law();
+    let users = staged.people().all_subjects();
+    let files = staged.tree().files_whole().files_by_path();
+    match fewer_labels(alloc, staged.changed(), files.numbers_len())? {
+        Some(changed) => with_changed(alloc, judge, rows, staged, &changed),
+        None => rows.of_kinds(alloc, judge, files, users),
+    }
+}
+
+/// The rows after a line by which files change and no user does, and how many verdicts along paths may be other ones.
 fn after_files<J: Judge>(
     alloc: Global,
     judge: &mut J,
@@ -63,12 +118,8 @@ fn after_files<J: Judge>(
 {
     staged.tree().soundness_law();
     rows.rows.order_law();
-    let users = staged.people().all_subjects();
-    let changed = labels(alloc, staged.changed())?;
-    let gone = labels(alloc, staged.gone())?;
-    let new = rows.with_files(alloc, judge, users, &changed, &gone)?;
-    let tops = paths(alloc, &changed)?;
-    let files = new.count_within(&tops);
+    let new = changed_rows(alloc, judge, rows, staged)?;
+    let files = new.count_below(staged.changed());
     Ok(NextRows {
         rows: new,
         looked: 0,
@@ -140,9 +191,7 @@ fn after_move<J: Judge>(
             refreshed: 0,
         });
     }
-    let tops = rows.paths_mentioning(alloc, groups)?;
-    let refreshed = rows.count_within(&tops);
-    drop(tops);
+    let refreshed = rows.count_below_mentioning(alloc, groups)?;
     let new = rows.with_user_updated(alloc, judge, groups, at, user)?;
     Ok(NextRows {
         rows: new,

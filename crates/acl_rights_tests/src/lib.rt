@@ -23,6 +23,8 @@ mod listings;
 #[cfg(test)]
 mod made;
 #[cfg(test)]
+mod many;
+#[cfg(test)]
 mod requests;
 #[cfg(test)]
 mod rows;

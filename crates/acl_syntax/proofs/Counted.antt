@@ -1,6 +1,6 @@
 -- What a line adds to the counted rows, and the names that were seen.
-use Rattle.std.proofs.Common.{◌≡◌, ℕ, ◌<◌, ◌≤◌, Bool, true, false, List, [], ◌∷◌, ◌++◌, length, Option, Some, Ok, Err, refl, sym, ◌∙◌, inl, inr, nat_cmp}
-use Rattle.std.specs.Prelude.{◌||◌}
+use Rattle.std.proofs.Common.{◌≡◌, ℕ, ◌<◌, ◌≤◌, Bool, true, false, List, [], ◌∷◌, ◌++◌, length, Option, Some, Ok, Err, refl, sym, ap, subst, ◌∙◌, inl, inr, nat_cmp, Bor}
+use Rattle.std.specs.Prelude.{◌||◌, IfSome, option_map}
 use Rattle.std.specs.List.{list_any}
 use Rattle.std.specs.Str.{bytes_eq}
 use Rattle.std.specs.Map.{update}
@@ -28,9 +28,20 @@ or_no true = refl
 or_no false = refl
 
 pub seen_more : {R : Type 0} (name_of : R → List ℕ) (old new : SeenNames) (rows : List R) (row : R) → SeenNamesAre name_of old rows
-    → ((name : List ℕ) → get_by (λ k. slice_cmp nat_cmp name k.now) new ≡ update bytes_eq (λ ds. get_by (λ k. slice_cmp nat_cmp ds k.now) old) (name_of row) (Some tt) name) → SeenNamesAre name_of new (rows ++ row ∷ [])
-seen_more name_of old new rows row are updates name =
-    elim (cases_Bool (bytes_eq (name_of row) name)) [
-      | inl same ↦ rw (updates name, list_any-append, same) (sym (or_right (list_any (λ r. bytes_eq (name_of r) name) rows) true refl))
-      | inr other ↦ rw (updates name, list_any-append, other) (are name ∙ or_no (list_any (λ r. bytes_eq (name_of r) name) rows))
+    → (added : List ℕ) → added ≡ name_of row
+    → ((name : List ℕ) → get_by (λ k. slice_cmp nat_cmp name k.now) new ≡ update bytes_eq (λ ds. get_by (λ k. slice_cmp nat_cmp ds k.now) old) added (Some tt) name)
+    → SeenNamesAre name_of new (rows ++ row ∷ [])
+seen_more name_of old new rows row are added is updates name =
+    elim (cases_Bool (bytes_eq added name)) [
+      | inl same ↦ rw (updates name, list_any-append, ← is, same) (sym (or_right (list_any (λ r. bytes_eq (name_of r) name) rows) true refl))
+      | inr other ↦ rw (updates name, list_any-append, ← is, other) (are name ∙ or_no (list_any (λ r. bytes_eq (name_of r) name) rows))
     ]
+
+-- ---- a row that was found, with its name
+
+module _ {R : Type 0} (found : Option (Bor (List ℕ) × R)) (row : Bor (List ℕ) × R) (is : found ≡ Some row) where
+  pub name_found : (name_of : R → List ℕ) → IfSome found (λ f. f.0.now ≡ name_of f.1) → row.0.now ≡ name_of row.1
+  name_found name_of named = subst (λ o. IfSome o (λ f. f.0.now ≡ name_of f.1)) is named
+
+  pub row_found : {read : Option R} → option_map (λ f. f.1) found ≡ read → Some row.1 ≡ read
+  row_found reads = ap (option_map (λ f. f.1)) (sym is) ∙ reads

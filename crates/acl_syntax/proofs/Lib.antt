@@ -7,6 +7,6 @@ pub mod WrittenWords
 pub mod WrittenLists
 pub mod Lowest
 pub mod LowestRows
-pub mod Firsts
+pub mod CountedRows
 pub mod Means
 pub mod InOrder

@@ -10,7 +10,7 @@ use Rattle.acl_syntax.specs.InTurn.{IsFirstFault}
 use Rattle.acl_syntax.specs.declared.rows.PasswdRow.{PasswdRow}
 use Rattle.acl_syntax.specs.declared.rows.GroupRow.{GroupRow}
 use Rattle.acl_syntax.specs.Rows.{has_no_content, passwd_name, passwd_row, passwd_line, passwd_of, group_name, group_row, group_line, group_of}
-use Rattle.acl_syntax.specs.Firsts.{AreCounted}
+use Rattle.acl_syntax.specs.CountedRows.{AreCounted}
 use Rattle.acl_syntax.specs.Means.{Means, AreRead}
 use Rattle.acl_syntax.specs.Entries.{rules_of, separator, content, entry_of, one_more, entries_of}
 use Rattle.acl_syntax.specs.declared.entries.Spec.{Spec}

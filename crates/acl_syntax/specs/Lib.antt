@@ -3,7 +3,7 @@ pub mod Blanks
 pub mod Ids
 pub mod UserNames
 pub mod Rows
-pub mod Firsts
+pub mod CountedRows
 pub mod Seen
 pub mod Naming
 pub mod Words

@@ -53,6 +53,10 @@ counted name_of rows (Some row) =
 abbrev pub one_line : {R : Type 0} → (R → List ℕ) → (List (List ℕ) → Option R) → List R → List ℕ → Result (List R) FaultKind
 one_line name_of row_of rows line = if has_no_content line then Ok rows else counted name_of rows (row_of (pieces 58 line))
 
+-- the counted rows of a text, or its first fault
+abbrev pub rows_of : {R : Type 0} → (R → List ℕ) → (List (List ℕ) → Option R) → List ℕ → Result (List R) TextFault
+rows_of name_of row_of bytes = read_each (λ at rows line. one_line name_of row_of rows line) [] (pieces 10 bytes)
+
 abbrev pub passwd_name : PasswdRow → List ℕ
 passwd_name row = row.name
 

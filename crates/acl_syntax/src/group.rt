@@ -1,19 +1,18 @@
 //! Reading group(5).
 
-ghost use Rattle.std.specs.Prelude.{◌≡◌, ◌+◌, [], ◌∷◌, ◌++◌, OnOk, IfOk, option_map};
+ghost use Rattle.std.specs.Prelude.{◌≡◌, IfOk, option_map};
 ghost use Rattle.acl_names.specs.Pieces.{pieces};
-ghost use Rattle.acl_syntax.specs.InTurn.{Gives, JudgesAt};
-ghost use Rattle.acl_syntax.specs.Seen.{SeenNamesAre};
-ghost use Rattle.acl_syntax.specs.Rows.{names_of, group_row, group_name, group_line, group_of};
+ghost use Rattle.acl_syntax.specs.InTurn.{Gives};
+ghost use Rattle.acl_syntax.specs.Rows.{names_of, group_row, group_name, group_of};
 
-use crate::fault::{FaultKind, TextFault};
+use crate::fault::TextFault;
 use crate::fields::read_id;
-use crate::rows::{GroupRow, MAX_ROWS, NameList, cut_two, has_no_content};
+use crate::rows::{GroupRow, NameList, cut_two};
+use crate::table::{TableRow, read_rows};
 use acl_entry::Id;
 use acl_names::Name;
 use acl_names::cut::{cut, first_piece};
 use std::alloc::{AllocError, Global};
-use std::collections::BTreeMap;
 
 /// The name, the id and the field of names of a row of four fields.
 fn fields(line: &[u8]) -> Option<(&[u8], Id, &[u8])>
@@ -47,62 +46,22 @@ fn names_of(alloc: Global, field: &[u8]) -> Result<NameList, AllocError>
     Ok(NameList::new(names))
 }
 
-/// Adds a row, and its name to those that were seen.
-fn add_row<'a>(
-    alloc: Global,
-    rows: &mut Vec<GroupRow>,
-    seen: &mut BTreeMap<&'a [u8], ()>,
-    name: &'a [u8],
-    gid: Id,
-    field: &[u8],
-) -> Result<(), AllocError>
-    requires { SeenNamesAre group_name seen.old rows.old.items }
-    ensures row { OnOk result (rows.new.items ≡ rows.old.items ++ record { name = name.entry.now; gid = gid; names = names_of field.now } ∷ []) }
-    ensures seen_are { OnOk result (SeenNamesAre group_name seen.new rows.new.items) }
-{
-    seen.insert(name, ())?;
-    let name_kept = Name::from_bytes(alloc, name)?;
-    let names = names_of(alloc, field)?;
-    rows.push(GroupRow {
-        name: name_kept,
-        gid,
-        names,
-    })?;
-    Ok(())
-}
+impl TableRow for GroupRow {
+    ghost name = { group_name };
 
-/// Adds the row of the line with a number, if it counts.
-fn read_line<'a>(
-    alloc: Global,
-    rows: &mut Vec<GroupRow>,
-    seen: &mut BTreeMap<&'a [u8], ()>,
-    at: usize,
-    line: &'a [u8],
-) -> Result<(), TextFault>
-    requires { SeenNamesAre group_name seen.old rows.old.items }
-    ensures judged { JudgesAt at result rows.new.items (group_line at rows.old.items line.now) }
-    ensures seen_are { OnOk result (SeenNamesAre group_name seen.new rows.new.items) }
-{
-    if has_no_content(line) {
-        return Ok(());
+    ghost of_fields = { group_row };
+
+    fn read(alloc: Global, line: &[u8]) -> Result<Option<(&[u8], GroupRow)>, AllocError> {
+        let Some((name, gid, field)) = fields(line) else {
+            return Ok(None);
+        };
+        let row = GroupRow {
+            name: Name::from_bytes(alloc, name)?,
+            gid,
+            names: names_of(alloc, field)?,
+        };
+        Ok(Some((name, row)))
     }
-    let Some((name, gid, field)) = fields(line) else {
-        return Err(TextFault {
-            kind: FaultKind::BadRow,
-            at,
-        });
-    };
-    if seen.contains_key(name) {
-        return Ok(());
-    }
-    if rows.len() >= MAX_ROWS {
-        return Err(TextFault {
-            kind: FaultKind::TooMany,
-            at,
-        });
-    }
-    add_row(alloc, rows, seen, name, gid, field)?;
-    Ok(())
 }
 
 /// The counted rows of a group(5) text: the first row of each name, at most 65,536. Empty lines and lines
@@ -113,15 +72,5 @@ fn read_line<'a>(
 pub fn read_group(alloc: Global, bytes: &[u8]) -> Result<Vec<GroupRow>, TextFault>
     ensures { Gives (λ rows. rows.items) result (group_of bytes.now) }
 {
-    let mut rows = Vec::new(alloc);
-    let mut seen = BTreeMap::new(alloc);
-    let mut rest = bytes;
-    let mut at = 0;
-    while !rest.is_empty() {
-        at += 1;
-        let (line, after) = first_piece(rest, b'\n');
-        read_line(alloc, &mut rows, &mut seen, at, line)?;
-        rest = after;
-    }
-    Ok(rows)
+    read_rows(alloc, bytes)
 }

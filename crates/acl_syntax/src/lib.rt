@@ -10,6 +10,7 @@ mod laws;
 mod naming;
 mod passwd;
 mod rows;
+mod table;
 mod user_name;
 mod writing;
 

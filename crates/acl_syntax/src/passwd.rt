@@ -1,19 +1,18 @@
 //! Reading passwd(5).
 
-ghost use Rattle.std.specs.Prelude.{◌≡◌, ◌+◌, [], ◌∷◌, ◌++◌, OnOk, option_map};
+ghost use Rattle.std.specs.Prelude.{◌≡◌, option_map};
 ghost use Rattle.acl_names.specs.Pieces.{pieces};
-ghost use Rattle.acl_syntax.specs.InTurn.{Gives, JudgesAt};
-ghost use Rattle.acl_syntax.specs.Seen.{SeenNamesAre};
-ghost use Rattle.acl_syntax.specs.Rows.{passwd_row, passwd_name, passwd_line, passwd_of};
+ghost use Rattle.acl_syntax.specs.InTurn.{Gives};
+ghost use Rattle.acl_syntax.specs.Rows.{passwd_row, passwd_name, passwd_of};
 
-use crate::fault::{FaultKind, TextFault};
+use crate::fault::TextFault;
 use crate::fields::read_id;
-use crate::rows::{MAX_ROWS, PasswdRow, cut_two, has_no_content};
+use crate::rows::{PasswdRow, cut_two};
+use crate::table::{TableRow, read_rows};
 use acl_entry::Id;
 use acl_names::Name;
-use acl_names::cut::{cut, first_piece};
+use acl_names::cut::cut;
 use std::alloc::{AllocError, Global};
-use std::collections::BTreeMap;
 
 /// The name and the two ids of a row of seven fields.
 fn fields(line: &[u8]) -> Option<(&[u8], Id, Id)>
@@ -33,61 +32,22 @@ fn fields(line: &[u8]) -> Option<(&[u8], Id, Id)>
     Some((name, uid, gid))
 }
 
-/// Adds a row, and its name to those that were seen.
-fn add_row<'a>(
-    alloc: Global,
-    rows: &mut Vec<PasswdRow>,
-    seen: &mut BTreeMap<&'a [u8], ()>,
-    name: &'a [u8],
-    uid: Id,
-    gid: Id,
-) -> Result<(), AllocError>
-    requires { SeenNamesAre passwd_name seen.old rows.old.items }
-    ensures row { OnOk result (rows.new.items ≡ rows.old.items ++ record { name = name.entry.now; uid = uid; gid = gid } ∷ []) }
-    ensures seen_are { OnOk result (SeenNamesAre passwd_name seen.new rows.new.items) }
-{
-    seen.insert(name, ())?;
-    let name_kept = Name::from_bytes(alloc, name)?;
-    rows.push(PasswdRow {
-        name: name_kept,
-        uid,
-        gid,
-    })?;
-    Ok(())
-}
+impl TableRow for PasswdRow {
+    ghost name = { passwd_name };
 
-/// Adds the row of the line with a number, if it counts.
-fn read_line<'a>(
-    alloc: Global,
-    rows: &mut Vec<PasswdRow>,
-    seen: &mut BTreeMap<&'a [u8], ()>,
-    at: usize,
-    line: &'a [u8],
-) -> Result<(), TextFault>
-    requires { SeenNamesAre passwd_name seen.old rows.old.items }
-    ensures judged { JudgesAt at result rows.new.items (passwd_line at rows.old.items line.now) }
-    ensures seen_are { OnOk result (SeenNamesAre passwd_name seen.new rows.new.items) }
-{
-    if has_no_content(line) {
-        return Ok(());
+    ghost of_fields = { passwd_row };
+
+    fn read(alloc: Global, line: &[u8]) -> Result<Option<(&[u8], PasswdRow)>, AllocError> {
+        let Some((name, uid, gid)) = fields(line) else {
+            return Ok(None);
+        };
+        let row = PasswdRow {
+            name: Name::from_bytes(alloc, name)?,
+            uid,
+            gid,
+        };
+        Ok(Some((name, row)))
     }
-    let Some((name, uid, gid)) = fields(line) else {
-        return Err(TextFault {
-            kind: FaultKind::BadRow,
-            at,
-        });
-    };
-    if seen.contains_key(name) {
-        return Ok(());
-    }
-    if rows.len() >= MAX_ROWS {
-        return Err(TextFault {
-            kind: FaultKind::TooMany,
-            at,
-        });
-    }
-    add_row(alloc, rows, seen, name, uid, gid)?;
-    Ok(())
 }
 
 /// The counted rows of a passwd(5) text: the first row of each name, at most 65,536. Empty lines and lines
@@ -97,15 +57,5 @@ fn read_line<'a>(
 pub fn read_passwd(alloc: Global, bytes: &[u8]) -> Result<Vec<PasswdRow>, TextFault>
     ensures { Gives (λ rows. rows.items) result (passwd_of bytes.now) }
 {
-    let mut rows = Vec::new(alloc);
-    let mut seen = BTreeMap::new(alloc);
-    let mut rest = bytes;
-    let mut at = 0;
-    while !rest.is_empty() {
-        at += 1;
-        let (line, after) = first_piece(rest, b'\n');
-        read_line(alloc, &mut rows, &mut seen, at, line)?;
-        rest = after;
-    }
-    Ok(rows)
+    read_rows(alloc, bytes)
 }

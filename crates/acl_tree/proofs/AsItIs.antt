@@ -26,7 +26,8 @@ use Rattle.acl_files.specs.Loading.{record_at}
 use Rattle.acl_files.specs.Operands.{is_file, first_missing, files_meant}
 use Rattle.acl_files.specs.Restoring.{edit_of, edit_if_some, restore_one, paths_of}
 use Rattle.acl_files.specs.Sound.{ArePlaced, IsSoundTree}
-use Rattle.acl_tree.specs.Step.{State, step, with_tree}
+use Rattle.acl_tree.specs.State.{State, with_tree}
+use Rattle.acl_tree.specs.Step.{step}
 use Rattle.acl_files.proofs.Selected.{same_path}
 
 -- ---- one file

@@ -2,7 +2,7 @@
 use Rattle.acl_files.specs.Files.{IsInOrder}
 use Rattle.acl_tree.specs.declared.command.Command.{Command}
 use Rattle.acl_tree.specs.declared.command.Command.TheVariants.{Load, Chmod, Edit, Restore, Creat, Rm, Gpasswd, Usermod, Useradd, Userdel}
-use Rattle.acl_tree.specs.Step.{State}
+use Rattle.acl_tree.specs.State.{State}
 use Rattle.acl_tree.specs.Refusals.{IsRefusedForFirst}
 use Rattle.acl_tree.proofs.RefusedEdits.{edit_refused, restore_refused}
 use Rattle.acl_tree.proofs.RefusedFiles.{creat_refused}

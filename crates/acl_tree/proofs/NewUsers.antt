@@ -21,7 +21,8 @@ use Rattle.acl_files.specs.declared.fault.TreeFault.TheVariants.{UserExists, Uid
 use Rattle.acl_tree.specs.Accounts.{add_to, remove_at}
 use Rattle.acl_tree.specs.Laws.{with_users_loaded}
 use Rattle.acl_tree.specs.Memberships.{user_at, group_at}
-use Rattle.acl_tree.specs.Step.{State, step, with_change}
+use Rattle.acl_tree.specs.State.{State, with_change}
+use Rattle.acl_tree.specs.Step.{step}
 
 err_is_not_ok : {A B : Type 0} (a : A) (b : B) → Err b ≡ Ok a → ⊥
 err_is_not_ok a b h = cc

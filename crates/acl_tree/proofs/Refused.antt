@@ -3,7 +3,8 @@ use Rattle.std.proofs.Common.{◌≡◌, ◌≤◌, ℕ, Result, Ok, Err, refl, 
 use Rattle.std.specs.Prelude.{IsErr}
 use Rattle.acl_files.specs.declared.fault.TreeFault.{TreeFault}
 use Rattle.acl_tree.specs.declared.command.Command.{Command}
-use Rattle.acl_tree.specs.Step.{State, step}
+use Rattle.acl_tree.specs.State.{State}
+use Rattle.acl_tree.specs.Step.{step}
 use Rattle.acl_tree.specs.Refusals.{Applies, rank, place_of, IsNotAfter, IsRefusedForFirst}
 
 abbrev fault_or : TreeFault → Result State TreeFault → TreeFault

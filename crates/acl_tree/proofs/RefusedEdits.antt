@@ -20,7 +20,7 @@ use Rattle.acl_files.specs.Restoring.{restore_one, paths_of}
 use Rattle.acl_tree.specs.declared.command.Command.{Command}
 use Rattle.acl_tree.specs.declared.command.Command.TheVariants as commands
 use Rattle.acl_tree.specs.EditCommand.{edit_one}
-use Rattle.acl_tree.specs.Step.{State, with_tree}
+use Rattle.acl_tree.specs.State.{State, with_tree}
 use Rattle.acl_tree.specs.Refusals.{IsAmong, IsMissing, IsEditRefused, Applies, rank, place, place_of, operands, IsNotAfter, IsRefusedForFirst}
 use Rattle.acl_tree.proofs.Refused.{Decides, decides_err, decides_ok, AreApart, refused_for_first}
 use Rattle.acl_tree.proofs.FirstAmong.{first_of, none_among, first_among, one_place, among_later}

@@ -16,7 +16,7 @@ use Rattle.acl_tree.specs.declared.command.Membership.TheVariants.{Add, Remove}
 use Rattle.acl_tree.specs.declared.command.NewUser.{NewUser}
 use Rattle.acl_tree.specs.Accounts.{add_to, remove_at}
 use Rattle.acl_tree.specs.Memberships.{ChangedUser, change_found, change_of, membership_changed}
-use Rattle.acl_tree.specs.Step.{State, with_change}
+use Rattle.acl_tree.specs.State.{State, with_change}
 use Rattle.acl_tree.specs.Refusals.{MeansNoUser, MeansNoGroup, MeanNoMember, Applies, rank, IsNotAfter, IsRefusedForFirst}
 use Rattle.acl_tree.proofs.Refused.{Decides, decides_err, decides_ok, refused_for_first, ranked, apart_by}
 

@@ -13,7 +13,7 @@ use Rattle.acl_files.specs.Files.{PathOf}
 use Rattle.acl_tree.specs.declared.command.Command.{Command}
 use Rattle.acl_tree.specs.declared.command.Command.TheVariants.{Rm}
 use Rattle.acl_tree.specs.Rm.{refusal, first_refused, without_files, or_refused}
-use Rattle.acl_tree.specs.Step.{State, with_tree}
+use Rattle.acl_tree.specs.State.{State, with_tree}
 use Rattle.acl_tree.specs.Refusals.{IsAmong, Applies, rank, place, place_of, IsRefusedForFirst}
 use Rattle.acl_tree.proofs.Refused.{Decides, decides_err, decides_ok, AreApart, refused_for_first}
 use Rattle.acl_tree.proofs.FirstAmong.{first_of, none_among, first_among, one_place}

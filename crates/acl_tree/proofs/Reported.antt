@@ -8,8 +8,9 @@ use Rattle.acl_tree.specs.declared.user_change.UserChange.TheVariants.{Unchanged
 use Rattle.acl_files.specs.Files.{Files, Recorded, IsInOrder}
 use Rattle.acl_files.specs.Changed.{gone_between}
 use Rattle.acl_files.specs.Sound.{holds_below}
-use Rattle.acl_tree.specs.Step.{State, state_from}
-use Rattle.acl_tree.specs.Reports.{StagedState, move_of, UsersMoved, Reports, staged_from}
+use Rattle.acl_tree.specs.State.{State, state_from}
+use Rattle.acl_tree.specs.Reports.{StagedState, UsersMoved, Reports, staged_from}
+use Rattle.acl_tree.specs.UserMoves.{move_of}
 use Rattle.acl_files.proofs.Changes.{none_gone}
 
 module _ (old new : State) (change : UserChange) (s : StagedState) (is : s ≡ staged_from old.tree.files new change) where

@@ -18,7 +18,8 @@ use Rattle.acl_files.specs.acl_names.Below.{encloses}
 use Rattle.acl_tree.specs.Creat.{row_of, exists, creat}
 use Rattle.acl_files.specs.Operands.{is_file}
 use Rattle.acl_tree.specs.Rm.{refusal, first_refused, without_files, or_refused}
-use Rattle.acl_tree.specs.Step.{State, step, with_tree}
+use Rattle.acl_tree.specs.State.{State, with_tree}
+use Rattle.acl_tree.specs.Step.{step}
 use Rattle.acl_files.proofs.of_acl_names.Below.{within_itself}
 use Rattle.acl_files.proofs.Selected.{same_path}
 use Rattle.acl_tree.proofs.Unnamed.{only_tree, puts_by}

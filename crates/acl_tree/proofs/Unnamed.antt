@@ -27,7 +27,10 @@ use Rattle.acl_tree.specs.Memberships.{ChangedUser, gpasswd, usermod}
 use Rattle.acl_files.specs.Operands.{is_file, first_missing}
 use Rattle.acl_files.specs.Restoring.{restored_tree}
 use Rattle.acl_tree.specs.Rm.{first_refused, without_files, or_refused, rm}
-use Rattle.acl_tree.specs.Step.{State, step, with_tree, with_change, with_people, or_missing, chmod_all}
+use Rattle.acl_tree.specs.State.{State, with_tree, with_change}
+use Rattle.acl_tree.specs.Step.{step}
+use Rattle.acl_tree.specs.Loads.{with_people}
+use Rattle.acl_tree.specs.Chmod.{or_missing, chmod_all}
 use Rattle.acl_tree.proofs.Each.{same, find-edited, edit_each_file, restore_each_file}
 
 err_is_not_ok : {A B : Type 0} (a : A) (b : B) → Err b ≡ Ok a → ⊥

@@ -13,7 +13,7 @@ use Rattle.acl_files.specs.declared.fault.TreeFault.TheVariants.{NoMemory}
 use Rattle.acl_files.specs.acl_names.Below.{parent}
 use Rattle.acl_people.specs.KnownPeople.{KnownPeople}
 use Rattle.acl_tree.specs.Creat.{exists}
-use Rattle.acl_tree.specs.Step.{State, state_from}
+use Rattle.acl_tree.specs.State.{State, state_from}
 use Rattle.acl_tree.specs.Reports.{StagedState, UsersMoved, Reports, staged_from}
 use Rattle.acl_tree.specs.declared.user_change.UserChange.{UserChange}
 use Rattle.acl_tree.specs.declared.state.BorrowedState.{BorrowedState}

@@ -25,7 +25,8 @@ use Rattle.acl_files.specs.Operands.{is_file}
 use Rattle.acl_files.specs.Restoring.{restore_one, paths_of, restored_tree}
 use Rattle.acl_files.specs.Sound.{IsSoundTree}
 use Rattle.acl_tree.specs.EditCommand.{edit_one, edited_tree}
-use Rattle.acl_tree.specs.Step.{State, step}
+use Rattle.acl_tree.specs.State.{State}
+use Rattle.acl_tree.specs.Step.{step}
 
 -- ---- each file of an edit
 

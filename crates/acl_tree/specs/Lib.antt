@@ -4,7 +4,11 @@ pub mod Creat
 pub mod Rm
 pub mod Memberships
 pub mod Accounts
+pub mod State
+pub mod Chmod
+pub mod Loads
 pub mod Step
+pub mod UserMoves
 pub mod Sound
 pub mod Found
 pub mod Changed

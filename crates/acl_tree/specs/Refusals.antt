@@ -25,7 +25,9 @@ use Rattle.acl_tree.specs.declared.command.Membership.TheVariants.{Remove}
 use Rattle.acl_tree.specs.declared.command.Table.{Table}
 use Rattle.acl_tree.specs.declared.command.Table.TheVariants.{Passwd, Group, Dump}
 use Rattle.acl_tree.specs.EditCommand.{edit_one}
-use Rattle.acl_tree.specs.Step.{State, is_loaded, dump_records, step}
+use Rattle.acl_tree.specs.State.{State}
+use Rattle.acl_tree.specs.Loads.{is_loaded, dump_records}
+use Rattle.acl_tree.specs.Step.{step}
 
 -- ---- what a fault is about
 

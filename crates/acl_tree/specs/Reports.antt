@@ -3,21 +3,21 @@ use Rattle.std.specs.Prelude.{◌≡◌, ◌≢◌, ◌==◌, ◌-◌, if◌then
 use Rattle.std.specs.List.{AllByRecursion}
 use Rattle.std.specs.Coded.{Coded, code_by, coded×, coded_ℕ, coded_list}
 use Rattle.acl_files.specs.acl_edit.contracts.node.Node as node_contracts
-use Rattle.acl_people.specs.KnownPeople.{KnownPeople, persons}
-use Rattle.acl_people.specs.Moves.{moved_groups, MovesUser, JoinsUser, LeavesUser}
+use Rattle.acl_people.specs.KnownPeople.{persons}
+use Rattle.acl_people.specs.Moves.{MovesUser, JoinsUser, LeavesUser}
 use Rattle.acl_tree.specs.declared.user_change.UserChange.{UserChange}
 use Rattle.acl_tree.specs.declared.user_change.UserChange.TheVariants.{Unchanged, Loaded, Memberships, Added, Removed}
 use Rattle.acl_tree.specs.contracts.user_change.UserChange as moved_contracts
 use Rattle.acl_tree.specs.declared.command.Command.{Command}
 use Rattle.acl_tree.specs.declared.command.Command.TheVariants.{Load, Chmod, Edit, Restore, Creat, Rm, Gpasswd, Usermod, Useradd, Userdel}
-use Rattle.acl_tree.specs.declared.command.Table.{Table}
-use Rattle.acl_tree.specs.declared.command.Table.TheVariants.{Passwd, Group, Dump}
 use Rattle.acl_files.specs.declared.fault.TreeFault.{TreeFault}
 use Rattle.acl_files.specs.Files.{Files}
 use Rattle.acl_files.specs.Changed.{changed_between, gone_between}
 use Rattle.acl_files.specs.Sound.{IsSoundTree, holds_below}
-use Rattle.acl_tree.specs.Step.{State, coded_state, refused_at_once, step, Stages}
-use Rattle.acl_tree.specs.Memberships.{ChangedUser, gpasswd, usermod}
+use Rattle.acl_tree.specs.State.{State, coded_state}
+use Rattle.acl_tree.specs.Step.{refused_at_once, step, Stages}
+use Rattle.acl_tree.specs.Memberships.{gpasswd, usermod}
+use Rattle.acl_tree.specs.UserMoves.{load_moves, change_moves, user_left}
 use Rattle.acl_tree.specs.Accounts.{userdel}
 
 -- the state after a command, the files that it changed, those that are gone, and how the users moved
@@ -39,25 +39,6 @@ coded_staged =
 abbrev pub staged_from : Files → State → UserChange → StagedState
 staged_from old new user_change =
     record { state = new; changed = changed_between old new.tree.files; gone = gone_between old new.tree.files; user_change = user_change }
-
-abbrev pub load_moves : Table → UserChange
-load_moves Passwd = Loaded
-load_moves Group = Loaded
-load_moves Dump = Unchanged
-
--- a user who joined or left no group did not move
-abbrev pub move_of : ℕ → List ℕ → UserChange
-move_of user [] = Unchanged
-move_of user (g ∷ gs) = Memberships user (g ∷ gs)
-
--- how a change of one user's groups moves the users
-abbrev pub change_moves : KnownPeople → Result ChangedUser TreeFault → UserChange
-change_moves known (Ok change) = move_of change.user (moved_groups known change.people change.user)
-change_moves known (Err fault) = Unchanged
-
-abbrev pub user_left : Result ChangedUser TreeFault → UserChange
-user_left (Ok change) = Removed change.user
-user_left (Err fault) = Unchanged
 
 -- how a command moves the users of a state
 abbrev pub users_move : State → Command → UserChange

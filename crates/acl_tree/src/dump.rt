@@ -3,7 +3,8 @@
 ghost use Rattle.std.specs.Prelude.{◌≡◌, ◌≢◌, [], IfOk};
 ghost use Rattle.acl_files.specs.Sound.{IsSoundTree};
 ghost use Rattle.acl_tree.specs.Inner.{whole};
-ghost use Rattle.acl_tree.specs.Step.{load_dump, Stages};
+ghost use Rattle.acl_tree.specs.Loads.{load_dump};
+ghost use Rattle.acl_tree.specs.Step.{Stages};
 ghost use Rattle.acl_tree.specs.Reports.{Reports};
 ghost use Rattle.acl_tree.specs.declared.user_change.UserChange.{UserChange};
 

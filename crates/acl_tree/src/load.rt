@@ -1,7 +1,7 @@
 //! The loads of users, groups and files.
 
 ghost use Rattle.std.specs.Prelude.{◌≡◌, true, Err, IfOk, IfErr, MatchResult};
-ghost use Rattle.acl_tree.specs.Step.{tree_fault, is_loaded};
+ghost use Rattle.acl_tree.specs.Loads.{tree_fault, is_loaded};
 ghost use Rattle.acl_tree.specs.Inner.{StagesPeople, whole};
 ghost use Rattle.acl_tree.specs.Reports.{Prepares};
 ghost use Rattle.acl_tree.specs.declared.command.Command.TheVariants.{Load};

@@ -4,8 +4,8 @@ ghost use Rattle.std.specs.Prelude.{◌≡◌, ◌<◌, length, Err, IfOk, OnErr
 ghost use Rattle.acl_people.specs.KnownPeople.{persons};
 ghost use Rattle.acl_people.specs.Moves.{ChangesUser, moved_groups};
 ghost use Rattle.acl_tree.specs.Inner.{Gives, IsStaged, StagesPeople, whole};
-ghost use Rattle.acl_tree.specs.Step.{state_from};
-ghost use Rattle.acl_tree.specs.Reports.{move_of};
+ghost use Rattle.acl_tree.specs.State.{state_from};
+ghost use Rattle.acl_tree.specs.UserMoves.{move_of};
 ghost use Rattle.acl_tree.specs.Memberships.{user_at, group_at};
 
 use crate::state::BorrowedState;

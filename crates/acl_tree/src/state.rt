@@ -1,7 +1,7 @@
 //! The whole state: the recorded files, and the users and groups; and the state that a command starts from.
 
 ghost use Rattle.std.specs.Prelude.{◌≡◌, IfOk};
-ghost use Rattle.acl_tree.specs.Step.{nothing};
+ghost use Rattle.acl_tree.specs.State.{nothing};
 ghost use Rattle.acl_tree.specs.Reports.{Prepares, RefusesAtOnce};
 
 use crate::command::Command;
@@ -20,7 +20,7 @@ pub struct State {
 }
 
 impl Model for State {
-    ghost use Rattle.acl_tree.specs.Step.{State as Whole, coded_state};
+    ghost use Rattle.acl_tree.specs.State.{State as Whole, coded_state};
 
     ghost Value = { Whole };
 

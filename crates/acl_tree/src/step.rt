@@ -4,7 +4,7 @@ ghost use Rattle.std.specs.Prelude.{◌≡◌, length, option_map, IfOk};
 ghost use Rattle.acl_files.specs.Changed.{SameBut};
 ghost use Rattle.acl_files.specs.Operands.{in_region};
 ghost use Rattle.acl_tree.specs.Inner.{whole};
-ghost use Rattle.acl_tree.specs.Step.{state_from};
+ghost use Rattle.acl_tree.specs.State.{state_from};
 ghost use Rattle.acl_files.specs.Sound.{IsSoundTree};
 ghost use Rattle.acl_tree.specs.Reports.{Prepares, RefusesAtOnce, memberships_moved, place_joined, place_left, staged_from};
 
@@ -87,7 +87,7 @@ pub struct Staged {
 impl Model for Staged {
     ghost use Rattle.acl_files.specs.Changed.{SameBut};
     ghost use Rattle.acl_files.specs.Operands.{in_region};
-    ghost use Rattle.acl_tree.specs.Step.{state_from};
+    ghost use Rattle.acl_tree.specs.State.{state_from};
     ghost use Rattle.acl_tree.specs.Reports.{StagedState, coded_staged, staged_from};
 
     ghost Value = { StagedState };

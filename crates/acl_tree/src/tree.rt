@@ -8,7 +8,7 @@ ghost use Rattle.acl_files.specs.Files.{no_files};
 ghost use Rattle.acl_files.specs.Found.{Selects};
 ghost use Rattle.acl_files.specs.Sound.{IsSoundTree};
 ghost use Rattle.acl_files.specs.Walks.{within, ancestors};
-ghost use Rattle.acl_tree.specs.Step.{state_from};
+ghost use Rattle.acl_tree.specs.State.{state_from};
 ghost use Rattle.acl_tree.specs.Reports.{Prepares, RefusesAtOnce};
 
 use crate::command::Command;

@@ -8,3 +8,6 @@ pub mod Counted
 mod Known
 mod RowsLeft
 mod Searched
+mod Lying
+pub mod Granted
+mod RowsOfNumbers

@@ -1,6 +1,6 @@
 -- Rows of verdicts by kinds.
-use Rattle.std.proofs.Common.{◌≡◌, ℕ, zero, suc, Bool, true, false, cond, ◌+◌, ◌*◌, ◌<◌, ◌≤◌, ◌++◌, List, [], ◌∷◌, length, map, take, get_or, Option, Some, None, refl, sym, ap, subst, ◌∙◌, arith}
-use Rattle.std.specs.Prelude.{slice_get, not, filter}
+use Rattle.std.proofs.Common.{◌≡◌, ℕ, zero, suc, Bool, true, false, cond, ◌+◌, ◌*◌, ◌<◌, ◌≤◌, ◌++◌, List, [], ◌∷◌, length, map, take, get_or, Some, None, refl, sym, ap, subst, ◌∙◌, arith}
+use Rattle.std.specs.Prelude.{slice_get, slice_set, nat_lt, ◌&&◌, not, filter}
 use Rattle.std.specs.Borrow.{Bor}
 use Rattle.std.specs.List.{sum_by, AllByRecursion}
 use Rattle.std.specs.FinMap.{is_sorted}
@@ -19,7 +19,8 @@ use Rattle.acl_files.specs.Files.{Files}
 use Rattle.acl_files.specs.acl_entry.Person.{Person}
 use Rattle.acl_files.specs.acl_entry.declared.label.Label.{Label}
 use Rattle.acl_verdicts.specs.Rows.{Verdict, row_of}
-use Rattle.acl_verdicts.specs.KindRows.{RowedPaths, label_row, rowed, some_row, rowed_labels, AreRowsOf, HasLabel, borrowed_labels, labels_at, some_labels, IsPlaced, ArePlaced}
+use Rattle.acl_files.specs.kinds.Renewed.{changed_where}
+use Rattle.acl_verdicts.specs.KindRows.{RowedPaths, with_again, asked_again, mentions_any, label_row, rowed, some_row, rowed_labels, AreRowsOf, HasLabel, borrowed_labels, labels_at, some_labels, IsPlaced, ArePlaced}
 
 times_more : (n u : ℕ) → suc n * u ≡ u + n * u
 times_more n u = grind arith
@@ -130,7 +131,7 @@ module _ (V : Verdict) (us : List Person) where
 
   -- ---- rows that files have
 
-  row_at : (es : RowedPaths) (at : ℕ) (x : LabelRow) → AreRowsOf V us es → slice_get (map (λ e. e.1) es) at ≡ Some x → x.row ≡ row_of V us x.label
+  pub row_at : (es : RowedPaths) (at : ℕ) (x : LabelRow) → AreRowsOf V us es → slice_get (map (λ e. e.1) es) at ≡ Some x → x.row ≡ row_of V us x.label
   row_at [] at x all h = cc
   row_at (e ∷ es) zero x all h = subst (λ (y : LabelRow). y.row ≡ row_of V us y.label) (some_same h) all.0
   row_at (e ∷ es) (suc at) x all h = row_at es at x all.1 h
@@ -161,3 +162,11 @@ places_within ls n is (e ∷ es) (p ∷ ps) h =
 pub places_order : (ls : List Label) (es : List (PathOf × ℕ)) (ps : List (PathOf × Label)) → labels_at ls es ≡ some_labels ps → IsInOrder ps → IsInOrder es
 places_order ls es ps h order =
     sym (sorted_rows (slice_get ls) es) ∙ ap (is_sorted path_cmp) h ∙ sorted_rows Some ps ∙ order
+
+-- where a label mentions one of the groups, the verdict is asked for again; else the row stays
+pub again_where : (V : Verdict) (at : ℕ) (u : Person) (groups : List ℕ) → changed_where (mentions_any groups) (asked_again V at u) ≡ with_again V at u groups
+again_where V at u groups = λ i r. by r (mentions_any groups r) i
+  where
+    by : (r : LabelRow) (b : Bool) → cond b (asked_again V at u r) r ≡ cond (b && nat_lt at (length r.row)) (record { label = r.label; row = slice_set r.row at (V u r.label) }) r
+    by r true = refl
+    by r false = refl

@@ -1,6 +1,7 @@
 -- For each file its label, and its row of verdicts.
 use Rattle.std.specs.Prelude.{◌≡◌, ◌≤◌, ◌+◌, ℕ, Bool, ◌++◌, ◌&&◌, nat_lt, List, [], ◌∷◌, Option, Some, map, length, slice_get, slice_set, if◌then◌else◌}
 use Rattle.std.specs.Borrow.{Bor}
+use Rattle.std.specs.declared.rc.Rc.{Rc}
 use Rattle.std.specs.List.{remove, AllByRecursion}
 use Rattle.path_map.specs.Entries.{PathOf}
 use Rattle.acl_files.specs.kinds.Kinds.{node_at}
@@ -9,6 +10,7 @@ use Rattle.acl_files.specs.kinds.Placed.{IsOfEntry}
 use Rattle.acl_files.specs.acl_entry.Mentions.{mentions, meets}
 use Rattle.acl_files.specs.acl_entry.Person.{Person}
 use Rattle.acl_files.specs.acl_entry.declared.label.Label.{Label}
+use Rattle.acl_files.specs.acl_edit.declared.node.Node.{Node}
 use Rattle.acl_files.specs.Files.{Files}
 use Rattle.acl_verdicts.specs.declared.kind_rows.LabelRow.{LabelRow}
 use Rattle.acl_verdicts.specs.Rows.{Verdict, Rows, row_of}
@@ -24,6 +26,10 @@ rows_at es = map (λ e. (e.0, e.1.row)) es
 -- a label with what each user may do
 abbrev pub label_row : Verdict → List Person → Label → LabelRow
 label_row V us l = record { label = l; row = row_of V us l }
+
+-- that of a node
+abbrev pub node_row : Verdict → List Person → Node → LabelRow
+node_row V us n = label_row V us n.label
 
 -- those of files
 abbrev pub rowed : Verdict → List Person → Files → RowedPaths
@@ -55,6 +61,10 @@ with_again V at u groups r =
     if mentions_any groups r && nat_lt at (length r.row)
     then record { label = r.label; row = slice_set r.row at (V u r.label) }
     else r
+
+-- a row with a user's verdict asked for again, if it has so many
+abbrev pub asked_again : Verdict → ℕ → Person → LabelRow → LabelRow
+asked_again V at u r = if nat_lt at (length r.row) then record { label = r.label; row = slice_set r.row at (V u r.label) } else r
 
 -- the row of each path is that of its label
 abbrev pub AreRowsOf : Verdict → List Person → RowedPaths → Type 0
@@ -95,3 +105,21 @@ pub record IsPlaced (l : Label) (old new : List Label) (at : ℕ) : Type 0 where
 pub record ArePlaced (paths : List (PathOf × Label)) (ls : List Label) (es : List (PathOf × ℕ)) : Type 0 where
   pub are : labels_at ls es ≡ some_labels paths
   pub few : length ls ≤ length paths
+
+-- ---- rows that are known; for inner functions
+
+-- rows that are shared
+abbrev pub shared_rows : {Z : Type 0} → List (Rc LabelRow Z) → List LabelRow
+shared_rows rs = map (λ r. r.value) rs
+
+-- each is that of an entry
+abbrev pub AreOfEntries : List LabelRow → RowedPaths → Type 0
+AreOfEntries rs es = AllByRecursion (λ r. IsOfEntry r es) rs
+
+-- each is that of its label
+abbrev pub AreRows : Verdict → List Person → List LabelRow → Type 0
+AreRows V us rs = AllByRecursion (λ r. r.row ≡ row_of V us r.label) rs
+
+-- a row is one of some, and has this label
+abbrev pub IsAmongRows : Label → LabelRow → List LabelRow → Type 0
+IsAmongRows l r rs = ((at : ℕ) × (slice_get rs at ≡ Some r)) × (r.label ≡ l)

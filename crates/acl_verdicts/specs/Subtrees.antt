@@ -1,25 +1,17 @@
--- The entries at some paths and below them, walked one path after another.
-use Rattle.std.specs.Prelude.{◌≡◌, Bool, false, List, ◌++◌, filter, map, Option, None, Some}
-use Rattle.std.specs.Borrow.{Bor}
+-- For inner functions: the entries at some paths and below them, counted by one walk.
+use Rattle.std.specs.Prelude.{ℕ, suc, Bool, false, List, [], ◌∷◌, Option, None, Some, if◌then◌else◌}
 use Rattle.acl_files.specs.acl_names.Below.{encloses}
 use Rattle.path_map.specs.Entries.{PathOf}
-use Rattle.path_map.specs.Below.{lies_in}
-use Rattle.acl_verdicts.specs.Walks.{AllBefore}
-
--- borrowed paths, as entries
-abbrev pub tops_of : List (Bor PathOf) → List (PathOf × PathOf)
-tops_of ps = map (λ p. (p.now, p.now)) ps
-
--- ---- for inner functions
 
 -- whether a path is the one given or below it
 abbrev pub covers : Option PathOf → PathOf → Bool
 covers None p = false
 covers (Some top) p = encloses top p
 
--- what is to be made at some tops and below them is made, and the rest of the tops is still to come
-pub record AreWalked {A R : Type 0} (tops : List (PathOf × A)) (all : List (PathOf × R)) (rest : List (PathOf × A)) (puts : List (PathOf × R)) (last : Option PathOf) : Type 0 where
-  pub seen : List (PathOf × A)
-  pub split : seen ++ rest ≡ tops
-  pub made : puts ≡ filter (λ r. lies_in seen r.0) all
-  pub covered : (p : PathOf) → AllBefore p seen → lies_in seen p ≡ covers last p
+-- how many entries lie at one that passes a test, or below it, by a walk: the last of these that none before it covers is kept
+abbrev pub lying_from : {A : Type 0} → (A → Bool) → Option PathOf → List (PathOf × A) → ℕ
+lying_from test last [] = 0
+lying_from test last (e ∷ es) =
+    if covers last e.0 then suc (lying_from test last es)
+    else if test e.1 then suc (lying_from test (Some e.0) es)
+    else lying_from test last es

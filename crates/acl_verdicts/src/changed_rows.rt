@@ -19,7 +19,7 @@ use std::collections::BTreeMap;
 use std::rc::Rc;
 
 /// Whether owner, group and access list are the same.
-fn is_same_label(one: &Label, other: &Label) -> bool
+pub(crate) fn is_same_label(one: &Label, other: &Label) -> bool
     ensures { result ≡ true → one.now ≡ other.now }
 {
     one.owner == other.owner && one.group == other.group && one.acl.same(&other.acl)
@@ -103,7 +103,7 @@ fn places_of<'a>(
 }
 
 /// A label with its row, asked for once.
-fn judged_row<J: Judge>(
+pub(crate) fn judged_row<J: Judge>(
     alloc: Global,
     judge: &mut J,
     users: &Subjects,

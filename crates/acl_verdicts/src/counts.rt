@@ -1,14 +1,14 @@
-//! Which files have a label that mentions some groups, and how many files lie at some paths or below them.
+//! How many files lie at some others or below them, or at files whose labels mention some groups.
 
-ghost use Rattle.std.specs.Prelude.{◌≡◌, ◌<◌, ◌^◌, map, filter, length, count_by, option_map, IfOk};
+ghost use Rattle.std.specs.Prelude.{◌≡◌, ◌<◌, ◌^◌, false, get_or, filter, length, count_by, option_map, IfOk};
 ghost use Rattle.path_map.specs.Entries.{IsInOrder};
 ghost use Rattle.path_map.specs.Below.{lies_in};
 ghost use Rattle.acl_files.specs.kinds.Numbered.{entries_in};
 ghost use Rattle.acl_verdicts.specs.KindRows.{mentions_any};
-ghost use Rattle.acl_verdicts.specs.Subtrees.{tops_of, covers};
+ghost use Rattle.acl_verdicts.specs.Subtrees.{covers};
 
-use crate::kind_rows::KindRows;
-use acl_files::{Id, Path};
+use crate::kind_rows::{KindRows, Mentioning};
+use acl_files::{Differences, Id, Path};
 use path_map::PathMap;
 use std::alloc::{AllocError, Global};
 
@@ -22,47 +22,65 @@ fn is_covered(last: Option<&Path>, path: &Path) -> bool
     }
 }
 
-/// How many paths lie at some paths or below them, where these are in path order.
-fn count_paths(paths: &PathMap<usize>, tops: &[&Path]) -> u64
+/// How many paths lie at some files or below them, where these are in path order.
+fn count_paths(paths: &PathMap<usize>, tops: Differences<'_>) -> u64
     requires few { length paths.now < 2 ^ 64 }
-    requires order { IsInOrder (tops_of tops.now) }
-    ensures { result ≡ count_by (λ e. lies_in (tops_of tops.now) e.0) paths.now }
+    requires order { IsInOrder tops }
+    ensures { result ≡ count_by (λ e. lies_in tops.entry e.0) paths.now }
 {
-    paths.order_law();
+    let mut count = 0;
+    let mut rest = tops;
+    while let Some(top) = rest.next_top() {
+        count += paths.count_within(top.0) as u64;
+    }
+    count
+}
+
+/// What a table has for a number.
+fn is_set(table: &[bool], number: usize) -> bool
+    ensures { result ≡ get_or table.now number false }
+{
+    number < table.len() && table[number]
+}
+
+/// How many paths lie at one whose number a table has, or below it.
+fn count_lying(numbers: &PathMap<usize>, table: &[bool]) -> u64
+    requires few { length numbers.now < 2 ^ 64 }
+    ensures { result ≡ count_by (λ e. lies_in (filter (λ d. get_or table.now d.1 false) numbers.now) e.0) numbers.now }
+{
+    numbers.order_law();
     let mut count = 0;
     let mut last: Option<&Path> = None;
-    for at in 0..tops.len() {
-        let top = tops[at];
-        if is_covered(last, top) {
-            continue;
+    let mut rest = numbers.iter();
+    while let Some(entry) = rest.next() {
+        if is_covered(last, entry.0) {
+            count += 1;
+        } else if is_set(table, entry.1) {
+            last = Some(entry.0);
+            count += 1;
         }
-        count += paths.count_within(top) as u64;
-        last = Some(top);
     }
     count
 }
 
 impl KindRows {
-    /// The paths of the files whose labels mention one of some groups, in path order. Fails only if memory runs out.
-    pub fn paths_mentioning(&self, alloc: Global, groups: &[Id]) -> Result<Vec<&Path>, AllocError>
-        ensures { IfOk result (λ paths. map (λ p. p.now) paths.items ≡ map (λ e. e.0) (filter (λ e. mentions_any groups.now e.1) (entries_in self.now.rows))) }
+    /// How many files lie at one whose label mentions one of some groups, or below it: one walk over the paths. Fails only
+    /// if memory runs out.
+    pub fn count_below_mentioning(&self, alloc: Global, groups: &[Id]) -> Result<u64, AllocError>
+        requires few { length (entries_in self.now.rows) < 2 ^ 64 }
+        ensures { IfOk result (λ count. count ≡ count_by (λ e. lies_in (filter (λ d. mentions_any groups.now d.1) (entries_in self.now.rows)) e.0) (entries_in self.now.rows)) }
     {
-        let mut paths = Vec::new(alloc);
-        let mut rest = self.rows.iter();
-        while let Some(file) = rest.next() {
-            if file.1.label.mentions_one_of(groups) {
-                paths.push(file.0)?;
-            }
-        }
-        Ok(paths)
+        let table = self.rows.table_where(alloc, &Mentioning { groups })?;
+        let count = count_lying(self.rows.numbers(), &table);
+        Ok(count)
     }
 
-    /// How many files lie at some paths or below them, where these are in path order: a look-up for each that is not below
+    /// How many files lie at some others or below them, where these are in path order: a look-up for each that is not below
     /// another. Allocates nothing.
-    pub fn count_within(&self, tops: &[&Path]) -> u64
+    pub fn count_below(&self, tops: Differences<'_>) -> u64
         requires few { length (entries_in self.now.rows) < 2 ^ 64 }
-        requires order { IsInOrder (tops_of tops.now) }
-        ensures { result ≡ count_by (λ e. lies_in (tops_of tops.now) e.0) (entries_in self.now.rows) }
+        requires order { IsInOrder tops }
+        ensures { result ≡ count_by (λ e. lies_in tops.entry e.0) (entries_in self.now.rows) }
     {
         count_paths(self.rows.numbers(), tops)
     }

@@ -7,7 +7,7 @@ ghost use Rattle.std.specs.FinMap.{find};
 ghost use Rattle.acl_files.specs.acl_names.Paths.{path_cmp};
 ghost use Rattle.acl_files.specs.kinds.Numbered.{entries_in};
 ghost use Rattle.acl_files.specs.kinds.Renewed.{one_where};
-ghost use Rattle.acl_verdicts.specs.KindRows.{rows_at, label_row, rowed, each_row, with_last, without_at, with_again, mentions_any};
+ghost use Rattle.acl_verdicts.specs.KindRows.{rows_at, label_row, rowed, each_row, with_last, without_at, with_again, asked_again, mentions_any};
 
 use crate::cells::{Cells, judged, judged_at, judged_last, without};
 use crate::hints::Hints;
@@ -153,8 +153,8 @@ impl Renewal<LabelRow, LabelRow, ()> for NoUser {
 
 /// Labels that mention one of some groups.
 #[derive(Drop)]
-struct Mentioning<'a> {
-    groups: &'a [Id],
+pub(crate) struct Mentioning<'a> {
+    pub(crate) groups: &'a [Id],
 }
 
 impl<'a> KindTest<LabelRow> for Mentioning<'a> {
@@ -165,20 +165,19 @@ impl<'a> KindTest<LabelRow> for Mentioning<'a> {
     }
 }
 
-/// A user who joined or left some groups.
+/// A user who joined or left groups that a label mentions.
 #[derive(Drop)]
 struct MovedUser<'a> {
-    groups: &'a [Id],
     at: usize,
     user: &'a Subject,
 }
 
 impl<'a, J: Judge> Renewal<LabelRow, LabelRow, J> for MovedUser<'a> {
-    ghost renewed = { λ moved row. with_again J.verdict_of moved.at moved.user.now moved.groups.now row };
+    ghost renewed = { λ moved row. asked_again J.verdict_of moved.at moved.user.now row };
 
     ghost counted = { J.asked_of };
 
-    ghost weight = { λ moved row. one_where (mentions_any moved.groups.now) row };
+    ghost weight = { λ moved row. 1 };
 
     ghost is_exact = { false };
 
@@ -189,7 +188,7 @@ impl<'a, J: Judge> Renewal<LabelRow, LabelRow, J> for MovedUser<'a> {
         node: &LabelRow,
         _paths: usize,
     ) -> Result<LabelRow, AllocError> {
-        if !node.label.mentions_one_of(self.groups) || self.at >= node.row.as_slice().len() {
+        if self.at >= node.row.as_slice().len() {
             let new = with_row(alloc, &node.label, node.row.share()?)?;
             return Ok(new);
         }
@@ -287,7 +286,7 @@ impl KindRows {
     }
 
     /// The rows with a user's verdict asked for again where the label mentions one of some groups, which the user joined or
-    /// left: at most once for each kind. Fails only if memory runs out.
+    /// left: at most once for each kind. The rows of other labels are shared. Fails only if memory runs out.
     pub fn with_user_updated<J: Judge>(
         &self,
         alloc: Global,
@@ -301,8 +300,9 @@ impl KindRows {
         ensures at_most { J.asked_of judge.new ≤ J.asked_of judge.old + count_by (λ e. mentions_any groups.now e.1) (entries_in self.now.rows) }
     {
         let hints = self.hints.share()?;
-        let moved = MovedUser { groups, at, user };
-        let rows = self.rows.renewed(alloc, judge, &moved)?;
+        let some = Mentioning { groups };
+        let moved = MovedUser { at, user };
+        let rows = self.rows.renewed_where(alloc, judge, &some, &moved)?;
         Ok(KindRows { rows, hints })
     }
 }

@@ -1,5 +1,5 @@
 //! Verdicts on users and files: who decides, how often, the verdicts of all users on one file, rows of them by kinds of files,
-//! and those that are left where each directory on the way has to grant search.
+//! and those that are left where each directory above has to grant search.
 #![tactic(auto)]
 
 mod answers;
@@ -11,6 +11,7 @@ mod hash;
 mod hints;
 mod judge;
 mod kind_rows;
+mod many_rows;
 mod reached_paths;
 mod search;
 mod stack;

@@ -16,7 +16,7 @@ use Rattle.acl_rights.specs.acl_people.NameTables.{has_name}
 use Rattle.acl_rights.specs.acl_tree.Files.{Files}
 use Rattle.acl_rights.specs.acl_tree.Found.{FoundFile, found_file, found_in}
 use Rattle.acl_rights.specs.acl_tree.Sound.{holds_below}
-use Rattle.acl_rights.specs.acl_tree.Step.{State}
+use Rattle.acl_rights.specs.acl_tree.State.{State}
 use Rattle.acl_rights.proofs.of_acl_files.Follows.{known_by_next}
 use Rattle.acl_rights.specs.Tables.{Verdict, Rows, VerdictTable, IsWhole, rows_of}
 use Rattle.acl_rights.specs.Reach.{rows_along, reached_from}
@@ -26,7 +26,7 @@ use Rattle.facl.specs.declared.answers.placed_users.PlacedUser.{PlacedUser}
 use Rattle.facl_output.specs.Listings.{path_shown}
 use Rattle.acl_rights.specs.Verdicts.{can_requests, rows_granted}
 use Rattle.facl.specs.ChangesText.{change_lines, users_of_both, place_of, granted_to, changes_text}
-use Rattle.facl.specs.Inner.{Placed, placed_of, placed_in, cell_at, lines_between, Walked, has_next_below, next_path, shown_before, walk_of, row_in, lines_of_both}
+use Rattle.facl.specs.Inner.{Placed, placed_of, placed_in, verdict_or_none, lines_between, Walked, has_next_below, next_path, shown_before, walk_of, row_in, lines_of_both}
 use Rattle.acl_rights.proofs.AskedAlong.{can_alone, can_along}
 
 flat-map : {A B C : Type 0} (h : B → List C) (f : A → B) (xs : List A) → flat_map h (map f xs) ≡ flat_map (λ x. h (f x)) xs
@@ -186,14 +186,14 @@ module _ (V : Verdict) (along : Bool) (s : State) (t : VerdictTable) (whole : Is
   files_walked = walk_of s.tree.files (rows_along along t.rows)
 
   -- what a row grants a user is what the user is granted
-  cell_granted : (name : List ℕ) (p : PathOf) → cell_at (row_in files_walked p) (place_of s name) ≡ granted_to V along s name p
+  cell_granted : (name : List ℕ) (p : PathOf) → verdict_or_none (row_in files_walked p) (place_of s name) ≡ granted_to V along s name p
   cell_granted name p = by (place_of s name)
     where
       in_row : (user : ℕ) (o : Option (List ℕ × List ℕ)) → slice_get (option_map_or (λ f. f.1) o []) user ≡ option_and_then (λ (cells : List ℕ). slice_get cells user) (option_map (λ (f : List ℕ × List ℕ). f.1) o)
       in_row user None = refl
       in_row user (Some f) = refl
 
-      by : (place : Option ℕ) → cell_at (row_in files_walked p) place ≡ unwrap_or (option_and_then (λ user. can_requests V along s user p) place) 0
+      by : (place : Option ℕ) → verdict_or_none (row_in files_walked p) place ≡ unwrap_or (option_and_then (λ user. can_requests V along s user p) place) 0
       by None = refl
       by (Some user) =
           ap (λ o. unwrap_or o 0)
@@ -218,7 +218,7 @@ module _ (V : Verdict) (along : Bool) (loaded now : State) (before after : Verdi
   -- the lines of a file, user by user
   file_lines : (p : PathOf) (path : List ℕ) → lines_between users path (row_in walked_before p) (row_in walked_after p) ≡ lines_at p path
   file_lines p path =
-      let lines_of : Placed → List ℕ = λ user. change_lines path user.0 (cell_at (row_in walked_before p) user.1.0) (cell_at (row_in walked_after p) user.1.1) in
+      let lines_of : Placed → List ℕ = λ user. change_lines path user.0 (verdict_or_none (row_in walked_before p) user.1.0) (verdict_or_none (row_in walked_after p) user.1.1) in
       sym (flat-map lines_of placed_of users)
       ∙ ap (flat_map lines_of) known
       ∙ flat-map lines_of (λ row. placed_in loaded.people now.people row.name) (users_of_both loaded now)

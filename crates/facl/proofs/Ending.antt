@@ -1,7 +1,7 @@
 -- How a run ends that stops in its script.
 use Rattle.std.proofs.Common.{◌≡◌, ℕ, Result, Ok, inr, subst}
 use Rattle.std.specs.Prelude.{IfSome}
-use Rattle.acl_rights.specs.acl_tree.Step.{State}
+use Rattle.acl_rights.specs.acl_tree.State.{State}
 use Rattle.facl_output.specs.facl_script.Run.{StopsWith}
 use Rattle.facl_output.specs.facl_script.Streams.{moment}
 use Rattle.facl_output.specs.facl_script.declared.fault.ScriptFault.{ScriptFault}

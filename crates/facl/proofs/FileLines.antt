@@ -20,7 +20,7 @@ use Rattle.acl_rights.proofs.of_path_map.Places.{less, above}
 use Rattle.acl_rights.specs.acl_tree.Files.{PathOf, Files, IsInOrder}
 use Rattle.acl_rights.specs.acl_tree.Found.{FoundFile, found_file, found_in}
 use Rattle.acl_rights.specs.acl_tree.Sound.{holds_below}
-use Rattle.acl_rights.specs.acl_tree.Step.{State}
+use Rattle.acl_rights.specs.acl_tree.State.{State}
 use Rattle.acl_rights.specs.Tables.{Verdict}
 use Rattle.facl.specs.Answers.{all_files, file_line, may_text}
 use Rattle.acl_rights.specs.Verdicts.{granted, paths_granted}

@@ -9,7 +9,7 @@ use Rattle.acl_rights.specs.acl_people.KnownPeople.{person, persons}
 use Rattle.acl_rights.specs.acl_tree.Files.{Files, IsInOrder}
 use Rattle.acl_rights.specs.acl_tree.Found.{FoundFile, found_file, found_in}
 use Rattle.acl_rights.specs.acl_tree.Sound.{holds_below}
-use Rattle.acl_rights.specs.acl_tree.Step.{State}
+use Rattle.acl_rights.specs.acl_tree.State.{State}
 use Rattle.acl_rights.proofs.of_acl_files.Follows.{known_by_next}
 use Rattle.acl_rights.specs.Tables.{Verdict, cells_of, rows_of}
 use Rattle.facl_output.specs.Listings.{path_shown}

@@ -4,9 +4,9 @@ pub mod DecidedAlong
 pub mod Deciding
 pub mod Ending
 pub mod FileLines
-pub mod FirstFault
-pub mod FirstFaults
-pub mod Firsts
+pub mod LineParts
+pub mod ToolParts
+pub mod FirstPart
 pub mod Gained
 pub mod HasWords
 pub mod IndexLines
@@ -25,6 +25,7 @@ pub mod SideBySide
 pub mod Spaced
 pub mod StillThere
 pub mod ToolLines
+pub mod ToolTable
 pub mod Unchanged
 pub mod Unrecorded
 pub mod UserLines

@@ -6,7 +6,7 @@ use Rattle.std.proofs.lemmas.Bool.{and_parts, eqb-true}
 use Rattle.acl_rights.specs.acl_files.path_map.Entries.{first}
 use Rattle.facl.specs.declared.answers.placed_users.PlacedUser.{PlacedUser}
 use Rattle.facl.specs.Requests.{requests_granted}
-use Rattle.facl.specs.Inner.{same_place, keeps_place, cell_at, lines_between, Walked, gone_lines, new_lines, kept_lines, row_lines, lines_of_walk}
+use Rattle.facl.specs.Inner.{same_place, keeps_place, verdict_or_none, lines_between, Walked, gone_lines, new_lines, kept_lines, row_lines, lines_of_walk}
 use Rattle.facl.proofs.Unchanged.{lines_none}
 
 abbrev Shown : Type 0
@@ -61,7 +61,7 @@ same_rows [] h path row = refl
 same_rows (user ∷ users) h path row =
     let parts = and_parts (keeps_place user) (list_all keeps_place users) h in
     let place = same_places user.before user.after parts.0 in
-    let here = lines_none path user.name.items (cell_at row user.before) (cell_at row user.after) (λ i. requests_granted (cell_at row (place i))) in
+    let here = lines_none path user.name.items (verdict_or_none row user.before) (verdict_or_none row user.after) (λ i. requests_granted (verdict_or_none row (place i))) in
     λ i. here i ++ same_rows users parts.1 path row i
 
 -- a file of both whose row and users are the same adds nothing

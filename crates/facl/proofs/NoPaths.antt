@@ -4,7 +4,7 @@ use Rattle.acl_rights.specs.acl_names.Paths.{path_of}
 use Rattle.acl_rights.specs.acl_tree.Files.{PathOf}
 use Rattle.facl_output.specs.declared.fault.LineFault.{LineFault}
 use Rattle.facl_output.specs.facl_words.Forms.{Text}
-use Rattle.facl.specs.FirstFaults.{IsNoPath}
+use Rattle.facl.specs.ToolParts.{IsNoPath}
 use Rattle.facl.specs.Operands.{bad_operand, path_at, paths_from}
 use Rattle.facl.specs.Replies.{after, or_fault}
 use Rattle.facl.proofs.Outcomes.{ok_is_not_err, err_eq, err_before, no_value}

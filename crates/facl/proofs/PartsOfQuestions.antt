@@ -11,15 +11,15 @@ use Rattle.acl_rights.specs.acl_people.NameTables.{place_of_word}
 use Rattle.acl_rights.specs.acl_syntax.declared.rows.PasswdRow.{PasswdRow}
 use Rattle.acl_rights.specs.acl_tree.Files.{PathOf, Files}
 use Rattle.acl_rights.specs.acl_tree.Operands.{first_missing}
-use Rattle.acl_rights.specs.acl_tree.Step.{State}
+use Rattle.acl_rights.specs.acl_tree.State.{State}
 use Rattle.facl_output.specs.declared.fault.LineFault.{LineFault}
 use Rattle.facl_output.specs.declared.fault.LineFault.TheVariants.{Tree}
 use Rattle.facl_output.specs.facl_words.Forms.{Text}
-use Rattle.facl.specs.FirstFaults.{Part, in_operand, in_user, in_file, rank, place, OfListing, OfUser, OfUserAndFiles, IsUnrecorded}
+use Rattle.facl.specs.ToolParts.{Part, in_operand, in_user, in_file, rank, place, OfListing, OfUser, OfUserAndFiles, IsUnrecorded}
 use Rattle.facl.specs.Operands.{path_at, paths_from, name_meant, user_or_fault, recorded_or_fault}
 use Rattle.facl.specs.Replies.{Reply, after, or_fault, printed, printed_or_fault}
 use Rattle.facl.specs.Why.{person_named}
-use Rattle.facl.proofs.Firsts.{accepted}
+use Rattle.facl.proofs.FirstPart.{accepted}
 use Rattle.facl.proofs.NoPaths.{Reads, reads_files, reads_file}
 use Rattle.facl.proofs.Outcomes.{ok_or_err, some_or_none, was_there, after_both}
 use Rattle.facl.proofs.Parts.{Refused, named, is_named, refused_in, refused_file, step, operands}

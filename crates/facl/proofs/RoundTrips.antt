@@ -19,7 +19,7 @@ use Rattle.acl_rights.specs.acl_syntax.declared.fault.Which.{Which}
 use Rattle.acl_rights.specs.acl_syntax.declared.fault.Which.TheVariants.{Access, Default}
 use Rattle.acl_rights.specs.acl_tree.Files.{PathOf, Files}
 use Rattle.acl_rights.specs.acl_tree.Sound.{ArePlaced}
-use Rattle.facl_output.specs.Again.{IsAttributeAgain, AreAttributesAgain, IsShortAgain, AreListsAgain, all_entries, specs_of}
+use Rattle.facl_output.specs.RoundTrips.{IsAttributeAgain, AreAttributesAgain, IsShortAgain, AreListsAgain, all_entries, specs_of}
 use Rattle.facl_output.specs.ChaclListings.{default_part}
 use Rattle.facl_output.specs.Listings.{path_shown}
 use Rattle.facl_output.specs.TestListing.{lists_text}

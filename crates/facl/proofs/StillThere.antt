@@ -18,7 +18,8 @@ use Rattle.acl_rights.specs.acl_tree.Files.{PathOf, Recorded, IsInOrder}
 use Rattle.acl_rights.specs.acl_tree.Laws.{EditsEach, EachFileIsEdited, EachFileIsRestored}
 use Rattle.acl_rights.specs.acl_tree.Operands.{means, is_file, first_missing}
 use Rattle.acl_rights.specs.acl_tree.Restoring.{restore_one, paths_of, restored_tree}
-use Rattle.acl_rights.specs.acl_tree.Step.{State, step, with_tree}
+use Rattle.acl_rights.specs.acl_tree.State.{State, with_tree}
+use Rattle.acl_rights.specs.acl_tree.Step.{step}
 use Rattle.acl_rights.specs.acl_tree.declared.command.Command.TheVariants.{Edit as EditFiles, Restore}
 use Rattle.acl_rights.specs.acl_files.declared.fault.TreeFault.{TreeFault}
 use Rattle.facl_output.specs.declared.fault.LineFault.{LineFault}

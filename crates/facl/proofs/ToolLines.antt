@@ -1,19 +1,19 @@
 -- What a tool does with its words: what they ask for, or usage.
 use Rattle.std.proofs.Common.{◌≡◌, ℕ, List, Option, Some, None, option_and_then, refl}
-use Rattle.acl_rights.specs.acl_tree.Step.{State}
+use Rattle.acl_rights.specs.acl_tree.State.{State}
 use Rattle.facl_output.specs.declared.fault.LineFault.TheVariants.{Usage}
 use Rattle.facl_output.specs.facl_words.Forms.{Text}
 use Rattle.facl_output.specs.facl_words.Words.{words_by}
 use Rattle.facl_output.specs.facl_words.declared.words.Words.{Words}
 use Rattle.facl.specs.Replies.{after, or_fault}
-use Rattle.facl.specs.Tools.{Verdict, row_of, read_line, words_of, line_or_fault, answered, tool_line}
+use Rattle.facl.specs.Tools.{Verdict, syntax_of, read_line, words_of, line_or_fault, answered, tool_line}
 use Rattle.facl.specs.declared.tools.Tool.{Tool}
-use Rattle.facl.specs.FirstFault.{line_read}
+use Rattle.facl.specs.LineParts.{line_read}
 
 pub tool_line_is : (verdict : Verdict) (loaded s : State) (tool : Tool) (words : List Text) (text : List ℕ)
     → after (or_fault Usage (line_read tool words)) (λ line. answered verdict loaded s line text) ≡ tool_line verdict loaded s tool words text
 unfolding words_of line_or_fault
-tool_line_is verdict loaded s tool words text = by (words_by (row_of tool) words)
+tool_line_is verdict loaded s tool words text = by (words_by (syntax_of tool) words)
   where
     by : (o : Option Words) → after (or_fault Usage (option_and_then (read_line tool) o)) (λ line. answered verdict loaded s line text)
         ≡ after (or_fault Usage o) (λ w. after (or_fault Usage (read_line tool w)) (λ line. answered verdict loaded s line text))

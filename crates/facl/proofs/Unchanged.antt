@@ -22,7 +22,7 @@ use Rattle.acl_rights.specs.acl_syntax.declared.rows.PasswdRow.{PasswdRow}
 use Rattle.acl_rights.specs.acl_tree.Files.{Files}
 use Rattle.acl_rights.specs.acl_tree.Found.{found_file, found_in}
 use Rattle.acl_rights.specs.acl_tree.Sound.{holds_below}
-use Rattle.acl_rights.specs.acl_tree.Step.{State}
+use Rattle.acl_rights.specs.acl_tree.State.{State}
 use Rattle.acl_rights.specs.Tables.{Verdict}
 use Rattle.acl_rights.proofs.of_acl_names.PathOrder.{exact_paths}
 use Rattle.acl_rights.proofs.of_path_map.Rows.{find_put_all}

@@ -17,7 +17,7 @@ use Rattle.acl_rights.specs.acl_tree.Operands.{first_missing}
 use Rattle.facl_output.specs.declared.fault.LineFault.{LineFault}
 use Rattle.facl_output.specs.declared.fault.LineFault.TheVariants.{Tree}
 use Rattle.facl_output.specs.facl_words.Forms.{Text}
-use Rattle.facl.specs.FirstFaults.{IsUnrecorded, IsNoUser}
+use Rattle.facl.specs.ToolParts.{IsUnrecorded, IsNoUser}
 use Rattle.facl.specs.Operands.{bad_operand, path_at, paths_from, name_meant, user_or_fault}
 use Rattle.facl.specs.Replies.{after, or_fault}
 use Rattle.facl.specs.Why.{person_named}

@@ -9,7 +9,7 @@ use Rattle.acl_rights.specs.acl_entry.Perms.{Perms}
 use Rattle.acl_rights.specs.acl_names.Paths.{path_cmp}
 use Rattle.acl_rights.specs.acl_edit.declared.node.Node.{Node}
 use Rattle.acl_rights.specs.acl_tree.Files.{PathOf}
-use Rattle.acl_rights.specs.acl_tree.Step.{State}
+use Rattle.acl_rights.specs.acl_tree.State.{State}
 use Rattle.acl_rights.specs.Tables.{Verdict, places_from}
 use Rattle.facl.specs.Answers.{user_line, who_text}
 use Rattle.acl_rights.specs.Verdicts.{granted, users_granted}

@@ -1,25 +1,25 @@
 -- attr: the lists of a file as the extended attributes of acl(5).
-use Rattle.std.specs.Prelude.{[], ◌∷◌, false, codes, Option, Some, Result}
+use Rattle.std.specs.Prelude.{[], ◌∷◌, false, codes, refl, Option, Some, Result}
 use Rattle.facl_output.specs.AttrListings.{attr_listing}
 use Rattle.acl_rights.specs.acl_tree.Found.{files_found}
 use Rattle.acl_rights.specs.acl_tree.Operands.{first_missing}
-use Rattle.acl_rights.specs.acl_tree.Step.{State}
+use Rattle.acl_rights.specs.acl_tree.State.{State}
 use Rattle.facl_output.specs.facl_words.Forms.{files_of}
-use Rattle.facl_output.specs.facl_words.Lines.{Line, one}
-use Rattle.facl_output.specs.facl_words.Naming.{operands_from}
+use Rattle.facl_output.specs.facl_words.Syntax.{Syntax, one}
 use Rattle.facl_output.specs.facl_words.declared.words.Words.{Words}
 use Rattle.facl_output.specs.declared.fault.LineFault.{LineFault}
+use Rattle.facl.specs.Asked.{operands_from}
 use Rattle.facl.specs.Operands.{paths_from, recorded_or_fault}
 use Rattle.facl.specs.Readers.{and_then}
 use Rattle.facl.specs.Replies.{Reply, after, printed}
 use Rattle.facl.specs.declared.tools.attr.AttrLine.{AttrLine}
 
-abbrev pub row : Line
-row = record { flags = []; options = []; operands = one (codes "file") ∷ [] }
+abbrev pub syntax : Syntax
+syntax = record { flags = []; options = []; operands = one (codes "file") ∷ [] }
 
 -- the line that words give, unless they are usage
 abbrev pub read : Words → Option AttrLine
-read w = and_then (files_of (operands_from row w (codes "file"))) (λ files. Some (record { files = files }))
+read w = and_then (files_of (operands_from syntax w (codes "file") refl)) (λ files. Some (record { files = files }))
 
 -- the attributes of the file are printed
 abbrev pub answered : State → AttrLine → Result Reply LineFault

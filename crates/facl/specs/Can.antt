@@ -1,14 +1,14 @@
 -- can: what a user may do with a file. The state stays as it is.
-use Rattle.std.specs.Prelude.{ℕ, [], ◌∷◌, Bool, codes, Option, Some, Result, Ok}
+use Rattle.std.specs.Prelude.{ℕ, [], ◌∷◌, Bool, codes, refl, Option, Some, Result, Ok}
 use Rattle.acl_rights.specs.Verdicts.{can_requests}
+use Rattle.facl.specs.Asked.{has, operand}
 use Rattle.facl.specs.Requests.{requests_line}
 use Rattle.acl_rights.specs.acl_files.declared.fault.TreeFault.TheVariants.{NoSuchFile}
 use Rattle.acl_rights.specs.acl_tree.Files.{PathOf}
-use Rattle.acl_rights.specs.acl_tree.Step.{State}
+use Rattle.acl_rights.specs.acl_tree.State.{State}
 use Rattle.acl_rights.specs.acl_verdicts.Rows.{Verdict}
 use Rattle.facl_output.specs.facl_words.Forms.{Text, file_of}
-use Rattle.facl_output.specs.facl_words.Lines.{Line, by_name, one}
-use Rattle.facl_output.specs.facl_words.Naming.{has, operand}
+use Rattle.facl_output.specs.facl_words.Syntax.{Syntax, by_name, one}
 use Rattle.facl_output.specs.facl_words.declared.words.Words.{Words}
 use Rattle.facl_output.specs.declared.fault.LineFault.{LineFault}
 use Rattle.facl_output.specs.declared.fault.LineFault.TheVariants.{Tree}
@@ -17,14 +17,14 @@ use Rattle.facl.specs.Readers.{and_then}
 use Rattle.facl.specs.Replies.{Reply, after, or_fault, printed_or_fault}
 use Rattle.facl.specs.declared.tools.can.CanLine.{CanLine}
 
-abbrev pub row : Line
-row = record { flags = by_name (codes "reach") ∷ []; options = []; operands = one (codes "user") ∷ one (codes "file") ∷ [] }
+abbrev pub syntax : Syntax
+syntax = record { flags = by_name (codes "reach") ∷ []; options = []; operands = one (codes "user") ∷ one (codes "file") ∷ [] }
 
 -- the line that words give, unless they are usage
 abbrev pub read : Words → Option CanLine
 read w =
-    and_then (file_of (operand row w (codes "file")))
-    (λ file. Some (record { reach = has row w (codes "reach"); user = operand row w (codes "user"); file = file }))
+    and_then (file_of (operand syntax w (codes "file") refl))
+    (λ file. Some (record { reach = has syntax w (codes "reach") refl; user = operand syntax w (codes "user") refl; file = file }))
 
 -- what the user at a place may do with the file of a path, with `along` only where the user can search the path
 abbrev pub requests_at : Verdict → Bool → State → PathOf → ℕ → Result Text LineFault

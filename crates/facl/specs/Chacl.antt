@@ -1,18 +1,18 @@
 -- chacl(1).
-use Rattle.std.specs.Prelude.{ℕ, ◌+◌, List, [], ◌∷◌, Bool, true, false, if◌then◌else◌, nat_le, codes, Option, Some, None, Result}
+use Rattle.std.specs.Prelude.{ℕ, ◌+◌, List, [], ◌∷◌, Bool, true, false, if◌then◌else◌, nat_le, codes, refl, Option, Some, None, Result}
 use Rattle.acl_rights.specs.acl_edit.declared.edit.Edit.TheVariants.{Put, Flatten}
 use Rattle.acl_rights.specs.acl_syntax.declared.fault.Which.TheVariants.{Access, Default}
 use Rattle.acl_rights.specs.acl_people.KnownPeople.{KnownPeople, naming_of}
 use Rattle.acl_rights.specs.acl_tree.Found.{FoundFile, files_found}
 use Rattle.acl_rights.specs.acl_tree.Operands.{first_missing}
-use Rattle.acl_rights.specs.acl_tree.Step.{State}
+use Rattle.acl_rights.specs.acl_tree.State.{State}
 use Rattle.facl_output.specs.facl_words.Forms.{Text, files_of}
-use Rattle.facl_output.specs.facl_words.Lines.{Line, by_letter, some}
-use Rattle.facl_output.specs.facl_words.Naming.{has, operands_from}
+use Rattle.facl_output.specs.facl_words.Syntax.{Syntax, by_letter, some}
 use Rattle.facl_output.specs.facl_words.declared.words.Words.{Words}
 use Rattle.facl_output.specs.declared.fault.LineFault.{LineFault}
 use Rattle.facl_output.specs.declared.fault.Source.TheVariants.{Entry, DefaultEntry}
 use Rattle.facl_output.specs.ChaclListings.{chacl_listing}
+use Rattle.facl.specs.Asked.{has, operands_from}
 use Rattle.facl.specs.Readers.{and_then}
 use Rattle.facl.specs.Replies.{Reply, after, printed}
 use Rattle.facl.specs.Operands.{paths_from, recorded_or_fault}
@@ -22,8 +22,8 @@ use Rattle.facl.specs.declared.tools.chacl.ChaclLine.{ChaclLine}
 use Rattle.facl.specs.declared.tools.chacl.Task.{Task}
 use Rattle.facl.specs.declared.tools.chacl.Task.TheVariants as tasks
 
-abbrev pub row : Line
-row = record {
+abbrev pub syntax : Syntax
+syntax = record {
   flags = by_letter (codes "b")
       ∷ by_letter (codes "d")
       ∷ by_letter (codes "R")
@@ -40,9 +40,9 @@ one_if b = if b then 1 else 0
 
 -- how many of the flags are given that select what is done
 abbrev pub tasks_given : Words → ℕ
-tasks_given w = one_if (has row w (codes "b")) + one_if (has row w (codes "d"))
-    + one_if (has row w (codes "R")) + one_if (has row w (codes "D"))
-    + one_if (has row w (codes "B")) + one_if (has row w (codes "l"))
+tasks_given w = one_if (has syntax w (codes "b") refl) + one_if (has syntax w (codes "d") refl)
+    + one_if (has syntax w (codes "R") refl) + one_if (has syntax w (codes "D") refl)
+    + one_if (has syntax w (codes "B") refl) + one_if (has syntax w (codes "l") refl)
 
 -- a task on these files
 abbrev pub on_files : Task → List Text → Option (Task × List Text)
@@ -67,20 +67,20 @@ read_both (access ∷ default_text ∷ files) = on_files (tasks.PutBoth access d
 -- the task of the flag that selects what is done
 abbrev pub task_of : Words → List Text → Option (Task × List Text)
 task_of w operands =
-    if has row w (codes "b") then read_both operands
-    else if has row w (codes "d") then read_default operands
-    else if has row w (codes "R") then on_files tasks.RemoveAccess operands
-    else if has row w (codes "D") then on_files tasks.RemoveDefault operands
-    else if has row w (codes "B") then on_files tasks.RemoveBoth operands
-    else if has row w (codes "l") then on_files tasks.List operands
+    if has syntax w (codes "b") refl then read_both operands
+    else if has syntax w (codes "d") refl then read_default operands
+    else if has syntax w (codes "R") refl then on_files tasks.RemoveAccess operands
+    else if has syntax w (codes "D") refl then on_files tasks.RemoveDefault operands
+    else if has syntax w (codes "B") refl then on_files tasks.RemoveBoth operands
+    else if has syntax w (codes "l") refl then on_files tasks.List operands
     else read_access operands
 
 -- the line that words give, unless they are usage: at most one thing is done, and a file is given after the lists
 abbrev pub read : Words → Option ChaclLine
 read w =
     if nat_le (tasks_given w) 1
-    then and_then (task_of w (operands_from row w (codes "word")))
-    (λ found. Some (record { task = found.0; recursive = has row w (codes "r"); files = found.1 }))
+    then and_then (task_of w (operands_from syntax w (codes "word") refl))
+    (λ found. Some (record { task = found.0; recursive = has syntax w (codes "r") refl; files = found.1 }))
     else None
 
 -- an access list is put into files

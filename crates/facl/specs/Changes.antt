@@ -1,21 +1,21 @@
 -- changes: what the script has changed so far in who may do what. The state stays as it is.
-use Rattle.std.specs.Prelude.{[], ◌∷◌, codes, Result, Ok}
+use Rattle.std.specs.Prelude.{[], ◌∷◌, codes, refl, Result, Ok}
+use Rattle.facl.specs.Asked.{has}
 use Rattle.facl.specs.ChangesText.{changes_text}
-use Rattle.acl_rights.specs.acl_tree.Step.{State}
+use Rattle.acl_rights.specs.acl_tree.State.{State}
 use Rattle.acl_rights.specs.acl_verdicts.Rows.{Verdict}
-use Rattle.facl_output.specs.facl_words.Lines.{Line, by_name}
-use Rattle.facl_output.specs.facl_words.Naming.{has}
+use Rattle.facl_output.specs.facl_words.Syntax.{Syntax, by_name}
 use Rattle.facl_output.specs.facl_words.declared.words.Words.{Words}
 use Rattle.facl_output.specs.declared.fault.LineFault.{LineFault}
 use Rattle.facl.specs.Replies.{Reply, printed}
 use Rattle.facl.specs.declared.tools.changes.ChangesLine.{ChangesLine}
 
-abbrev pub row : Line
-row = record { flags = by_name (codes "reach") ∷ []; options = []; operands = [] }
+abbrev pub syntax : Syntax
+syntax = record { flags = by_name (codes "reach") ∷ []; options = []; operands = [] }
 
 -- the line that words give
 abbrev pub read : Words → ChangesLine
-read w = record { reach = has row w (codes "reach") }
+read w = record { reach = has syntax w (codes "reach") refl }
 
 -- what differs from the state after the texts were loaded is printed
 abbrev pub answered : Verdict → (loaded now : State) → ChangesLine → Result Reply LineFault

@@ -10,7 +10,7 @@ use Rattle.acl_rights.specs.acl_people.KnownPeople.{users_of}
 use Rattle.acl_rights.specs.acl_people.NameTables.{is_name, has_name}
 use Rattle.acl_rights.specs.acl_syntax.declared.rows.PasswdRow.{PasswdRow}
 use Rattle.acl_rights.specs.acl_tree.Files.{PathOf}
-use Rattle.acl_rights.specs.acl_tree.Step.{State}
+use Rattle.acl_rights.specs.acl_tree.State.{State}
 use Rattle.acl_rights.specs.acl_verdicts.Rows.{Verdict}
 use Rattle.facl_output.specs.Listings.{path_shown}
 use Rattle.facl.specs.Requests.{requests_granted}

@@ -1,23 +1,23 @@
 -- creat: a new file, with what it inherits from its directory.
-use Rattle.std.specs.Prelude.{ℕ, [], ◌∷◌, Bool, codes, if◌then◌else◌, Option, Some, Result, Ok}
+use Rattle.std.specs.Prelude.{ℕ, [], ◌∷◌, Bool, codes, refl, if◌then◌else◌, Option, Some, Result, Ok}
 use Rattle.acl_rights.specs.acl_edit.declared.node.Kind.{Kind}
 use Rattle.acl_rights.specs.acl_edit.declared.node.Kind.TheVariants.{Plain, Directory}
-use Rattle.acl_rights.specs.acl_tree.declared.command.Command.TheVariants as commands
 use Rattle.acl_rights.specs.acl_tree.declared.command.NewFile.{NewFile}
-use Rattle.acl_rights.specs.acl_tree.Step.{State}
+use Rattle.acl_rights.specs.acl_tree.Creat.{creat}
+use Rattle.acl_rights.specs.acl_tree.State.{State}
 use Rattle.facl_output.specs.facl_words.Forms.{Text, file_of}
-use Rattle.facl_output.specs.facl_words.Lines.{Line, by_letter, by_name, by_name_or, one}
-use Rattle.facl_output.specs.facl_words.Naming.{has, operand, value}
+use Rattle.facl_output.specs.facl_words.Syntax.{Syntax, by_letter, by_name, by_name_or, one}
 use Rattle.facl_output.specs.facl_words.declared.words.Words.{Words}
 use Rattle.facl_output.specs.declared.fault.LineFault.{LineFault}
+use Rattle.facl.specs.Asked.{has, operand, value}
 use Rattle.facl.specs.Modes.{permission_mode_of}
 use Rattle.facl.specs.Operands.{path_at, name_meant}
 use Rattle.facl.specs.Readers.{and_then}
-use Rattle.facl.specs.Replies.{Reply, after, done}
+use Rattle.facl.specs.Replies.{Reply, after, replied_tree}
 use Rattle.facl.specs.declared.tools.creat.CreatLine.{CreatLine}
 
-abbrev pub row : Line
-row = record {
+abbrev pub syntax : Syntax
+syntax = record {
   flags = by_letter (codes "d") ∷ [];
   options = by_name (codes "user")
       ∷ by_name (codes "mode")
@@ -26,8 +26,8 @@ row = record {
 }
 
 -- the mode of an option
-abbrev pub mode_given : Words → Text → Option ℕ
-mode_given w name = and_then (value row w name) permission_mode_of
+abbrev pub mode_given : Option Text → Option ℕ
+mode_given word = and_then word permission_mode_of
 
 abbrev pub kind_of : Bool → Kind
 kind_of is_directory = if is_directory then Directory else Plain
@@ -35,11 +35,11 @@ kind_of is_directory = if is_directory then Directory else Plain
 -- the line that words give, unless they are usage
 abbrev pub read : Words → Option CreatLine
 read w =
-    and_then (value row w (codes "user"))
-    (λ user. and_then (mode_given w (codes "mode"))
-    (λ mode. and_then (mode_given w (codes "umask"))
-    (λ umask. and_then (file_of (operand row w (codes "file")))
-    (λ file. Some (record { kind = kind_of (has row w (codes "d")); user = user; mode = mode; umask = umask; file = file })))))
+    and_then (value syntax w (codes "user") refl)
+    (λ user. and_then (mode_given (value syntax w (codes "mode") refl))
+    (λ mode. and_then (mode_given (value syntax w (codes "umask") refl))
+    (λ umask. and_then (file_of (operand syntax w (codes "file") refl))
+    (λ file. Some (record { kind = kind_of (has syntax w (codes "d") refl); user = user; mode = mode; umask = umask; file = file })))))
 
 abbrev pub new_file : CreatLine → Result NewFile LineFault
 new_file line =
@@ -48,4 +48,4 @@ new_file line =
 
 -- the file is made
 abbrev pub answered : State → CreatLine → Result Reply LineFault
-answered s line = after (new_file line) (λ new. done s (commands.Creat new))
+answered s line = after (new_file line) (λ new. replied_tree s (creat new s.people s.tree))

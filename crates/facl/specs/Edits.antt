@@ -1,13 +1,13 @@
 -- Edits of the files that a line names.
 use Rattle.std.specs.Prelude.{List, Bool, Result}
 use Rattle.acl_rights.specs.acl_edit.declared.edit.Edit.{Edit}
-use Rattle.acl_rights.specs.acl_tree.declared.command.Command.TheVariants as commands
-use Rattle.acl_rights.specs.acl_tree.Step.{State}
+use Rattle.acl_rights.specs.acl_tree.EditCommand.{edited_tree}
+use Rattle.acl_rights.specs.acl_tree.State.{State}
 use Rattle.facl_output.specs.facl_words.Forms.{Text}
 use Rattle.facl_output.specs.declared.fault.LineFault.{LineFault}
-use Rattle.facl.specs.Replies.{Reply, after, done}
+use Rattle.facl.specs.Replies.{Reply, after, replied_tree}
 use Rattle.facl.specs.Operands.{paths_from}
 
 -- the files that words name are edited, in a recursion also all below them
 abbrev pub edited : State → Bool → Edit → List Text → Result Reply LineFault
-edited s recursive edit files = after (paths_from 1 files) (λ paths. done s (commands.Edit paths edit recursive))
+edited s recursive edit files = after (paths_from 1 files) (λ paths. replied_tree s (edited_tree recursive paths edit s.tree))

@@ -1,25 +1,25 @@
 -- getfacl(1).
-use Rattle.std.specs.Prelude.{ℕ, List, [], ◌∷◌, Bool, true, false, codes, Option, None, Some, Result}
+use Rattle.std.specs.Prelude.{ℕ, List, [], ◌∷◌, Bool, true, false, codes, refl, Option, None, Some, Result}
 use Rattle.acl_rights.specs.acl_dump.declared.effective.Effective.{Effective}
 use Rattle.acl_rights.specs.acl_dump.declared.effective.Effective.TheVariants.{WhereMasked, Always, Never}
 use Rattle.acl_rights.specs.acl_people.KnownPeople.{KnownPeople, naming_of}
 use Rattle.acl_rights.specs.acl_tree.Found.{FoundFile, files_found}
 use Rattle.acl_rights.specs.acl_tree.Operands.{first_missing}
-use Rattle.acl_rights.specs.acl_tree.Step.{State}
+use Rattle.acl_rights.specs.acl_tree.State.{State}
 use Rattle.facl_output.specs.Listings.{listing}
 use Rattle.facl_output.specs.declared.listing.Options.{Options}
 use Rattle.facl_output.specs.facl_words.Forms.{files_of}
-use Rattle.facl_output.specs.facl_words.Lines.{Line, both, some}
-use Rattle.facl_output.specs.facl_words.Naming.{has, operands_from}
+use Rattle.facl_output.specs.facl_words.Syntax.{Syntax, both, some}
 use Rattle.facl_output.specs.facl_words.declared.words.Words.{Words}
 use Rattle.facl_output.specs.declared.fault.LineFault.{LineFault}
+use Rattle.facl.specs.Asked.{has, operands_from}
 use Rattle.facl.specs.Operands.{paths_from, recorded_or_fault}
 use Rattle.facl.specs.Readers.{and_then}
 use Rattle.facl.specs.Replies.{Reply, after, printed}
 use Rattle.facl.specs.declared.tools.getfacl.GetfaclLine.{GetfaclLine}
 
-abbrev pub row : Line
-row = record {
+abbrev pub syntax : Syntax
+syntax = record {
   flags = both (codes "a") (codes "access")
       ∷ both (codes "c") (codes "omit-header")
       ∷ both (codes "e") (codes "all-effective")
@@ -40,19 +40,19 @@ effective_for false false = Some WhereMasked
 
 abbrev pub options_of : Words → Effective → Options
 options_of w effective = record {
-  access_only = has row w (codes "access");
-  omit_header = has row w (codes "omit-header");
+  access_only = has syntax w (codes "access") refl;
+  omit_header = has syntax w (codes "omit-header") refl;
   effective = effective;
-  skip_base = has row w (codes "skip-base");
-  numeric = has row w (codes "numeric");
+  skip_base = has syntax w (codes "skip-base") refl;
+  numeric = has syntax w (codes "numeric") refl;
 }
 
 -- the line that words give, unless they are usage
 abbrev pub read : Words → Option GetfaclLine
 read w =
-    and_then (effective_for (has row w (codes "all-effective")) (has row w (codes "no-effective")))
-    (λ effective. and_then (files_of (operands_from row w (codes "file")))
-    (λ files. Some (record { options = options_of w effective; recursive = has row w (codes "recursive"); files = files })))
+    and_then (effective_for (has syntax w (codes "all-effective") refl) (has syntax w (codes "no-effective") refl))
+    (λ effective. and_then (files_of (operands_from syntax w (codes "file") refl))
+    (λ files. Some (record { options = options_of w effective; recursive = has syntax w (codes "recursive") refl; files = files })))
 
 -- ids print as the names that these people have
 abbrev pub getfacl_text : KnownPeople → Options → List FoundFile → List ℕ

@@ -1,19 +1,19 @@
 -- gpasswd(1): a user is added to a group, or removed from it.
-use Rattle.std.specs.Prelude.{[], ◌∷◌, codes, Option, None, Some, Result}
-use Rattle.acl_rights.specs.acl_tree.declared.command.Command.TheVariants as commands
+use Rattle.std.specs.Prelude.{[], ◌∷◌, codes, refl, Option, None, Some, Result}
 use Rattle.acl_rights.specs.acl_tree.declared.command.Membership.TheVariants.{Add, Remove}
-use Rattle.acl_rights.specs.acl_tree.Step.{State}
+use Rattle.acl_rights.specs.acl_tree.Memberships.{gpasswd}
+use Rattle.acl_rights.specs.acl_tree.State.{State}
 use Rattle.facl_output.specs.facl_words.Forms.{Text}
-use Rattle.facl_output.specs.facl_words.Lines.{Line, by_letter, one}
-use Rattle.facl_output.specs.facl_words.Naming.{operand, value}
+use Rattle.facl_output.specs.facl_words.Syntax.{Syntax, by_letter, one}
 use Rattle.facl_output.specs.facl_words.declared.words.Words.{Words}
 use Rattle.facl_output.specs.declared.fault.LineFault.{LineFault}
+use Rattle.facl.specs.Asked.{operand, value}
 use Rattle.facl.specs.Operands.{name_meant}
-use Rattle.facl.specs.Replies.{Reply, done}
+use Rattle.facl.specs.Replies.{Reply, replied_groups}
 use Rattle.facl.specs.declared.tools.gpasswd.GpasswdLine.{GpasswdLine}
 
-abbrev pub row : Line
-row = record { flags = []; options = by_letter (codes "a") ∷ by_letter (codes "d") ∷ []; operands = one (codes "group") ∷ [] }
+abbrev pub syntax : Syntax
+syntax = record { flags = []; options = by_letter (codes "a") ∷ by_letter (codes "d") ∷ []; operands = one (codes "group") ∷ [] }
 
 -- the line of a user who is added, or of one who is removed: one of the two is given
 abbrev pub line_of : Option Text → Option Text → Text → Option GpasswdLine
@@ -24,8 +24,8 @@ line_of None None group = None
 
 -- the line that words give, unless they are usage
 abbrev pub read : Words → Option GpasswdLine
-read w = line_of (value row w (codes "a")) (value row w (codes "d")) (operand row w (codes "group"))
+read w = line_of (value syntax w (codes "a") refl) (value syntax w (codes "d") refl) (operand syntax w (codes "group") refl)
 
 -- the user is added to the group, or removed from it
 abbrev pub answered : State → GpasswdLine → Result Reply LineFault
-answered s line = done s (commands.Gpasswd (name_meant line.user) (name_meant line.group) line.change)
+answered s line = replied_groups s (gpasswd (name_meant line.user) (name_meant line.group) line.change s.people)

@@ -1,15 +1,15 @@
 -- index: what each user may do with each file. The state stays as it is.
 use Rattle.std.specs.Prelude.{[], Result, Ok}
 use Rattle.facl.specs.Answers.{index_text}
-use Rattle.acl_rights.specs.acl_tree.Step.{State}
+use Rattle.acl_rights.specs.acl_tree.State.{State}
 use Rattle.acl_rights.specs.acl_verdicts.Rows.{Verdict}
-use Rattle.facl_output.specs.facl_words.Lines.{Line}
+use Rattle.facl_output.specs.facl_words.Syntax.{Syntax}
 use Rattle.facl_output.specs.declared.fault.LineFault.{LineFault}
 use Rattle.facl.specs.Replies.{Reply, printed}
 
 -- it takes no words
-abbrev pub row : Line
-row = record { flags = []; options = []; operands = [] }
+abbrev pub syntax : Syntax
+syntax = record { flags = []; options = []; operands = [] }
 
 -- the whole table is printed
 abbrev pub answered : Verdict → State → Result Reply LineFault

@@ -103,12 +103,12 @@ abbrev pub keeps_place : PlacedUser → Bool
 keeps_place user = same_place user.before user.after
 
 -- a user's verdict in a row; none where the user is not there
-abbrev pub cell_at : List ℕ → Option ℕ → ℕ
-cell_at row place = unwrap_or (option_and_then (slice_get row) place) 0
+abbrev pub verdict_or_none : List ℕ → Option ℕ → ℕ
+verdict_or_none row place = unwrap_or (option_and_then (slice_get row) place) 0
 
 -- the lines of a file, by its rows before and after
 abbrev pub lines_between : List PlacedUser → (path before after : List ℕ) → List ℕ
-lines_between users path before after = flat_map (λ user. change_lines path user.name.items (cell_at before user.before) (cell_at after user.after)) users
+lines_between users path before after = flat_map (λ user. change_lines path user.name.items (verdict_or_none before user.before) (verdict_or_none after user.after)) users
 
 -- ---- a walk over files with their rows
 

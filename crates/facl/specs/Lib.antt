@@ -8,9 +8,9 @@ pub mod Chmod
 pub mod Costs
 pub mod Creat
 pub mod Edits
-pub mod FirstFault
-pub mod FirstFaults
-pub mod Firsts
+pub mod LineParts
+pub mod ToolParts
+pub mod FirstPart
 pub mod Getfacl
 pub mod Gpasswd
 pub mod Index
@@ -20,6 +20,7 @@ pub mod Load
 pub mod May
 pub mod Modes
 pub mod Operands
+pub mod Asked
 pub mod Readers
 pub mod RemovedKeys
 pub mod Replies

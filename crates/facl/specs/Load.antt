@@ -1,21 +1,22 @@
 -- load: a text is read as users, groups or files.
-use Rattle.std.specs.Prelude.{ℕ, List, [], ◌∷◌, codes, if◌then◌else◌, Option, None, Some, Result}
+use Rattle.std.specs.Prelude.{ℕ, List, [], ◌∷◌, codes, refl, if◌then◌else◌, Option, None, Some, Result}
 use Rattle.std.specs.Str.{bytes_eq}
 use Rattle.acl_rights.specs.acl_tree.declared.command.Table.{Table}
 use Rattle.acl_rights.specs.acl_tree.declared.command.Table.TheVariants.{Passwd, Group, Dump}
-use Rattle.acl_rights.specs.acl_tree.Reports.{load_moves}
-use Rattle.acl_rights.specs.acl_tree.Step.{State, load}
+use Rattle.acl_rights.specs.acl_tree.UserMoves.{load_moves}
+use Rattle.acl_rights.specs.acl_tree.State.{State}
+use Rattle.acl_rights.specs.acl_tree.Loads.{load}
 use Rattle.facl_output.specs.facl_words.Forms.{Text}
-use Rattle.facl_output.specs.facl_words.Lines.{Line, one}
-use Rattle.facl_output.specs.facl_words.Naming.{operand}
+use Rattle.facl_output.specs.facl_words.Syntax.{Syntax, one}
 use Rattle.facl_output.specs.facl_words.declared.words.Words.{Words}
 use Rattle.facl_output.specs.declared.fault.LineFault.{LineFault}
+use Rattle.facl.specs.Asked.{operand}
 use Rattle.facl.specs.Readers.{and_then}
 use Rattle.facl.specs.Replies.{Reply, replied}
 use Rattle.facl.specs.declared.tools.load.LoadLine.{LoadLine}
 
-abbrev pub row : Line
-row = record { flags = []; options = []; operands = one (codes "table") ∷ [] }
+abbrev pub syntax : Syntax
+syntax = record { flags = []; options = []; operands = one (codes "table") ∷ [] }
 
 -- the three texts that are loaded
 abbrev pub table_named : Text → Option Table
@@ -27,7 +28,7 @@ table_named name =
 
 -- the line that words give, unless they are usage
 abbrev pub read : Words → Option LoadLine
-read w = and_then (table_named (operand row w (codes "table"))) (λ table. Some (record { table = table }))
+read w = and_then (table_named (operand syntax w (codes "table") refl)) (λ table. Some (record { table = table }))
 
 -- the text is read
 abbrev pub answered : State → LoadLine → List ℕ → Result Reply LineFault

@@ -1,15 +1,15 @@
 -- may: the files with which a user may do something. The state stays as it is.
-use Rattle.std.specs.Prelude.{[], ◌∷◌, Bool, codes, Option, Some, option_and_then, Result}
+use Rattle.std.specs.Prelude.{[], ◌∷◌, Bool, codes, refl, Option, Some, option_and_then, Result}
+use Rattle.facl.specs.Asked.{has, operand}
 use Rattle.facl.specs.Answers.{may_text}
 use Rattle.acl_rights.specs.acl_entry.Perms.{Perms}
 use Rattle.acl_rights.specs.acl_files.declared.fault.TreeFault.TheVariants.{NoSuchUser}
 use Rattle.acl_rights.specs.acl_people.KnownPeople.{users_of}
 use Rattle.acl_rights.specs.acl_people.NameTables.{place_of_word}
-use Rattle.acl_rights.specs.acl_tree.Step.{State}
+use Rattle.acl_rights.specs.acl_tree.State.{State}
 use Rattle.acl_rights.specs.acl_verdicts.Rows.{Verdict}
 use Rattle.facl_output.specs.facl_words.Forms.{Text}
-use Rattle.facl_output.specs.facl_words.Lines.{Line, by_name, one}
-use Rattle.facl_output.specs.facl_words.Naming.{has, operand}
+use Rattle.facl_output.specs.facl_words.Syntax.{Syntax, by_name, one}
 use Rattle.facl_output.specs.facl_words.declared.words.Words.{Words}
 use Rattle.facl_output.specs.declared.fault.LineFault.{LineFault}
 use Rattle.facl_output.specs.declared.fault.LineFault.TheVariants.{Tree}
@@ -18,14 +18,14 @@ use Rattle.facl.specs.Readers.{and_then, permissions_of}
 use Rattle.facl.specs.Replies.{Reply, or_fault, printed_or_fault}
 use Rattle.facl.specs.declared.tools.may.MayLine.{MayLine}
 
-abbrev pub row : Line
-row = record { flags = by_name (codes "reach") ∷ []; options = []; operands = one (codes "user") ∷ one (codes "perms") ∷ [] }
+abbrev pub syntax : Syntax
+syntax = record { flags = by_name (codes "reach") ∷ []; options = []; operands = one (codes "user") ∷ one (codes "perms") ∷ [] }
 
 -- the line that words give, unless they are usage
 abbrev pub read : Words → Option MayLine
 read w =
-    and_then (permissions_of (operand row w (codes "perms")))
-    (λ request. Some (record { reach = has row w (codes "reach"); user = operand row w (codes "user"); request = request }))
+    and_then (permissions_of (operand syntax w (codes "perms") refl))
+    (λ request. Some (record { reach = has syntax w (codes "reach") refl; user = operand syntax w (codes "user") refl; request = request }))
 
 -- the files on which a request is granted to the user of a name, if there is one
 abbrev pub may_text_of : Verdict → Bool → State → Perms → Text → Option Text

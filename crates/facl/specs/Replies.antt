@@ -2,7 +2,11 @@
 use Rattle.std.specs.Option.{option_map_or}
 use Rattle.std.specs.Prelude.{◌≡◌, ◌≢◌, ℕ, Bool, false, List, [], Option, None, Some, Result, Ok, Err, MatchResult}
 use Rattle.acl_rights.specs.acl_syntax.InTurn.{GivesUnless}
-use Rattle.acl_rights.specs.acl_tree.Step.{State, step}
+use Rattle.acl_rights.specs.acl_tree.State.{State, with_change, with_tree}
+use Rattle.acl_rights.specs.acl_files.Files.{Recorded}
+use Rattle.acl_rights.specs.acl_tree.Memberships.{ChangedUser}
+use Rattle.acl_rights.specs.acl_tree.Step.{step}
+use Rattle.acl_rights.specs.acl_tree.UserMoves.{change_moves, user_left}
 use Rattle.acl_rights.specs.acl_tree.Reports.{users_move}
 use Rattle.acl_rights.specs.acl_tree.declared.command.Command.{Command}
 use Rattle.acl_rights.specs.acl_files.declared.fault.TreeFault.{TreeFault}
@@ -37,7 +41,19 @@ abbrev pub replied : UserChange → Result State TreeFault → Result Reply Line
 replied moved (Ok s) = Ok (record { state = s; user_change = moved; out = []; warns = false })
 replied moved (Err fault) = Err (line_fault_of_tree fault)
 
--- a command is done
+-- the reply to a line that makes this tree
+abbrev pub replied_tree : State → Result Recorded TreeFault → Result Reply LineFault
+replied_tree s tree = replied Unchanged (with_tree s tree)
+
+-- the reply to a line that changes a user's groups so
+abbrev pub replied_groups : State → Result ChangedUser TreeFault → Result Reply LineFault
+replied_groups s change = replied (change_moves s.people change) (with_change s change)
+
+-- the reply to a line that removes a user
+abbrev pub replied_removal : State → Result ChangedUser TreeFault → Result Reply LineFault
+replied_removal s change = replied (user_left change) (with_change s change)
+
+-- a command is done: what its own tool replies
 abbrev pub done : State → Command → Result Reply LineFault
 done s command = replied (users_move s command) (step s command)
 

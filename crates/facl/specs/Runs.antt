@@ -1,6 +1,6 @@
 -- What a run writes.
 use Rattle.std.specs.Prelude.{◌≡◌, ◌+◌, ◌≤◌, ℕ, Bool, true, false, List, Option, Result, Ok, Err, ◌⊎◌, length, IfSome}
-use Rattle.acl_rights.specs.acl_tree.Step.{State}
+use Rattle.acl_rights.specs.acl_tree.State.{State}
 use Rattle.facl_output.specs.facl_script.Limits.{script_limit}
 use Rattle.facl_output.specs.facl_script.Play.{session}
 use Rattle.facl_output.specs.facl_script.Run.{StopsWith}

@@ -1,5 +1,5 @@
 -- setattr: an extended attribute of acl(5) is put into a file as a list.
-use Rattle.std.specs.Prelude.{ℕ, List, [], ◌∷◌, false, drop, length, nat_eq, if◌then◌else◌, codes, Option, Some, None, option_map, Result, Ok, Err}
+use Rattle.std.specs.Prelude.{ℕ, List, [], ◌∷◌, false, drop, length, nat_eq, if◌then◌else◌, codes, refl, Option, Some, None, option_map, Result, Ok, Err}
 use Rattle.std.specs.List.{starts_with}
 use Rattle.std.specs.Option.{option_or}
 use Rattle.hex.specs.Hex.{decode_of}
@@ -10,14 +10,14 @@ use Rattle.acl_rights.specs.acl_edit.declared.edit.Edit.TheVariants.{Put}
 use Rattle.acl_rights.specs.acl_entry.Lists.{KeyMap}
 use Rattle.acl_rights.specs.acl_syntax.declared.fault.Which.{Which}
 use Rattle.acl_rights.specs.acl_syntax.declared.fault.Which.TheVariants.{Access, Default}
-use Rattle.acl_rights.specs.acl_tree.Step.{State}
+use Rattle.acl_rights.specs.acl_tree.State.{State}
 use Rattle.facl_output.specs.facl_words.Forms.{Text, files_of}
-use Rattle.facl_output.specs.facl_words.Lines.{Line, one}
-use Rattle.facl_output.specs.facl_words.Naming.{operand, operands_from}
+use Rattle.facl_output.specs.facl_words.Syntax.{Syntax, one}
 use Rattle.facl_output.specs.facl_words.declared.words.Words.{Words}
 use Rattle.facl_output.specs.declared.fault.LineFault.{LineFault}
 use Rattle.facl_output.specs.declared.fault.LineFault.TheVariants as faults
 use Rattle.facl_output.specs.declared.fault.Source.TheVariants.{AttributeEntry}
+use Rattle.facl.specs.Asked.{operand, operands_from}
 use Rattle.facl.specs.Edits.{edited}
 use Rattle.facl.specs.Lists.{at_source}
 use Rattle.facl.specs.Readers.{and_then}
@@ -25,8 +25,8 @@ use Rattle.facl.specs.Replies.{Reply, after}
 use Rattle.facl.specs.declared.tools.setattr.Attribute.{Attribute}
 use Rattle.facl.specs.declared.tools.setattr.SetattrLine.{SetattrLine}
 
-abbrev pub row : Line
-row = record { flags = []; options = []; operands = one (codes "attribute") ∷ one (codes "file") ∷ [] }
+abbrev pub syntax : Syntax
+syntax = record { flags = []; options = []; operands = one (codes "attribute") ∷ one (codes "file") ∷ [] }
 
 -- what follows a beginning of a word
 abbrev pub rest_of : Text → Text → Option Text
@@ -48,8 +48,8 @@ attribute_of word =
 -- the line that words give, unless they are usage
 abbrev pub read : Words → Option SetattrLine
 read w =
-    and_then (attribute_of (operand row w (codes "attribute")))
-    (λ attribute. and_then (files_of (operands_from row w (codes "file")))
+    and_then (attribute_of (operand syntax w (codes "attribute") refl))
+    (λ attribute. and_then (files_of (operands_from syntax w (codes "file") refl))
     (λ files. Some (record { attribute = attribute; files = files })))
 
 -- text that is not hex digits is a bad attribute, at its start

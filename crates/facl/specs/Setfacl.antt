@@ -18,7 +18,8 @@ use Rattle.acl_rights.specs.acl_people.KnownPeople.{KnownPeople, naming_of}
 use Rattle.acl_rights.specs.acl_tree.Files.{Files}
 use Rattle.acl_rights.specs.acl_tree.Found.{FoundFile, files_found}
 use Rattle.acl_rights.specs.acl_tree.Restoring.{paths_of}
-use Rattle.acl_rights.specs.acl_tree.Step.{State, step}
+use Rattle.acl_rights.specs.acl_tree.State.{State}
+use Rattle.acl_rights.specs.acl_tree.Step.{step}
 use Rattle.acl_rights.specs.acl_tree.declared.command.Command.{Command}
 use Rattle.acl_rights.specs.acl_tree.declared.command.Command.TheVariants.{Chmod, Creat, Edit, Gpasswd, Load, Restore, Rm, Useradd, Userdel, Usermod}
 use Rattle.acl_rights.specs.acl_files.declared.fault.TreeFault.{TreeFault}

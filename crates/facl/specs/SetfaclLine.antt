@@ -1,11 +1,11 @@
 -- The words of setfacl(1), and the line that they give.
-use Rattle.std.specs.Prelude.{List, [], ◌∷◌, ◌&&◌, ◌||◌, Bool, not, codes, if◌then◌else◌, Option, None, Some}
+use Rattle.std.specs.Prelude.{List, [], ◌∷◌, ◌&&◌, ◌||◌, Bool, not, codes, refl, if◌then◌else◌, Option, None, Some}
 use Rattle.std.specs.Bool.{beq}
 use Rattle.acl_rights.specs.acl_edit.declared.edit.ChangeFlags.{ChangeFlags}
 use Rattle.facl_output.specs.facl_words.Forms.{Text, files_of, is_empty}
-use Rattle.facl_output.specs.facl_words.Lines.{Line, any, both, by_name, of_text}
-use Rattle.facl_output.specs.facl_words.Naming.{gives, has, operands_from, value}
+use Rattle.facl_output.specs.facl_words.Syntax.{Syntax, any, both, by_name, of_text}
 use Rattle.facl_output.specs.facl_words.declared.words.Words.{Words}
+use Rattle.facl.specs.Asked.{gives, has, operands_from, value}
 use Rattle.facl.specs.Readers.{and_then}
 use Rattle.facl.specs.declared.tools.setfacl.ChangeLine.{ChangeLine}
 use Rattle.facl.specs.declared.tools.setfacl.EntrySource.{EntrySource}
@@ -13,8 +13,8 @@ use Rattle.facl.specs.declared.tools.setfacl.EntrySource.TheVariants.{InText, In
 use Rattle.facl.specs.declared.tools.setfacl.SetfaclLine.{SetfaclLine}
 use Rattle.facl.specs.declared.tools.setfacl.SetfaclLine.TheVariants.{Change, Restore}
 
-abbrev pub row : Line
-row = record {
+abbrev pub syntax : Syntax
+syntax = record {
   flags = both (codes "b") (codes "remove-all")
       ∷ both (codes "k") (codes "remove-default")
       ∷ both (codes "n") (codes "no-mask")
@@ -39,60 +39,60 @@ entries_from None in_text = if in_text then Some InText else None
 
 -- entries are removed or modified
 abbrev pub changes_entries : Words → Bool
-changes_entries w = has row w (codes "remove-all") || has row w (codes "remove-default")
-    || gives row w (codes "modify") || gives row w (codes "modify-file")
-    || gives row w (codes "remove") || gives row w (codes "remove-file")
+changes_entries w = has syntax w (codes "remove-all") refl || has syntax w (codes "remove-default") refl
+    || gives syntax w (codes "modify") refl || gives syntax w (codes "modify-file") refl
+    || gives syntax w (codes "remove") refl || gives syntax w (codes "remove-file") refl
 
 -- whole lists are replaced
 abbrev pub replaces_lists : Words → Bool
-replaces_lists w = gives row w (codes "set") || gives row w (codes "set-file")
+replaces_lists w = gives syntax w (codes "set") refl || gives syntax w (codes "set-file") refl
 
 -- one thing is given in two ways
 abbrev pub contradicts_itself : Words → Bool
-contradicts_itself w = (gives row w (codes "modify") && gives row w (codes "modify-file"))
-    || (gives row w (codes "remove") && gives row w (codes "remove-file"))
-    || (gives row w (codes "set") && gives row w (codes "set-file"))
-    || (has row w (codes "no-mask") && has row w (codes "mask"))
+contradicts_itself w = (gives syntax w (codes "modify") refl && gives syntax w (codes "modify-file") refl)
+    || (gives syntax w (codes "remove") refl && gives syntax w (codes "remove-file") refl)
+    || (gives syntax w (codes "set") refl && gives syntax w (codes "set-file") refl)
+    || (has syntax w (codes "no-mask") refl && has syntax w (codes "mask") refl)
 
 -- a flag determines how lists are changed
 abbrev pub has_edit_flag : Words → Bool
-has_edit_flag w = has row w (codes "no-mask") || has row w (codes "mask")
-    || has row w (codes "default") || has row w (codes "recursive")
+has_edit_flag w = has syntax w (codes "no-mask") refl || has syntax w (codes "mask") refl
+    || has syntax w (codes "default") refl || has syntax w (codes "recursive") refl
 
 -- the flags that say how lists are changed
 abbrev pub flags_of : Words → ChangeFlags
 flags_of w = record {
-  strip = has row w (codes "remove-all");
-  drop_default = has row w (codes "remove-default");
-  as_default = has row w (codes "default");
-  no_mask = has row w (codes "no-mask");
-  remask = has row w (codes "mask");
+  strip = has syntax w (codes "remove-all") refl;
+  drop_default = has syntax w (codes "remove-default") refl;
+  as_default = has syntax w (codes "default") refl;
+  no_mask = has syntax w (codes "no-mask") refl;
+  remask = has syntax w (codes "mask") refl;
 }
 
 -- the line that changes these files
 abbrev pub change_of : Words → List Text → ChangeLine
 change_of w files = record {
   flags = flags_of w;
-  recursive = has row w (codes "recursive");
-  test = has row w (codes "test");
-  removed = entries_from (value row w (codes "remove")) (gives row w (codes "remove-file"));
-  modified = entries_from (value row w (codes "modify")) (gives row w (codes "modify-file"));
-  set = entries_from (value row w (codes "set")) (gives row w (codes "set-file"));
+  recursive = has syntax w (codes "recursive") refl;
+  test = has syntax w (codes "test") refl;
+  removed = entries_from (value syntax w (codes "remove") refl) (gives syntax w (codes "remove-file") refl);
+  modified = entries_from (value syntax w (codes "modify") refl) (gives syntax w (codes "modify-file") refl);
+  set = entries_from (value syntax w (codes "set") refl) (gives syntax w (codes "set-file") refl);
   files = files;
 }
 
 -- a dump is put back, with nothing else but `--test`
 abbrev pub read_restore : Words → Option SetfaclLine
 read_restore w =
-    if changes_entries w || replaces_lists w || has_edit_flag w || not (is_empty (operands_from row w (codes "file")))
-    then None else Some (Restore (has row w (codes "test")))
+    if changes_entries w || replaces_lists w || has_edit_flag w || not (is_empty (operands_from syntax w (codes "file") refl))
+    then None else Some (Restore (has syntax w (codes "test") refl))
 
 -- the entries of lists are changed, or whole lists replaced
 abbrev pub read_change : Words → Option SetfaclLine
 read_change w =
     if contradicts_itself w || beq (changes_entries w) (replaces_lists w)
-    then None else and_then (files_of (operands_from row w (codes "file"))) (λ files. Some (Change (change_of w files)))
+    then None else and_then (files_of (operands_from syntax w (codes "file") refl)) (λ files. Some (Change (change_of w files)))
 
 -- the line that words give, unless they are usage
 abbrev pub read : Words → Option SetfaclLine
-read w = if gives row w (codes "restore") then read_restore w else read_change w
+read w = if gives syntax w (codes "restore") refl then read_restore w else read_change w

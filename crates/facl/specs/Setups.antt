@@ -3,7 +3,8 @@ use Rattle.std.specs.Prelude.{ℕ, List, Option, None, Some, option_map, Result,
 use Rattle.acl_rights.specs.acl_tree.declared.command.Table.{Table}
 use Rattle.acl_rights.specs.acl_tree.declared.command.Table.TheVariants.{Passwd, Group, Dump}
 use Rattle.acl_rights.specs.acl_files.declared.fault.TreeFault.{TreeFault}
-use Rattle.acl_rights.specs.acl_tree.Step.{State, nothing, load}
+use Rattle.acl_rights.specs.acl_tree.State.{State, nothing}
+use Rattle.acl_rights.specs.acl_tree.Loads.{load}
 use Rattle.facl_output.specs.declared.fault.RunFault.{RunFault}
 use Rattle.facl_output.specs.declared.fault.RunFault.TheVariants as runs
 use Rattle.facl.specs.declared.setup.Setup.{Setup}

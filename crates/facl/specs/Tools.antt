@@ -1,11 +1,12 @@
--- The tools: their names, the words that each takes, the line that these give as a value of the tool's type, and what it does.
-use Rattle.std.specs.Prelude.{ℕ, Bool, true, false, List, [], ◌∷◌, Option, Some, option_map, codes, Result, Ok}
+-- The tools: a row for each, with its name and the words that it takes; the line that these give as a value of the tool's type; and what it does.
+use Rattle.std.specs.Prelude.{ℕ, Bool, true, false, List, [], ◌∷◌, Option, Some, option_map, unwrap_or, codes, Result, Ok}
 use Rattle.std.specs.List.{find}
 use Rattle.std.specs.Str.{bytes_eq}
 pub use Rattle.acl_rights.specs.Tables.{Verdict}
-use Rattle.acl_rights.specs.acl_tree.Step.{State}
+use Rattle.acl_rights.specs.acl_tree.State.{State}
 use Rattle.facl_output.specs.facl_words.Forms.{Text}
-use Rattle.facl_output.specs.facl_words.Lines.{Line}
+use Rattle.facl_output.specs.facl_words.Rows.{syntax_view}
+use Rattle.facl_output.specs.facl_words.Syntax.{Syntax}
 use Rattle.facl_output.specs.facl_words.Words.{words_by}
 use Rattle.facl_output.specs.facl_words.declared.words.Words.{Words}
 use Rattle.facl_output.specs.declared.fault.LineFault.{LineFault}
@@ -33,81 +34,79 @@ use Rattle.facl.specs.Who as who
 use Rattle.facl.specs.Why as why
 use Rattle.facl.specs.declared.tools.Tool.{Tool}
 use Rattle.facl.specs.declared.tools.Tool.TheVariants as tools
+use Rattle.facl.specs.declared.tools.ToolRow.{ToolRow as DeclaredRow}
+use Rattle.facl.specs.contracts.tools.ToolPartialEq.TheImpl.{ghosts as equality}
 use Rattle.facl.specs.declared.tools.ToolLine.{ToolLine}
 use Rattle.facl.specs.declared.tools.ToolLine.TheVariants as lines
 
+-- a row of the table of tools: all that is known of a tool but its reader and what it does
+pub record ToolRow : Type 0 where
+  pub tool : Tool
+  pub name : Text
+  pub syntax : Syntax
+  -- it loads a text: after a line of it, what a script has changed is counted from there
+  pub loads : Bool
+
+-- a tool that loads no text
+abbrev pub row : Tool → Text → Syntax → ToolRow
+row tool name syntax = record { tool = tool; name = name; syntax = syntax; loads = false }
+
+-- a tool that loads one
+abbrev pub loading : Tool → Text → Syntax → ToolRow
+loading tool name syntax = record { tool = tool; name = name; syntax = syntax; loads = true }
+
+-- each tool, once
+abbrev pub table : List ToolRow
+table =
+    loading tools.Load (codes "load") load.syntax
+    ∷ row tools.Getfacl (codes "getfacl") getfacl.syntax
+    ∷ row tools.Setfacl (codes "setfacl") setfacl_line.syntax
+    ∷ row tools.Chacl (codes "chacl") chacl.syntax
+    ∷ row tools.Chmod (codes "chmod") chmod.syntax
+    ∷ row tools.Creat (codes "creat") creat.syntax
+    ∷ row tools.Rm (codes "rm") rm.syntax
+    ∷ row tools.Gpasswd (codes "gpasswd") gpasswd.syntax
+    ∷ row tools.Usermod (codes "usermod") usermod.syntax
+    ∷ row tools.Attr (codes "attr") attr.syntax
+    ∷ row tools.Setattr (codes "setattr") setattr.syntax
+    ∷ row tools.Can (codes "can") can.syntax
+    ∷ row tools.Who (codes "who") who.syntax
+    ∷ row tools.May (codes "may") may.syntax
+    ∷ row tools.Why (codes "why") why.syntax
+    ∷ row tools.Index (codes "index") index.syntax
+    ∷ row tools.Changes (codes "changes") changes.syntax
+    ∷ row tools.Useradd (codes "useradd") useradd.syntax
+    ∷ row tools.Userdel (codes "userdel") userdel.syntax
+    ∷ []
+
+-- a row of the program's table
+abbrev pub row_view : DeclaredRow → ToolRow
+row_view row = record { tool = row.tool; name = row.name.now; syntax = syntax_view row.syntax; loads = row.loads }
+
+-- the row of a tool; a law says that there is one
+unfoldable pub row_for : Tool → Option ToolRow
+row_for tool = find (λ row. equality.eq row.tool tool) table
+
+abbrev no_syntax : Syntax
+no_syntax = record { flags = []; options = []; operands = [] }
+
+unfoldable pub row_of : Tool → ToolRow
+row_of tool = unwrap_or (row_for tool) (row tool [] no_syntax)
+
 abbrev pub tool_name : Tool → Text
-tool_name tools.Load = codes "load"
-tool_name tools.Getfacl = codes "getfacl"
-tool_name tools.Setfacl = codes "setfacl"
-tool_name tools.Chacl = codes "chacl"
-tool_name tools.Chmod = codes "chmod"
-tool_name tools.Creat = codes "creat"
-tool_name tools.Rm = codes "rm"
-tool_name tools.Gpasswd = codes "gpasswd"
-tool_name tools.Usermod = codes "usermod"
-tool_name tools.Attr = codes "attr"
-tool_name tools.Setattr = codes "setattr"
-tool_name tools.Can = codes "can"
-tool_name tools.Who = codes "who"
-tool_name tools.May = codes "may"
-tool_name tools.Why = codes "why"
-tool_name tools.Index = codes "index"
-tool_name tools.Changes = codes "changes"
-tool_name tools.Useradd = codes "useradd"
-tool_name tools.Userdel = codes "userdel"
-
-abbrev pub all_tools : List Tool
-all_tools = tools.Load ∷ tools.Getfacl ∷ tools.Setfacl ∷ tools.Chacl ∷ tools.Chmod ∷ tools.Creat ∷ tools.Rm ∷ tools.Gpasswd
-    ∷ tools.Usermod ∷ tools.Attr ∷ tools.Setattr ∷ tools.Can ∷ tools.Who ∷ tools.May ∷ tools.Why ∷ tools.Index ∷ tools.Changes ∷ tools.Useradd ∷ tools.Userdel ∷ []
-
--- the tool of this name
-abbrev pub tool_named : Text → Option Tool
-tool_named name = find (λ tool. bytes_eq (tool_name tool) name) all_tools
-
--- the tool loads a text: after a line of it, what a script has changed is counted from there
-abbrev pub loads : Tool → Bool
-loads tools.Load = true
-loads tools.Getfacl = false
-loads tools.Setfacl = false
-loads tools.Chacl = false
-loads tools.Chmod = false
-loads tools.Creat = false
-loads tools.Rm = false
-loads tools.Gpasswd = false
-loads tools.Usermod = false
-loads tools.Attr = false
-loads tools.Setattr = false
-loads tools.Can = false
-loads tools.Who = false
-loads tools.May = false
-loads tools.Why = false
-loads tools.Index = false
-loads tools.Changes = false
-loads tools.Useradd = false
-loads tools.Userdel = false
+tool_name tool = (row_of tool).name
 
 -- the words that a tool takes
-abbrev pub row_of : Tool → Line
-row_of tools.Load = load.row
-row_of tools.Getfacl = getfacl.row
-row_of tools.Setfacl = setfacl_line.row
-row_of tools.Chacl = chacl.row
-row_of tools.Chmod = chmod.row
-row_of tools.Creat = creat.row
-row_of tools.Rm = rm.row
-row_of tools.Gpasswd = gpasswd.row
-row_of tools.Usermod = usermod.row
-row_of tools.Attr = attr.row
-row_of tools.Setattr = setattr.row
-row_of tools.Can = can.row
-row_of tools.Who = who.row
-row_of tools.May = may.row
-row_of tools.Why = why.row
-row_of tools.Index = index.row
-row_of tools.Changes = changes.row
-row_of tools.Useradd = useradd.row
-row_of tools.Userdel = userdel.row
+abbrev pub syntax_of : Tool → Syntax
+syntax_of tool = (row_of tool).syntax
+
+-- the tool loads a text
+abbrev pub loads : Tool → Bool
+loads tool = (row_of tool).loads
+
+-- the tool of this name
+unfoldable pub tool_named : Text → Option Tool
+tool_named name = option_map (λ row. row.tool) (find (λ row. bytes_eq row.name name) table)
 
 -- the line of a tool that words give, unless they are usage
 abbrev pub read_line : Tool → Words → Option ToolLine
@@ -135,9 +134,9 @@ read_line tools.Userdel w = Some (lines.Userdel (userdel.read w))
 unfoldable pub line_or_fault : Tool → Words → Result ToolLine LineFault
 line_or_fault tool w = or_fault Usage (read_line tool w)
 
--- the words after a tool's name by its row, or usage
+-- the words after a tool's name by its syntax, or usage
 unfoldable pub words_of : Tool → List Text → Result Words LineFault
-words_of tool words = or_fault Usage (words_by (row_of tool) words)
+words_of tool words = or_fault Usage (words_by (syntax_of tool) words)
 
 -- the words, where they are a line of the tool
 abbrev pub words_or_fault : Tool → List Text → Result Words LineFault

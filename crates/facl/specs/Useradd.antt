@@ -1,40 +1,41 @@
 -- useradd(8): a new user.
-use Rattle.std.specs.Prelude.{ℕ, [], ◌∷◌, codes, if◌then◌else◌, Option, None, Some, Result}
+use Rattle.std.specs.Prelude.{ℕ, [], ◌∷◌, codes, refl, if◌then◌else◌, Option, None, Some, Result}
 use Rattle.acl_rights.specs.acl_names.Names.{decoded}
 use Rattle.acl_rights.specs.acl_people.UserNames.{is_user_name}
 use Rattle.acl_rights.specs.acl_syntax.Ids.{id_of}
-use Rattle.acl_rights.specs.acl_tree.declared.command.Command.TheVariants as commands
 use Rattle.acl_rights.specs.acl_tree.declared.command.NewUser.{NewUser}
-use Rattle.acl_rights.specs.acl_tree.Step.{State}
+use Rattle.acl_rights.specs.acl_tree.Accounts.{useradd}
+use Rattle.acl_rights.specs.acl_tree.State.{State, with_change}
+use Rattle.acl_rights.specs.acl_tree.declared.user_change.UserChange.TheVariants.{Added}
 use Rattle.facl_output.specs.facl_words.Forms.{Text}
-use Rattle.facl_output.specs.facl_words.Lines.{Line, by_letter, one}
-use Rattle.facl_output.specs.facl_words.Naming.{operand, value}
+use Rattle.facl_output.specs.facl_words.Syntax.{Syntax, by_letter, one}
 use Rattle.facl_output.specs.facl_words.declared.words.Words.{Words}
 use Rattle.facl_output.specs.declared.fault.LineFault.{LineFault}
+use Rattle.facl.specs.Asked.{operand, value}
 use Rattle.facl.specs.Operands.{name_meant}
 use Rattle.facl.specs.Readers.{and_then}
-use Rattle.facl.specs.Replies.{Reply, done}
+use Rattle.facl.specs.Replies.{Reply, replied}
 use Rattle.facl.specs.declared.tools.useradd.UseraddLine.{UseraddLine}
 
-abbrev pub row : Line
-row = record { flags = []; options = by_letter (codes "u") ∷ by_letter (codes "g") ∷ []; operands = one (codes "name") ∷ [] }
+abbrev pub syntax : Syntax
+syntax = record { flags = []; options = by_letter (codes "u") ∷ by_letter (codes "g") ∷ []; operands = one (codes "name") ∷ [] }
 
 -- digits alone
 abbrev pub uid_of : Words → Option ℕ
-uid_of w = and_then (value row w (codes "u")) id_of
+uid_of w = and_then (value syntax w (codes "u") refl) id_of
 
 abbrev pub user_name : Text → Option Text
 user_name name = if is_user_name name then Some name else None
 
 -- the name of the new user: the operand is decoded, and not trimmed
 abbrev pub decoded_name : Words → Option Text
-decoded_name w = user_name (decoded (operand row w (codes "name")))
+decoded_name w = user_name (decoded (operand syntax w (codes "name") refl))
 
 -- the line with this name
 abbrev pub line_with : Words → Text → Option UseraddLine
 line_with w name =
     and_then (uid_of w)
-    (λ uid. and_then (value row w (codes "g"))
+    (λ uid. and_then (value syntax w (codes "g") refl)
     (λ group. Some (record { name = name; uid = uid; group = group })))
 
 -- the line that words give, unless they are usage
@@ -46,4 +47,4 @@ new_user line = record { name = line.name; uid = line.uid; group = name_meant li
 
 -- the user is added
 abbrev pub answered : State → UseraddLine → Result Reply LineFault
-answered s line = done s (commands.Useradd (new_user line))
+answered s line = replied Added (with_change s (useradd (new_user line) s.people))

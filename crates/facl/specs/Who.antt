@@ -1,14 +1,14 @@
 -- who: the users who may do something with a file. The state stays as it is.
-use Rattle.std.specs.Prelude.{[], ◌∷◌, Bool, codes, Option, Some, Result}
+use Rattle.std.specs.Prelude.{[], ◌∷◌, Bool, codes, refl, Option, Some, Result}
+use Rattle.facl.specs.Asked.{has, operand}
 use Rattle.facl.specs.Answers.{who_text}
 use Rattle.acl_rights.specs.acl_entry.Perms.{Perms}
 use Rattle.acl_rights.specs.acl_files.declared.fault.TreeFault.TheVariants.{NoSuchFile}
 use Rattle.acl_rights.specs.acl_tree.Files.{PathOf}
-use Rattle.acl_rights.specs.acl_tree.Step.{State}
+use Rattle.acl_rights.specs.acl_tree.State.{State}
 use Rattle.acl_rights.specs.acl_verdicts.Rows.{Verdict}
 use Rattle.facl_output.specs.facl_words.Forms.{Text, file_of}
-use Rattle.facl_output.specs.facl_words.Lines.{Line, by_name, one}
-use Rattle.facl_output.specs.facl_words.Naming.{has, operand}
+use Rattle.facl_output.specs.facl_words.Syntax.{Syntax, by_name, one}
 use Rattle.facl_output.specs.facl_words.declared.words.Words.{Words}
 use Rattle.facl_output.specs.declared.fault.LineFault.{LineFault}
 use Rattle.facl_output.specs.declared.fault.LineFault.TheVariants.{Tree}
@@ -17,15 +17,15 @@ use Rattle.facl.specs.Readers.{and_then, permissions_of}
 use Rattle.facl.specs.Replies.{Reply, after, or_fault, printed_or_fault}
 use Rattle.facl.specs.declared.tools.who.WhoLine.{WhoLine}
 
-abbrev pub row : Line
-row = record { flags = by_name (codes "reach") ∷ []; options = []; operands = one (codes "perms") ∷ one (codes "file") ∷ [] }
+abbrev pub syntax : Syntax
+syntax = record { flags = by_name (codes "reach") ∷ []; options = []; operands = one (codes "perms") ∷ one (codes "file") ∷ [] }
 
 -- the line that words give, unless they are usage
 abbrev pub read : Words → Option WhoLine
 read w =
-    and_then (permissions_of (operand row w (codes "perms")))
-    (λ request. and_then (file_of (operand row w (codes "file")))
-    (λ file. Some (record { reach = has row w (codes "reach"); request = request; file = file })))
+    and_then (permissions_of (operand syntax w (codes "perms") refl))
+    (λ request. and_then (file_of (operand syntax w (codes "file") refl))
+    (λ file. Some (record { reach = has syntax w (codes "reach") refl; request = request; file = file })))
 
 -- the users who are granted a request on the file of a path
 abbrev pub who_at : Verdict → Bool → State → Perms → PathOf → Result Text LineFault

@@ -1,5 +1,6 @@
 -- why: the entries that decide on a user. The state stays as it is.
-use Rattle.std.specs.Prelude.{List, [], ◌∷◌, Bool, codes, Option, Some, option_and_then, Result}
+use Rattle.std.specs.Prelude.{List, [], ◌∷◌, Bool, codes, refl, Option, Some, option_and_then, Result}
+use Rattle.facl.specs.Asked.{has, operand, operands_from}
 use Rattle.facl.specs.WhyText.{files_asked, why_text}
 use Rattle.acl_rights.specs.acl_entry.Person.{Person}
 use Rattle.acl_rights.specs.acl_files.declared.fault.TreeFault.TheVariants.{NoSuchUser}
@@ -8,10 +9,9 @@ use Rattle.acl_rights.specs.acl_people.NameTables.{place_of_word}
 use Rattle.acl_rights.specs.acl_tree.Files.{PathOf}
 use Rattle.acl_rights.specs.acl_tree.Found.{FoundFile}
 use Rattle.acl_rights.specs.acl_tree.Operands.{first_missing}
-use Rattle.acl_rights.specs.acl_tree.Step.{State}
+use Rattle.acl_rights.specs.acl_tree.State.{State}
 use Rattle.facl_output.specs.facl_words.Forms.{Text, files_of}
-use Rattle.facl_output.specs.facl_words.Lines.{Line, by_name, one, some}
-use Rattle.facl_output.specs.facl_words.Naming.{has, operand, operands_from}
+use Rattle.facl_output.specs.facl_words.Syntax.{Syntax, by_name, one, some}
 use Rattle.facl_output.specs.facl_words.declared.words.Words.{Words}
 use Rattle.facl_output.specs.declared.fault.LineFault.{LineFault}
 use Rattle.facl_output.specs.declared.fault.LineFault.TheVariants.{Tree}
@@ -20,14 +20,14 @@ use Rattle.facl.specs.Readers.{and_then}
 use Rattle.facl.specs.Replies.{Reply, after, or_fault, printed_or_fault}
 use Rattle.facl.specs.declared.tools.why.WhyLine.{WhyLine}
 
-abbrev pub row : Line
-row = record { flags = by_name (codes "reach") ∷ []; options = []; operands = one (codes "user") ∷ some (codes "file") ∷ [] }
+abbrev pub syntax : Syntax
+syntax = record { flags = by_name (codes "reach") ∷ []; options = []; operands = one (codes "user") ∷ some (codes "file") ∷ [] }
 
 -- the line that words give, unless they are usage
 abbrev pub read : Words → Option WhyLine
 read w =
-    and_then (files_of (operands_from row w (codes "file")))
-    (λ files. Some (record { reach = has row w (codes "reach"); user = operand row w (codes "user"); files = files }))
+    and_then (files_of (operands_from syntax w (codes "file") refl))
+    (λ files. Some (record { reach = has syntax w (codes "reach") refl; user = operand syntax w (codes "user") refl; files = files }))
 
 -- the user of a name, as the check sees one, if there is one
 abbrev pub person_named : KnownPeople → Text → Option Person

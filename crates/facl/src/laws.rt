@@ -3,7 +3,7 @@
 ghost use Rattle.std.specs.Prelude.{◌≡◌, false};
 ghost use Rattle.facl_output.specs.facl_script.Units.{ScriptUnit};
 ghost use Rattle.facl.specs.Tools.{Verdict};
-ghost use Rattle.facl.specs.FirstFault.{IsAnsweredByFirst};
+ghost use Rattle.facl.specs.LineParts.{IsAnsweredByFirst};
 ghost use Rattle.acl_rights.specs.declared.indexed.States.{States};
 ghost use Rattle.facl.specs.Units.{is_silent};
 

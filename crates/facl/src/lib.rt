@@ -4,7 +4,7 @@
 //! [`run`] loads three texts, answers a script line by line, and writes what each line prints. Its contract is the
 //! whole: what is written are the bytes of a session made from scratch.
 //!
-//! Each tool has one file below `tools`: the row of its options, its reader from the words of a line to a value of its
+//! Each tool has one file below `tools`: its syntax, its reader from the words of a line to a value of its
 //! own type (`None`: usage), and what it does at a state. `tool_line` reads a line's words and does it; its effect is
 //! what is printed, and the state that is to replace the present one. It changes nothing; the session puts the effect
 //! in place. [`read_words`] uses the same readers. Below `answers` is what the questions print: that of `can`, `who`,
@@ -35,17 +35,17 @@ pub use answers::requests::append_requests;
 pub use answers::who::write_who;
 pub use answers::why::{files_asked, write_why};
 pub use facl_output::{
-    Feed, Flags, LineFault, LineRows, LineWord, OperandRow, Operands, RunFault, ScriptFault, Sink,
-    Source, StdFeed, StdSink, SwitchRow, Values, Word, Words, append_message, append_run_fault,
+    Feed, Flags, LineFault, OperandRow, Operands, OptionRow, RunFault, ScriptFault, Sink, Source,
+    StdFeed, StdSink, Syntax, Values, Word, WordRef, Words, push_message, push_run_fault,
     write_whole,
 };
 pub use laws::lines_are_refused_for_their_first_fault;
 pub use program::{run, run_judged};
 pub use setup::Setup;
 pub use status::Status;
-pub use tools::laws::tool_lines_are_refused_for_their_first_fault;
+pub use tools::laws::{each_tool_has_its_row, tool_lines_are_refused_for_their_first_fault};
 pub use tools::round_trips::{
     chacl_reads_what_it_lists, set_reads_what_test_prints, setattr_reads_what_attr_prints,
 };
-pub use tools::{Tool, read_words, rows_for};
+pub use tools::{Tool, read_words, syntax_of};
 pub use words::read_args;

@@ -19,8 +19,8 @@ use crate::tools::Tool;
 use crate::tools::effect::Effect;
 use acl_rights::{IndexedStates, Judge, State, States};
 use facl_output::{
-    HeldLine, HeldUnit, LineFault, ReservedMessage, Session, append_message, append_warning,
-    asks_for_text,
+    HeldLine, HeldUnit, LineFault, ReservedMessage, Session, asks_for_text, push_message,
+    push_warning,
 };
 use std::alloc::{AllocError, Global};
 
@@ -41,7 +41,7 @@ fn warning_if(alloc: Global, warns: bool, number: u64) -> Result<Vec<u8>, AllocE
 {
     let mut text = Vec::new(alloc);
     if warns {
-        append_warning(&mut text, number)?;
+        push_warning(&mut text, number)?;
     }
     Ok(text)
 }
@@ -85,7 +85,7 @@ impl<J: Judge> FaclSession<J> {
         ensures indexed_states { self.new.indexed_states ≡ self.old.indexed_states }
     {
         let has_message = !matches!(fault, LineFault::NoMemory)
-            && append_message(&mut self.err, number, tool, fault).is_ok();
+            && push_message(&mut self.err, number, tool, fault).is_ok();
         if !has_message {
             self.lacks_memory = true;
             self.reserved_message.put_no_memory(number);
@@ -94,7 +94,7 @@ impl<J: Judge> FaclSession<J> {
 
     /// Does what an accepted line does, and keeps its output and its warning. Fails only if memory runs out; then
     /// nothing is done.
-    fn do_line(
+    fn apply_effect(
         &mut self,
         judge: &mut J,
         number: u64,
@@ -132,7 +132,7 @@ impl<J: Judge> FaclSession<J> {
     }
 
     /// Does what an accepted line does, or refuses it if memory runs out. Returns whether it is refused.
-    fn accept(&mut self, judge: &mut J, number: u64, loads: bool, effect: Effect) -> bool
+    fn finish_line(&mut self, judge: &mut J, number: u64, loads: bool, effect: Effect) -> bool
         requires quiet { IsQuiet self.old }
         requires ready { IsReady (J.asked_of judge.old) number }
         requires prepared { IsPrepared (states_of self.old).now effect.staged }
@@ -140,7 +140,7 @@ impl<J: Judge> FaclSession<J> {
             self.old self.new (J.asked_of judge.old) (J.asked_of judge.new) result }
         ensures ready { IsReadyAfter (J.asked_of judge.new) number }
     {
-        match self.do_line(judge, number, loads, effect) {
+        match self.apply_effect(judge, number, loads, effect) {
             Ok(()) => false,
             Err(_) => {
                 self.refuse(number, b"", &LineFault::NoMemory);
@@ -168,7 +168,7 @@ impl<J: Judge> FaclSession<J> {
         ensures ready { IsReadyAfter (J.asked_of judge.new) unit.now.number }
     {
         match tool_reply(self.alloc, &self.indexed_states, &unit.text, words, tool) {
-            Ok(effect) => self.accept(judge, unit.number, tool.loads(), effect),
+            Ok(effect) => self.finish_line(judge, unit.number, tool.loads(), effect),
             Err(fault) => {
                 self.refuse(unit.number, name, &fault);
                 drop(fault);
@@ -216,7 +216,7 @@ impl<J: Judge> FaclSession<J> {
             [name, words @ ..] => self.answer_named(judge, unit, name, words),
             [] => {
                 let nothing = Effect::prints(Vec::new(self.alloc));
-                self.accept(judge, unit.number, false, nothing)
+                self.finish_line(judge, unit.number, false, nothing)
             }
         }
     }

@@ -1,7 +1,7 @@
 //! The texts that are loaded before a script.
 
 ghost use Rattle.std.specs.Prelude.{◌≡◌, ◌≢◌, Ok, Err, MatchResult, option_map};
-ghost use Rattle.acl_rights.specs.acl_tree.Step.{load};
+ghost use Rattle.acl_rights.specs.acl_tree.Loads.{load};
 ghost use Rattle.facl.specs.Setups.{set_up, with_text, initial_state};
 
 use acl_rights::{Command, Staged, State, Table, TreeFault};

@@ -1,4 +1,5 @@
-//! The tools of a script: their names, the words that each takes, the line that these give, and what it does.
+//! The tools of a script: a row for each, with its name and the words that it takes; the line that these give; and what
+//! it does.
 
 mod attr;
 mod can;
@@ -19,10 +20,10 @@ mod mode;
 mod operands;
 mod rm;
 pub(crate) mod round_trips;
-mod rows;
 mod setattr;
 mod setfacl;
 mod setfacl_entries;
+mod syntax;
 mod tested;
 mod useradd;
 mod userdel;
@@ -30,32 +31,17 @@ mod usermod;
 mod who;
 mod why;
 
-ghost use Rattle.std.specs.Prelude.{◌≡◌, IfOk, is_some, map, string_bytes};
-ghost use Rattle.facl_output.specs.facl_words.Rows.{line_of};
+ghost use Rattle.std.specs.Prelude.{◌≡◌, IfOk, is_some, map, option_map, string_bytes};
+ghost use Rattle.std.specs.List.{find};
+ghost use Rattle.std.specs.Str.{bytes_eq};
+ghost use Rattle.facl_output.specs.facl_words.Rows.{syntax_view};
 ghost use Rattle.facl.specs.Replies.{Gives, Replies, after};
-ghost use Rattle.facl.specs.Tools.{answered, line_or_fault, loads, tool_name, read_line, row_of, tool_line, tool_named, words_of, words_or_fault};
+ghost use Rattle.facl.specs.Tools.{answered, line_or_fault, loads, read_line, row_of, row_view, syntax_of, table, tool_line, tool_name, tool_named, words_of, words_or_fault};
+ghost use Rattle.facl.specs.contracts.tools.ToolPartialEq.TheImpl.{ghosts as equality};
 
-use crate::tools::attr::AttrLine;
-use crate::tools::can::CanLine;
-use crate::tools::chacl::ChaclLine;
-use crate::tools::changes::ChangesLine;
-use crate::tools::chmod::ChmodLine;
-use crate::tools::creat::CreatLine;
 use crate::tools::effect::Effect;
-use crate::tools::getfacl::GetfaclLine;
-use crate::tools::gpasswd::GpasswdLine;
-use crate::tools::load::LoadLine;
-use crate::tools::may::MayLine;
-use crate::tools::rm::RmLine;
-use crate::tools::setattr::SetattrLine;
-use crate::tools::setfacl::SetfaclLine;
-use crate::tools::useradd::UseraddLine;
-use crate::tools::userdel::UserdelLine;
-use crate::tools::usermod::UsermodLine;
-use crate::tools::who::WhoLine;
-use crate::tools::why::WhyLine;
 use acl_rights::{IndexedState, Judge};
-use facl_output::{LineFault, LineRows, Words, read_by};
+use facl_output::{LineFault, Syntax, Words, read_by};
 use std::alloc::{AllocError, Global};
 
 /// A tool that a line of a script may name.
@@ -101,140 +87,148 @@ pub enum Tool {
     Userdel,
 }
 
-static TOOLS: [Tool; 19] = [
-    Tool::Load,
-    Tool::Getfacl,
-    Tool::Setfacl,
-    Tool::Chacl,
-    Tool::Chmod,
-    Tool::Creat,
-    Tool::Rm,
-    Tool::Gpasswd,
-    Tool::Usermod,
-    Tool::Attr,
-    Tool::Setattr,
-    Tool::Can,
-    Tool::Who,
-    Tool::May,
-    Tool::Why,
-    Tool::Index,
-    Tool::Changes,
-    Tool::Useradd,
-    Tool::Userdel,
+/// A row of the table of tools: all that is known of a tool but its reader and its effect.
+#[derive(Clone, Copy)]
+struct ToolRow {
+    tool: Tool,
+    /// The first word of its lines.
+    name: &'static str,
+    /// Its flags, options and operands.
+    syntax: Syntax,
+    /// Whether it loads a text.
+    loads: bool,
+}
+
+/// A row: a tool, its name and its syntax; `loads` where it loads a text.
+macro_rules! row {
+    ($tool:ident, $name:literal, $syntax:path) => {
+        ToolRow {
+            tool: Tool::$tool,
+            name: $name,
+            syntax: $syntax,
+            loads: false,
+        }
+    };
+    ($tool:ident, $name:literal, $syntax:path, loads) => {
+        ToolRow {
+            tool: Tool::$tool,
+            name: $name,
+            syntax: $syntax,
+            loads: true,
+        }
+    };
+}
+
+/// Each tool, once.
+static TOOLS: &[ToolRow] = &[
+    row!(Load, "load", load::SYNTAX, loads),
+    row!(Getfacl, "getfacl", getfacl::SYNTAX),
+    row!(Setfacl, "setfacl", setfacl::SYNTAX),
+    row!(Chacl, "chacl", chacl::SYNTAX),
+    row!(Chmod, "chmod", chmod::SYNTAX),
+    row!(Creat, "creat", creat::SYNTAX),
+    row!(Rm, "rm", rm::SYNTAX),
+    row!(Gpasswd, "gpasswd", gpasswd::SYNTAX),
+    row!(Usermod, "usermod", usermod::SYNTAX),
+    row!(Attr, "attr", attr::SYNTAX),
+    row!(Setattr, "setattr", setattr::SYNTAX),
+    row!(Can, "can", can::SYNTAX),
+    row!(Who, "who", who::SYNTAX),
+    row!(May, "may", may::SYNTAX),
+    row!(Why, "why", why::SYNTAX),
+    row!(Index, "index", index::SYNTAX),
+    row!(Changes, "changes", changes::SYNTAX),
+    row!(Useradd, "useradd", useradd::SYNTAX),
+    row!(Userdel, "userdel", userdel::SYNTAX),
 ];
+
+/// The rows of the table.
+fn rows() -> &'static [ToolRow]
+    ensures { map row_view result.now ≡ table }
+{
+    TOOLS
+}
+
+/// The first of these rows that is a tool's.
+fn row_with_tool(rows: &[ToolRow], tool: Tool) -> Option<&ToolRow>
+    ensures { option_map (λ row. row.now) result ≡ find (λ row. equality.eq row.tool tool) rows.now }
+{
+    rows.iter().find(|row| row.tool == tool)
+}
+
+/// The first of these rows that has a name.
+fn row_with_name<'a>(rows: &'a [ToolRow], name: &str) -> Option<&'a ToolRow>
+    ensures { option_map (λ row. row.now) result ≡ find (λ row. bytes_eq row.name.now name.now) rows.now }
+{
+    rows.iter().find(|row| row.name == name)
+}
+
+/// The row of a tool.
+#[tactic(auto, unfolding(crate::specs::Tools::row_for, crate::specs::Tools::row_of))]
+fn row_of(tool: Tool) -> &'static ToolRow
+    ensures { row_view result.now ≡ row_of tool }
+{
+    match row_with_tool(TOOLS, tool) {
+        Some(row) => row,
+        None => unreachable!(),
+    }
+}
 
 impl Tool {
     /// The tool's name: the first word of its lines.
     pub fn name(self) -> &'static str
         ensures { result.now ≡ tool_name self }
     {
-        match self {
-            Tool::Load => "load",
-            Tool::Getfacl => "getfacl",
-            Tool::Setfacl => "setfacl",
-            Tool::Chacl => "chacl",
-            Tool::Chmod => "chmod",
-            Tool::Creat => "creat",
-            Tool::Rm => "rm",
-            Tool::Gpasswd => "gpasswd",
-            Tool::Usermod => "usermod",
-            Tool::Attr => "attr",
-            Tool::Setattr => "setattr",
-            Tool::Can => "can",
-            Tool::Who => "who",
-            Tool::May => "may",
-            Tool::Why => "why",
-            Tool::Index => "index",
-            Tool::Changes => "changes",
-            Tool::Useradd => "useradd",
-            Tool::Userdel => "userdel",
-        }
+        row_of(self).name
     }
 
     /// The tool of this name.
     pub fn named(name: &str) -> Option<Tool>
         ensures { result ≡ tool_named name.now }
     {
-        TOOLS.iter().copied().find(|tool| tool.name() == name)
+        match row_with_name(rows(), name) {
+            Some(row) => Some(row.tool),
+            None => None,
+        }
     }
 
     /// Whether the tool loads a text: after a line of it, what a script has changed is counted from there.
     pub fn loads(self) -> bool
         ensures { result ≡ loads self }
     {
-        match self {
-            Tool::Load => true,
-            Tool::Getfacl
-            | Tool::Setfacl
-            | Tool::Chacl
-            | Tool::Chmod
-            | Tool::Creat
-            | Tool::Rm
-            | Tool::Gpasswd
-            | Tool::Usermod
-            | Tool::Attr
-            | Tool::Setattr
-            | Tool::Can
-            | Tool::Who
-            | Tool::May
-            | Tool::Why
-            | Tool::Index
-            | Tool::Changes
-            | Tool::Useradd
-            | Tool::Userdel => false,
-        }
+        row_of(self).loads
     }
+}
+
+/// The words that a tool takes: flags, options and operands.
+pub fn syntax_of(tool: Tool) -> &'static Syntax
+    ensures { syntax_view result.now ≡ syntax_of tool }
+{
+    &row_of(tool).syntax
 }
 
 /// A line of a script, but for its text.
 #[derive(Drop)]
 pub(crate) enum ToolLine<'a> {
-    Load(LoadLine),
-    Getfacl(GetfaclLine<'a>),
-    Setfacl(SetfaclLine<'a>),
-    Chacl(ChaclLine<'a>),
-    Chmod(ChmodLine<'a>),
-    Creat(CreatLine<'a>),
-    Rm(RmLine<'a>),
-    Gpasswd(GpasswdLine<'a>),
-    Usermod(UsermodLine<'a>),
-    Attr(AttrLine<'a>),
-    Setattr(SetattrLine<'a>),
-    Can(CanLine<'a>),
-    Who(WhoLine<'a>),
-    May(MayLine<'a>),
-    Why(WhyLine<'a>),
+    Load(load::LoadLine),
+    Getfacl(getfacl::GetfaclLine<'a>),
+    Setfacl(setfacl::SetfaclLine<'a>),
+    Chacl(chacl::ChaclLine<'a>),
+    Chmod(chmod::ChmodLine<'a>),
+    Creat(creat::CreatLine<'a>),
+    Rm(rm::RmLine<'a>),
+    Gpasswd(gpasswd::GpasswdLine<'a>),
+    Usermod(usermod::UsermodLine<'a>),
+    Attr(attr::AttrLine<'a>),
+    Setattr(setattr::SetattrLine<'a>),
+    Can(can::CanLine<'a>),
+    Who(who::WhoLine<'a>),
+    May(may::MayLine<'a>),
+    Why(why::WhyLine<'a>),
     Index,
-    Changes(ChangesLine),
-    Useradd(UseraddLine<'a>),
-    Userdel(UserdelLine<'a>),
-}
-
-/// The words that a tool takes: flags, options and operands.
-pub fn rows_for(tool: Tool) -> &'static LineRows
-    ensures { line_of result.now ≡ row_of tool }
-{
-    match tool {
-        Tool::Load => &load::ROW,
-        Tool::Getfacl => &getfacl::ROW,
-        Tool::Setfacl => &setfacl::ROW,
-        Tool::Chacl => &chacl::ROW,
-        Tool::Chmod => &chmod::ROW,
-        Tool::Creat => &creat::ROW,
-        Tool::Rm => &rm::ROW,
-        Tool::Gpasswd => &gpasswd::ROW,
-        Tool::Usermod => &usermod::ROW,
-        Tool::Attr => &attr::ROW,
-        Tool::Setattr => &setattr::ROW,
-        Tool::Can => &can::ROW,
-        Tool::Who => &who::ROW,
-        Tool::May => &may::ROW,
-        Tool::Why => &why::ROW,
-        Tool::Index => &index::ROW,
-        Tool::Changes => &changes::ROW,
-        Tool::Useradd => &useradd::ROW,
-        Tool::Userdel => &userdel::ROW,
-    }
+    Changes(changes::ChangesLine),
+    Useradd(useradd::UseraddLine<'a>),
+    Userdel(userdel::UserdelLine<'a>),
 }
 
 /// The line of `load`, which borrows nothing from its words.
@@ -290,15 +284,15 @@ fn is_line(alloc: Global, tool: Tool, words: &Words) -> Result<bool, AllocError>
     Ok(read_line(alloc, tool, words)?.is_some())
 }
 
-/// The words after a tool's name by its row.
-#[tactic(auto, unfolding(crate::specs::Tools::words_of))]
+/// The words after a tool's name by its syntax.
+#[tactic(auto, unfolding(crate::specs::Tools::row_for, crate::specs::Tools::row_of, crate::specs::Tools::words_of))]
 fn words_of(alloc: Global, tool: Tool, words: &[String]) -> Result<Words, LineFault>
     ensures { Gives (λ w. w) result (words_of tool (map string_bytes words.now)) }
 {
-    Ok(read_by(alloc, rows_for(tool), words)?)
+    Ok(read_by(alloc, syntax_of(tool), words)?)
 }
 
-/// The words after a tool's name as flags, the values of options and operands, each in the order of the tool's row.
+/// The words after a tool's name as flags, the values of options and operands, each in the order of the tool's syntax.
 ///
 /// # Errors
 ///

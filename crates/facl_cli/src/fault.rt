@@ -5,7 +5,7 @@ ghost use Rattle.std.specs.Io.KnownBytes.{Appends};
 ghost use Rattle.facl_cli.specs.Lines.{IsLineReported, fault_by_words, fault_line, unread_line};
 ghost use Rattle.facl_cli.specs.declared.fault.ProgramFault.{ProgramFault};
 
-use facl::{RunFault, ScriptFault, Sink, append_run_fault, write_whole};
+use facl::{RunFault, ScriptFault, Sink, push_run_fault, write_whole};
 use facl_words::WordsFault;
 use std::alloc::{AllocError, Global};
 
@@ -54,7 +54,7 @@ fn setup_line(alloc: Global, fault: &RunFault) -> Result<Vec<u8>, AllocError>
     ensures { IfOk result (λ line. line.items ≡ fault_line (ProgramFault.Run fault.now)) }
 {
     let mut line = Vec::from_slice(alloc, b"facl: ")?;
-    append_run_fault(&mut line, fault)?;
+    push_run_fault(&mut line, fault)?;
     line.push(b'\n')?;
     Ok(line)
 }

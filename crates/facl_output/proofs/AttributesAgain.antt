@@ -14,7 +14,7 @@ use Rattle.acl_tree.specs.acl_people.KnownPeople.{KnownPeople, naming_of}
 use Rattle.acl_tree.specs.Files.{PathOf, Files}
 use Rattle.hex.proofs.HexLemmas.{decode_of-encode_lower}
 use Rattle.hex.specs.Hex.{IsBytes}
-use Rattle.facl_output.specs.Again.{IsListAgain, IsReadAgain, IsAttributeAgain, AreAttributesAgain}
+use Rattle.facl_output.specs.RoundTrips.{IsListAgain, IsReadAgain, IsAttributeAgain, AreAttributesAgain}
 
 nil_bytes : IsBytes []
 nil_bytes i = omega arith

@@ -35,7 +35,7 @@ use Rattle.acl_tree.specs.acl_syntax.declared.fault.FaultKind.{FaultKind}
 use Rattle.acl_tree.specs.acl_syntax.declared.fault.FaultKind.TheVariants.{BadTag}
 use Rattle.acl_tree.specs.acl_syntax.declared.fault.TextFault.{TextFault}
 use Rattle.acl_tree.specs.acl_syntax.declared.entries.Form.TheVariants.{Short}
-use Rattle.facl_output.specs.Again.{IsListAgain, IsShortAgain, entries_for, dacl_entries, all_entries, specs_of}
+use Rattle.facl_output.specs.RoundTrips.{IsListAgain, IsShortAgain, entries_for, dacl_entries, all_entries, specs_of}
 use Rattle.facl_output.specs.TestListing.{default_entry, default_entries, lists_text}
 
 -- ---- a `d` in front makes an entry a default one

@@ -37,7 +37,7 @@ use Rattle.acl_tree.specs.acl_syntax.declared.fault.Which.TheVariants.{Access, D
 use Rattle.acl_tree.specs.acl_syntax.Writing.{spec_of}
 use Rattle.acl_tree.specs.Files.{PathOf, Files}
 use Rattle.acl_tree.specs.Sound.{ArePlaced}
-use Rattle.facl_output.specs.Again.{IsReadAgain, IsShortAgain, entries_for, dacl_entries, all_entries, specs_of, AreSetAs, AreListsAgain}
+use Rattle.facl_output.specs.RoundTrips.{IsReadAgain, IsShortAgain, entries_for, dacl_entries, all_entries, specs_of, AreSetAs, AreListsAgain}
 use Rattle.facl_output.proofs.ListsAgain.{both_again, short_is_again}
 
 -- ---- the entries for each list

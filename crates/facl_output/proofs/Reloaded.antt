@@ -27,9 +27,10 @@ use Rattle.acl_tree.specs.acl_files.Loading.{node_of, has_below, as_files, files
 use Rattle.acl_tree.specs.Operands.{is_file}
 use Rattle.acl_tree.specs.Sound.{holds_below, IsPlaced, ArePlaced}
 use Rattle.acl_tree.specs.Found.{FoundFile, found_in, files_found}
-use Rattle.acl_tree.specs.Step.{State, with_records}
+use Rattle.acl_tree.specs.State.{State}
+use Rattle.acl_tree.specs.Loads.{with_records}
 use Rattle.facl_output.specs.Listings.{listing, plain, has_slash, flags_shown}
-use Rattle.facl_output.specs.Again.{IsReadAgain, IsLoadedAs, listing_of, all_paths_listing, root_listing}
+use Rattle.facl_output.specs.RoundTrips.{IsReadAgain, IsLoadedAs, listing_of, all_paths_listing, root_listing}
 use Rattle.facl_output.proofs.Rising.{Rising, paths_of, rising, apart, in_order_already}
 
 -- the record that is printed of a file

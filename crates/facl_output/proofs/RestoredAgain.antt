@@ -14,8 +14,9 @@ use Rattle.acl_tree.specs.Files.{PathOf, Files, IsInOrder}
 use Rattle.acl_tree.specs.Found.{found_in, files_found}
 use Rattle.acl_tree.specs.Laws.{IsAsRecorded}
 use Rattle.acl_tree.specs.Operands.{is_file, files_meant}
-use Rattle.acl_tree.specs.Step.{State, step}
-use Rattle.facl_output.specs.Again.{IsReadAgain, listing_of, IsRestoredAsItIs}
+use Rattle.acl_tree.specs.State.{State}
+use Rattle.acl_tree.specs.Step.{step}
+use Rattle.facl_output.specs.RoundTrips.{IsReadAgain, listing_of, IsRestoredAsItIs}
 use Rattle.facl_output.proofs.Reloaded.{record_of, found, records_of, printed, flags_again, paths_same, readable}
 use Rattle.facl_output.proofs.Rising.{paths_of, rising, apart}
 

@@ -1,4 +1,4 @@
-pub mod Again
+pub mod RoundTrips
 pub mod AttrListings
 pub mod ChaclListings
 pub mod Faults

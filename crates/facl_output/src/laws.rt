@@ -4,10 +4,10 @@ ghost use Rattle.std.specs.Prelude.{List, Bool};
 ghost use Rattle.std.specs.List.{AllByRecursion};
 ghost use Rattle.acl_tree.specs.Files.{PathOf};
 ghost use Rattle.acl_tree.specs.Found.{files_found};
-ghost use Rattle.acl_tree.specs.Step.{state_from};
-ghost use Rattle.facl_output.specs.Again.{listing_of, all_paths_listing, root_listing, IsLoadedAs, IsRestoredAsItIs, AreAttributesAgain, AreListsAgain};
+ghost use Rattle.acl_tree.specs.State.{state_from};
+ghost use Rattle.facl_output.specs.RoundTrips.{listing_of, all_paths_listing, root_listing, IsLoadedAs, IsRestoredAsItIs, AreAttributesAgain, AreListsAgain};
 
-use crate::again::files_are_read_again;
+use crate::round_trips::files_are_read_again;
 use acl_tree::{People, Tree, records_are_read_again, restore_of_what_is_changes_nothing};
 
 /// Proof only: what getfacl(1) prints without options of all files of a tree, loaded as a dump by the

@@ -2,7 +2,6 @@
 //! attributes; why a script's line or a whole run is refused, and the exact bytes of its message.
 #![tactic(auto)]
 
-mod again;
 mod attr_listing;
 mod chacl_listing;
 mod fault;
@@ -10,6 +9,7 @@ mod laws;
 mod listing;
 mod message;
 mod reserved_message;
+mod round_trips;
 mod run_fault;
 mod test_listing;
 
@@ -21,8 +21,8 @@ pub use acl_tree::{
 pub use attr_listing::{push_path, write_attributes};
 pub use chacl_listing::write_chacl_listing;
 pub use facl_words::{
-    Feed, Flags, HeldLine, HeldText, HeldUnit, LineFiles, LineRows, LineWord, OperandRow, Operands,
-    ScriptFault, Session, Sink, StdFeed, StdSink, SwitchRow, Values, Word, Words, WordsFault,
+    Feed, Flags, HeldLine, HeldText, HeldUnit, LineFiles, OperandRow, Operands, OptionRow,
+    ScriptFault, Session, Sink, StdFeed, StdSink, Syntax, Values, Word, WordRef, Words, WordsFault,
     asks_for_text, is_text_word, read_args, read_by, run_session, split_words, write_whole,
 };
 pub use fault::{LineFault, RunFault, Source};
@@ -31,7 +31,7 @@ pub use laws::{
     lists_are_read_again,
 };
 pub use listing::{Options, append_listing, end_line, push_path_shown};
-pub use message::{append_message, append_warning};
+pub use message::{push_message, push_warning};
 pub use reserved_message::ReservedMessage;
-pub use run_fault::append_run_fault;
+pub use run_fault::push_run_fault;
 pub use test_listing::append_test_listing;

@@ -80,7 +80,7 @@ fn push_head(text: &mut Vec<u8>, number: u64, reported_by: &[u8]) -> Result<(), 
 /// word, but `facl` for a fault that is found before the tool's own words are read, and where memory ran out.
 /// Fails only if memory runs out, and then what was before is kept.
 #[tactic(auto, unfolding(crate::specs::Messages::message))]
-pub fn append_message(
+pub fn push_message(
     text: &mut Vec<u8>,
     number: u64,
     tool: &[u8],
@@ -97,7 +97,7 @@ pub fn append_message(
 /// Adds the warning that a line of setfacl(1) dropped default entries, and a line feed. Fails only if memory runs
 /// out, and what was there before is still there then.
 #[tactic(auto, unfolding(crate::specs::Messages::warning))]
-pub fn append_warning(text: &mut Vec<u8>, number: u64) -> Result<(), AllocError>
+pub fn push_warning(text: &mut Vec<u8>, number: u64) -> Result<(), AllocError>
     ensures { Appends result text.old text.new (warning number) }
 {
     push_head(text, number, b"setfacl")?;

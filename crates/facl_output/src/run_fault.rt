@@ -33,7 +33,7 @@ fn push_setup(text: &mut Vec<u8>, which: Table, fault: &TreeFault) -> Result<(),
 
 /// Adds what the program prints after `facl: ` of a run that ended early, without a line feed. Fails only if
 /// memory runs out, and then what was before is kept.
-pub fn append_run_fault(text: &mut Vec<u8>, fault: &RunFault) -> Result<(), AllocError>
+pub fn push_run_fault(text: &mut Vec<u8>, fault: &RunFault) -> Result<(), AllocError>
     ensures { Appends result text.old text.new (run_fault_text fault.now) }
 {
     match fault {

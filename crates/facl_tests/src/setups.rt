@@ -1,7 +1,7 @@
 //! Texts that cannot be loaded before a script.
 
 use crate::texts::PASSWD;
-use facl::{Setup, StdFeed, StdSink, append_run_fault, run};
+use facl::{Setup, StdFeed, StdSink, push_run_fault, run};
 use std::test::Fail;
 
 /// A setup, and the message of its fault.
@@ -49,7 +49,7 @@ fn reports_the_first_faulty_text(rt: HostRuntime) -> Result<(), Fail> {
             &mut StdSink::new(&mut Vec::new(rt.alloc())),
         );
         if let Err(fault) = &end_of_run {
-            append_run_fault(&mut out, fault)?;
+            push_run_fault(&mut out, fault)?;
         }
         assert!(rt; out.as_slice() == row.text);
     }

@@ -5,10 +5,10 @@ use Rattle.std.proofs.lemmas.List.Folds.{list_all-map}
 use Rattle.std.specs.Prelude.{position, unwrap_or}
 use Rattle.std.specs.List.{list_all, position_or_len}
 use Rattle.std.specs.Str.{bytes_eq}
-use Rattle.facl_words.specs.Lines.{Switch}
+use Rattle.facl_words.specs.Syntax.{OptionSyntax}
 use Rattle.facl_words.specs.Naming.{place}
-use Rattle.facl_words.specs.Rows.{switch_of}
-use Rattle.facl_words.specs.declared.rows.SwitchRow.{SwitchRow}
+use Rattle.facl_words.specs.Rows.{option_view}
+use Rattle.facl_words.specs.declared.syntax.OptionRow.{OptionRow}
 
 -- a search that gives the number of all where it finds none
 found_or_all : (n all : ℕ) → n ≤ all → unwrap_or (cond (nat_lt n all) (Some n) None) all ≡ n
@@ -31,5 +31,5 @@ place_found view id name xs =
     ∙ place_mapped view id name xs
 
 -- what holds of all flags or options, asked row by row
-pub all_by_rows : (p : Switch → Bool) (rows : List SwitchRow) → list_all p (map switch_of rows) ≡ list_all (λ row. p (switch_of row)) rows
-all_by_rows p rows = list_all-map p switch_of rows
+pub all_by_rows : (p : OptionSyntax → Bool) (rows : List OptionRow) → list_all p (map option_view rows) ≡ list_all (λ row. p (option_view row)) rows
+all_by_rows p rows = list_all-map p option_view rows

@@ -3,7 +3,7 @@ pub mod Refusals
 pub mod Args
 pub mod Words
 pub mod Forms
-pub mod Lines
+pub mod Syntax
 pub mod Rows
 pub mod Naming
 pub mod TextWords

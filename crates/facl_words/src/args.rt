@@ -1,18 +1,18 @@
 //! The program's own words.
 ghost use Rattle.std.specs.Prelude.{◌≡◌, MatchResult, Some, map, option_map, string_bytes};
-ghost use Rattle.facl_words.specs.Args.{files_for, program_line};
+ghost use Rattle.facl_words.specs.Args.{files_for, program_syntax};
 ghost use Rattle.facl_words.specs.Refusals.{IsRefusal};
-ghost use Rattle.facl_words.specs.Rows.{line_of};
+ghost use Rattle.facl_words.specs.Rows.{syntax_view};
 
 use crate::commands::{matches_for, value_of};
 use crate::fault::WordsFault;
-use crate::rows::{LineRows, SwitchRow};
+use crate::syntax::{OptionRow, Syntax};
 use std::alloc::Global;
 
 /// An option with a long name alone.
 macro_rules! by_name {
     ($name:literal) => {
-        SwitchRow {
+        OptionRow {
             id: $name,
             short: None,
             long: Some($name),
@@ -23,13 +23,13 @@ macro_rules! by_name {
 }
 
 /// The options of the program.
-static FILES: [SwitchRow; 3] = [by_name!("passwd"), by_name!("group"), by_name!("dump")];
+static FILES: [OptionRow; 3] = [by_name!("passwd"), by_name!("group"), by_name!("dump")];
 
 /// The words that the program takes: the three files.
-fn program_rows() -> LineRows
-    ensures { line_of result ≡ program_line }
+fn program_syntax() -> Syntax
+    ensures { syntax_view result ≡ program_syntax }
 {
-    LineRows {
+    Syntax {
         flags: &[],
         options: &FILES,
         operands: &[],
@@ -47,8 +47,8 @@ pub fn read_args(alloc: Global, words: &[String]) -> Result<[Option<String>; 3],
         (λ files. files_for (map string_bytes words.now) ≡ Some (map (option_map string_bytes) files))
         (IsRefusal (files_for (map string_bytes words.now))) }
 {
-    let line = program_rows();
-    let matches = matches_for(alloc, &line, words)?;
+    let syntax = program_syntax();
+    let matches = matches_for(alloc, &syntax, words)?;
     let passwd = value_of(alloc, &matches, "passwd")?;
     let group = value_of(alloc, &matches, "group")?;
     let dump = value_of(alloc, &matches, "dump")?;

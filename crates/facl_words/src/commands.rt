@@ -2,18 +2,18 @@
 ghost use Rattle.std.specs.Prelude.{◌≡◌, false, true, IfOk, MatchResult, Some, map, option_map};
 ghost use Rattle.std.specs.Prelude.{string_bytes};
 ghost use Rattle.clap.specs.Words.{app_of, first_of, found_of, is_simple_and_free, rows_of, rule_of};
-ghost use Rattle.facl_words.specs.Rows.{line_of, operand_of, switch_of};
-ghost use Rattle.facl_words.specs.Commands.{app_for, operand_rule, switch_rule, taken};
+ghost use Rattle.facl_words.specs.Rows.{syntax_view, operand_view, option_view};
+ghost use Rattle.facl_words.specs.Commands.{app_for, operand_rule, option_rule, taken};
 ghost use Rattle.facl_words.specs.Refusals.{IsRefusal};
 
 use crate::fault::WordsFault;
-use crate::rows::{LineRows, OperandRow, SwitchRow};
+use crate::syntax::{OperandRow, OptionRow, Syntax};
 use clap::{Arg, ArgAction, ArgMatches, Command};
 use std::alloc::{AllocError, Global};
 
 /// A flag or an option, as an argument of `clap`.
-fn switch_arg<'a>(alloc: Global, row: &SwitchRow, action: ArgAction) -> Arg<'a>
-    ensures rule { rule_of result ≡ switch_rule action (switch_of row.now) }
+fn option_arg<'a>(alloc: Global, row: &OptionRow, action: ArgAction) -> Arg<'a>
+    ensures rule { rule_of result ≡ option_rule action (option_view row.now) }
     ensures local { result.global ≡ false }
 {
     let mut arg = Arg::new(alloc, row.id).action(action);
@@ -28,7 +28,7 @@ fn switch_arg<'a>(alloc: Global, row: &SwitchRow, action: ArgAction) -> Arg<'a>
 
 /// An operand, as an argument of `clap`.
 fn operand_arg<'a>(alloc: Global, row: &OperandRow) -> Arg<'a>
-    ensures rule { rule_of result ≡ operand_rule (operand_of row.now) }
+    ensures rule { rule_of result ≡ operand_rule (operand_view row.now) }
     ensures local { result.global ≡ false }
 {
     let action = if row.is_repeated {
@@ -41,22 +41,22 @@ fn operand_arg<'a>(alloc: Global, row: &OperandRow) -> Arg<'a>
         .action(action)
 }
 
-/// The `clap` command of a row: its arguments alone, with no help and no version, for words that do not
+/// The `clap` command of a syntax: its arguments alone, with no help and no version, for words that do not
 /// begin with a program's name. Fails only if memory runs out.
-fn command_for<'a>(alloc: Global, line: &LineRows) -> Result<Command<'a>, AllocError>
-    ensures { IfOk result (λ c. app_of c ≡ app_for (line_of line.now)) }
+fn command_for<'a>(alloc: Global, syntax: &Syntax) -> Result<Command<'a>, AllocError>
+    ensures { IfOk result (λ c. app_of c ≡ app_for (syntax_view syntax.now)) }
 {
     let mut command = Command::new(alloc, "facl")
         .no_binary_name(true)
         .disable_help_flag(true)
         .disable_version_flag(true);
-    for flag in line.flags {
-        command = command.arg(switch_arg(alloc, flag, ArgAction::SetTrue))?;
+    for flag in syntax.flags {
+        command = command.arg(option_arg(alloc, flag, ArgAction::SetTrue))?;
     }
-    for option in line.options {
-        command = command.arg(switch_arg(alloc, option, ArgAction::Set))?;
+    for option in syntax.options {
+        command = command.arg(option_arg(alloc, option, ArgAction::Set))?;
     }
-    for operand in line.operands {
+    for operand in syntax.operands {
         command = command.arg(operand_arg(alloc, operand))?;
     }
     Ok(command)
@@ -65,15 +65,15 @@ fn command_for<'a>(alloc: Global, line: &LineRows) -> Result<Command<'a>, AllocE
 /// What `clap` finds in the words, where it takes them.
 pub(crate) fn matches_for<'a>(
     alloc: Global,
-    line: &LineRows,
+    syntax: &Syntax,
     words: &'a [String],
 ) -> Result<ArgMatches<'a>, WordsFault>
-    requires { is_simple_and_free (app_for (line_of line.now)) ≡ true }
+    requires { is_simple_and_free (app_for (syntax_view syntax.now)) ≡ true }
     ensures { MatchResult result
-        (λ m. taken (line_of line.now) (map string_bytes words.entry.now) ≡ Some (rows_of (found_of m)))
-        (IsRefusal (taken (line_of line.now) (map string_bytes words.entry.now))) }
+        (λ m. taken (syntax_view syntax.now) (map string_bytes words.entry.now) ≡ Some (rows_of (found_of m)))
+        (IsRefusal (taken (syntax_view syntax.now) (map string_bytes words.entry.now))) }
 {
-    let command = command_for(alloc, line)?;
+    let command = command_for(alloc, syntax)?;
     let matches = command.try_get_matches_from(words)?;
     Ok(matches)
 }

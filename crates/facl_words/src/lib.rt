@@ -1,8 +1,8 @@
-//! The words of a line, and of the program: how they are read by a row.
+//! The words of a line, and of the program: how they are read by a syntax.
 //!
-//! A row gives the flags, options and operands of a tool. `read_by` reads the words after a tool's name by its row,
+//! A syntax gives the flags, options and operands of a tool. `read_by` reads the words after a tool's name by its syntax,
 //! `read_args` those after the program's, each by a `clap` command of its own; and `asks_for_text` decides which lines
-//! ask for the lines after them. Callers see `Words`, asked by the names of the row, and two faults, and nothing of
+//! ask for the lines after them. Callers see `Words`, asked by the names of the syntax, and two faults, and nothing of
 //! `clap`. What each tool makes of its words is in the crate of the tools.
 #![tactic(auto)]
 
@@ -10,7 +10,7 @@ mod args;
 mod commands;
 mod fault;
 mod reading;
-mod rows;
+mod syntax;
 mod text_words;
 mod words;
 
@@ -20,7 +20,7 @@ pub use facl_script::{
     run_session, split_words, write_whole,
 };
 pub use fault::WordsFault;
-pub use reading::{LineFiles, LineWord, read_by};
-pub use rows::{LineRows, OperandRow, SwitchRow};
+pub use reading::{LineFiles, WordRef, read_by};
+pub use syntax::{OperandRow, OptionRow, Syntax};
 pub use text_words::{asks_for_text, is_text_word};
 pub use words::{Flags, Operands, Values, Word, Words};

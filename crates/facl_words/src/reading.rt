@@ -3,7 +3,7 @@
 ghost use Rattle.std.specs.Prelude.{◌≡◌, ◌++◌, [], IfOk, MatchResult, OnOk, Some, map, count_by, string_bytes, true, unwrap_or};
 ghost use Rattle.std.specs.List.{list_all, list_any};
 ghost use Rattle.clap.specs.Words.{all_of, first_of, found_of, is_simple_and_free, rows_of};
-ghost use Rattle.facl_words.specs.Rows.{line_of, switch_of};
+ghost use Rattle.facl_words.specs.Rows.{syntax_view, option_view};
 ghost use Rattle.facl_words.specs.Commands.{app_for, is_on, flags_in, operands_in, value_or, values_in};
 ghost use Rattle.facl_words.specs.Refusals.{IsRefusal};
 ghost use Rattle.facl_words.specs.Rules.{fits_text, is_named, texts_given};
@@ -13,7 +13,7 @@ ghost use Rattle.facl_words.specs.Forms.{file_of, files_of, is_dash as names_inp
 
 use crate::commands::matches_for;
 use crate::fault::WordsFault;
-use crate::rows::{LineRows, SwitchRow};
+use crate::syntax::{OptionRow, Syntax};
 use crate::text_words::is_text_word;
 use crate::words::{Flags, Operands, Values, Word, Words};
 use clap::ArgMatches;
@@ -30,13 +30,13 @@ fn is_flag_on(matches: &ArgMatches<'_>, id: &str) -> bool
     }
 }
 
-/// For each flag of the row whether `clap` found it.
-fn flags_of(alloc: Global, line: &LineRows, matches: &ArgMatches<'_>) -> Result<Flags, AllocError>
+/// For each flag of the syntax whether `clap` found it.
+fn flags_of(alloc: Global, syntax: &Syntax, matches: &ArgMatches<'_>) -> Result<Flags, AllocError>
     ensures { IfOk result (λ f.
-        f ≡ flags_in (line_of line.now) (rows_of (found_of matches.now))) }
+        f ≡ flags_in (syntax_view syntax.now) (rows_of (found_of matches.now))) }
 {
     let mut items = Vec::new(alloc);
-    for flag in line.flags {
+    for flag in syntax.flags {
         items.push(is_flag_on(matches, flag.id))?;
     }
     Ok(Flags::new(items))
@@ -45,11 +45,11 @@ fn flags_of(alloc: Global, line: &LineRows, matches: &ArgMatches<'_>) -> Result<
 /// The value of an option, if `clap` found it.
 fn option_value(
     alloc: Global,
-    row: &SwitchRow,
+    row: &OptionRow,
     matches: &ArgMatches<'_>,
 ) -> Result<Option<Word>, AllocError>
-    ensures { IfOk result (λ v. v ≡ value_or (switch_of row.now).fallback
-        (first_of (switch_of row.now).id (rows_of (found_of matches.now)))) }
+    ensures { IfOk result (λ v. v ≡ value_or (option_view row.now).fallback
+        (first_of (option_view row.now).id (rows_of (found_of matches.now)))) }
 {
     match matches.get_str(row.id) {
         Some(text) => Ok(Some(Word::new(alloc, text)?)),
@@ -60,13 +60,13 @@ fn option_value(
     }
 }
 
-/// For each option of the row its value, if `clap` found it.
-fn values_of(alloc: Global, line: &LineRows, matches: &ArgMatches<'_>) -> Result<Values, AllocError>
+/// For each option of the syntax its value, if `clap` found it.
+fn values_of(alloc: Global, syntax: &Syntax, matches: &ArgMatches<'_>) -> Result<Values, AllocError>
     ensures { IfOk result (λ v.
-        v ≡ values_in (line_of line.now) (rows_of (found_of matches.now))) }
+        v ≡ values_in (syntax_view syntax.now) (rows_of (found_of matches.now))) }
 {
     let mut items = Vec::new(alloc);
-    for option in line.options {
+    for option in syntax.options {
         items.push(option_value(alloc, option, matches)?)?;
     }
     Ok(Values::new(items))
@@ -101,14 +101,14 @@ fn push_operand(
 /// The operands that `clap` found, in their order.
 fn operands_of(
     alloc: Global,
-    line: &LineRows,
+    syntax: &Syntax,
     matches: &ArgMatches<'_>,
 ) -> Result<Operands, AllocError>
     ensures { IfOk result (λ o.
-        o ≡ operands_in (line_of line.now) (rows_of (found_of matches.now))) }
+        o ≡ operands_in (syntax_view syntax.now) (rows_of (found_of matches.now))) }
 {
     let mut items = Vec::new(alloc);
-    for operand in line.operands {
+    for operand in syntax.operands {
         push_operand(alloc, &mut items, operand.id, matches)?;
     }
     Ok(Operands::new(items))
@@ -117,14 +117,14 @@ fn operands_of(
 /// The words that `clap` found. Fails only if memory runs out.
 fn words_found(
     alloc: Global,
-    line: &LineRows,
+    syntax: &Syntax,
     matches: &ArgMatches<'_>,
 ) -> Result<Words, AllocError>
-    ensures { IfOk result (λ w. w ≡ words_in (line_of line.now) (rows_of (found_of matches.now))) }
+    ensures { IfOk result (λ w. w ≡ words_in (syntax_view syntax.now) (rows_of (found_of matches.now))) }
 {
-    let flags = flags_of(alloc, line, matches)?;
-    let values = values_of(alloc, line, matches)?;
-    let operands = operands_of(alloc, line, matches)?;
+    let flags = flags_of(alloc, syntax, matches)?;
+    let values = values_of(alloc, syntax, matches)?;
+    let operands = operands_of(alloc, syntax, matches)?;
     Ok(Words {
         flags,
         values,
@@ -133,49 +133,51 @@ fn words_found(
 }
 
 /// The words as clap reads them.
-fn words_by_clap(alloc: Global, line: &LineRows, words: &[String]) -> Result<Words, WordsFault>
-    requires { is_simple_and_free (app_for (line_of line.now)) ≡ true }
+fn words_by_clap(alloc: Global, syntax: &Syntax, words: &[String]) -> Result<Words, WordsFault>
+    requires { is_simple_and_free (app_for (syntax_view syntax.now)) ≡ true }
     ensures { MatchResult result
-        (λ w. words_read (line_of line.now) (map string_bytes words.now) ≡ Some w)
-        (IsRefusal (words_read (line_of line.now) (map string_bytes words.now))) }
+        (λ w. words_read (syntax_view syntax.now) (map string_bytes words.now) ≡ Some w)
+        (IsRefusal (words_read (syntax_view syntax.now) (map string_bytes words.now))) }
 {
-    let matches = matches_for(alloc, line, words)?;
-    let found = words_found(alloc, line, &matches);
+    let matches = matches_for(alloc, syntax, words)?;
+    let found = words_found(alloc, syntax, &matches);
     drop(matches);
     Ok(found?)
 }
 
 /// How many of the options that read a text were given.
-fn texts_given(line: &LineRows, found: &Words) -> usize
-    ensures { result ≡ texts_given (line_of line.now) found.now }
+fn texts_given(syntax: &Syntax, found: &Words) -> usize
+    ensures { result ≡ texts_given (syntax_view syntax.now) found.now }
 {
-    line.options
+    syntax
+        .options
         .iter()
-        .filter(|option| option.is_text && found.gives(line, option.id))
+        .filter(|option| option.is_text && found.gives(syntax, option.id))
         .count()
 }
 
 /// Whether an option reads no text, is absent, or names standard input.
-fn is_named(line: &LineRows, found: &Words, option: &SwitchRow) -> bool
-    ensures { result ≡ is_named (line_of line.now) found.now (switch_of option.now) }
+fn is_named(syntax: &Syntax, found: &Words, option: &OptionRow) -> bool
+    ensures { result ≡ is_named (syntax_view syntax.now) found.now (option_view option.now) }
 {
     if !option.is_text {
         return true;
     }
-    match found.value(line, option.id) {
+    match found.value(syntax, option.id) {
         Some(file) => is_dash(file.as_bytes()),
         None => true,
     }
 }
 
 /// Whether each option that reads a text is absent or names standard input.
-fn are_named(line: &LineRows, found: &Words) -> bool
-    ensures { result ≡ list_all (λ option. is_named (line_of line.now) found.now (switch_of option))
-        line.now.options.now }
+fn are_named(syntax: &Syntax, found: &Words) -> bool
+    ensures { result ≡ list_all (λ option. is_named (syntax_view syntax.now) found.now (option_view option))
+        syntax.now.options.now }
 {
-    line.options
+    syntax
+        .options
         .iter()
-        .all(|option| is_named(line, found, option))
+        .all(|option| is_named(syntax, found, option))
 }
 
 /// How many words name standard input as a text.
@@ -191,27 +193,27 @@ fn texts_named(words: &[String]) -> usize
 /// Whether each option that reads a text names standard input, and the words that do so are as many as these options:
 /// at most one.
 #[tactic(auto, using(crate::proofs::Named::all_by_rows))]
-fn fits_text(line: &LineRows, words: &[String], found: &Words) -> bool
-    ensures { result ≡ fits_text (line_of line.now) (map string_bytes words.now) found.now }
+fn fits_text(syntax: &Syntax, words: &[String], found: &Words) -> bool
+    ensures { result ≡ fits_text (syntax_view syntax.now) (map string_bytes words.now) found.now }
 {
-    let given = texts_given(line, found);
-    are_named(line, found) && texts_named(words) == given && given <= 1
+    let given = texts_given(syntax, found);
+    are_named(syntax, found) && texts_named(words) == given && given <= 1
 }
 
-/// The words of a line by the row of its tool: flags, options and operands.
+/// The words of a line by the syntax of its tool: flags, options and operands.
 ///
-/// Returns `Usage` where `clap` refuses the words by the row, and where those that name the lines after the line as
+/// Returns `Usage` where `clap` refuses the words by the syntax, and where those that name the lines after the line as
 /// its text are not as many as the options that read one, at most one. Returns `NoMemory` only if memory runs out, and
 /// then in place of any answer.
 #[tactic(auto, unfolding(crate::specs::Words::words_by))]
-pub fn read_by(alloc: Global, line: &LineRows, words: &[String]) -> Result<Words, WordsFault>
-    requires { is_simple_and_free (app_for (line_of line.now)) ≡ true }
+pub fn read_by(alloc: Global, syntax: &Syntax, words: &[String]) -> Result<Words, WordsFault>
+    requires { is_simple_and_free (app_for (syntax_view syntax.now)) ≡ true }
     ensures { MatchResult result
-        (λ w. words_by (line_of line.now) (map string_bytes words.now) ≡ Some w)
-        (IsRefusal (words_by (line_of line.now) (map string_bytes words.now))) }
+        (λ w. words_by (syntax_view syntax.now) (map string_bytes words.now) ≡ Some w)
+        (IsRefusal (words_by (syntax_view syntax.now) (map string_bytes words.now))) }
 {
-    let found = words_by_clap(alloc, line, words)?;
-    if fits_text(line, words, &found) {
+    let found = words_by_clap(alloc, syntax, words)?;
+    if fits_text(syntax, words, &found) {
         Ok(found)
     } else {
         Err(WordsFault::Usage)
@@ -227,11 +229,11 @@ pub(crate) fn is_dash(word: &[u8]) -> bool
 
 /// A word of a line, borrowed.
 #[derive(Debug, Drop)]
-pub struct LineWord<'a> {
+pub struct WordRef<'a> {
     bytes: &'a [u8],
 }
 
-impl<'a> Model for LineWord<'a> {
+impl<'a> Model for WordRef<'a> {
     ghost use Rattle.std.specs.Prelude.{List, ℕ};
 
     ghost Value = { List ℕ };
@@ -239,12 +241,12 @@ impl<'a> Model for LineWord<'a> {
     ghost view = { λ w. w.bytes.now };
 }
 
-impl<'a> LineWord<'a> {
+impl<'a> WordRef<'a> {
     /// The word with these bytes.
-    pub fn new(bytes: &'a [u8]) -> LineWord<'a>
+    pub fn new(bytes: &'a [u8]) -> WordRef<'a>
         ensures { result ≡ bytes.now }
     {
-        LineWord { bytes }
+        WordRef { bytes }
     }
 
     /// The word's bytes.
@@ -255,7 +257,7 @@ impl<'a> LineWord<'a> {
     }
 
     /// The word as a FILE. `None` where it is `-`, which names no file.
-    pub fn file(self) -> Option<LineWord<'a>>
+    pub fn file(self) -> Option<WordRef<'a>>
         ensures { result ≡ file_of self.entry }
     {
         if is_dash(self.bytes) {

@@ -1,14 +1,14 @@
-//! The words of a line, by their kinds: which flags and options were given, and the operands; each by its name in a row.
+//! The words of a line, by their kinds: which flags and options were given, and the operands; each by its name in a syntax.
 
 ghost use Rattle.std.specs.Prelude.{◌≡◌, [], IfOk, None, drop, false, map, position};
 ghost use Rattle.std.specs.List.{slice_index_or};
 ghost use Rattle.facl_words.specs.Forms.{file_of, files_of};
 ghost use Rattle.facl_words.specs.Naming.{gives, has, operand, operands_from, value, place};
-ghost use Rattle.facl_words.specs.Rows.{line_of, operand_of, switch_of};
+ghost use Rattle.facl_words.specs.Rows.{syntax_view, operand_view, option_view};
 ghost use Rattle.std.specs.Str.{bytes_eq};
 
-use crate::reading::{LineFiles, LineWord};
-use crate::rows::{LineRows, OperandRow, SwitchRow};
+use crate::reading::{LineFiles, WordRef};
+use crate::syntax::{OperandRow, OptionRow, Syntax};
 use std::alloc::{AllocError, Global};
 use std::marker::Model;
 
@@ -51,7 +51,7 @@ impl Word {
     }
 }
 
-/// Which flags were given, in the order of the row.
+/// Which flags were given, in the order of the syntax.
 #[derive(Drop)]
 pub struct Flags {
     items: Vec<bool>,
@@ -66,14 +66,14 @@ impl Model for Flags {
 }
 
 impl Flags {
-    /// The flags of a line: one for each flag of its row, in that order.
+    /// The flags of a line: one for each flag of its syntax, in that order.
     pub fn new(items: Vec<bool>) -> Flags
         ensures { result ≡ items.items }
     {
         Flags { items }
     }
 
-    /// Whether the flag at a place was given. False where the row has no flag there.
+    /// Whether the flag at a place was given. False where the syntax has no flag there.
     pub fn get(&self, place: usize) -> bool
         ensures { result ≡ slice_index_or self.now place false }
     {
@@ -81,7 +81,7 @@ impl Flags {
     }
 }
 
-/// The values of the options, in the order of the row; `None` for an absent option.
+/// The values of the options, in the order of the syntax; `None` for an absent option.
 #[derive(Drop)]
 pub struct Values {
     items: Vec<Option<Word>>,
@@ -96,19 +96,19 @@ impl Model for Values {
 }
 
 impl Values {
-    /// The values of a line: one for each option of its row, in that order.
+    /// The values of a line: one for each option of its syntax, in that order.
     pub fn new(items: Vec<Option<Word>>) -> Values
         ensures { result ≡ items.items }
     {
         Values { items }
     }
 
-    /// The value of the option at a place. `None` where it is absent, or the row has no option there.
-    pub fn get(&self, place: usize) -> Option<LineWord<'_>>
+    /// The value of the option at a place. `None` where it is absent, or the syntax has no option there.
+    pub fn get(&self, place: usize) -> Option<WordRef<'_>>
         ensures { result ≡ slice_index_or self.now place None }
     {
         match self.items.get(place) {
-            Some(Some(word)) => Some(LineWord::new(word.as_bytes())),
+            Some(Some(word)) => Some(WordRef::new(word.as_bytes())),
             _ => None,
         }
     }
@@ -144,12 +144,12 @@ impl Operands {
     }
 
     /// The operand at a place, and an empty text where there is none.
-    pub fn get(&self, place: usize) -> LineWord<'_>
+    pub fn get(&self, place: usize) -> WordRef<'_>
         ensures { result ≡ slice_index_or self.now place [] }
     {
         match self.items.get(place) {
-            Some(word) => LineWord::new(word.as_bytes()),
-            None => LineWord::new(b""),
+            Some(word) => WordRef::new(word.as_bytes()),
+            None => WordRef::new(b""),
         }
     }
 
@@ -164,70 +164,71 @@ impl Operands {
     }
 }
 
-/// The words of a line, each kind in the order of its row.
+/// The words of a line, each kind in the order of its syntax.
 #[derive(Drop)]
 pub struct Words {
-    /// One for each flag of the row.
+    /// One for each flag of the syntax.
     pub flags: Flags,
-    /// One for each option of the row.
+    /// One for each option of the syntax.
     pub values: Values,
     /// All that were given.
     pub operands: Operands,
 }
 
 impl Words {
-    /// Whether the flag of this name was given, in a line of this row.
-    pub fn has(&self, row: &LineRows, name: &str) -> bool
-        ensures { result ≡ has (line_of row.now) self.now name.now }
+    /// Whether the flag of this name was given, in a line of this syntax.
+    pub fn has(&self, syntax: &Syntax, name: &str) -> bool
+        ensures { result ≡ has (syntax_view syntax.now) self.now name.now }
     {
-        self.flags.get(switch_place(row.flags, name))
+        self.flags.get(option_place(syntax.flags, name))
     }
 
     /// The value of the option of this name. `None` where it is absent.
-    pub fn value(&self, row: &LineRows, name: &str) -> Option<LineWord<'_>>
-        ensures { result ≡ value (line_of row.now) self.now name.now }
+    pub fn value(&self, syntax: &Syntax, name: &str) -> Option<WordRef<'_>>
+        ensures { result ≡ value (syntax_view syntax.now) self.now name.now }
     {
-        self.values.get(switch_place(row.options, name))
+        self.values.get(option_place(syntax.options, name))
     }
 
     /// Whether the option of this name was given.
-    pub fn gives(&self, row: &LineRows, name: &str) -> bool
-        ensures { result ≡ gives (line_of row.now) self.now name.now }
+    pub fn gives(&self, syntax: &Syntax, name: &str) -> bool
+        ensures { result ≡ gives (syntax_view syntax.now) self.now name.now }
     {
-        self.value(row, name).is_some()
+        self.value(syntax, name).is_some()
     }
 
     /// The operand of this name. Empty where it is absent.
-    pub fn operand(&self, row: &LineRows, name: &str) -> LineWord<'_>
-        ensures { result ≡ operand (line_of row.now) self.now name.now }
+    pub fn operand(&self, syntax: &Syntax, name: &str) -> WordRef<'_>
+        ensures { result ≡ operand (syntax_view syntax.now) self.now name.now }
     {
-        self.operands.get(operand_place(row.operands, name))
+        self.operands.get(operand_place(syntax.operands, name))
     }
 
     /// The operands from the one of this name on.
-    pub fn operands_from(&self, row: &LineRows, name: &str) -> &[Word]
-        ensures { result.now ≡ operands_from (line_of row.now) self.now name.now }
+    pub fn operands_from(&self, syntax: &Syntax, name: &str) -> &[Word]
+        ensures { result.now ≡ operands_from (syntax_view syntax.now) self.now name.now }
     {
-        self.operands.starting_at(operand_place(row.operands, name))
+        self.operands
+            .starting_at(operand_place(syntax.operands, name))
     }
 
     /// The operand of this name as a FILE. `None` where it is `-`.
-    pub fn file(&self, row: &LineRows, name: &str) -> Option<LineWord<'_>>
-        ensures { result ≡ file_of (operand (line_of row.now) self.now name.now) }
+    pub fn file(&self, syntax: &Syntax, name: &str) -> Option<WordRef<'_>>
+        ensures { result ≡ file_of (operand (syntax_view syntax.now) self.now name.now) }
     {
-        self.operand(row, name).file()
+        self.operand(syntax, name).file()
     }
 
     /// The operands from the one of this name on, as FILEs. `None` where there are none, or one is `-`.
-    pub fn files(&self, row: &LineRows, name: &str) -> Option<LineFiles<'_>>
-        ensures { result ≡ files_of (operands_from (line_of row.now) self.now name.now) }
+    pub fn files(&self, syntax: &Syntax, name: &str) -> Option<LineFiles<'_>>
+        ensures { result ≡ files_of (operands_from (syntax_view syntax.now) self.now name.now) }
     {
-        LineFiles::of(self.operands_from(row, name))
+        LineFiles::of(self.operands_from(syntax, name))
     }
 }
 
 /// The place of a flag, or of an option, among its rows, by its name.
-fn find_switch(rows: &[SwitchRow], name: &str) -> Option<usize>
+fn find_option(rows: &[OptionRow], name: &str) -> Option<usize>
     ensures { result ≡ position (λ row. bytes_eq row.id.now name.now) rows.now }
 {
     rows.iter().position(|row| row.id == name)
@@ -241,15 +242,15 @@ fn find_operand(rows: &[OperandRow], name: &str) -> Option<usize>
 }
 
 /// The place of a flag or of an option, and how many there are where it is none of them.
-pub(crate) fn switch_place(rows: &[SwitchRow], name: &str) -> usize
-    ensures { result ≡ place name.now (map (λ s. s.id) (map switch_of rows.now)) }
+pub(crate) fn option_place(rows: &[OptionRow], name: &str) -> usize
+    ensures { result ≡ place name.now (map (λ s. s.id) (map option_view rows.now)) }
 {
-    find_switch(rows, name).unwrap_or(rows.len())
+    find_option(rows, name).unwrap_or(rows.len())
 }
 
 /// The place of an operand, and how many there are where it is none of them.
 pub(crate) fn operand_place(rows: &[OperandRow], name: &str) -> usize
-    ensures { result ≡ place name.now (map (λ o. o.id) (map operand_of rows.now)) }
+    ensures { result ≡ place name.now (map (λ o. o.id) (map operand_view rows.now)) }
 {
     find_operand(rows, name).unwrap_or(rows.len())
 }

@@ -1,7 +1,7 @@
 //! The messages of refused commands.
 use facl_output::{
     EditFault, FaultKind, Id, Key, LineFault, ListFault, Name, Path, TextFault, TreeFault, Which,
-    append_message, read_path,
+    push_message, read_path,
 };
 use std::alloc::Global;
 use std::process::Abort;
@@ -9,7 +9,7 @@ use std::process::Abort;
 /// The message of a refused line is this one.
 fn expect(rt: &impl Abort, alloc: Global, tool: &[u8], refused: TreeFault, want: &str) {
     let mut text = Vec::new(alloc);
-    append_message(&mut text, 2, tool, &LineFault::from(refused)).expect(rt, "memory");
+    push_message(&mut text, 2, tool, &LineFault::from(refused)).expect(rt, "memory");
     assert!(rt; text.as_slice() == want.as_bytes(), "{want}");
 }
 

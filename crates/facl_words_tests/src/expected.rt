@@ -1,6 +1,6 @@
 //! What is read of a line, as text: the flags and options that were given, in the order of the
 //! table, a colon, and the operands. An empty operand is `''`, and a refused line is `usage`.
-use facl::{LineFault, SwitchRow, Tool, Word, Words, read_words, rows_for};
+use facl::{LineFault, OptionRow, Tool, Word, Words, read_words, syntax_of};
 use std::alloc::Global;
 use std::process::Abort;
 
@@ -9,7 +9,7 @@ fn push(rt: &impl Abort, text: &mut String, part: &str) {
 }
 
 /// A flag or an option as the manual pages write it: by its letter where it has one.
-fn push_label(rt: &impl Abort, text: &mut String, row: &SwitchRow) {
+fn push_label(rt: &impl Abort, text: &mut String, row: &OptionRow) {
     match row.short {
         Some(letter) => {
             push(rt, text, "-");
@@ -22,20 +22,20 @@ fn push_label(rt: &impl Abort, text: &mut String, row: &SwitchRow) {
     }
 }
 
-fn push_flag(rt: &impl Abort, text: &mut String, row: &SwitchRow) {
+fn push_flag(rt: &impl Abort, text: &mut String, row: &OptionRow) {
     push_label(rt, text, row);
     push(rt, text, " ");
 }
 
 fn push_flags(rt: &impl Abort, text: &mut String, tool: Tool, words: &Words) {
-    for row in rows_for(tool).flags {
-        if words.has(rows_for(tool), row.id) {
+    for row in syntax_of(tool).flags {
+        if words.has(syntax_of(tool), row.id) {
             push_flag(rt, text, row);
         }
     }
 }
 
-fn push_option(rt: &impl Abort, text: &mut String, row: &SwitchRow, value: &[u8]) {
+fn push_option(rt: &impl Abort, text: &mut String, row: &OptionRow, value: &[u8]) {
     push_label(rt, text, row);
     push(rt, text, "=");
     push(rt, text, str::from_utf8(value).expect(rt, "UTF-8"));
@@ -43,8 +43,8 @@ fn push_option(rt: &impl Abort, text: &mut String, row: &SwitchRow, value: &[u8]
 }
 
 fn push_options(rt: &impl Abort, text: &mut String, tool: Tool, words: &Words) {
-    for row in rows_for(tool).options {
-        if let Some(value) = words.value(rows_for(tool), row.id) {
+    for row in syntax_of(tool).options {
+        if let Some(value) = words.value(syntax_of(tool), row.id) {
             push_option(rt, text, row, value.as_bytes());
         }
     }

@@ -1,6 +1,6 @@
 //! The messages of lines and of runs, but for those of texts and commands.
 use facl_output::{
-    LineFault, ReservedMessage, RunFault, Table, TreeFault, append_message, append_run_fault,
+    LineFault, ReservedMessage, RunFault, Table, TreeFault, push_message, push_run_fault,
 };
 use std::alloc::Global;
 use std::process::Abort;
@@ -47,7 +47,7 @@ const RUNS: [(RunFault, &str); 6] = [
 /// The message of a line that is refused is this one.
 fn expect_line(rt: &impl Abort, alloc: Global, fault: &LineFault, want: &str) {
     let mut text = Vec::new(alloc);
-    append_message(&mut text, 1, b"setfacl", fault).expect(rt, "memory");
+    push_message(&mut text, 1, b"setfacl", fault).expect(rt, "memory");
     assert!(rt; text.as_slice() == want.as_bytes(), "{want}");
 }
 
@@ -61,7 +61,7 @@ fn lines(rt: HostRuntime) {
 /// The message of a run that ends by a fault is this one.
 fn expect_run(rt: &impl Abort, alloc: Global, fault: &RunFault, want: &str) {
     let mut text = Vec::new(alloc);
-    append_run_fault(&mut text, fault).expect(rt, "memory");
+    push_run_fault(&mut text, fault).expect(rt, "memory");
     assert!(rt; text.as_slice() == want.as_bytes(), "{want}");
 }
 

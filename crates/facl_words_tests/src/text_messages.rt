@@ -1,5 +1,5 @@
 //! The messages of faulty texts: each kind of fault and each source.
-use facl_output::{FaultKind, Key, LineFault, ListFault, Source, TextFault, Which, append_message};
+use facl_output::{FaultKind, Key, LineFault, ListFault, Source, TextFault, Which, push_message};
 use std::alloc::Global;
 use std::process::Abort;
 
@@ -149,7 +149,7 @@ const MESSAGES: [(Source, FaultKind, usize, &str); 22] = [
 /// The message of a line with this fault is this one.
 fn expect(rt: &impl Abort, alloc: Global, fault: &LineFault, want: &str) {
     let mut text = Vec::new(alloc);
-    append_message(&mut text, 30, b"setfacl", fault).expect(rt, "memory");
+    push_message(&mut text, 30, b"setfacl", fault).expect(rt, "memory");
     let line = format!(in alloc; "line 30: setfacl: {want}\n").expect(rt, "memory");
     assert!(rt; text.as_slice() == line.as_bytes(), "{want}");
 }

@@ -13,3 +13,7 @@ pub mod Stopped
 pub mod Replaced
 pub mod Renewals
 pub mod PlacedNodes
+pub mod RenewedWhere
+pub mod PassingPaths
+pub mod ByNumber
+pub mod GivenNodes

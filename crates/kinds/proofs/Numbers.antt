@@ -4,7 +4,7 @@ use Rattle.std.specs.Prelude.{◌==◌, nat_lt, slice_get, unwrap_or, if◌then�
 use Rattle.std.proofs.lemmas.Option.{slice_get_within}
 use Rattle.std.proofs.lemmas.List.{get_or_past, map-set, map-append, length-map}
 use Rattle.std.proofs.lemmas.Bool.Decides.{nat_tests}
-use Rattle.kinds.specs.Kinds.{KindsOf, kinds_of, node_at, count_at, IsNode, HasRoom, Adds, Grants, Releases}
+use Rattle.kinds.specs.Kinds.{kinds_of, IsNode, HasRoom, Adds, Grants, Releases}
 
 pub eq_self : (n : ℕ) → (n == n) ≡ true
 eq_self n = grind (arith, nat_tests)

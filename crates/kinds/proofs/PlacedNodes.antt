@@ -1,21 +1,20 @@
 -- Nodes of a list that get numbers, and entries by them.
-use Rattle.std.proofs.Common.{◌≡◌, ℕ, zero, suc, ◌+◌, ◌<◌, Bool, true, false, cond, List, [], ◌∷◌, ◌++◌, length, map, get_or, Option, Some, None, refl, sym, ap, subst, ◌∙◌, arith}
+use Rattle.std.proofs.Common.{◌≡◌, ℕ, zero, suc, ◌<◌, Bool, true, false, cond, List, [], ◌∷◌, ◌++◌, length, map, get_or, Option, Some, None, refl, sym, ap, subst, ◌∙◌, arith}
 use Rattle.std.specs.Prelude.{◌==◌}
 use Rattle.std.specs.List.{AllByRecursion}
 use Rattle.std.specs.FinMap.{is_sorted}
-use Rattle.std.proofs.lemmas.List.{length-append, map-append}
+use Rattle.std.proofs.lemmas.List.{length-append}
 use Rattle.acl_names.specs.Paths.{path_cmp}
-use Rattle.path_map.specs.Entries.{PathOf, IsInOrder}
+use Rattle.path_map.specs.Entries.{IsInOrder}
 use Rattle.kinds.specs.Kinds.{KindsOf, node_at, count_at, IsNode, Adds}
 use Rattle.kinds.specs.Numbered.{Numbers, with_node, entries_by, AreUsed, one_if, paths_with}
-use Rattle.kinds.specs.Inner.{Extends, HasNumber, CountsRun, AddsBut}
+use Rattle.kinds.specs.Inner.{Extends}
 use Rattle.kinds.specs.declared.placed.GivenNode.{GivenNode}
 use Rattle.kinds.specs.Placed.{placed, given, AreGiven, IsOfEntry, ArePlaces, by_place, AddsNodes}
-use Rattle.kinds.proofs.Numbers.{eq_self, eq_true, push_read}
-use Rattle.kinds.proofs.EntriesBy.{some_same, entry_first, entries_append, adds_extends, adds_here}
+use Rattle.kinds.proofs.Numbers.{eq_true, push_read}
+use Rattle.kinds.proofs.EntriesBy.{adds_extends, adds_here}
 use Rattle.kinds.proofs.Counts.{sorted_paths}
 use Rattle.kinds.proofs.Chosen.{sorted_same}
-use Rattle.kinds.proofs.InTurn.{adds_more}
 
 pub all_item : {A B : Type 0} (f : A → B) (P : B → Type 0) (xs : List A) (i : ℕ) (x : A) → AllByRecursion P (map f xs) → i < length xs → x ≡ get_or xs i x → P (f x)
 all_item f P [] i x h lt is = absurd (omega arith)
@@ -82,31 +81,6 @@ module _ {N : Type 0} where
     placed_entries (e ∷ es) are =
         let some = some_at nodes all e.1 are.0 in
         λ i. with_node e.0 ((h.here e.1 some.0 some.1 ∙ sym some.1) i) (placed_entries es are.1 i)
-
-  -- what was added for some nodes is added to what was there before these
-  pub adds_after : (k0 k k1 : KindsOf N) (nodes : List (Option N)) (numbers : List ℕ) (puts : List (PathOf × N)) (entries : Numbers) (last pending : ℕ)
-      → AddsNodes k0 nodes numbers k → AddsBut k puts k1 entries last pending → AddsBut k0 (entries_by k1 entries) k1 entries last pending
-  adds_after k0 k k1 nodes numbers puts entries last pending h adds = record {
-    extends = λ n x is. adds.extends n x (h.extends n x is);
-    counts = λ n. let a = adds.counts n in let b = h.counts n in omega (arith, a, b);
-    used = adds.used;
-    made = refl;
-    there = adds.there;
-  }
-
-  -- one entry more by its place
-  pub place_more : (k0 k k1 : KindsOf N) (numbers : List ℕ) (done : Numbers) (entries : Numbers) (e : PathOf × ℕ) (last pending count : ℕ)
-      → IsNode k0 (get_or numbers e.1 0) → AddsBut k0 (entries_by k0 (by_place numbers done)) k entries last pending → CountsRun k last pending (get_or numbers e.1 0) k1 count
-      → AddsBut k0 (entries_by k0 (by_place numbers (done ++ e ∷ []))) k1 (entries ++ (e.0, get_or numbers e.1 0) ∷ []) (get_or numbers e.1 0) count
-  place_more k0 k k1 numbers done entries e last pending count there h run =
-      let at = get_or numbers e.1 0 in
-      let x = there.0 in
-      let one : HasNumber k x at k = record { extends = λ n y is. is; counts = λ n. refl; here = h.extends at x there.1 } in
-      subst (λ (puts : List (PathOf × N)). AddsBut k0 puts k1 (entries ++ (e.0, at) ∷ []) at count)
-      (sym (ap (entries_by k0) (map-append (λ e. (e.0, get_or numbers e.1 0)) done (e ∷ []))
-      ∙ entries_append k0 (by_place numbers done) ((e.0, at) ∷ [])
-      ∙ ap (λ l. entries_by k0 (by_place numbers done) ++ l) (entry_first k0 (e.0, at) [] x there.1)))
-      (adds_more k0 k k k1 (entries_by k0 (by_place numbers done)) entries e.0 x at last pending count h one run)
 
 paths_by_place : (numbers : List ℕ) (es : Numbers) → map (λ e. e.0) (by_place numbers es) ≡ map (λ e. e.0) es
 paths_by_place numbers [] = refl

@@ -13,7 +13,7 @@ use Rattle.kinds.proofs.Counts.{count_put_all, entries_put_all, used_put_all, ke
 use Rattle.kinds.proofs.Chosen.{in_order-filter, entries_filter, used_filter}
 use Rattle.kinds.proofs.Gone.{count_without_all}
 
-found_more : (n : ℕ) (os : List (Option ℕ)) (o : Option ℕ) → found_with n (os ++ o ∷ []) ≡ found_with n os + found_if n o
+pub found_more : (n : ℕ) (os : List (Option ℕ)) (o : Option ℕ) → found_with n (os ++ o ∷ []) ≡ found_with n os + found_if n o
 found_more n [] o = omega arith
 found_more n (x ∷ os) o = let h = found_more n os o in omega (arith, h)
 

@@ -1,15 +1,14 @@
 -- Kinds whose nodes become others: which entries they have, and what counts for them.
-use Rattle.std.proofs.Common.{◌≡◌, ◌≢◌, ℕ, zero, suc, ◌+◌, ◌*◌, ◌<◌, ◌≤◌, Bool, true, false, cond, List, [], ◌∷◌, ◌++◌, length, map, get_or, Option, Some, None, refl, sym, ap, subst, ◌∙◌, arith, nat_lt, ltb-true, ltb-false}
+use Rattle.std.proofs.Common.{◌≡◌, ◌≢◌, ℕ, zero, suc, ◌+◌, ◌*◌, ◌<◌, ◌≤◌, Bool, true, false, cond, List, [], ◌∷◌, ◌++◌, length, get_or, Option, Some, None, refl, sym, ap, subst, ◌∙◌, arith, nat_lt, ltb-true, ltb-false}
 use Rattle.std.specs.Prelude.{option_map, ◌==◌}
-use Rattle.std.specs.List.{AllByRecursion, sum_by}
+use Rattle.std.specs.List.{AllByRecursion}
 use Rattle.std.specs.Option.{option_map_or}
 use Rattle.std.proofs.lemmas.List.{length-append, get_or_past, map-append}
 use Rattle.std.proofs.lemmas.List.Sums.{sum_by-cons}
-use Rattle.path_map.specs.Entries.{PathOf}
-use Rattle.kinds.specs.Kinds.{KindsOf, kinds_of, node_at, count_at, IsNode, HasRoom}
+use Rattle.kinds.specs.Kinds.{KindsOf, kinds_of, node_at, count_at, HasRoom}
 use Rattle.kinds.specs.Numbered.{Numbers, with_node, entries_by, one_if, paths_with, AreUsed, AreSound}
 use Rattle.kinds.specs.Renewed.{renewed, weight_of, renewed_if, renewed_before, counts_before, weight_at, weight_before, Renews}
-use Rattle.kinds.proofs.Numbers.{eq_self, eq_true, eq_false, push_read, node_within}
+use Rattle.kinds.proofs.Numbers.{eq_true, eq_false, push_read, node_within}
 use Rattle.kinds.proofs.EntriesBy.{entry_first, all_weaker}
 use Rattle.kinds.proofs.Counts.{counted_all}
 
@@ -26,7 +25,7 @@ module _ {N M : Type 0} (f : N → M) (k : KindsOf N) where
   length-renewed zero = refl
   length-renewed (suc m) = length-append (renewed_before f k m) (renewed_if f (node_at k m) (count_at k m) ∷ []) ∙ (let h = length-renewed m in omega (arith, h))
 
-  renewed_read : (m n : ℕ) → n < m → get_or (renewed_before f k m) n None ≡ renewed_if f (node_at k n) (count_at k n)
+  pub renewed_read : (m n : ℕ) → n < m → get_or (renewed_before f k m) n None ≡ renewed_if f (node_at k n) (count_at k n)
   renewed_read zero n lt = absurd (omega arith)
   renewed_read (suc m) n lt =
       push_read (renewed_before f k m) n (renewed_if f (node_at k m) (count_at k m)) None
@@ -37,7 +36,7 @@ module _ {N M : Type 0} (f : N → M) (k : KindsOf N) where
       by true is before = ap (λ i. renewed_if f (node_at k i) (count_at k i)) (sym (eq_true n m is))
       by false is before = let other : n ≢ m = eq_false n m is in before (omega (arith, lt, other))
 
-  some_renewed : (o : Option N) (c : ℕ) → 0 < c → renewed_if f o c ≡ option_map f o
+  pub some_renewed : (o : Option N) (c : ℕ) → 0 < c → renewed_if f o c ≡ option_map f o
   some_renewed None c lt = refl
   some_renewed (Some x) c lt = by (nat_lt 0 c) refl
     where
@@ -170,7 +169,7 @@ module _ {N : Type 0} (w : N → ℕ) (k : KindsOf N) where
 -- ---- entries
 
 module _ {N M : Type 0} (f : N → M) (k : KindsOf N) (k' : KindsOf M) where
-  entries_renewed : (ns : Numbers) → AreUsed k ns → AllByRecursion (λ e. node_at k' e.1 ≡ option_map f (node_at k e.1)) ns → entries_by k' ns ≡ renewed f (entries_by k ns)
+  pub entries_renewed : (ns : Numbers) → AreUsed k ns → AllByRecursion (λ e. node_at k' e.1 ≡ option_map f (node_at k e.1)) ns → entries_by k' ns ≡ renewed f (entries_by k ns)
   entries_renewed [] used h = refl
   entries_renewed (e ∷ ns) used h =
       let x = used.0.0 in

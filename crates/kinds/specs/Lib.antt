@@ -7,3 +7,6 @@ pub mod Memo
 pub mod Stops
 pub mod Renewed
 pub mod Placed
+pub mod Given
+pub mod Passing
+pub mod Counted

@@ -2,7 +2,7 @@
 
 ghost use Rattle.std.specs.Prelude.{◌≡◌, ◌+◌, ◌-◌, ◌<◌, ◌≤◌, ◌^◌, [], ℕ, List, Option, Some, None, true, length, IfOk, OnOk, option_map, slice_get, slice_set, IfSome};
 ghost use Rattle.std.specs.Option.{option_copied};
-ghost use Rattle.kinds.specs.Renewed.{one_where, renewed_if, weight_at, weight_before, Renews};
+ghost use Rattle.kinds.specs.Renewed.{one_where, changed_where, weight_where, renewed_if, weight_at, weight_before, Renews, RenewsBefore};
 ghost use Rattle.kinds.specs.Kinds.{KindsOf, kinds_of, node_at, count_at, IsNode, Adds, Grants, Releases};
 
 use crate::blocks::Same;
@@ -16,9 +16,9 @@ use std::rc::Rc;
 /// The node of a number, if it has one, and the count of its files; for a free number the next one that is free.
 #[derive(Drop)]
 pub(crate) struct Slot<N> {
-    node: Option<Rc<N>>,
-    count: usize,
-    next: usize,
+    pub(crate) node: Option<Rc<N>>,
+    pub(crate) count: usize,
+    pub(crate) next: usize,
 }
 
 impl<N> Model for Slot<N> {
@@ -28,7 +28,7 @@ impl<N> Model for Slot<N> {
 }
 
 /// A pointer more to a node, if there is one.
-fn shared<N: Drop>(node: &Option<Rc<N>>) -> Result<Option<Rc<N>>, AllocError>
+pub(crate) fn shared<N: Drop>(node: &Option<Rc<N>>) -> Result<Option<Rc<N>>, AllocError>
     ensures { IfOk result (λ same. option_map (λ r. r.value) same ≡ option_map (λ r. r.value) node.now) }
 {
     match node {
@@ -58,14 +58,14 @@ impl Same for usize {
 }
 
 /// The number that no slot has.
-const NONE: usize = usize::MAX;
+pub(crate) const NONE: usize = usize::MAX;
 
 /// For each number a node and the count of its files. A copy shares all nodes. Numbers that are given back are given again:
 /// each free slot has the number of the next one.
 #[derive(Drop)]
 pub struct Kinds<N> {
-    slots: SharedList<Slot<N>>,
-    free: usize,
+    pub(crate) slots: SharedList<Slot<N>>,
+    pub(crate) free: usize,
 }
 
 impl<N> Model for Kinds<N> {
@@ -93,6 +93,14 @@ impl<N> Kinds<N> {
             Some(slot) => slot.node(),
             None => None,
         }
+    }
+
+    /// How many numbers there are, with those that are free. Allocates nothing.
+    pub(crate) fn len(&self) -> usize
+        ensures nodes { result ≡ length self.now.0 }
+        ensures counts { result ≡ length self.now.1 }
+    {
+        self.slots.len()
     }
 
     /// How many paths have a number. Allocates nothing.
@@ -270,7 +278,7 @@ impl<N> Kinds<N> {
     }
 
     /// The number after a free one.
-    fn next_of(&self, number: usize) -> usize {
+    pub(crate) fn next_of(&self, number: usize) -> usize {
         match self.slots.get(number) {
             Some(slot) => slot.next,
             None => NONE,
@@ -298,6 +306,54 @@ impl<N> Kinds<N> {
             slots,
             free: self.free,
         })
+    }
+}
+
+impl<N: Drop> Kinds<N> {
+    /// Slots with what the node of a number becomes, if it passes a test and a path has it; all others are shared.
+    fn slots_renewed<S, T: KindTest<N>, R: Renewal<N, N, S>>(
+        &self,
+        alloc: Global,
+        state: &mut S,
+        test: &T,
+        renewal: &R,
+        slots: SharedList<Slot<N>>,
+        number: usize,
+    ) -> Result<SharedList<Slot<N>>, AllocError>
+        requires room { R.counted state.old + weight_at (weight_where (T.passes test.now) (R.weight renewal.now)) self.now number < 2 ^ 64 }
+        requires before { RenewsBefore (changed_where (T.passes test.now) (R.renewed renewal.now)) self.now number (kinds_of slots) }
+        ensures renews { IfOk result (λ new. RenewsBefore (changed_where (T.passes test.now) (R.renewed renewal.now)) self.now (number + 1) (kinds_of new)) }
+        ensures exact { OnOk result (R.is_exact ≡ true → R.counted state.new ≡ R.counted state.old + weight_at (weight_where (T.passes test.now) (R.weight renewal.now)) self.now number) }
+        ensures at_most { R.counted state.new ≤ R.counted state.old + weight_at (weight_where (T.passes test.now) (R.weight renewal.now)) self.now number }
+    {
+        if self.passing(test, number) == 0 {
+            return Ok(slots);
+        }
+        let slot = self.renewed_slot(alloc, state, renewal, number)?;
+        let slots = slots.with(number, slot)?;
+        Ok(slots)
+    }
+
+    /// For each number that paths have, and whose node passes a test, what its node becomes; the slots of other numbers are
+    /// shared. The counts are the same. Fails only if memory runs out.
+    pub(crate) fn renewed_where<S, T: KindTest<N>, R: Renewal<N, N, S>>(
+        &self,
+        alloc: Global,
+        state: &mut S,
+        test: &T,
+        renewal: &R,
+    ) -> Result<Kinds<N>, AllocError>
+        requires room { R.counted state.old + weight_before (weight_where (T.passes test.now) (R.weight renewal.now)) self.now (length self.now.0) < 2 ^ 64 }
+        ensures renews { IfOk result (λ new. Renews (changed_where (T.passes test.now) (R.renewed renewal.now)) self.now new) }
+        ensures exact { OnOk result (R.is_exact ≡ true → R.counted state.new ≡ R.counted state.old + weight_before (weight_where (T.passes test.now) (R.weight renewal.now)) self.now (length self.now.0)) }
+        ensures at_most { R.counted state.new ≤ R.counted state.old + weight_before (weight_where (T.passes test.now) (R.weight renewal.now)) self.now (length self.now.0) }
+    {
+        let mut slots = self.slots.share()?;
+        for number in 0..self.slots.len() {
+            slots = self.slots_renewed(alloc, state, test, renewal, slots, number)?;
+        }
+        let free = self.free;
+        Ok(Kinds { slots, free })
     }
 }
 

@@ -5,16 +5,20 @@
 mod above;
 mod blocks;
 mod builder;
+mod counted;
 mod edit;
 mod finder;
+mod given;
 mod iter;
 mod kinds;
 mod list;
 mod map;
 mod memo;
 mod numbering;
+mod passing;
 mod placed;
 mod put;
+mod release;
 mod renew;
 
 pub use blocks::{BlockList, Same};

@@ -10,12 +10,13 @@ ghost use Rattle.acl_names.specs.Below.{encloses};
 ghost use Rattle.path_map.specs.Below.{from, within};
 ghost use Rattle.path_map.specs.Merged.{without_all};
 ghost use Rattle.kinds.specs.Numbered.{AreSound, entries_in};
-ghost use Rattle.kinds.specs.Kinds.{node_at, Releases};
+ghost use Rattle.kinds.specs.Kinds.{node_at};
 ghost use Rattle.kinds.specs.Placed.{IsOfEntry};
-ghost use Rattle.kinds.specs.Inner.{ReleasesAll, ReleasesRun};
+ghost use Rattle.kinds.specs.Given.{used_at};
 
 use crate::iter::KindsIter;
 use crate::kinds::Kinds;
+use crate::release::release_all;
 use acl_names::Path;
 use path_map::{PathMap, Within};
 use std::alloc::{AllocError, Global};
@@ -86,6 +87,7 @@ impl<N> KindMap<N> {
     pub fn used(&self, number: usize) -> Option<&N>
         ensures node { IfSome result (λ node. node_at self.now.0 number ≡ Some node.now) }
         ensures entry { IfSome result (λ node. IsOfEntry node.now (entries_in self.now)) }
+        ensures exact { option_copied result ≡ used_at self.now.0 number }
     {
         let kinds = self.kinds();
         if kinds.count(number) == 0 {
@@ -174,58 +176,8 @@ impl<N: Drop> KindMap<N> {
     {
         let found = self.numbers().get_all(alloc, gone)?;
         let numbers = self.numbers().without_all(alloc, gone)?;
-        let kinds = release_all(self.kinds().share()?, &found)?;
+        let kinds = release_all(alloc, self.kinds().share()?, &found)?;
         let map = KindMap::of(alloc, kinds, numbers)?;
         Ok(map)
     }
-}
-
-/// So many paths have a number no longer, if any.
-fn release_if<N: Drop>(kinds: Kinds<N>, number: usize, fewer: usize) -> Result<Kinds<N>, AllocError>
-    ensures { IfOk result (λ new. Releases kinds number fewer new) }
-{
-    if fewer == 0 {
-        return Ok(kinds);
-    }
-    kinds.release(number, fewer)
-}
-
-/// A path that was looked up has its number no longer, after a run of paths of one number that are counted still: so many
-/// are, of this number.
-fn release_run<N: Drop>(
-    kinds: Kinds<N>,
-    last: usize,
-    pending: usize,
-    found: Option<usize>,
-) -> Result<(Kinds<N>, usize, usize), AllocError>
-    ensures { IfOk result (λ new. ReleasesRun kinds last pending found new.0 new.1 new.2) }
-{
-    let Some(number) = found else {
-        return Ok((kinds, last, pending));
-    };
-    if number == last && pending < usize::MAX {
-        return Ok((kinds, number, pending + 1));
-    }
-    let kinds = release_if(kinds, last, pending)?;
-    Ok((kinds, number, 1))
-}
-
-/// Paths that were looked up have their numbers no longer, by runs of one number.
-pub(crate) fn release_all<N: Drop>(
-    kinds: Kinds<N>,
-    found: &[Option<usize>],
-) -> Result<Kinds<N>, AllocError>
-    ensures { IfOk result (λ new. ReleasesAll kinds found.now new) }
-{
-    let mut kinds = kinds;
-    let mut last = 0;
-    let mut pending = 0;
-    for one in found {
-        let (released, number, count) = release_run(kinds, last, pending, *one)?;
-        kinds = released;
-        last = number;
-        pending = count;
-    }
-    let kinds = release_if(kinds, last, pending)?;
-    Ok(kinds)
 }

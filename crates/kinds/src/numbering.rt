@@ -3,6 +3,7 @@
 ghost use Rattle.std.specs.Prelude.{◌≡◌, ◌<◌, true, Some, IfOk, IfSome};
 ghost use Rattle.kinds.specs.Kinds.{node_at, IsNode, Grants};
 ghost use Rattle.kinds.specs.Inner.{HasNumber, CountsRun, GivesNumber};
+ghost use Rattle.kinds.specs.Counted.{AreNodes, GrantsEach};
 
 use crate::kinds::Kinds;
 use std::alloc::{AllocError, Global};
@@ -40,7 +41,7 @@ pub(crate) struct Numbering<N> {
     marks: Marks,
     /// The number that was given last.
     pub(crate) last: usize,
-    /// How many paths got it, one after another: none before the first one.
+    /// How many paths got it, one after another, or 1 where paths are counted later: none before the first one.
     pub(crate) pending: usize,
 }
 
@@ -168,6 +169,18 @@ fn grant_if<N: Drop>(kinds: Kinds<N>, number: usize, more: usize) -> Result<Kind
     kinds.grant(number, more)
 }
 
+/// For each number so many paths more have it.
+pub(crate) fn grant_each<N: Drop>(kinds: Kinds<N>, counts: &[usize]) -> Result<Kinds<N>, AllocError>
+    requires { AreNodes kinds counts.now }
+    ensures { IfOk result (λ new. GrantsEach kinds counts.now new) }
+{
+    let mut kinds = kinds;
+    for number in 0..counts.len() {
+        kinds = grant_if(kinds, number, counts[number])?;
+    }
+    Ok(kinds)
+}
+
 /// One path more has a number, after a run of paths that have one and are not counted yet: so many are not, of this number.
 fn count_run<N: Drop>(
     kinds: Kinds<N>,
@@ -230,6 +243,44 @@ impl<N: Drop> Numbering<N> {
             last: number,
             pending,
         })
+    }
+
+    /// A number for a node: that of a node that is the same, if it was given, or else a new one, to which the node is moved.
+    /// No path is counted.
+    pub(crate) fn number<L: Likeness<N>>(
+        self,
+        alloc: Global,
+        node: N,
+        likeness: &L,
+    ) -> Result<Numbering<N>, AllocError>
+        ensures { IfOk result (λ new. HasNumber self.kinds node new.last new.kinds) }
+    {
+        let Numbering {
+            kinds,
+            mut marks,
+            last,
+            pending,
+        } = self;
+        let (kinds, number) = number_for(alloc, kinds, &mut marks, last, pending, node, likeness)?;
+        Ok(Numbering {
+            kinds,
+            marks,
+            last: number,
+            pending: 1,
+        })
+    }
+
+    /// The nodes.
+    pub(crate) fn into_kinds(self) -> Kinds<N>
+        ensures { result ≡ self.kinds }
+    {
+        let Numbering {
+            kinds,
+            marks: _marks,
+            last: _last,
+            pending: _pending,
+        } = self;
+        kinds
     }
 
     /// One path more has a number that has a node.

@@ -1,17 +1,14 @@
 //! Entries put among those of a map, whose nodes are at places of a list: each of these nodes gets one number.
 
 ghost use Rattle.std.specs.Prelude.{◌≡◌, ◌<◌, ◌++◌, ◌∷◌, [], Option, Some, List, ℕ, length, map, get_or, IfOk};
-ghost use Rattle.std.specs.List.{AllByRecursion};
 ghost use Rattle.path_map.specs.Entries.{IsInOrder, seen};
 ghost use Rattle.path_map.specs.Merged.{put_all};
-ghost use Rattle.kinds.specs.Kinds.{IsNode, KindsOf};
-ghost use Rattle.kinds.specs.Numbered.{entries_in, entries_by};
-ghost use Rattle.kinds.specs.Inner.{AddsBut};
+ghost use Rattle.kinds.specs.Kinds.{KindsOf};
+ghost use Rattle.kinds.specs.Numbered.{entries_in};
 ghost use Rattle.kinds.specs.Placed.{placed, given, AreGiven, ArePlaces, by_place, AddsNodes};
 
 use crate::kinds::Kinds;
 use crate::map::KindMap;
-use crate::numbering::Numbering;
 use crate::put::put_numbered;
 use acl_names::Path;
 use std::alloc::{AllocError, Global};
@@ -68,37 +65,20 @@ fn number_at(numbers: &[usize], place: usize) -> usize
     numbers[place]
 }
 
-/// Entries with the numbers at their places, and nodes that count their paths but for the last ones.
-#[derive(Drop)]
-struct NumberedEntries<'a, N> {
-    numbering: Numbering<N>,
-    entries: Vec<(&'a Path, usize)>,
-}
-
-/// Entries with the numbers at their places, counted.
-fn number_entries<'a, N: Drop>(
+/// Entries with the numbers at their places.
+fn entries_numbered<'a>(
     alloc: Global,
-    kinds: Kinds<N>,
     numbers: &[usize],
     entries: &[(&'a Path, usize)],
-) -> Result<NumberedEntries<'a, N>, AllocError>
-    requires nodes { AllByRecursion (λ n. IsNode kinds n) numbers.now }
-    requires places { ArePlaces (length numbers.now) (map seen entries.now) }
-    ensures entries { IfOk result (λ new. map seen new.entries.items ≡ by_place numbers.now (map seen entries.now)) }
-    ensures added { IfOk result (λ new. AddsBut kinds (entries_by kinds (by_place numbers.now (map seen entries.now)))
-        new.numbering.kinds (map seen new.entries.items) new.numbering.last new.numbering.pending) }
+) -> Result<Vec<(&'a Path, usize)>, AllocError>
+    requires { ArePlaces (length numbers.now) (map seen entries.now) }
+    ensures { IfOk result (λ new. map seen new.items ≡ by_place numbers.now (map seen entries.now)) }
 {
-    let mut numbering = Numbering::new(alloc, kinds);
     let mut numbered = Vec::with_capacity(alloc, entries.len())?;
     for entry in entries {
-        let number = number_at(numbers, entry.1);
-        numbering = numbering.give_at(number)?;
-        numbered.push((entry.0, number))?;
+        numbered.push((entry.0, number_at(numbers, entry.1)))?;
     }
-    Ok(NumberedEntries {
-        numbering,
-        entries: numbered,
-    })
+    Ok(numbered)
 }
 
 impl<N: Drop> KindMap<N> {
@@ -117,9 +97,8 @@ impl<N: Drop> KindMap<N> {
         ensures { IfOk result (λ new. entries_in new.0 ≡ put_all (placed (map (given self.now.0) nodes.now) (map seen entries.now)) (entries_in self.now)) }
     {
         let (kinds, numbers) = add_nodes(alloc, self.kinds().share()?, nodes)?;
-        let new = number_entries(alloc, kinds, &numbers, entries)?;
-        let NumberedEntries { numbering, entries } = new;
-        let map = put_numbered(alloc, self, numbering, &entries)?;
+        let entries = entries_numbered(alloc, &numbers, entries)?;
+        let map = put_numbered(alloc, self, kinds, &entries)?;
         Ok((map, numbers))
     }
 }

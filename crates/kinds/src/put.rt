@@ -5,10 +5,13 @@ ghost use Rattle.std.specs.List.{AllByRecursion};
 ghost use Rattle.path_map.specs.Entries.{IsInOrder, seen, found};
 ghost use Rattle.path_map.specs.Merged.{put_all};
 ghost use Rattle.kinds.specs.Numbered.{entries_in, entries_by};
-ghost use Rattle.kinds.specs.Inner.{AddsBut};
+ghost use Rattle.kinds.specs.Counted.{AddsUncounted};
 
-use crate::map::{KindMap, release_all};
+use crate::counted::count_entries;
+use crate::kinds::Kinds;
+use crate::map::KindMap;
 use crate::numbering::{Likeness, Numbering};
+use crate::release::release_all;
 use acl_names::Path;
 use path_map::PathMap;
 use std::alloc::{AllocError, Global};
@@ -26,13 +29,13 @@ impl<'a, N> Model for KindPuts<'a, N> {
     ghost use Rattle.std.specs.Prelude.{List, map};
     ghost use Rattle.path_map.specs.Entries.{PathOf, seen};
     ghost use Rattle.kinds.specs.Numbered.{entries_by, entries_in};
-    ghost use Rattle.kinds.specs.Inner.{AddsBut};
+    ghost use Rattle.kinds.specs.Counted.{AddsUncounted};
 
     ghost Value = { List (PathOf × N) × List (PathOf × N) };
 
     ghost view = { λ p. (entries_in p.before.now, entries_by p.numbering.kinds (map seen p.entries.items)) };
 
-    ghost invariant = { λ p. AddsBut p.before.now.0 (entries_by p.numbering.kinds (map seen p.entries.items)) p.numbering.kinds (map seen p.entries.items) p.numbering.last p.numbering.pending };
+    ghost invariant = { λ p. AddsUncounted p.before.now.0 p.numbering.kinds (map seen p.entries.items) };
 }
 
 /// Whether each path that was looked up was found.
@@ -90,20 +93,20 @@ fn numbers_with(
     numbers_put(alloc, numbers, entries)
 }
 
-/// A map with entries put by their numbers. Where each path is there already, both share all paths.
+/// A map with entries put by their numbers, of which none is counted. Where each path is there already, both share all paths.
 pub(crate) fn put_numbered<N: Drop>(
     alloc: Global,
     before: &KindMap<N>,
-    numbering: Numbering<N>,
+    kinds: Kinds<N>,
     entries: &[(&Path, usize)],
 ) -> Result<KindMap<N>, AllocError>
-    requires added { AddsBut before.now.0 (entries_by numbering.kinds (map seen entries.now)) numbering.kinds (map seen entries.now) numbering.last numbering.pending }
-    requires order { IsInOrder (entries_by numbering.kinds (map seen entries.now)) }
-    ensures { IfOk result (λ new. entries_in new ≡ put_all (entries_by numbering.kinds (map seen entries.now)) (entries_in before.now)) }
+    requires added { AddsUncounted before.now.0 kinds (map seen entries.now) }
+    requires order { IsInOrder (entries_by kinds (map seen entries.now)) }
+    ensures { IfOk result (λ new. entries_in new ≡ put_all (entries_by kinds (map seen entries.now)) (entries_in before.now)) }
 {
-    let kinds = numbering.counted()?;
+    let kinds = count_entries(alloc, kinds, entries)?;
     let (numbers, found) = numbers_with(alloc, before.numbers(), entries)?;
-    let kinds = release_all(kinds, &found)?;
+    let kinds = release_all(alloc, kinds, &found)?;
     let map = KindMap::of(alloc, kinds, numbers)?;
     Ok(map)
 }
@@ -136,7 +139,7 @@ impl<'a, N: Drop> KindPuts<'a, N> {
             numbering,
             mut entries,
         } = self;
-        let numbering = numbering.give(alloc, node, likeness)?;
+        let numbering = numbering.number(alloc, node, likeness)?;
         entries.push((path, numbering.last))?;
         Ok(KindPuts {
             before,
@@ -156,7 +159,7 @@ impl<'a, N: Drop> KindPuts<'a, N> {
             numbering,
             entries,
         } = self;
-        let map = put_numbered(alloc, before, numbering, &entries)?;
+        let map = put_numbered(alloc, before, numbering.into_kinds(), &entries)?;
         Ok(map)
     }
 }

@@ -2,7 +2,7 @@
 
 ghost use Rattle.std.specs.Prelude.{◌≡◌, ◌+◌, ◌*◌, ◌<◌, ◌≤◌, ◌^◌, ℕ, Bool, true, length, count_by, IfOk, OnOk};
 ghost use Rattle.kinds.specs.Numbered.{entries_in};
-ghost use Rattle.kinds.specs.Renewed.{renewed, weight_of};
+ghost use Rattle.kinds.specs.Renewed.{renewed, weight_of, changed_where, weight_where};
 
 use crate::map::KindMap;
 use std::alloc::{AllocError, Global};
@@ -65,6 +65,27 @@ impl<N: Drop> KindMap<N> {
         ensures at_most { R.counted state.new ≤ R.counted state.old + weight_of (R.weight renewal.now) (entries_in self.now) }
     {
         let kinds = self.kinds().renewed(alloc, state, renewal)?;
+        let numbers = self.numbers().share()?;
+        let map = KindMap::of(alloc, kinds, numbers)?;
+        Ok(map)
+    }
+
+    /// The map of the same paths with what their nodes become where they pass a test: each kind is tested once, and renewed
+    /// once if it passes. Both maps share the paths, their numbers and all nodes that do not pass. Fails only if memory runs
+    /// out.
+    pub fn renewed_where<S, T: KindTest<N>, R: Renewal<N, N, S>>(
+        &self,
+        alloc: Global,
+        state: &mut S,
+        test: &T,
+        renewal: &R,
+    ) -> Result<KindMap<N>, AllocError>
+        requires room { R.counted state.old + weight_of (weight_where (T.passes test.now) (R.weight renewal.now)) (entries_in self.now) < 2 ^ 64 }
+        ensures entries { IfOk result (λ new. entries_in new ≡ renewed (changed_where (T.passes test.now) (R.renewed renewal.now)) (entries_in self.now)) }
+        ensures exact { OnOk result (R.is_exact ≡ true → R.counted state.new ≡ R.counted state.old + weight_of (weight_where (T.passes test.now) (R.weight renewal.now)) (entries_in self.now)) }
+        ensures at_most { R.counted state.new ≤ R.counted state.old + weight_of (weight_where (T.passes test.now) (R.weight renewal.now)) (entries_in self.now) }
+    {
+        let kinds = self.kinds().renewed_where(alloc, state, test, renewal)?;
         let numbers = self.numbers().share()?;
         let map = KindMap::of(alloc, kinds, numbers)?;
         Ok(map)

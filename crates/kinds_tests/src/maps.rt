@@ -39,7 +39,7 @@ fn pushed(
 }
 
 /// The map of the paths a, b and c with these nodes.
-fn built(rt: &impl Abort, alloc: Global, nodes: [u32; 3]) -> KindMap<u32> {
+pub(crate) fn built(rt: &impl Abort, alloc: Global, nodes: [u32; 3]) -> KindMap<u32> {
     let builder = pushed(rt, alloc, KindMapBuilder::new(alloc), b"a", nodes[0]);
     let builder = pushed(rt, alloc, builder, b"b", nodes[1]);
     let builder = pushed(rt, alloc, builder, b"c", nodes[2]);
@@ -47,7 +47,7 @@ fn built(rt: &impl Abort, alloc: Global, nodes: [u32; 3]) -> KindMap<u32> {
 }
 
 /// The map with a node put at a path.
-fn put_one(
+pub(crate) fn put_one(
     rt: &impl Abort,
     alloc: Global,
     map: &KindMap<u32>,
@@ -84,7 +84,7 @@ fn put_two(
 }
 
 /// A path has this node, by this number.
-fn expect_entry(
+pub(crate) fn expect_entry(
     rt: &impl Abort,
     alloc: Global,
     map: &KindMap<u32>,

@@ -4,8 +4,8 @@ ghost use Rattle.std.specs.Prelude.{◌≡◌, ◌<◌, ◌++◌, None, length, 
 ghost use Rattle.std.specs.FinMap.{find, is_sorted};
 ghost use Rattle.acl_names.specs.Paths.{path_cmp};
 ghost use Rattle.path_map.specs.Entries.{IsInOrder, IsCount, PathOf, entries_of_parts, seen, found};
-ghost use Rattle.path_map.specs.Below.{up_to, within};
-ghost use Rattle.path_map.specs.Inner.{IsCountUpTo, AreFirstWithin, IsStart};
+ghost use Rattle.path_map.specs.Below.{up_to, within, is_passed};
+ghost use Rattle.path_map.specs.Inner.{IsCountUpTo, AreFirstWithin, ArePassed, IsStart};
 
 use acl_names::{Path, PathRef};
 use std::alloc::AllocError;
@@ -122,6 +122,30 @@ pub(crate) fn count_parts_within<V, P: Part<V>>(parts: &[Rc<P>], top: &Path) -> 
     while low < high {
         let middle = low + (high - low) / 2;
         if parts[middle].first().is_within(top) {
+            low = middle + 1;
+        } else {
+            high = middle;
+        }
+    }
+    low
+}
+
+/// Whether a path is before another one, at it or below it.
+fn is_passed(top: &Path, path: &Path) -> bool
+    ensures { result ≡ is_passed top.now path.now }
+{
+    top.order(path).is_gt() || path.is_within(top)
+}
+
+/// How many parts begin before a path, at it or below it.
+pub(crate) fn count_passed<V, P: Part<V>>(parts: &[Rc<P>], top: &Path) -> usize
+    ensures { ArePassed (λ c. P.entries_of c.value) parts.now top.now result }
+{
+    let mut low = 0;
+    let mut high = parts.len();
+    while low < high {
+        let middle = low + (high - low) / 2;
+        if is_passed(top, parts[middle].first()) {
             low = middle + 1;
         } else {
             high = middle;

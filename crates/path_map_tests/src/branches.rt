@@ -51,6 +51,7 @@ fn expect_number(rt: &impl Abort, alloc: Global, map: &PathMap<usize>, number: u
     assert!(rt; map.get(&row.0) == Some(number));
     assert!(rt; value_up_to(map, &row.0) == Some(number));
     assert!(rt; are_evens(map.from(&row.0), number, 70_000));
+    assert!(rt; are_evens(map.after(&row.0), number.wrapping_add(2), 70_000));
 }
 
 #[test]

@@ -39,12 +39,13 @@ fn printed_within(rt: &impl Abort, alloc: Global, mut entries: Within<'_, '_, us
     text
 }
 
-/// A path, its value, that of the last entry up to it, what is printed from it on, and what is printed within it.
+/// A path, its value, that of the last entry up to it, and what is printed from it on, after all below it, and within it.
 struct Look {
     path: &'static [u8],
     value: Option<usize>,
     up_to: Option<usize>,
     from: &'static [u8],
+    after: &'static [u8],
     within: &'static [u8],
 }
 
@@ -54,6 +55,7 @@ static LOOKS: [Look; 4] = [
         value: Some(1),
         up_to: Some(1),
         from: b".=1 a=2 a/b=3 ab=4 ",
+        after: b"",
         within: b".=1 a=2 a/b=3 ab=4 ",
     },
     // A sibling whose name begins alike is not below.
@@ -62,6 +64,7 @@ static LOOKS: [Look; 4] = [
         value: Some(2),
         up_to: Some(2),
         from: b"a=2 a/b=3 ab=4 ",
+        after: b"ab=4 ",
         within: b"a=2 a/b=3 ",
     },
     Look {
@@ -69,6 +72,7 @@ static LOOKS: [Look; 4] = [
         value: Some(3),
         up_to: Some(3),
         from: b"a/b=3 ab=4 ",
+        after: b"ab=4 ",
         within: b"a/b=3 ",
     },
     Look {
@@ -76,6 +80,7 @@ static LOOKS: [Look; 4] = [
         value: None,
         up_to: Some(3),
         from: b"ab=4 ",
+        after: b"ab=4 ",
         within: b"",
     },
 ];
@@ -85,6 +90,7 @@ fn expect_look(rt: &impl Abort, alloc: Global, map: &PathMap<usize>, look: &Look
     assert!(rt; map.get(&path) == look.value);
     assert!(rt; value_up_to(map, &path) == look.up_to);
     assert!(rt; printed(rt, alloc, map.from(&path)).as_slice() == look.from);
+    assert!(rt; printed(rt, alloc, map.after(&path)).as_slice() == look.after);
     assert!(rt; printed_within(rt, alloc, map.within(&path)).as_slice() == look.within);
 }
 

@@ -1,9 +1,11 @@
-"""Tests of tools/: documents.py over a small repository, what memory_faults.py reads and finds, and lib/ with a program
-of its own in the place of the real one."""
+"""Tests of tools/: documents.py over a small repository, tool_rows.py over parts of this one, what memory_faults.py reads
+and finds, and lib/ with a program of its own in the place of the real one."""
 from __future__ import annotations
 
 import argparse
 import os
+import re
+import shutil
 import signal
 import subprocess
 import sys
@@ -14,6 +16,7 @@ from typing import Dict, List, Tuple
 
 HERE = os.path.dirname(os.path.realpath(__file__))
 LIB = os.path.realpath(os.path.join(HERE, "..", "..", "lib"))
+TOP = os.path.realpath(os.path.join(HERE, "..", "..", ".."))
 sys.path[:0] = [os.path.join(HERE, ".."), os.path.join(HERE, "..", ".."), LIB]
 
 from documents import Checks  # noqa: E402
@@ -21,6 +24,7 @@ from memory_faults import Source, faults_of  # noqa: E402
 from random_lines import Unit, is_of_tools, numbers_of, script_of  # noqa: E402
 from script import Failed, with_row  # noqa: E402
 from session import Expect, MeasuredSession, Session, TimedRun, has_tool, program_at, timed  # noqa: E402
+from tool_rows import ToolRows  # noqa: E402
 from ways import Crates  # noqa: E402
 
 
@@ -124,7 +128,17 @@ maps  4,095
 README = """[a](tools/README.md), tools/lib/a.py, [b](docs/READING.md#to-read-short), [here](https://example.org/a).
 `low/src/a.rt`, `src/b.rt`, specs/Maps.antt, crates/low/out/facl, `[a](b)`.
 `look_up`, `Map::get`, `anyhow::Error`, `X_tests`, `of_`.
+## The tools of a script
+| Tools | For |
+|---|---|
+| `can`, `chmod` | all |
 """
+# The records of the commands, with two tools alone.
+with open(os.path.join(TOP, "commands", "facl_commands", "tools.py"), encoding="utf-8") as tools_file:
+    RECORDS = re.sub(r"(?ms)^ROWS = \(.*?^\)$", """ROWS = (
+    Tool(b"can", QUESTION, "USER FILE", BY_REACH),
+    Tool(b"chmod", EDIT, "MODE FILE..", (RECURSIVE, option("-v"))),
+)""", tools_file.read())
 FILES: Dict[str, str] = {
     "crates.txt": "# crates\nlow: clap\nlow_tests: low\nfacl_words: low  # words\nfacl: clap facl_words low\n",
     "crates/low/src/lib.rt": "mod a;\npub mod open;\nmod b;\npub use a::{Judge, Map, maps_are_maps, read};\n",
@@ -134,17 +148,19 @@ FILES: Dict[str, str] = {
     "crates/low/specs/Maps.antt": "-- What a map is.\nabbrev pub look_up : Map → ℕ\n",
     "crates/low/must-fail/grows_by_one.edit": "file: src/a.rt\nold: ensures grown { x } { 2 }\nnew: 3\n",
     "crates/low/must-fail/one_too_many.edit": "file: src/a.rt\nold: MOST: usize = 4\nnew: 5\n",
-    "crates/facl/src/tools.rt": '//! Tools.\nTool::Can => "can",\nTool::Chmod => "chmod",\n',
+    "crates/facl/src/tools.rt": '//! Tools.\nrow!(Can, "can", can::SYNTAX),\nrow!(Chmod, "chmod", chmod::SYNTAX),\n',
     "crates/facl/src/tools/can.rt": '//! One.\nflags: &[by_name!("reach")],\n',
     "crates/facl/src/tools/chmod.rt": "//! One.\nflags: &[both!('R', \"recursive\"), by_letter!('v', \"v\")],\n",
     "crates/facl_words/src/args.rt": '//! Words.\n[by_name!("dump")]\n',
     "commands/facl-ask": "#!/bin/sh\n# Asks\n# all.\nexit\n",
+    "commands/facl_commands/tools.py": RECORDS,
+    "commands/facl_commands/cause_rows.py": '"""Rows."""\nrow("a", USAGE, first("can"), "", "", "chmod")\n',
     "tools/lib/a.py": '#!/usr/bin/env python3\n"""Checks\nall.\n\nMore.\n"""\n',
     "tools/README.md": "lib/a.py, and facl_words.md is no script.\n",
     "docs/PROOFS.md": PROOFS,
     "docs/ARCHITECTURE.md": ARCHITECTURE,
     "docs/facl.1": PAGE,
-    "docs/SPECIFICATION.md": "4,096 maps of 1000.\n",
+    "docs/SPECIFICATION.md": "4,096 maps of 1000; `can --reach`, `chmod -Rv`, `-R`, `-v`.\n",
     "docs/READING.md": "# To `read`: short\n```\nabbrev pub look_up : Map → ℕ\n\npub const MOST: usize = 4_096;\n```\n",
     "CONTRIBUTING.md": "| Crates | Tests |\n|---|---|\n| low | low_tests |\n| facl, facl_words | none |\n",
     "README.md": README,
@@ -154,7 +170,7 @@ MADE = "is not as the sources have it: tools/check/documents.py --write"
 FAULTS: Dict[str, List[Tuple[str, ...]]] = {
     "docs/PROOFS.md": [
         ("::put`, as", "::take`, as", "3: no `low::Map::take` in low", "3: no `low::Map::take` in the sources"),
-        ("(`look_up`)", "(`look`)", "3: no `look` in low"),
+        ("(`look_up`)", "(`gaze`)", "3: no `gaze` in low"),
         ("(`Map::put`, clauses `ok`, `err`", "(`Map::get`, clause `ok`", "3: no function here has a clause `ok`",
          "3: Map::get has none of the clauses named; it has none"),
         ("`low::Map::get`", "`facl::Map::get`", "10: no `facl::Map::get` in facl"),
@@ -172,7 +188,7 @@ FAULTS: Dict[str, List[Tuple[str, ...]]] = {
     "docs/facl.1": [
         ("4,095", "4,094", "12: 4094 is no limit of docs/ARCHITECTURE.md"),
         (r"[\-Rv]", r"[\-Rw]", "1: chmod does not read -w", "1: chmod has no -v here"),
-        ("SS can", "SS may", "1: the program has no tool may", "1: the tool can is not in the page"),
+        ("SS can", "SS may", "1: the program has no tool may", "1: the tool can is not in it"),
         (r"\-\-dump", r"\-\-dumps", "1: facl does not read --dumps", "1: facl has no --dump here")],
     "docs/READING.md": [("4_096", "4_097", "5: is in no source")],
     "CONTRIBUTING.md": [
@@ -188,6 +204,13 @@ FAULTS: Dict[str, List[Tuple[str, ...]]] = {
         ("`look_up`", "`look_down`", "3: no `look_down` in the sources"),
         ("`Map::get`", "`Map::gone`", "3: no `Map::gone` in the sources")],
 }
+
+
+# What the check of tools and options reads.
+OF_TOOLS = ("crates/facl/src/tools.rt", "crates/facl/src/tools", "crates/facl_words/src/args.rt", "README.md",
+            "commands/facl_commands", "docs/SPECIFICATION.md", "docs/facl.1", "docs/facl-commands.1")
+RECORDS_PATH, CAUSES = "commands/facl_commands/tools.py", "commands/facl_commands/cause_rows.py"
+RULES, PAGE_PATH = "docs/SPECIFICATION.md", "docs/facl.1"
 
 
 class Documents(Case):
@@ -211,6 +234,56 @@ class Documents(Case):
         heads = [head for _, head in checks.heads(["low"])]
         self.assertEqual(heads, ["What a map is.", "Maps, by `a|b`.", "Closed.", "Cut."])
         self.assertEqual(dict(checks.heads([]))["tools/lib/a.py"], "Checks all.")
+
+
+class Tools(Case):
+    """A tool and an option that the program gets, in a copy of this repository, and that others lose."""
+
+    def setUp(self) -> None:
+        super().setUp()
+        for path in OF_TOOLS:
+            here, there = os.path.join(TOP, path), os.path.join(self.top, path)
+            os.makedirs(os.path.dirname(there), exist_ok=True)
+            shutil.copytree(here, there) if os.path.isdir(here) else shutil.copy(here, there)
+
+    def change(self, path: str, old: str, new: str) -> None:
+        with open(os.path.join(self.top, path), encoding="utf-8") as file:
+            text = file.read()
+        self.assertIn(old, text)
+        self.write(path, text.replace(old, new))
+
+    def expect(self, *faults: Tuple[str, str]) -> None:
+        self.assertEqual(sorted((path, fault) for path, _, fault in ToolRows(self.top).all_faults()), sorted(faults))
+
+    def test_all_is_there(self) -> None:
+        self.expect()
+
+    def test_a_tool_that_the_program_gets(self) -> None:
+        self.change("crates/facl/src/tools.rt", 'row!(Can, "can", can::SYNTAX),',
+                    'row!(Can, "can", can::SYNTAX),\nrow!(Frob, "frob", frob::SYNTAX),')
+        self.write("crates/facl/src/tools/frob.rt", "flags: &[],\noptions: &[],\n")
+        self.expect(*((path, "the tool frob is not in it")
+                      for path in (RECORDS_PATH, CAUSES, "README.md", RULES, PAGE_PATH)))
+
+    def test_an_option_that_the_program_gets(self) -> None:
+        self.change("crates/facl/src/tools/chmod.rt", "options: &[]", "options: &[both!('z', \"zap\")]")
+        self.expect((RECORDS_PATH, "chmod has no -z --zap here"), (RULES, "chmod has no -z --zap here"),
+                    (PAGE_PATH, "chmod has no -z here"), (PAGE_PATH, "chmod has no --zap here"))
+
+    def test_what_others_lose(self) -> None:
+        self.change("README.md", "`getfacl`, ", "`getfatcl`, ")
+        self.change(RECORDS_PATH, 'option("-x --remove", ENTRIES, PART), ', 'option("-x --remove", "", PART), ')
+        self.change(RECORDS_PATH, 'option("-X --remove-file", TEXT, PART)', 'option("-X --remove-file", OTHER, PART)')
+        self.change(RECORDS_PATH, 'Tool(b"userdel"', 'Tool(b"deluser"')
+        self.change("commands/facl_commands/cause_rows_of_words.py", '"load dump', '"dump')
+        self.change(RULES, "(`--user`, ", "(")
+        self.change("docs/facl-commands.1", "chgrp", "group")
+        self.expect(
+            ("README.md", "the tool getfacl is not in it"), ("README.md", "the program has no tool getfatcl"),
+            (RECORDS_PATH, "-x --remove takes a value"), (RECORDS_PATH, "-X --remove-file takes a text"),
+            (RECORDS_PATH, "the tool userdel is not in it"), (RECORDS_PATH, "the program has no tool deluser"),
+            (CAUSES, "the tool load is not in it"), (RULES, "creat has no --user here"),
+            ("docs/facl-commands.1", "the tool chgrp is not in it"))
 
 
 # --- check/memory_faults.py

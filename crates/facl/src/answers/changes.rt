@@ -5,7 +5,7 @@ ghost use Rattle.acl_rights.specs.acl_names.Appends.{Appends};
 ghost use Rattle.std.specs.List.{list_all, flat_map};
 ghost use Rattle.acl_rights.specs.acl_files.path_map.Entries.{first, IsInOrder};
 ghost use Rattle.facl.specs.ChangesText.{changes_text, requests_gained, after_comma, change_line, change_lines};
-ghost use Rattle.facl.specs.Inner.{keeps_place, shown_row, lines_between, lines_of_both, next_order, gone_lines, new_lines, kept_lines, next_lines, left_before, left_after, cell_at};
+ghost use Rattle.facl.specs.Inner.{keeps_place, shown_row, lines_between, lines_of_both, next_order, gone_lines, new_lines, kept_lines, next_lines, left_before, left_after, verdict_or_none};
 ghost use Rattle.acl_rights.specs.acl_entry.Check.{has};
 
 use crate::answers::index::shown;
@@ -295,8 +295,8 @@ fn push_user(
 }
 
 /// What a row grants the user at a place, if there is one.
-fn cell_at(row: &[Requests], place: Option<usize>) -> Requests
-    ensures { result ≡ cell_at row.now place }
+fn verdict_or_none(row: &[Requests], place: Option<usize>) -> Requests
+    ensures { result ≡ verdict_or_none row.now place }
 {
     let Some(at) = place else {
         return Requests::none();
@@ -320,8 +320,8 @@ pub(crate) fn push_rows(
     ensures { Appends result text.old text.new (lines_between users.now path.now before.now after.now) }
 {
     for user in users {
-        let had = cell_at(before, user.before);
-        let has = cell_at(after, user.after);
+        let had = verdict_or_none(before, user.before);
+        let has = verdict_or_none(after, user.after);
         if had.bits() != has.bits() {
             push_user(alloc, text, path, &user.name, had, has)?;
         }

@@ -6,13 +6,13 @@ ghost use Rattle.facl.specs.Replies.{Replies};
 
 use crate::tools::effect::Effect;
 use crate::tools::operands::paths_of;
-use crate::tools::rows::one;
+use crate::tools::syntax::one;
 use acl_rights::{Selection, State};
-use facl_output::{LineFault, LineFiles, LineRows, OperandRow, Words, write_attributes};
+use facl_output::{LineFault, LineFiles, OperandRow, Syntax, Words, write_attributes};
 use std::alloc::Global;
 
 /// The words of the tool.
-pub(crate) static ROW: LineRows = LineRows {
+pub(crate) const SYNTAX: Syntax = Syntax {
     flags: &[],
     options: &[],
     operands: &[one!("file")],
@@ -29,7 +29,7 @@ pub(crate) struct AttrLine<'a> {
 pub(crate) fn read(words: &Words) -> Option<AttrLine<'_>>
     ensures { result ≡ read words.now }
 {
-    let files = words.files(&ROW, "file")?;
+    let files = words.files(&SYNTAX, "file")?;
     Some(AttrLine { files })
 }
 

@@ -7,13 +7,13 @@ ghost use Rattle.facl.specs.Replies.{Gives, Replies};
 use crate::answers::requests::append_requests;
 use crate::tools::effect::Effect;
 use crate::tools::operands::{path_at, user_at};
-use crate::tools::rows::{by_name, one};
+use crate::tools::syntax::{by_name, one};
 use acl_rights::{IndexedState, Judge, Path, TreeFault, Verdicts};
-use facl_output::{LineFault, LineRows, LineWord, OperandRow, SwitchRow, Words};
+use facl_output::{LineFault, OperandRow, OptionRow, Syntax, WordRef, Words};
 use std::alloc::Global;
 
 /// The words of the tool.
-pub(crate) static ROW: LineRows = LineRows {
+pub(crate) const SYNTAX: Syntax = Syntax {
     flags: &[by_name!("reach")],
     options: &[],
     operands: &[one!("user"), one!("file")],
@@ -24,19 +24,19 @@ pub(crate) static ROW: LineRows = LineRows {
 pub(crate) struct CanLine<'a> {
     /// `--reach`: search on the directories above is required too.
     pub reach: bool,
-    pub user: LineWord<'a>,
-    pub file: LineWord<'a>,
+    pub user: WordRef<'a>,
+    pub file: WordRef<'a>,
 }
 
 /// The line that words give. `None` where they are usage.
 pub(crate) fn read(words: &Words) -> Option<CanLine<'_>>
     ensures { result ≡ read words.now }
 {
-    let row = &ROW;
-    let file = words.file(row, "file")?;
+    let syntax = &SYNTAX;
+    let file = words.file(syntax, "file")?;
     Some(CanLine {
-        reach: words.has(row, "reach"),
-        user: words.operand(row, "user"),
+        reach: words.has(syntax, "reach"),
+        user: words.operand(syntax, "user"),
         file,
     })
 }
@@ -63,7 +63,7 @@ fn requests_at<J: Judge>(
 fn can_of<J: Judge>(
     alloc: Global,
     verdicts: &Verdicts<'_, J>,
-    word: &LineWord<'_>,
+    word: &WordRef<'_>,
     path: Path,
 ) -> Result<Vec<u8>, LineFault>
     ensures { Gives (λ out. out.items) result

@@ -8,16 +8,16 @@ use crate::tools::edits::{NamedFiles, edit_files};
 use crate::tools::effect::Effect;
 use crate::tools::lists::list_of_text;
 use crate::tools::operands::paths_of;
-use crate::tools::rows::{by_letter, some};
+use crate::tools::syntax::{by_letter, some};
 use acl_rights::{Edit, Selection, State, Which};
 use facl_output::{
-    LineFault, LineFiles, LineRows, LineWord, OperandRow, Source, SwitchRow, Word, Words,
+    LineFault, LineFiles, OperandRow, OptionRow, Source, Syntax, Word, WordRef, Words,
     write_chacl_listing,
 };
 use std::alloc::Global;
 
 /// The words of the tool: lists, where the flags require them, and then files.
-pub(crate) static ROW: LineRows = LineRows {
+pub(crate) const SYNTAX: Syntax = Syntax {
     flags: &[
         by_letter!('b', "b"),
         by_letter!('d', "d"),
@@ -35,11 +35,11 @@ pub(crate) static ROW: LineRows = LineRows {
 #[derive(Drop)]
 pub(crate) enum Task<'a> {
     /// Puts the access list that the word names.
-    PutAccess(LineWord<'a>),
+    PutAccess(WordRef<'a>),
     /// `-d`: puts the default list that the word names.
-    PutDefault(LineWord<'a>),
+    PutDefault(WordRef<'a>),
     /// `-b`: puts the access list and the default list that the words name.
-    PutBoth(LineWord<'a>, LineWord<'a>),
+    PutBoth(WordRef<'a>, WordRef<'a>),
     /// `-R`: leaves the access list with what the mode shows.
     RemoveAccess,
     /// `-D`: removes the default list.
@@ -63,13 +63,13 @@ pub(crate) struct ChaclLine<'a> {
 fn tasks_given(words: &Words) -> usize
     ensures { result ≡ tasks_given words.now }
 {
-    let row = &ROW;
-    usize::from(words.has(row, "b"))
-        + usize::from(words.has(row, "d"))
-        + usize::from(words.has(row, "R"))
-        + usize::from(words.has(row, "D"))
-        + usize::from(words.has(row, "B"))
-        + usize::from(words.has(row, "l"))
+    let syntax = &SYNTAX;
+    usize::from(words.has(syntax, "b"))
+        + usize::from(words.has(syntax, "d"))
+        + usize::from(words.has(syntax, "R"))
+        + usize::from(words.has(syntax, "D"))
+        + usize::from(words.has(syntax, "B"))
+        + usize::from(words.has(syntax, "l"))
 }
 
 /// A task on these files.
@@ -87,7 +87,7 @@ fn read_access(words: &[Word]) -> Option<(Task<'_>, LineFiles<'_>)>
     let [access, files @ ..] = words else {
         return None;
     };
-    let task = Task::PutAccess(LineWord::new(access.as_bytes()));
+    let task = Task::PutAccess(WordRef::new(access.as_bytes()));
     on_files(task, files)
 }
 
@@ -98,7 +98,7 @@ fn read_default(words: &[Word]) -> Option<(Task<'_>, LineFiles<'_>)>
     let [default, files @ ..] = words else {
         return None;
     };
-    let task = Task::PutDefault(LineWord::new(default.as_bytes()));
+    let task = Task::PutDefault(WordRef::new(default.as_bytes()));
     on_files(task, files)
 }
 
@@ -110,8 +110,8 @@ fn read_both(words: &[Word]) -> Option<(Task<'_>, LineFiles<'_>)>
         return None;
     };
     let task = Task::PutBoth(
-        LineWord::new(access.as_bytes()),
-        LineWord::new(default.as_bytes()),
+        WordRef::new(access.as_bytes()),
+        WordRef::new(default.as_bytes()),
     );
     on_files(task, files)
 }
@@ -120,18 +120,18 @@ fn read_both(words: &[Word]) -> Option<(Task<'_>, LineFiles<'_>)>
 fn task_of<'a>(words: &Words, operands: &'a [Word]) -> Option<(Task<'a>, LineFiles<'a>)>
     ensures { result ≡ task_of words.now operands.now }
 {
-    let row = &ROW;
-    if words.has(row, "b") {
+    let syntax = &SYNTAX;
+    if words.has(syntax, "b") {
         read_both(operands)
-    } else if words.has(row, "d") {
+    } else if words.has(syntax, "d") {
         read_default(operands)
-    } else if words.has(row, "R") {
+    } else if words.has(syntax, "R") {
         on_files(Task::RemoveAccess, operands)
-    } else if words.has(row, "D") {
+    } else if words.has(syntax, "D") {
         on_files(Task::RemoveDefault, operands)
-    } else if words.has(row, "B") {
+    } else if words.has(syntax, "B") {
         on_files(Task::RemoveBoth, operands)
-    } else if words.has(row, "l") {
+    } else if words.has(syntax, "l") {
         on_files(Task::List, operands)
     } else {
         read_access(operands)
@@ -142,13 +142,13 @@ fn task_of<'a>(words: &Words, operands: &'a [Word]) -> Option<(Task<'a>, LineFil
 pub(crate) fn read(words: &Words) -> Option<ChaclLine<'_>>
     ensures { result ≡ read words.now }
 {
-    let row = &ROW;
+    let syntax = &SYNTAX;
     if tasks_given(words) <= 1 {
-        let operands = words.operands_from(row, "word");
+        let operands = words.operands_from(syntax, "word");
         let (task, files) = task_of(words, operands)?;
         Some(ChaclLine {
             task,
-            recursive: words.has(row, "r"),
+            recursive: words.has(syntax, "r"),
             files,
         })
     } else {

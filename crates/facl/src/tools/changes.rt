@@ -6,13 +6,13 @@ ghost use Rattle.facl.specs.Replies.{Replies};
 
 use crate::answers::changes::write_changes;
 use crate::tools::effect::Effect;
-use crate::tools::rows::by_name;
+use crate::tools::syntax::by_name;
 use acl_rights::{IndexedState, Judge};
-use facl_output::{LineFault, LineRows, SwitchRow, Words};
+use facl_output::{LineFault, OptionRow, Syntax, Words};
 use std::alloc::Global;
 
 /// The words of the tool.
-pub(crate) static ROW: LineRows = LineRows {
+pub(crate) const SYNTAX: Syntax = Syntax {
     flags: &[by_name!("reach")],
     options: &[],
     operands: &[],
@@ -30,7 +30,7 @@ pub(crate) fn read(words: &Words) -> ChangesLine
     ensures { result ≡ read words.now }
 {
     ChangesLine {
-        reach: words.has(&ROW, "reach"),
+        reach: words.has(&SYNTAX, "reach"),
     }
 }
 

@@ -7,13 +7,13 @@ ghost use Rattle.facl.specs.Replies.{Replies};
 use crate::tools::effect::{Effect, effect_of};
 use crate::tools::mode::mode_of;
 use crate::tools::operands::paths_of;
-use crate::tools::rows::{by_letter, one, some};
+use crate::tools::syntax::{by_letter, one, some};
 use acl_rights::{Command, State};
-use facl_output::{LineFault, LineFiles, LineRows, OperandRow, SwitchRow, Words};
+use facl_output::{LineFault, LineFiles, OperandRow, OptionRow, Syntax, Words};
 use std::alloc::Global;
 
 /// The words of the tool.
-pub(crate) static ROW: LineRows = LineRows {
+pub(crate) const SYNTAX: Syntax = Syntax {
     flags: &[by_letter!('R', "R")],
     options: &[],
     operands: &[one!("mode"), some!("file")],
@@ -33,11 +33,11 @@ pub(crate) struct ChmodLine<'a> {
 pub(crate) fn read(words: &Words) -> Option<ChmodLine<'_>>
     ensures { result ≡ read words.now }
 {
-    let row = &ROW;
-    let mode = mode_of(words.operand(row, "mode").as_bytes())?;
-    let files = words.files(row, "file")?;
+    let syntax = &SYNTAX;
+    let mode = mode_of(words.operand(syntax, "mode").as_bytes())?;
+    let files = words.files(syntax, "file")?;
     Some(ChmodLine {
-        recursive: words.has(row, "R"),
+        recursive: words.has(syntax, "R"),
         mode,
         files,
     })

@@ -7,13 +7,13 @@ ghost use Rattle.facl.specs.Replies.{Gives, Replies};
 use crate::tools::effect::{Effect, effect_of};
 use crate::tools::mode::permission_mode_of;
 use crate::tools::operands::{name_meant, path_at};
-use crate::tools::rows::{by_letter, by_name, one};
+use crate::tools::syntax::{by_letter, by_name, one};
 use acl_rights::{Command, Kind, NewFile, State};
-use facl_output::{LineFault, LineRows, LineWord, OperandRow, SwitchRow, Words};
+use facl_output::{LineFault, OperandRow, OptionRow, Syntax, WordRef, Words};
 use std::alloc::Global;
 
 /// The words of the tool.
-pub(crate) static ROW: LineRows = LineRows {
+pub(crate) const SYNTAX: Syntax = Syntax {
     flags: &[by_letter!('d', "d")],
     options: &[
         by_name!("user"),
@@ -29,19 +29,19 @@ pub(crate) struct CreatLine<'a> {
     /// `-d`: a directory.
     pub kind: Kind,
     /// `--user`: the owner.
-    pub user: LineWord<'a>,
+    pub user: WordRef<'a>,
     /// `--mode`: the requested permissions.
     pub mode: u16,
     /// `--umask`: the permissions that are withheld, 022 where it is absent.
     pub umask: u16,
-    pub file: LineWord<'a>,
+    pub file: WordRef<'a>,
 }
 
-/// The mode of an option.
-fn mode_given(words: &Words, name: &str) -> Option<u16>
-    ensures { result ≡ mode_given words.now name.now }
+/// The mode of an option's value.
+fn mode_given(value: Option<WordRef<'_>>) -> Option<u16>
+    ensures { result ≡ mode_given value.entry }
 {
-    permission_mode_of(words.value(&ROW, name)?.as_bytes())
+    permission_mode_of(value?.as_bytes())
 }
 
 /// A directory or a plain file.
@@ -59,13 +59,13 @@ fn kind_of(is_directory: bool) -> Kind
 pub(crate) fn read(words: &Words) -> Option<CreatLine<'_>>
     ensures { result ≡ read words.now }
 {
-    let row = &ROW;
-    let user = words.value(row, "user")?;
-    let mode = mode_given(words, "mode")?;
-    let umask = mode_given(words, "umask")?;
-    let file = words.file(row, "file")?;
+    let syntax = &SYNTAX;
+    let user = words.value(syntax, "user")?;
+    let mode = mode_given(words.value(syntax, "mode"))?;
+    let umask = mode_given(words.value(syntax, "umask"))?;
+    let file = words.file(syntax, "file")?;
     Some(CreatLine {
-        kind: kind_of(words.has(row, "d")),
+        kind: kind_of(words.has(syntax, "d")),
         user,
         mode,
         umask,

@@ -6,15 +6,15 @@ ghost use Rattle.facl.specs.Replies.{Replies};
 
 use crate::tools::effect::Effect;
 use crate::tools::operands::paths_of;
-use crate::tools::rows::{both, some};
+use crate::tools::syntax::{both, some};
 use acl_rights::{Effective, Selection, State};
 use facl_output::{
-    LineFault, LineFiles, LineRows, OperandRow, Options, SwitchRow, Words, append_listing,
+    LineFault, LineFiles, OperandRow, OptionRow, Options, Syntax, Words, append_listing,
 };
 use std::alloc::Global;
 
 /// The words of the tool.
-pub(crate) static ROW: LineRows = LineRows {
+pub(crate) const SYNTAX: Syntax = Syntax {
     flags: &[
         both!('a', "access"),
         both!('c', "omit-header"),
@@ -53,21 +53,21 @@ fn effective_for(always: bool, never: bool) -> Option<Effective>
 pub(crate) fn read(words: &Words) -> Option<GetfaclLine<'_>>
     ensures { result ≡ read words.now }
 {
-    let row = &ROW;
+    let syntax = &SYNTAX;
     let effective = effective_for(
-        words.has(row, "all-effective"),
-        words.has(row, "no-effective"),
+        words.has(syntax, "all-effective"),
+        words.has(syntax, "no-effective"),
     )?;
-    let files = words.files(row, "file")?;
+    let files = words.files(syntax, "file")?;
     Some(GetfaclLine {
         options: Options {
-            access_only: words.has(row, "access"),
-            omit_header: words.has(row, "omit-header"),
+            access_only: words.has(syntax, "access"),
+            omit_header: words.has(syntax, "omit-header"),
             effective,
-            skip_base: words.has(row, "skip-base"),
-            numeric: words.has(row, "numeric"),
+            skip_base: words.has(syntax, "skip-base"),
+            numeric: words.has(syntax, "numeric"),
         },
-        recursive: words.has(row, "recursive"),
+        recursive: words.has(syntax, "recursive"),
         files,
     })
 }

@@ -6,13 +6,13 @@ ghost use Rattle.facl.specs.Replies.{Replies};
 
 use crate::tools::effect::{Effect, effect_of};
 use crate::tools::operands::name_meant;
-use crate::tools::rows::{by_letter, one};
+use crate::tools::syntax::{by_letter, one};
 use acl_rights::{Command, Membership, State};
-use facl_output::{LineFault, LineRows, LineWord, OperandRow, SwitchRow, Words};
+use facl_output::{LineFault, OperandRow, OptionRow, Syntax, WordRef, Words};
 use std::alloc::Global;
 
 /// The words of the tool.
-pub(crate) static ROW: LineRows = LineRows {
+pub(crate) const SYNTAX: Syntax = Syntax {
     flags: &[],
     options: &[by_letter!('a', "a"), by_letter!('d', "d")],
     operands: &[one!("group")],
@@ -23,15 +23,15 @@ pub(crate) static ROW: LineRows = LineRows {
 pub(crate) struct GpasswdLine<'a> {
     pub change: Membership,
     /// The user who is added or removed.
-    pub user: LineWord<'a>,
-    pub group: LineWord<'a>,
+    pub user: WordRef<'a>,
+    pub group: WordRef<'a>,
 }
 
 /// The line of a user who is added, or of one who is removed: one of the two is given.
 fn line_of<'a>(
-    added: Option<LineWord<'a>>,
-    removed: Option<LineWord<'a>>,
-    group: LineWord<'a>,
+    added: Option<WordRef<'a>>,
+    removed: Option<WordRef<'a>>,
+    group: WordRef<'a>,
 ) -> Option<GpasswdLine<'a>>
     ensures { result ≡ line_of added.entry removed.entry group.entry }
 {
@@ -54,11 +54,11 @@ fn line_of<'a>(
 pub(crate) fn read(words: &Words) -> Option<GpasswdLine<'_>>
     ensures { result ≡ read words.now }
 {
-    let row = &ROW;
+    let syntax = &SYNTAX;
     line_of(
-        words.value(row, "a"),
-        words.value(row, "d"),
-        words.operand(row, "group"),
+        words.value(syntax, "a"),
+        words.value(syntax, "d"),
+        words.operand(syntax, "group"),
     )
 }
 

@@ -6,11 +6,11 @@ ghost use Rattle.facl.specs.Replies.{Replies};
 use crate::answers::index::write_index;
 use crate::tools::effect::Effect;
 use acl_rights::{IndexedState, Judge};
-use facl_output::{LineFault, LineRows};
+use facl_output::{LineFault, Syntax};
 use std::alloc::Global;
 
 /// The tool takes no words.
-pub(crate) static ROW: LineRows = LineRows {
+pub(crate) const SYNTAX: Syntax = Syntax {
     flags: &[],
     options: &[],
     operands: &[],

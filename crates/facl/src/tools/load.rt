@@ -5,13 +5,13 @@ ghost use Rattle.facl.specs.Load.{answered, read, table_named};
 ghost use Rattle.facl.specs.Replies.{Replies};
 
 use crate::tools::effect::{Effect, effect_of};
-use crate::tools::rows::one;
+use crate::tools::syntax::one;
 use acl_rights::{Command, State, Table};
-use facl_output::{LineFault, LineRows, OperandRow, Words};
+use facl_output::{LineFault, OperandRow, Syntax, Words};
 use std::alloc::Global;
 
 /// The words of the tool.
-pub(crate) static ROW: LineRows = LineRows {
+pub(crate) const SYNTAX: Syntax = Syntax {
     flags: &[],
     options: &[],
     operands: &[one!("table")],
@@ -43,7 +43,7 @@ fn table_named(name: &[u8]) -> Option<Table>
 pub(crate) fn read(words: &Words) -> Option<LoadLine>
     ensures { result ≡ read words.now }
 {
-    let table = table_named(words.operand(&ROW, "table").as_bytes())?;
+    let table = table_named(words.operand(&SYNTAX, "table").as_bytes())?;
     Some(LoadLine { table })
 }
 

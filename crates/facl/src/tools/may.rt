@@ -7,13 +7,13 @@ ghost use Rattle.facl.specs.Replies.{Gives, Replies};
 use crate::answers::may::write_may;
 use crate::tools::effect::Effect;
 use crate::tools::operands::name_meant;
-use crate::tools::rows::{by_name, one};
+use crate::tools::syntax::{by_name, one};
 use acl_rights::{IndexedState, Judge, Name, Perm, TreeFault, Verdicts, read_perms};
-use facl_output::{LineFault, LineRows, LineWord, OperandRow, SwitchRow, Words};
+use facl_output::{LineFault, OperandRow, OptionRow, Syntax, WordRef, Words};
 use std::alloc::{AllocError, Global};
 
 /// The words of the tool.
-pub(crate) static ROW: LineRows = LineRows {
+pub(crate) const SYNTAX: Syntax = Syntax {
     flags: &[by_name!("reach")],
     options: &[],
     operands: &[one!("user"), one!("perms")],
@@ -24,7 +24,7 @@ pub(crate) static ROW: LineRows = LineRows {
 pub(crate) struct MayLine<'a> {
     /// `--reach`: search on the directories above is required too.
     pub reach: bool,
-    pub user: LineWord<'a>,
+    pub user: WordRef<'a>,
     /// The permissions in question.
     pub request: Perm,
 }
@@ -33,11 +33,11 @@ pub(crate) struct MayLine<'a> {
 pub(crate) fn read(words: &Words) -> Option<MayLine<'_>>
     ensures { result ≡ read words.now }
 {
-    let row = &ROW;
-    let request = read_perms(words.operand(row, "perms").as_bytes())?;
+    let syntax = &SYNTAX;
+    let request = read_perms(words.operand(syntax, "perms").as_bytes())?;
     Some(MayLine {
-        reach: words.has(row, "reach"),
-        user: words.operand(row, "user"),
+        reach: words.has(syntax, "reach"),
+        user: words.operand(syntax, "user"),
         request,
     })
 }
@@ -62,7 +62,7 @@ fn may_text_of<J: Judge>(
 fn may_of<J: Judge>(
     alloc: Global,
     verdicts: &Verdicts<'_, J>,
-    word: &LineWord<'_>,
+    word: &WordRef<'_>,
     request: Perm,
 ) -> Result<Vec<u8>, LineFault>
     ensures { Gives (λ out. out.items) result

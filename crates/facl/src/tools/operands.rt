@@ -7,7 +7,7 @@ ghost use Rattle.facl.specs.Operands.{path_at, paths_from, name_meant, user_or_f
 use acl_rights::{
     FaultKind, Name, Path, Paths, People, TextFault, TreeFault, read_name, read_path, trim,
 };
-use facl_output::{LineFault, LineWord, Source, Word};
+use facl_output::{LineFault, Source, Word, WordRef};
 use std::alloc::{AllocError, Global};
 
 /// The path of the operand at a place, counted from 1.
@@ -40,7 +40,7 @@ pub(crate) fn paths_of(alloc: Global, words: &[Word]) -> Result<Paths, LineFault
 }
 
 /// The name that a word for a user or a group means.
-pub(crate) fn name_meant(alloc: Global, word: &LineWord<'_>) -> Result<Name, AllocError>
+pub(crate) fn name_meant(alloc: Global, word: &WordRef<'_>) -> Result<Name, AllocError>
     ensures { IfOk result (λ name. name ≡ name_meant word.now) }
 {
     read_name(alloc, trim(word.as_bytes()))
@@ -50,7 +50,7 @@ pub(crate) fn name_meant(alloc: Global, word: &LineWord<'_>) -> Result<Name, All
 pub(crate) fn user_at(
     alloc: Global,
     people: &People,
-    word: &LineWord<'_>,
+    word: &WordRef<'_>,
 ) -> Result<usize, LineFault>
     ensures { Gives (λ user. user) result (user_or_fault people.now (name_meant word.now)) }
 {

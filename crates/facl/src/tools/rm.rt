@@ -6,13 +6,13 @@ ghost use Rattle.facl.specs.Rm.{answered, read};
 
 use crate::tools::effect::{Effect, effect_of};
 use crate::tools::operands::paths_of;
-use crate::tools::rows::{by_letter, some};
+use crate::tools::syntax::{by_letter, some};
 use acl_rights::{Command, State};
-use facl_output::{LineFault, LineFiles, LineRows, OperandRow, SwitchRow, Words};
+use facl_output::{LineFault, LineFiles, OperandRow, OptionRow, Syntax, Words};
 use std::alloc::Global;
 
 /// The words of the tool.
-pub(crate) static ROW: LineRows = LineRows {
+pub(crate) const SYNTAX: Syntax = Syntax {
     flags: &[by_letter!('r', "r")],
     options: &[],
     operands: &[some!("file")],
@@ -30,10 +30,10 @@ pub(crate) struct RmLine<'a> {
 pub(crate) fn read(words: &Words) -> Option<RmLine<'_>>
     ensures { result ≡ read words.now }
 {
-    let row = &ROW;
-    let files = words.files(row, "file")?;
+    let syntax = &SYNTAX;
+    let files = words.files(syntax, "file")?;
     Some(RmLine {
-        recursive: words.has(row, "r"),
+        recursive: words.has(syntax, "r"),
         files,
     })
 }

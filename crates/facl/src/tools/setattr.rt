@@ -6,16 +6,14 @@ ghost use Rattle.facl.specs.Setattr.{answered, attribute_of, bytes_of, digits_of
 
 use crate::tools::edits::{NamedFiles, edit_files};
 use crate::tools::effect::Effect;
-use crate::tools::rows::one;
+use crate::tools::syntax::one;
 use acl_rights::{Acl, Edit, FaultKind, State, TextFault, Which};
-use facl_output::{
-    LineFault, LineFiles, LineRows, LineWord, OperandRow, Source, Words, decode_attr,
-};
+use facl_output::{LineFault, LineFiles, OperandRow, Source, Syntax, WordRef, Words, decode_attr};
 use hex::FromHexError;
 use std::alloc::Global;
 
 /// The words of the tool.
-pub(crate) static ROW: LineRows = LineRows {
+pub(crate) const SYNTAX: Syntax = Syntax {
     flags: &[],
     options: &[],
     operands: &[one!("attribute"), one!("file")],
@@ -25,7 +23,7 @@ pub(crate) static ROW: LineRows = LineRows {
 #[derive(Drop)]
 pub(crate) struct Attribute<'a> {
     pub which: Which,
-    pub digits: LineWord<'a>,
+    pub digits: WordRef<'a>,
 }
 
 /// A line of `setattr`.
@@ -69,7 +67,7 @@ fn attribute_of(word: &[u8]) -> Option<Attribute<'_>>
     ) {
         return Some(Attribute {
             which: Which::Access,
-            digits: LineWord::new(digits),
+            digits: WordRef::new(digits),
         });
     }
     let digits = digits_of(
@@ -79,7 +77,7 @@ fn attribute_of(word: &[u8]) -> Option<Attribute<'_>>
     )?;
     Some(Attribute {
         which: Which::Default,
-        digits: LineWord::new(digits),
+        digits: WordRef::new(digits),
     })
 }
 
@@ -87,9 +85,9 @@ fn attribute_of(word: &[u8]) -> Option<Attribute<'_>>
 pub(crate) fn read(words: &Words) -> Option<SetattrLine<'_>>
     ensures { result ≡ read words.now }
 {
-    let row = &ROW;
-    let attribute = attribute_of(words.operand(row, "attribute").as_bytes())?;
-    let files = words.files(row, "file")?;
+    let syntax = &SYNTAX;
+    let attribute = attribute_of(words.operand(syntax, "attribute").as_bytes())?;
+    let files = words.files(syntax, "file")?;
     Some(SetattrLine { attribute, files })
 }
 

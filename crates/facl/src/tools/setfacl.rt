@@ -6,14 +6,14 @@ ghost use Rattle.facl.specs.SetfaclLine.{change_of, changes_entries, contradicts
 
 use crate::tools::effect::Effect;
 use crate::tools::operands::paths_of;
-use crate::tools::rows::{any, both, by_name};
 use crate::tools::setfacl_entries::{both_at, drops, entries_of_line};
+use crate::tools::syntax::{any, both, by_name};
 use crate::tools::tested::do_or_test;
 use acl_rights::{
     Change, ChangeEntries, ChangeFlags, Command, DumpRecords, DumpUse, Edit, People, State,
     read_dump,
 };
-use facl_output::{LineFault, LineFiles, LineRows, LineWord, OperandRow, Source, SwitchRow, Words};
+use facl_output::{LineFault, LineFiles, OperandRow, OptionRow, Source, Syntax, WordRef, Words};
 use std::alloc::Global;
 
 /// Changes the lists of the files of a line.
@@ -103,7 +103,7 @@ pub(crate) fn answer(
 }
 
 /// The words of the tool.
-pub(crate) static ROW: LineRows = LineRows {
+pub(crate) const SYNTAX: Syntax = Syntax {
     flags: &[
         both!('b', "remove-all"),
         both!('k', "remove-default"),
@@ -129,7 +129,7 @@ pub(crate) static ROW: LineRows = LineRows {
 #[derive(Debug, Drop)]
 pub(crate) enum EntrySource<'a> {
     /// In its word, with a comma between each two.
-    InWord(LineWord<'a>),
+    InWord(WordRef<'a>),
     /// In the text after the line, each on a line.
     InText,
 }
@@ -161,7 +161,7 @@ pub(crate) enum SetfaclLine<'a> {
 }
 
 /// The entries of an option: those of its word, or those of the text after the line.
-fn entries_from<'a>(word: Option<LineWord<'a>>, in_text: bool) -> Option<EntrySource<'a>>
+fn entries_from<'a>(word: Option<WordRef<'a>>, in_text: bool) -> Option<EntrySource<'a>>
     ensures { result ≡ entries_from word.entry in_text }
 {
     match word {
@@ -175,56 +175,56 @@ fn entries_from<'a>(word: Option<LineWord<'a>>, in_text: bool) -> Option<EntrySo
 fn changes_entries(words: &Words) -> bool
     ensures { result ≡ changes_entries words.now }
 {
-    let row = &ROW;
-    words.has(row, "remove-all")
-        || words.has(row, "remove-default")
-        || words.gives(row, "modify")
-        || words.gives(row, "modify-file")
-        || words.gives(row, "remove")
-        || words.gives(row, "remove-file")
+    let syntax = &SYNTAX;
+    words.has(syntax, "remove-all")
+        || words.has(syntax, "remove-default")
+        || words.gives(syntax, "modify")
+        || words.gives(syntax, "modify-file")
+        || words.gives(syntax, "remove")
+        || words.gives(syntax, "remove-file")
 }
 
 /// Whether whole lists are replaced.
 fn replaces_lists(words: &Words) -> bool
     ensures { result ≡ replaces_lists words.now }
 {
-    let row = &ROW;
-    words.gives(row, "set") || words.gives(row, "set-file")
+    let syntax = &SYNTAX;
+    words.gives(syntax, "set") || words.gives(syntax, "set-file")
 }
 
 /// Whether one thing is given in two ways.
 fn contradicts_itself(words: &Words) -> bool
     ensures { result ≡ contradicts_itself words.now }
 {
-    let row = &ROW;
-    (words.gives(row, "modify") && words.gives(row, "modify-file"))
-        || (words.gives(row, "remove") && words.gives(row, "remove-file"))
-        || (words.gives(row, "set") && words.gives(row, "set-file"))
-        || (words.has(row, "no-mask") && words.has(row, "mask"))
+    let syntax = &SYNTAX;
+    (words.gives(syntax, "modify") && words.gives(syntax, "modify-file"))
+        || (words.gives(syntax, "remove") && words.gives(syntax, "remove-file"))
+        || (words.gives(syntax, "set") && words.gives(syntax, "set-file"))
+        || (words.has(syntax, "no-mask") && words.has(syntax, "mask"))
 }
 
 /// Whether a flag determines how lists are changed.
 fn has_edit_flag(words: &Words) -> bool
     ensures { result ≡ has_edit_flag words.now }
 {
-    let row = &ROW;
-    words.has(row, "no-mask")
-        || words.has(row, "mask")
-        || words.has(row, "default")
-        || words.has(row, "recursive")
+    let syntax = &SYNTAX;
+    words.has(syntax, "no-mask")
+        || words.has(syntax, "mask")
+        || words.has(syntax, "default")
+        || words.has(syntax, "recursive")
 }
 
 /// The flags that say how lists are changed.
 fn flags_of(words: &Words) -> ChangeFlags
     ensures { result ≡ flags_of words.now }
 {
-    let row = &ROW;
+    let syntax = &SYNTAX;
     ChangeFlags {
-        strip: words.has(row, "remove-all"),
-        drop_default: words.has(row, "remove-default"),
-        as_default: words.has(row, "default"),
-        no_mask: words.has(row, "no-mask"),
-        remask: words.has(row, "mask"),
+        strip: words.has(syntax, "remove-all"),
+        drop_default: words.has(syntax, "remove-default"),
+        as_default: words.has(syntax, "default"),
+        no_mask: words.has(syntax, "no-mask"),
+        remask: words.has(syntax, "mask"),
     }
 }
 
@@ -232,14 +232,20 @@ fn flags_of(words: &Words) -> ChangeFlags
 fn change_of<'a>(words: &'a Words, files: LineFiles<'a>) -> ChangeLine<'a>
     ensures { result ≡ change_of words.now files.entry }
 {
-    let row = &ROW;
+    let syntax = &SYNTAX;
     ChangeLine {
         flags: flags_of(words),
-        recursive: words.has(row, "recursive"),
-        test: words.has(row, "test"),
-        removed: entries_from(words.value(row, "remove"), words.gives(row, "remove-file")),
-        modified: entries_from(words.value(row, "modify"), words.gives(row, "modify-file")),
-        set: entries_from(words.value(row, "set"), words.gives(row, "set-file")),
+        recursive: words.has(syntax, "recursive"),
+        test: words.has(syntax, "test"),
+        removed: entries_from(
+            words.value(syntax, "remove"),
+            words.gives(syntax, "remove-file"),
+        ),
+        modified: entries_from(
+            words.value(syntax, "modify"),
+            words.gives(syntax, "modify-file"),
+        ),
+        set: entries_from(words.value(syntax, "set"), words.gives(syntax, "set-file")),
         files,
     }
 }
@@ -248,16 +254,16 @@ fn change_of<'a>(words: &'a Words, files: LineFiles<'a>) -> ChangeLine<'a>
 fn read_restore(words: &Words) -> Option<SetfaclLine<'_>>
     ensures { result ≡ read_restore words.now }
 {
-    let row = &ROW;
+    let syntax = &SYNTAX;
     if changes_entries(words)
         || replaces_lists(words)
         || has_edit_flag(words)
-        || !words.operands_from(row, "file").is_empty()
+        || !words.operands_from(syntax, "file").is_empty()
     {
         None
     } else {
         Some(SetfaclLine::Restore {
-            test: words.has(row, "test"),
+            test: words.has(syntax, "test"),
         })
     }
 }
@@ -269,7 +275,7 @@ fn read_change(words: &Words) -> Option<SetfaclLine<'_>>
     if contradicts_itself(words) || changes_entries(words) == replaces_lists(words) {
         None
     } else {
-        let files = words.files(&ROW, "file")?;
+        let files = words.files(&SYNTAX, "file")?;
         Some(SetfaclLine::Change(change_of(words, files)))
     }
 }
@@ -278,7 +284,7 @@ fn read_change(words: &Words) -> Option<SetfaclLine<'_>>
 pub(crate) fn read(words: &Words) -> Option<SetfaclLine<'_>>
     ensures { result ≡ read words.now }
 {
-    if words.gives(&ROW, "restore") {
+    if words.gives(&SYNTAX, "restore") {
         read_restore(words)
     } else {
         read_change(words)

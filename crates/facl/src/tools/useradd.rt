@@ -6,13 +6,13 @@ ghost use Rattle.facl.specs.Useradd.{answered, line_with, decoded_name, new_user
 
 use crate::tools::effect::{Effect, effect_of};
 use crate::tools::operands::name_meant;
-use crate::tools::rows::{by_letter, one};
+use crate::tools::syntax::{by_letter, one};
 use acl_rights::{Command, Id, NewUser, State, UserName, read_id, read_name};
-use facl_output::{LineFault, LineRows, LineWord, OperandRow, SwitchRow, Words};
+use facl_output::{LineFault, OperandRow, OptionRow, Syntax, WordRef, Words};
 use std::alloc::{AllocError, Global};
 
 /// The words of the tool.
-pub(crate) static ROW: LineRows = LineRows {
+pub(crate) const SYNTAX: Syntax = Syntax {
     flags: &[],
     options: &[by_letter!('u', "u"), by_letter!('g', "g")],
     operands: &[one!("name")],
@@ -26,21 +26,21 @@ pub(crate) struct UseraddLine<'a> {
     /// `-u`: digits alone.
     pub uid: Id,
     /// `-g`: the primary group.
-    pub group: LineWord<'a>,
+    pub group: WordRef<'a>,
 }
 
 /// The id that a line gives: digits alone.
 fn uid_of(words: &Words) -> Option<Id>
     ensures { result ≡ uid_of words.now }
 {
-    read_id(words.value(&ROW, "u")?.as_bytes())
+    read_id(words.value(&SYNTAX, "u")?.as_bytes())
 }
 
 /// The name of the new user, where it may be one. Fails only if memory runs out.
 fn decoded_name(alloc: Global, words: &Words) -> Result<Option<UserName>, AllocError>
     ensures { IfOk result (λ name. name ≡ decoded_name words.now) }
 {
-    let name = read_name(alloc, words.operand(&ROW, "name").as_bytes())?;
+    let name = read_name(alloc, words.operand(&SYNTAX, "name").as_bytes())?;
     Ok(UserName::new(name))
 }
 
@@ -49,7 +49,7 @@ fn line_with(words: &Words, name: UserName) -> Option<UseraddLine<'_>>
     ensures { result ≡ line_with words.now name }
 {
     let uid = uid_of(words)?;
-    let group = words.value(&ROW, "g")?;
+    let group = words.value(&SYNTAX, "g")?;
     Some(UseraddLine { name, uid, group })
 }
 

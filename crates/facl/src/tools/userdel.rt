@@ -6,13 +6,13 @@ ghost use Rattle.facl.specs.Userdel.{answered, read};
 
 use crate::tools::effect::{Effect, effect_of};
 use crate::tools::operands::name_meant;
-use crate::tools::rows::one;
+use crate::tools::syntax::one;
 use acl_rights::{Command, State};
-use facl_output::{LineFault, LineRows, LineWord, OperandRow, Words};
+use facl_output::{LineFault, OperandRow, Syntax, WordRef, Words};
 use std::alloc::Global;
 
 /// The words of the tool.
-pub(crate) static ROW: LineRows = LineRows {
+pub(crate) const SYNTAX: Syntax = Syntax {
     flags: &[],
     options: &[],
     operands: &[one!("user")],
@@ -21,7 +21,7 @@ pub(crate) static ROW: LineRows = LineRows {
 /// A line of userdel(8).
 #[derive(Drop)]
 pub(crate) struct UserdelLine<'a> {
-    pub user: LineWord<'a>,
+    pub user: WordRef<'a>,
 }
 
 /// The line that words give.
@@ -29,7 +29,7 @@ pub(crate) fn read(words: &Words) -> UserdelLine<'_>
     ensures { result ≡ read words.now }
 {
     UserdelLine {
-        user: words.operand(&ROW, "user"),
+        user: words.operand(&SYNTAX, "user"),
     }
 }
 

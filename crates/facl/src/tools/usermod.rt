@@ -6,13 +6,13 @@ ghost use Rattle.facl.specs.Usermod.{answered, read};
 
 use crate::tools::effect::{Effect, effect_of};
 use crate::tools::operands::name_meant;
-use crate::tools::rows::{by_letter, one};
+use crate::tools::syntax::{by_letter, one};
 use acl_rights::{Command, State};
-use facl_output::{LineFault, LineRows, LineWord, OperandRow, SwitchRow, Words};
+use facl_output::{LineFault, OperandRow, OptionRow, Syntax, WordRef, Words};
 use std::alloc::Global;
 
 /// The words of the tool.
-pub(crate) static ROW: LineRows = LineRows {
+pub(crate) const SYNTAX: Syntax = Syntax {
     flags: &[],
     options: &[by_letter!('g', "g")],
     operands: &[one!("user")],
@@ -21,19 +21,19 @@ pub(crate) static ROW: LineRows = LineRows {
 /// A line of usermod(8).
 #[derive(Drop)]
 pub(crate) struct UsermodLine<'a> {
-    pub user: LineWord<'a>,
+    pub user: WordRef<'a>,
     /// `-g`: the primary group.
-    pub group: LineWord<'a>,
+    pub group: WordRef<'a>,
 }
 
 /// The line that words give. `None` where they are usage.
 pub(crate) fn read(words: &Words) -> Option<UsermodLine<'_>>
     ensures { result ≡ read words.now }
 {
-    let row = &ROW;
-    let group = words.value(row, "g")?;
+    let syntax = &SYNTAX;
+    let group = words.value(syntax, "g")?;
     Some(UsermodLine {
-        user: words.operand(row, "user"),
+        user: words.operand(syntax, "user"),
         group,
     })
 }

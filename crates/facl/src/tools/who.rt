@@ -7,13 +7,13 @@ ghost use Rattle.facl.specs.Who.{answered, read, who_at, who_of};
 use crate::answers::who::write_who;
 use crate::tools::effect::Effect;
 use crate::tools::operands::path_at;
-use crate::tools::rows::{by_name, one};
+use crate::tools::syntax::{by_name, one};
 use acl_rights::{IndexedState, Judge, Path, Perm, TreeFault, Verdicts, read_perms};
-use facl_output::{LineFault, LineRows, LineWord, OperandRow, SwitchRow, Words};
+use facl_output::{LineFault, OperandRow, OptionRow, Syntax, WordRef, Words};
 use std::alloc::Global;
 
 /// The words of the tool.
-pub(crate) static ROW: LineRows = LineRows {
+pub(crate) const SYNTAX: Syntax = Syntax {
     flags: &[by_name!("reach")],
     options: &[],
     operands: &[one!("perms"), one!("file")],
@@ -26,18 +26,18 @@ pub(crate) struct WhoLine<'a> {
     pub reach: bool,
     /// The permissions in question.
     pub request: Perm,
-    pub file: LineWord<'a>,
+    pub file: WordRef<'a>,
 }
 
 /// The line that words give. `None` where they are usage.
 pub(crate) fn read(words: &Words) -> Option<WhoLine<'_>>
     ensures { result ≡ read words.now }
 {
-    let row = &ROW;
-    let request = read_perms(words.operand(row, "perms").as_bytes())?;
-    let file = words.file(row, "file")?;
+    let syntax = &SYNTAX;
+    let request = read_perms(words.operand(syntax, "perms").as_bytes())?;
+    let file = words.file(syntax, "file")?;
     Some(WhoLine {
-        reach: words.has(row, "reach"),
+        reach: words.has(syntax, "reach"),
         request,
         file,
     })
@@ -63,7 +63,7 @@ fn who_at<J: Judge>(
 fn who_of<J: Judge>(
     alloc: Global,
     verdicts: &Verdicts<'_, J>,
-    word: &LineWord<'_>,
+    word: &WordRef<'_>,
     request: Perm,
 ) -> Result<Vec<u8>, LineFault>
     ensures { Gives (λ out. out.items) result

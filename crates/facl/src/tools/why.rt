@@ -8,13 +8,13 @@ ghost use Rattle.facl.specs.Why.{answered, person_named, read, why_at, why_of};
 use crate::answers::why::{files_asked, write_why};
 use crate::tools::effect::Effect;
 use crate::tools::operands::{name_meant, paths_of};
-use crate::tools::rows::{by_name, one, some};
+use crate::tools::syntax::{by_name, one, some};
 use acl_rights::{Name, Paths, People, State, Subject, TreeFault};
-use facl_output::{LineFault, LineFiles, LineRows, LineWord, OperandRow, SwitchRow, Words};
+use facl_output::{LineFault, LineFiles, OperandRow, OptionRow, Syntax, WordRef, Words};
 use std::alloc::Global;
 
 /// The words of the tool.
-pub(crate) static ROW: LineRows = LineRows {
+pub(crate) const SYNTAX: Syntax = Syntax {
     flags: &[by_name!("reach")],
     options: &[],
     operands: &[one!("user"), some!("file")],
@@ -25,7 +25,7 @@ pub(crate) static ROW: LineRows = LineRows {
 pub(crate) struct WhyLine<'a> {
     /// `--reach`: the directories above are printed too.
     pub reach: bool,
-    pub user: LineWord<'a>,
+    pub user: WordRef<'a>,
     pub files: LineFiles<'a>,
 }
 
@@ -33,11 +33,11 @@ pub(crate) struct WhyLine<'a> {
 pub(crate) fn read(words: &Words) -> Option<WhyLine<'_>>
     ensures { result ≡ read words.now }
 {
-    let row = &ROW;
-    let files = words.files(row, "file")?;
+    let syntax = &SYNTAX;
+    let files = words.files(syntax, "file")?;
     Some(WhyLine {
-        reach: words.has(row, "reach"),
-        user: words.operand(row, "user"),
+        reach: words.has(syntax, "reach"),
+        user: words.operand(syntax, "user"),
         files,
     })
 }
@@ -70,7 +70,7 @@ fn why_of(
     alloc: Global,
     state: &State,
     along: bool,
-    word: &LineWord<'_>,
+    word: &WordRef<'_>,
     paths: Paths,
 ) -> Result<Vec<u8>, LineFault>
     ensures { Gives (λ out. out.items) result (why_of state.now along word.now paths) }

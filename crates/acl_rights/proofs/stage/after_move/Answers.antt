@@ -1,13 +1,10 @@
-use Rattle.std.proofs.Common.{ℕ, List, map, sym, ap, subst, ◌∙◌, arith}
-use Rattle.std.specs.Borrow.{Bor}
-use Rattle.path_map.specs.Entries.{PathOf, IsInOrder}
+use Rattle.std.proofs.Common.{ℕ, List, sym, ap, subst, ◌∙◌, arith}
+use Rattle.path_map.specs.Entries.{IsInOrder}
 use Rattle.acl_tree.specs.acl_files.kinds.Numbered.{Kept, entries_in}
 use Rattle.acl_tree.specs.Files.{Recorded}
 use Rattle.acl_tree.specs.declared.user_change.UserChange.TheVariants.{Memberships}
 use Rattle.acl_verdicts.specs.declared.kind_rows.LabelRow.{LabelRow}
-use Rattle.acl_verdicts.specs.Subtrees.{tops_of}
-use Rattle.acl_rights.proofs.NextRows.{looked_cost, looked_moved, tops_moved, refreshed_moved, refreshed_unmoved, rows_after_move, rows_unchanged}
-use Rattle.acl_rights.proofs.Refreshing.{pairs_paths}
+use Rattle.acl_rights.proofs.NextRows.{looked_cost, looked_moved, refreshed_moved, refreshed_unmoved, rows_after_move, rows_unchanged}
 use Rattle.acl_rights.proofs.stage.after_move.Goals as goal
 
 pub returns-then-looked-eq0-clause-after : goal.returns-then-looked-eq0-clause-after
@@ -26,18 +23,6 @@ returns-then-looked-eq0-clause-after g c =
       looked = looked_moved V es t c.requires.before c.order_law.ensures order c.args.at groups is 0 (sym none);
       refreshed = refreshed_unmoved V es t c.requires.before c.order_law.ensures order c.args.at groups is none;
     }
-
-pub count_within-refreshed-requires-clause-order : goal.count_within-refreshed-requires-clause-order
-count_within-refreshed-requires-clause-order g c =
-    let V = g.J.Judge.verdict_of in
-    let t = c.args.staged.now in
-    let es = entries_in c.args.rows.now.rows in
-    let order = subst (λ (r : Recorded). IsInOrder r.files) c.tree.ensures c.soundness_law.ensures.order in
-    let groups = c.as_slice-groups.result.now in
-    let is = c.requires.moved ∙ ap (λ (ids : List ℕ). Memberships c.args.at ids) (sym c.as_slice-groups.ensures) in
-    let tops = tops_of c.deref.result.now in
-    let are = pairs_paths (λ (p : Bor PathOf). p.now) c.deref.result.now ∙ ap (map (λ (p : Bor PathOf). p.now)) c.deref.ensures.value ∙ c.in_ok-tops.ensures in
-    tops_moved V es t c.requires.before c.order_law.ensures order c.args.at groups is tops are
 
 pub with_user_updated-requires : goal.with_user_updated-requires
 with_user_updated-requires g c =
@@ -58,12 +43,10 @@ returns-clause-after g c =
     let order = subst (λ (r : Recorded). IsInOrder r.files) c.tree.ensures c.soundness_law.ensures.order in
     let groups = c.as_slice-groups.result.now in
     let is = c.requires.moved ∙ ap (λ (ids : List ℕ). Memberships c.args.at ids) (sym c.as_slice-groups.ensures) in
-    let tops = tops_of c.deref.result.now in
-    let are = pairs_paths (λ (p : Bor PathOf). p.now) c.deref.result.now ∙ ap (map (λ (p : Bor PathOf). p.now)) c.deref.ensures.value ∙ c.in_ok-tops.ensures in
     record {
       rows =
           c.in_ok-new.ensures.rows
           ∙ rows_after_move V es t c.requires.before c.order_law.ensures order c.args.at groups is g.met.J.Judge.local c.moved_user-user.result.now c.moved_user-user.ensures;
       looked = looked_moved V es t c.requires.before c.order_law.ensures order c.args.at groups is c.count_mentioning-looked.result c.count_mentioning-looked.ensures;
-      refreshed = refreshed_moved V es t c.requires.before c.order_law.ensures order c.args.at groups is tops are c.count_within-refreshed.result c.count_within-refreshed.ensures;
+      refreshed = refreshed_moved V es t c.requires.before c.order_law.ensures order c.args.at groups is c.in_ok-refreshed.refreshed c.in_ok-refreshed.ensures;
     }

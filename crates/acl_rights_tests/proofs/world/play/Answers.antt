@@ -2,7 +2,7 @@ use Rattle.std.proofs.Common.{◌≤◌, length, subst, sym, arith}
 use Rattle.acl_rights.specs.acl_entry.Check.{rights}
 use Rattle.acl_rights.specs.acl_people.KnownPeople.{KnownPeople}
 use Rattle.acl_rights.specs.acl_tree.Files.{Recorded}
-use Rattle.acl_rights.specs.acl_tree.Step.{State}
+use Rattle.acl_rights.specs.acl_tree.State.{State}
 use Rattle.acl_rights.specs.Tables.{VerdictTable, IsWhole}
 use native.Mathlib.Nat.{mul-le-mul_right}
 use Rattle.acl_rights_tests.proofs.world.play.Goals as goal

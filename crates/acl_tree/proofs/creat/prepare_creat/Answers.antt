@@ -8,7 +8,7 @@ use Rattle.acl_files.specs.acl_edit.declared.node.Node.{Node}
 use Rattle.acl_files.specs.Files.{PathOf, Files, Recorded}
 use Rattle.acl_files.specs.Sound.{IsSoundTree}
 use Rattle.acl_tree.specs.Creat.{creat_by}
-use Rattle.acl_tree.specs.Step.{State, state_from, with_tree}
+use Rattle.acl_tree.specs.State.{State, state_from, with_tree}
 use Rattle.acl_tree.specs.Reports.{staged_from}
 use Rattle.acl_tree.specs.declared.user_change.UserChange.TheVariants.{Unchanged}
 use Rattle.acl_tree.proofs.NewFiles.{sound_with, gone_with}

@@ -6,7 +6,8 @@ use Rattle.acl_files.specs.Loading.{files_of}
 use Rattle.acl_files.specs.declared.fault.TreeFault.TheVariants.{TooMany}
 use Rattle.acl_files.specs.Changed.{gone_between}
 use Rattle.acl_files.specs.Sound.{IsSoundTree}
-use Rattle.acl_tree.specs.Step.{State, state_from, with_records}
+use Rattle.acl_tree.specs.State.{State, state_from}
+use Rattle.acl_tree.specs.Loads.{with_records}
 use Rattle.acl_files.proofs.Kept.{loaded_sound}
 use Rattle.acl_tree.proofs.Reported.{reported_files}
 use Rattle.acl_tree.proofs.dump.prepare_dump.Goals as goal

@@ -3,7 +3,8 @@ use Rattle.acl_files.specs.acl_edit.Nodes as nodes
 use Rattle.acl_files.specs.Files.{Recorded}
 use Rattle.acl_files.specs.Operands.{first_missing}
 use Rattle.acl_files.proofs.Edits.{never_fails}
-use Rattle.acl_tree.specs.Step.{State, chmod_all, or_missing}
+use Rattle.acl_tree.specs.State.{State}
+use Rattle.acl_tree.specs.Chmod.{chmod_all, or_missing}
 use Rattle.acl_tree.proofs.edit_command.prepare_chmod.Goals as goal
 
 pub returns-in-Ok : goal.returns-in-Ok

@@ -1,5 +1,5 @@
 use Rattle.std.proofs.Common.{Ok, refl, ap, sym, ◌∙◌}
-use Rattle.acl_tree.specs.Step.{State, state_from, with_tree}
+use Rattle.acl_tree.specs.State.{State, state_from, with_tree}
 use Rattle.acl_tree.proofs.Each.{restore_each_file, kept_restored}
 use Rattle.acl_tree.proofs.Reported.{reported_files}
 use Rattle.acl_tree.proofs.edit_command.prepare_restore.Goals as goal

@@ -6,7 +6,7 @@ use Rattle.acl_files.specs.Files.{Files, Recorded}
 use Rattle.acl_files.specs.Operands.{is_file, in_region}
 use Rattle.acl_tree.specs.Rm.{first_refused, without_files, or_refused}
 use Rattle.acl_files.specs.Sound.{holds_below, IsSoundTree}
-use Rattle.acl_tree.specs.Step.{State, state_from, with_tree}
+use Rattle.acl_tree.specs.State.{State, state_from, with_tree}
 use Rattle.acl_tree.specs.Reports.{staged_from}
 use Rattle.acl_tree.specs.declared.user_change.UserChange.TheVariants.{Unchanged}
 use Rattle.acl_files.proofs.Selected.{filter_alike}

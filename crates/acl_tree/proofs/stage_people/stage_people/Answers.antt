@@ -3,7 +3,7 @@ use Rattle.std.specs.FinMap.{find}
 use Rattle.acl_files.specs.acl_names.Paths.{path_cmp}
 use Rattle.acl_files.specs.Files.{Recorded}
 use Rattle.acl_files.specs.Sound.{IsSoundTree}
-use Rattle.acl_tree.specs.Step.{state_from}
+use Rattle.acl_tree.specs.State.{state_from}
 use Rattle.acl_tree.specs.Reports.{staged_from}
 use Rattle.acl_tree.proofs.Reported.{reported_people}
 use Rattle.acl_tree.proofs.stage_people.stage_people.Goals as goal

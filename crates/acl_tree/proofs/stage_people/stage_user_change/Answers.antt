@@ -1,6 +1,7 @@
 use Rattle.std.proofs.Common.{sym, ap, subst, ◌∙◌}
-use Rattle.acl_tree.specs.Step.{state_from}
-use Rattle.acl_tree.specs.Reports.{move_of, UsersMoved}
+use Rattle.acl_tree.specs.State.{state_from}
+use Rattle.acl_tree.specs.UserMoves.{move_of}
+use Rattle.acl_tree.specs.Reports.{UsersMoved}
 use Rattle.acl_tree.proofs.Reported.{user_moved}
 use Rattle.acl_tree.proofs.stage_people.stage_user_change.Goals as goal
 

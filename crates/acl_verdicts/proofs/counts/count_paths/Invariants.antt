@@ -1,8 +1,14 @@
-use Rattle.std.proofs.Common.{◌≡◌, length, drop}
-use Rattle.std.specs.Prelude.{option_map}
-use Rattle.acl_files.specs.kinds.Numbered.{Numbers}
-use Rattle.acl_verdicts.specs.Subtrees.{tops_of, AreWalked}
+use Rattle.std.proofs.Common.{◌≡◌, ◌+◌, length}
+use Rattle.std.specs.Prelude.{count_by}
+use Rattle.path_map.specs.Entries.{IsInOrder}
+use Rattle.path_map.specs.Below.{lies_in}
 use Rattle.acl_verdicts.proofs.counts.count_paths.Given as goal
 
-abbrev pub invariant-loop-at : goal.invariant-loop-at
-invariant-loop-at l = (counted : Numbers) × (AreWalked (tops_of l.tops) l.paths (tops_of (drop l.at l.tops)) counted (option_map (λ p. p.now) l.last) × (l.count ≡ length counted))
+abbrev pub invariant-loop-top : goal.invariant-loop-top
+invariant-loop-top l = record {
+  order : IsInOrder l.rest;
+  counted : l.count + count_by (λ e. lies_in l.rest e.0) l.paths ≡ count_by (λ e. lies_in l.fn.tops e.0) l.paths;
+}
+
+abbrev pub decreases-loop-top : goal.decreases-loop-top
+decreases-loop-top l = length l.rest

@@ -1,7 +1,7 @@
 use Rattle.acl_tree.specs.acl_dump.declared.record.DumpUse.TheVariants.{Restore}
 use Rattle.acl_tree.specs.acl_people.KnownPeople.{naming_of}
 use Rattle.acl_tree.specs.Operands.{files_meant}
-use Rattle.acl_tree.specs.Step.{State, state_from}
+use Rattle.acl_tree.specs.State.{State, state_from}
 use Rattle.facl_output.proofs.Reloaded.{records_of}
 use Rattle.facl_output.proofs.RestoredAgain.{restored_again}
 use Rattle.facl_output.proofs.laws.listing_is_restored_as_it_is.Goals as goal

@@ -1,32 +1,36 @@
 use Rattle.std.proofs.Common.{◌≡◌, ℕ, List, Option, map, sym, ap, subst, ◌∙◌}
-use Rattle.path_map.specs.Entries.{PathOf, IsInOrder, seen, found}
+use Rattle.path_map.specs.Entries.{PathOf, seen, found}
 use Rattle.path_map.specs.Merged.{put_all}
 use Rattle.kinds.specs.Numbered.{Numbers, Kept, AreSound, entries_by, entries_in}
 use Rattle.kinds.specs.Inner.{AddsAll, ReleasesAll}
-use Rattle.kinds.proofs.InTurn.{adds_all, adds_order}
+use Rattle.kinds.proofs.InTurn.{adds_order}
+use Rattle.kinds.proofs.ByNumber.{adds_counted}
 use Rattle.kinds.proofs.Puts.{sound_put, entries_put}
 use Rattle.kinds.proofs.put.put_numbered.Goals as goal
+
+pub count_entries-requires : goal.count_entries-requires
+count_entries-requires g c = c.requires.added.used
 
 pub numbers_with-requires : goal.numbers_with-requires
 numbers_with-requires g c =
     let k0 = c.args.before.now.0 in
-    let was = c.args.numbering in
+    let was = c.args.kinds in
     let k1 = c.in_ok-kinds.kinds in
     let es : Numbers = map seen c.args.entries.now in
-    let puts : List (PathOf × g.row.N.Denot) = entries_by was.kinds es in
-    let adds : AddsAll k0 puts k1 es = adds_all k0 was.kinds k1 puts es was.last was.pending c.requires.added c.in_ok-kinds.ensures in
+    let puts : List (PathOf × g.row.N.Denot) = entries_by was es in
+    let adds : AddsAll k0 puts k1 es = adds_counted k0 was k1 es c.requires.added c.in_ok-kinds.ensures in
     adds_order k0 k1 puts es adds c.requires.order
 
 pub of-requires : goal.of-requires
 of-requires g c =
     let k0 = c.args.before.now.0 in
     let ns = c.args.before.now.1 in
-    let was = c.args.numbering in
+    let was = c.args.kinds in
     let k1 = c.in_ok-kinds.kinds in
     let k2 = c.in_ok-kinds-2.kinds in
     let es : Numbers = map seen c.args.entries.now in
-    let puts : List (PathOf × g.row.N.Denot) = entries_by was.kinds es in
-    let adds : AddsAll k0 puts k1 es = adds_all k0 was.kinds k1 puts es was.last was.pending c.requires.added c.in_ok-kinds.ensures in
+    let puts : List (PathOf × g.row.N.Denot) = entries_by was es in
+    let adds : AddsAll k0 puts k1 es = adds_counted k0 was k1 es c.requires.added c.in_ok-kinds.ensures in
     let order = adds_order k0 k1 puts es adds c.requires.order in
     let looked : c.deref.result.now ≡ found es ns = c.deref.ensures.value ∙ c.in_ok-numbers.ensures.old ∙ ap (found es) c.numbers.ensures.all in
     let releases : ReleasesAll k1 (found es ns) k2 = subst (λ (os : List (Option ℕ)). ReleasesAll k1 os k2) looked c.in_ok-kinds-2.ensures in
@@ -37,12 +41,12 @@ pub returns : goal.returns
 returns g c =
     let k0 = c.args.before.now.0 in
     let ns = c.args.before.now.1 in
-    let was = c.args.numbering in
+    let was = c.args.kinds in
     let k1 = c.in_ok-kinds.kinds in
     let k2 = c.in_ok-kinds-2.kinds in
     let es : Numbers = map seen c.args.entries.now in
-    let puts : List (PathOf × g.row.N.Denot) = entries_by was.kinds es in
-    let adds : AddsAll k0 puts k1 es = adds_all k0 was.kinds k1 puts es was.last was.pending c.requires.added c.in_ok-kinds.ensures in
+    let puts : List (PathOf × g.row.N.Denot) = entries_by was es in
+    let adds : AddsAll k0 puts k1 es = adds_counted k0 was k1 es c.requires.added c.in_ok-kinds.ensures in
     let order = adds_order k0 k1 puts es adds c.requires.order in
     let looked : c.deref.result.now ≡ found es ns = c.deref.ensures.value ∙ c.in_ok-numbers.ensures.old ∙ ap (found es) c.numbers.ensures.all in
     let releases : ReleasesAll k1 (found es ns) k2 = subst (λ (os : List (Option ℕ)). ReleasesAll k1 os k2) looked c.in_ok-kinds-2.ensures in

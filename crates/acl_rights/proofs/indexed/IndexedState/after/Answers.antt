@@ -1,5 +1,5 @@
 use Rattle.std.proofs.Common.{subst, sym}
-use Rattle.acl_tree.specs.Step.{State}
+use Rattle.acl_tree.specs.State.{State}
 use Rattle.acl_rights.specs.Tables.{VerdictTable, IsWhole}
 use Rattle.acl_rights.proofs.indexed.IndexedState.after.Goals as goal
 

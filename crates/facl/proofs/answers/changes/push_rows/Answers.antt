@@ -2,7 +2,7 @@ use Rattle.std.proofs.Common.{◌≡◌, ◌++◌, ℕ, List, append-nil, sym, a
 use Rattle.acl_rights.proofs.of_acl_names.Appended.{still_begins}
 use Rattle.std.proofs.lemmas.Grind.{common_steps}
 use Rattle.facl.specs.ChangesText.{change_lines}
-use Rattle.facl.specs.Inner.{cell_at, lines_between}
+use Rattle.facl.specs.Inner.{verdict_or_none, lines_between}
 use Rattle.facl.specs.declared.answers.placed_users.PlacedUser.{PlacedUser}
 use Rattle.facl_output.proofs.Loops.{item_added, all_added}
 use Rattle.facl.proofs.Unchanged.{no_change}
@@ -10,7 +10,7 @@ use Rattle.facl.proofs.answers.changes.push_rows.Goals as goal
 use Rattle.facl.proofs.answers.changes.push_rows.Goals.{then-bits+in_ok-push_user, else-bits}
 
 abbrev lines_for : (path before after : List ℕ) → PlacedUser → List ℕ
-lines_for path before after user = change_lines path user.name.items (cell_at before user.before) (cell_at after user.after)
+lines_for path before after user = change_lines path user.name.items (verdict_or_none before user.before) (verdict_or_none after user.after)
 
 pub returns-in_err-push_user : goal.returns-in_err-push_user
 returns-in_err-push_user c =
@@ -23,16 +23,16 @@ loop-user-preserved c =
     let path = c.args.path.now in
     let user = c.user-item.result in
     let text = c.loop-user.text.items in
-    let had = cell_at c.args.before.now user.before in
-    let has = cell_at c.args.after.now user.after in
+    let had = verdict_or_none c.args.before.now user.before in
+    let has = verdict_or_none c.args.after.now user.after in
     let wrote : c.if-bits.text.items ≡ text ++ change_lines path user.name.items had has =
     elim c.if-bits.branch [
       | then-bits+in_ok-push_user w ↦
           ap (λ t. t.items) w.text-is
           ∙ w.in_ok-push_user.ensures
-          ∙ (λ i. text ++ change_lines path (w.deref.ensures.value i) (c.cell_at-had.ensures i) (c.cell_at-has.ensures i))
+          ∙ (λ i. text ++ change_lines path (w.deref.ensures.value i) (c.verdict_or_none-had.ensures i) (c.verdict_or_none-has.ensures i))
       | else-bits w ↦
-          let same : had ≡ has = sym c.cell_at-had.ensures ∙ sym c.bits.ensures ∙ w.if-bits.false ∙ c.bits-in-loop-user.ensures ∙ c.cell_at-has.ensures in
+          let same : had ≡ has = sym c.verdict_or_none-had.ensures ∙ sym c.bits.ensures ∙ w.if-bits.false ∙ c.bits-in-loop-user.ensures ∙ c.verdict_or_none-has.ensures in
           ap (λ t. t.items) w.text-is ∙ sym (append-nil text) ∙ ap (λ l. text ++ l) (sym (no_change path user.name.items had has same))
     ]
     in

@@ -3,7 +3,7 @@ use Rattle.std.specs.Prelude.{option_map}
 use Rattle.std.specs.List.{flat_map}
 use Rattle.acl_rights.specs.acl_tree.Files.{Recorded, IsInOrder}
 use Rattle.acl_rights.specs.acl_tree.Found.{found_in}
-use Rattle.acl_rights.specs.acl_tree.Step.{State}
+use Rattle.acl_rights.specs.acl_tree.State.{State}
 use Rattle.facl.specs.Answers.{file_line}
 use Rattle.facl.specs.Inner.{in_step}
 use Rattle.acl_rights.specs.Verdicts.{paths_granted}

@@ -1,4 +1,4 @@
-use Rattle.facl.proofs.FirstFaults.{first_fault_refuses}
+use Rattle.facl.proofs.ToolParts.{first_fault_refuses}
 use Rattle.facl.proofs.tools.laws.tool_lines_are_refused_for_their_first_fault.Goals as goal
 
 pub returns : goal.returns

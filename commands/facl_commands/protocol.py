@@ -1,0 +1,124 @@
+"""What the commands and the program say to each other: the texts that the commands look for in its messages and
+listings, and the lines that they ask it, each once.
+"""
+from __future__ import annotations
+
+from typing import List
+
+# --- statuses of the program; facl-ask ends with them too
+
+ANSWERED, REFUSED = 0, 1  # 1: some line was refused.
+
+# --- messages, `line N: TOOL: TEXT`, which the program prints for refused lines (facl_output/src/message.rt)
+
+IN_LINE = b"line %d: "  # The beginning of each.
+PROGRAM = b"facl"  # In the place of TOOL, where the fault is found before the tool reads its words.
+# Texts of the line as such, by the program.
+LINE_TOO_LONG, NOT_UTF8, OPEN_QUOTE = b"line too long", b"not UTF-8", b"open quote"
+UNKNOWN_TOOL, TEXT_WITHOUT_END = b"unknown tool", b"text without end"
+# By any tool.
+USAGE, BAD_PATH = b"usage", b"bad path"
+NO_FILE, NO_USER, NO_GROUP = b"no such file", b"no such user", b"no such group"
+TOO_MANY_FILES = b"too many files"
+# By setfacl and chacl, of entries and lists.
+BAD_TAG, BAD_PERMISSIONS, NO_PERMISSIONS = b"bad tag", b"bad permissions", b"permissions missing"
+UNKNOWN_USER, UNKNOWN_GROUP = b"unknown user", b"unknown group"
+UNWANTED_PERMISSIONS, BASE_ENTRY = b"permissions not wanted", b"base entry cannot be removed"
+BOTH = b"both removed and modified"
+REPEATED, NEEDS_MASK, BASE_MISSING = b"is repeated", b"needs a mask", b"(user|group|other):: missing"
+ONLY_DIRECTORIES = b"only directories have default lists"
+# By load, creat, rm, gpasswd and useradd.
+ALREADY_LOADED, EXISTS = b"already loaded", b"exists"
+NOT_DIRECTORY, IS_DIRECTORY = b"not a directory", b"is a directory"
+NOT_MEMBER, USER_EXISTS, ID_IN_USE = b"not a member", b"user exists", b"user id in use"
+# By setfacl -d: the one message of a line that is accepted.
+WARNING = b"setfacl: warning: default entries dropped"
+# By the program, which ends then (run_fault.rt): a text that it does not load, or a dump that is too large.
+SETUP, DUMP_NOT_READ = b"facl: setup: ", b"facl: dump: cannot read"
+
+# --- patterns of messages, without `line N: `
+
+ANY_TOOL = rb"[a-z]+"
+
+
+def by(tool: bytes, *texts: bytes) -> bytes:
+    """Messages of a tool that have one of these texts."""
+    return tool + b": (?:" + b"|".join(texts) + b")"
+
+
+def of_name(tool: bytes, *texts: bytes) -> bytes:
+    """Those that have a name before their text."""
+    return by(tool, b".*: (?:" + b"|".join(texts) + b")")
+
+
+def of_entry(tool: bytes, *texts: bytes) -> bytes:
+    """Those of an entry of a line."""
+    return by(tool, rb"(?:default )?entry \d+: (?:" + b"|".join(texts) + b")")
+
+
+def of_list(text: bytes) -> bytes:
+    """Those of a whole list."""
+    return by(ANY_TOOL, rb"(?:.*: )?(?:access|default) list: " + text)
+
+
+# --- single messages
+
+
+def is_refused(messages: List[bytes]) -> bool:
+    """Whether a line with these messages is refused."""
+    return any(message != WARNING for message in messages)
+
+
+def has_text(message: bytes, text: bytes) -> bool:
+    """Whether this is the last part of a message."""
+    return message.endswith(b": " + text)
+
+
+def lacks_file(messages: List[bytes]) -> bool:
+    """Whether a line is refused since a file is not there."""
+    return messages[:1] != [] and has_text(messages[0], NO_FILE)
+
+
+def lacking_file(message: bytes) -> bytes:
+    """The name of the file that is not there, as it is printed."""
+    return message.partition(b": ")[2][: -len(b": " + NO_FILE)]
+
+
+def message_of(tool: bytes, text: bytes) -> bytes:
+    """A message of our own in the program's form."""
+    return tool + b": " + text
+
+
+# --- listings: by getfacl, `why` and `attr` of the program (acl_dump/src/writing.rt), and by facl-snapshot in dumps
+
+FILE_HEAD, OWNER_HEAD, GROUP_HEAD, FLAGS_HEAD = b"# file: ", b"# owner: ", b"# group: ", b"# flags: "
+FILE_LINE = rb"^# file: (.*)$"  # A pattern; with re.MULTILINE.
+# As any getfacl may write it, and a person.
+FREE_FILE_LINE = rb"[ \t]*#[ \t]*file:[ ]?(.*)"
+DEFAULT_ENTRY = b"\ndefault:"  # In the record of a directory.
+OWNER_ENTRY, EMPTY_MASK = b"\nuser::", b"\nmask::---\n"
+# Patterns of lines of records; with re.MULTILINE.
+MASK_LINE, OWNING_GROUP_LINE, EMPTY_MASK_LINE = rb"^mask::(...)$", rb"^group::(...)$", rb"^mask::---$"
+OPEN_OTHERS_LINE = rb"^other::(?!---)"
+NAMED_USER_LINE, NAMED_LINE = rb"^(?:default:)?user:([0-9]+):", rb"^(user|group):([0-9]+):(...)$"
+USER_ID_LINE = rb"^(?:# owner: |(?:default:)?user:)([0-9]+)(?:$|:)"
+GROUP_ID_LINE = rb"^(?:# group: |(?:default:)?group:)([0-9]+)(?:$|:)"
+ACCESS_GROUP_LINE = rb"^(?:# group: |group:)([0-9]+)"
+SET_FLAGS_LINE = rb"\n# flags: (?:s|-s)"
+OWNER_LINES = rb"# owner: ([0-9]+)\n# group: ([0-9]+)\n"
+FLAGS_LINE = rb"# flags: ([s-])([s-])([t-])\n"
+ATTRIBUTE_LINES = (rb"system\.posix_acl_access=0x([0-9a-f]+)\n"
+                   rb"(?:system\.posix_acl_default=0x([0-9a-f]+)\n)?\n")  # By `attr`.
+EFFECTIVE = b"#effective:"  # After an entry that the mask cuts.
+
+# --- lines that the commands ask
+
+LIST, LIST_NUMBERS, LIST_ALL = b"getfacl --", b"getfacl -n -E --", b"getfacl -n -E -R --"
+LIST_NAMES = b"getfacl -E --"
+RESTORE = b"setfacl --restore=-"  # The records are its text.
+SET_LIST = b"setfacl -n --set=%s --"
+SET_DEFAULT = b"setfacl --test -m d:u::rwx --"  # Whether a file is taken for a directory.
+ENTRIES_OF, INDEX, ATTRIBUTES_OF = b"why --", b"index", b"attr %d"
+ADD_USER_WITH = b"useradd -u %d -g %s -- %s"
+# A line of a word that nobody can guess, and its refusal, which shows that all lines before it are answered.
+PROBE, PROBE_REFUSED = b"getfacl %s", b"getfacl: %s: " + NO_FILE

@@ -1,0 +1,117 @@
+"""The answers of one snapshot of several: what `facl-ask --part` writes for `facl-ask --each` and `--hosts`.
+
+First comes a line of JSON about the snapshot, with --records what it records (agreement.py), and then for each line of
+the script that does something a header, which is a line of JSON, and the bytes that the program printed, with a line
+feed. Names in JSON are bytes, a letter for each.
+"""
+from __future__ import annotations
+
+import json
+import os
+import re
+from typing import Dict, List, NamedTuple, Optional
+
+from . import agreement, overview, texts
+from .answering import answer_unit
+from .messages import Command
+from .names import read_name, script_word
+from .people import rows_of
+from .program import Session
+from .protocol import FREE_FILE_LINE, LIST, lacks_file
+from .scripts import Script, Unit
+from .tools import EDITS, FILE, MAKERS, OF_RECORDS, RESTORING, operand_kinds, split
+from .trusted import read_trusted
+
+OF_FILES = (*EDITS, *OF_RECORDS)  # Tools that take several FILEs, or edit one.
+RECORD = re.compile(b"^" + FREE_FILE_LINE + b"$", re.MULTILINE)
+
+
+class Head(NamedTuple):
+    """The first line: the snapshot, and the ids of its users and groups by their names."""
+
+    part: bytes  # Its folder.
+    users: Dict[str, int]
+    groups: Dict[str, int]
+    unknown: List[bytes]  # What it cannot tell.
+    masks: List[bytes]  # Files with an empty mask, and something for others.
+    size: int  # Of what it records, which comes next.
+
+
+class Header(NamedTuple):
+    line: int
+    size: int  # Of the output after it.
+    messages: List[bytes]
+    lacks: List[bytes]  # Which FILEs are not recorded here,
+    has: List[bytes]  # and which are.
+
+
+def line_of(value: NamedTuple) -> bytes:
+    return json.dumps(value._asdict(), default=lambda it: it.decode("latin-1")).encode() + b"\n"
+
+
+def names_in(value: object) -> List[bytes]:
+    if not isinstance(value, list):
+        raise ValueError
+    return [str(it).encode("latin-1") for it in value]
+
+
+def read_head(line: bytes) -> Head:
+    fields = json.loads(line)
+    part, users, groups, unknown, masks, size = (fields[name] for name in Head._fields)
+    return Head(part.encode("latin-1"), users, groups, names_in(unknown), names_in(masks), size)
+
+
+def read_header(text: bytes) -> Header:
+    fields = json.loads(text)
+    line, size, *lists = (fields[name] for name in Header._fields)
+    return Header(line, size, *map(names_in, lists))
+
+
+def files_of(unit: Unit) -> List[bytes]:
+    """The FILEs of a line, as names; of a file that it makes the directory that this is to be in."""
+    if not unit.is_of(*OF_FILES):
+        return []
+    if any(word.startswith(RESTORING) for word in unit.words):
+        return [read_name(name) for name in RECORD.findall(b"\n".join(unit.lines[1:-1]))]
+    line = split(unit.words)
+    operands = [read_name(word) for word in line.operands]
+    if unit.is_of(*MAKERS):
+        return [name.rstrip(b"/").rpartition(b"/")[0] or b"." for name in operands]
+    return operands[operand_kinds(unit.tool(), line).index(FILE) :]
+
+
+def is_recorded(session: Session, name: bytes) -> Optional[bool]:
+    """Whether a file is recorded; None where the word is no path."""
+    messages = session.ask(LIST + b" " + script_word(name.replace(b"\\", b"\\\\")) + b"\n").messages
+    return True if not messages else False if lacks_file(messages) else None
+
+
+def answer(command: Command, session: Session, unit: Unit) -> None:
+    """Answers a line, after a look at its files."""
+    found = [(name, is_recorded(session, name)) for name in files_of(unit)]
+    output, messages = answer_unit(session, unit)
+    lacks, has = ([name for name, is_there in found if is_there is wanted] for wanted in (False, True))
+    command.write(line_of(Header(unit.number, output.end - output.start, messages, lacks, has)))
+    for piece in output.pieces():
+        command.write(piece)
+    command.write(b"\n")
+
+
+def head_of(folder: bytes, size: int) -> Head:
+    passwd, group, dump = (read_trusted(os.path.join(folder, name)) for name in (b"passwd", b"group", b"dump"))
+    users, groups = ({row[0].decode("latin-1"): int(row[2]) for row in rows_of(rows)} for rows in (passwd, group))
+    return Head(folder, users, groups, list(overview.unknown(folder, dump)), list(overview.open_empty_masks(dump)),
+                size)
+
+
+def write_part(command: Command, program: str, folder: bytes, script: Script, has_records: bool) -> int:
+    """Answers a script over one snapshot, between a first and a last line of our own."""
+    with Session(program, folder) as session:
+        session.ask(b"")
+        listings = texts.list_below(session, texts.find_tops(session, folder)) if has_records else []
+        files = b"".join(agreement.blocks_of(listings))
+        command.write(line_of(head_of(folder, len(files))) + files)
+        for unit in script.units():
+            answer(command, session, unit)
+        command.write(b"end\n")
+    return 0

@@ -1,0 +1,221 @@
+"""facl-ask --each: a script over several snapshots side by side, by GNU parallel, with the answers joined in path
+order.
+
+The snapshots have to be parts of one tree (agreement.py). Each answers the whole script (shard_worker.py). A line is
+then taken where the snapshots agree on it. One that is not taken, since its files lie in several snapshots, may have
+been done by some of them: then all answer the script again, without it.
+"""
+from __future__ import annotations
+
+import argparse
+import heapq
+import os
+import tempfile
+from typing import Dict, Iterator, List, NamedTuple, Optional, Set, Tuple
+
+from . import agreement, overview
+from .answering import below_heading, write_messages
+from .messages import Command, Failure
+from .names import path_order, read_path, sorting_key, write_name
+from .program import OutputSlice, lines_of
+from .protocol import ANSWERED, FILE_HEAD, PROGRAM, REFUSED, is_refused, lacking_file, lacks_file, message_of
+from .records import path_of
+from .scripts import Unit, read_text
+from .side_by_side import HERE, Answered, Part, program_option, run_hosts
+from .side_by_side import hosts_of as hosts_of
+from .superuser import Superusers
+from .tools import ALL, CHANGES_OF_PEOPLE, DEEP, EDITS, LOOK, OF_RECORDS, TEST, options_that, path_in, split
+
+SEVERAL = b"its files lie in several snapshots; name those of one in a line of its own"
+Item = Tuple[bytes, int, bytes]  # A path, the number of its snapshot, and what is printed for it.
+
+
+class Joined(NamedTuple):
+    """What a line prints, and its messages."""
+
+    output: Iterator[bytes]
+    messages: List[bytes]
+    is_dropped: bool = False  # Whether the script is answered again without it.
+
+
+def path_key(name: bytes) -> bytes:
+    """What printed names of files are sorted by: the order of their paths."""
+    return sorting_key(path_of(name))
+
+
+def items_of(unit: Unit, place: int, output: OutputSlice) -> Optional[Iterator[Item]]:
+    """What a line printed, file by file; None where it names no files."""
+    tool = unit.tool()
+    if tool in OF_RECORDS:
+        start = output._replace(end=min(output.end, output.start + len(FILE_HEAD))).read()
+        if start in (b"", FILE_HEAD):
+            records = ((it.partition(b"\n")[0][len(FILE_HEAD) :], it + b"\n\n") for it in output.records())
+            return ((path_key(name), place, text) for name, text in records)
+    elif tool in ALL and "PATH" in ALL[tool].prints:
+        return ((path_key(path_in(tool, line)), place, line + b"\n") for line in output.lines())
+    return None
+
+
+def merged(streams: List[Iterator[Item]]) -> Iterator[bytes]:
+    """The files in path order; of one that several snapshots have, what the first of them printed."""
+    last: Optional[Tuple[bytes, int]] = None
+    for key, place, text in heapq.merge(*streams, key=lambda item: item[:2]):
+        if last is not None and last[0] == key and last[1] != place:
+            continue
+        last = (key, place)
+        yield text
+
+
+def refused(unit: Unit, text: bytes, is_dropped: bool = False) -> Joined:
+    return Joined(iter(()), [message_of(unit.tool() or PROGRAM, text)], is_dropped)
+
+
+def join_accepted(unit: Unit, accepted: List[Answered]) -> Joined:
+    """What the snapshots that accepted a line printed."""
+    outputs = [it.output for it in accepted]
+    streams = [items_of(unit, place, output) for place, output in enumerate(outputs)]
+    messages = accepted[0].header.messages
+    if None not in streams:
+        return Joined(merged([stream for stream in streams if stream is not None]), messages)
+    if unit.is_of(*OF_RECORDS) and len(outputs) > 1 and is_recursive(unit):
+        return refused(unit, b"a listing of several snapshots is joined by its headers; omit -c")
+    return Joined(outputs[0].pieces(), messages)
+
+
+def join(unit: Unit, answers: List[Answered]) -> Joined:
+    """A line's answer by all snapshots."""
+    accepted = [it for it in answers if not it.is_refused()]
+    others = [it.header.messages for it in answers if it.is_refused() and not lacks_file(it.header.messages)]
+    if not accepted:
+        return join_refusals(unit, answers)
+    if is_edit(unit):
+        # Each snapshot that has a file of an edit has to have all, and to take it too; and what goes to all files below
+        # has to be in one snapshot.
+        concerned = [it for it in answers if it.header.has]
+        is_several = len(concerned) > 1 and is_recursive(unit)
+        if is_several or any(it.header.lacks or it.is_refused() for it in concerned):
+            return refused(unit, SEVERAL, is_dropped=True)
+    elif unit.is_of(*CHANGES_OF_PEOPLE) and len(accepted) < len(answers):
+        return refused(unit, b"the snapshots have other users or groups", is_dropped=True)
+    elif others:
+        return Joined(iter(()), others[0])
+    return join_accepted(unit, accepted)
+
+
+def is_edit(unit: Unit) -> bool:
+    """Whether a line changes files. A word --test is taken for the option anywhere in it."""
+    is_look = TEST in unit.words or split(unit.words).has(*options_that(unit.tool(), LOOK))
+    return unit.is_of(*EDITS) and not is_look
+
+
+def is_recursive(unit: Unit) -> bool:
+    """Whether a line goes to all files below."""
+    return split(unit.words).has(*options_that(unit.tool(), DEEP))
+
+
+def join_refusals(unit: Unit, answers: List[Answered]) -> Joined:
+    """The message of a line that no snapshot accepts: one that is not about a missing file comes first, and then one
+    about a file that no snapshot has."""
+    messages = [it.header.messages for it in answers]
+    others = [it for it in messages if not lacks_file(it)]
+    known = {read_path(write_name(name)) for it in answers for name in it.header.has}
+    missing = {read_path(lacking_file(it[0])): it for it in reversed(messages) if lacks_file(it)}
+    found = others or [missing[path] for path in sorted(set(missing) - known, key=path_order)]
+    return Joined(iter(()), found[0]) if found else refused(unit, SEVERAL)
+
+
+def without(script: bytes, units: List[Unit], dropped: Set[int]) -> bytes:
+    """The script with comments in the place of some of its lines."""
+    lines = script.split(b"\n")
+    for unit in units:
+        if unit.number in dropped:
+            lines[unit.number - 1 : unit.number - 1 + len(unit.lines)] = [b"#"] * len(unit.lines)
+    return b"\n".join(lines)
+
+
+def say_notices(command: Command, parts: List[Part]) -> None:
+    """What the snapshots cannot tell, each of it once, and how many lists with an empty mask they have."""
+    known: Dict[bytes, bytes] = {}
+    for part in parts:
+        for text in part.head.unknown:
+            known.setdefault(text, part.label)
+    for text, label in known.items():
+        command.say(label + b": " + text)
+    names = sorted({name for part in parts for name in part.head.masks}, key=lambda name: path_order(read_path(name)))
+    if names:
+        command.say(overview.warning_of(overview.EMPTY_MASKS, names))
+
+
+def check_agreement(parts: List[Part]) -> None:
+    """Fails where snapshots are not parts of one tree."""
+    fault = agreement.disagreement([agreement.Recorded(it.label, it.head.users, it.head.groups, it.files)
+                                    for it in parts])
+    if fault is not None:
+        raise Failure(fault + b", so they are no parts of one tree: ask servers by --hosts NAME:DIR..")
+
+
+def superusers_of(parts: List[Part], with_root: bool) -> Superusers:
+    """Who is left out of answers about people."""
+    ids = {name.encode("latin-1"): number for part in parts for name, number in part.head.users.items()}
+    return Superusers({} if with_root else ids)
+
+
+def run_parts(hosts: Dict[bytes, List[bytes]], options: List[bytes], script: bytes, work: str) -> List[Part]:
+    """The answers of all snapshots."""
+    parts: List[Part] = []
+    for host, outcome in run_hosts(hosts, options, script, work).items():
+        if isinstance(outcome, Failure):
+            raise Failure((b"" if host == HERE else host + b": ") + outcome.text)
+        parts += outcome
+    return parts
+
+
+def body(command: Command, folders: List[str], given: argparse.Namespace) -> int:
+    """Answers standard input over all snapshots."""
+    hosts = hosts_of([os.fsencode(it) for it in folders])
+    script = read_text("-")
+    units = script.units()
+    dropped: Dict[int, Joined] = {}
+    options = [b"--records"] if len(folders) > 1 else []
+    with tempfile.TemporaryDirectory(prefix="facl-ask.") as work:
+        while True:
+            text = without(script.text, units, set(dropped))
+            parts = run_parts(hosts, [*options, *program_option(given.program)], text, work)
+            check_agreement(parts)
+            if not dropped:
+                say_notices(command, parts)
+            options = []
+            joined: Dict[int, Joined] = {
+                unit.number: dropped.get(unit.number) or join(unit, [part.answers[unit.number] for part in parts])
+                for unit in units
+            }
+            new = next((number for number, it in joined.items() if it.is_dropped and number not in dropped), None)
+            if new is None:
+                return write(command, units, joined, superusers_of(parts, given.with_root), given.headings)
+            dropped[new] = joined[new]
+
+
+def pieces_of(unit: Unit, answer: Joined, superusers: Superusers, has_headings: bool) -> Iterator[bytes]:
+    """What is printed of an answer."""
+    if has_headings:
+        return below_heading(unit, superusers.rest(unit, lines_of(answer.output)), answer.messages)
+    if superusers.is_about_people(unit):
+        return (line + b"\n" for line in superusers.rest(unit, lines_of(answer.output)))
+    return answer.output
+
+
+def write(command: Command, units: List[Unit], joined: Dict[int, Joined], superusers: Superusers,
+          has_headings: bool) -> int:
+    status = ANSWERED
+    for unit in units:
+        answer = joined[unit.number]
+        for text in pieces_of(unit, answer, superusers, has_headings):
+            command.write(text)
+        write_messages(command, b"line %d" % unit.number, unit, answer.messages)
+        if is_refused(answer.messages):
+            status = REFUSED
+        else:
+            superusers.follow(unit)
+    if superusers.has_left_out:
+        command.say(superusers.note())
+    return status

@@ -1,0 +1,189 @@
+//! Lines on as many files as there are kinds, or more.
+
+use crate::lines::Line;
+use crate::small_tree::{GROUP, PASSWD};
+use crate::world::{Row, Verdict, first_wrong, nothing};
+use acl_rights::Table;
+
+/// Twelve files of two labels.
+const FILES: &[u8] =
+    b"# file: .\n# owner: lisa\n# group: staff\nuser::rwx\ngroup::r-x\nother::r-x\n\n\
+# file: a/\n# owner: lisa\n# group: staff\nuser::rwx\ngroup::r-x\nother::r-x\n\n\
+# file: a/1\n# owner: lisa\n# group: staff\nuser::rw-\ngroup::r--\nother::---\n\n\
+# file: a/2\n# owner: lisa\n# group: staff\nuser::rw-\ngroup::r--\nother::---\n\n\
+# file: a/3\n# owner: lisa\n# group: staff\nuser::rw-\ngroup::r--\nother::---\n\n\
+# file: a/4\n# owner: lisa\n# group: staff\nuser::rw-\ngroup::r--\nother::---\n\n\
+# file: b/\n# owner: lisa\n# group: staff\nuser::rwx\ngroup::r-x\nother::r-x\n\n\
+# file: b/1\n# owner: lisa\n# group: staff\nuser::rw-\ngroup::r--\nother::---\n\n\
+# file: b/2\n# owner: lisa\n# group: staff\nuser::rw-\ngroup::r--\nother::---\n\n\
+# file: b/3\n# owner: lisa\n# group: staff\nuser::rw-\ngroup::r--\nother::---\n\n\
+# file: b/4\n# owner: lisa\n# group: staff\nuser::rw-\ngroup::r--\nother::---\n\n\
+# file: c\n# owner: lisa\n# group: staff\nuser::rw-\ngroup::r--\nother::---\n";
+
+const JOE: usize = 1;
+
+const ANN: usize = 2;
+
+static SETUP: [Row; 3] = [
+    Row {
+        line: Line::Load(Table::Passwd, PASSWD),
+        asked: (0, 0),
+        looked: 0,
+        refreshed: 0,
+        verdicts: &[],
+        reach: &[],
+    },
+    Row {
+        line: Line::Load(Table::Group, GROUP),
+        asked: (0, 0),
+        looked: 0,
+        refreshed: 0,
+        verdicts: &[],
+        reach: &[],
+    },
+    Row {
+        line: Line::Load(Table::Dump, FILES),
+        asked: (0, 6),
+        looked: 0,
+        refreshed: 36,
+        verdicts: &[Verdict {
+            user: JOE,
+            path: b"a/1",
+            byte: 0x01,
+        }],
+        reach: &[],
+    },
+];
+
+/// Two lines on all files, and others from the rows that these leave.
+static ALL_FILES: [Row; 5] = [
+    Row {
+        line: Line::Setfacl(b"u:joe:rX", true, b"."),
+        asked: (0, 6),
+        looked: 0,
+        refreshed: 36,
+        verdicts: &[
+            Verdict {
+                user: JOE,
+                path: b"a/1",
+                byte: 0x11,
+            },
+            Verdict {
+                user: JOE,
+                path: b"b",
+                byte: 0x33,
+            },
+            Verdict {
+                user: ANN,
+                path: b"c",
+                byte: 0x01,
+            },
+        ],
+        reach: &[Verdict {
+            user: JOE,
+            path: b"b/4",
+            byte: 0x11,
+        }],
+    },
+    Row {
+        line: Line::Setfacl(b"g:adm:r", true, b"."),
+        asked: (0, 6),
+        looked: 0,
+        refreshed: 36,
+        verdicts: &[Verdict {
+            user: JOE,
+            path: b"a/1",
+            byte: 0x11,
+        }],
+        reach: &[],
+    },
+    // Few files change.
+    Row {
+        line: Line::Setfacl(b"u:joe:rw", false, b"a/1"),
+        asked: (0, 3),
+        looked: 0,
+        refreshed: 3,
+        verdicts: &[
+            Verdict {
+                user: JOE,
+                path: b"a/1",
+                byte: 0x55,
+            },
+            Verdict {
+                user: JOE,
+                path: b"a/2",
+                byte: 0x11,
+            },
+        ],
+        reach: &[],
+    },
+    Row {
+        line: Line::Rm(b"b/4"),
+        asked: (0, 0),
+        looked: 0,
+        refreshed: 0,
+        verdicts: &[],
+        reach: &[],
+    },
+    // Each label mentions adm.
+    Row {
+        line: Line::Join(b"ann", b"adm"),
+        asked: (1, 3),
+        looked: 11,
+        refreshed: 11,
+        verdicts: &[Verdict {
+            user: ANN,
+            path: b"a/2",
+            byte: 0x11,
+        }],
+        reach: &[Verdict {
+            user: ANN,
+            path: b"a/2",
+            byte: 0,
+        }],
+    },
+];
+
+/// All files of one folder change, and what is below it is counted once.
+static A_FOLDER: [Row; 2] = [
+    Row {
+        line: Line::Setfacl(b"u:joe:rX", true, b"a"),
+        asked: (0, 6),
+        looked: 0,
+        refreshed: 15,
+        verdicts: &[
+            Verdict {
+                user: JOE,
+                path: b"a/4",
+                byte: 0x11,
+            },
+            Verdict {
+                user: JOE,
+                path: b"b/1",
+                byte: 0x01,
+            },
+        ],
+        reach: &[],
+    },
+    Row {
+        line: Line::Chmod(0o700, b"b"),
+        asked: (0, 3),
+        looked: 0,
+        refreshed: 15,
+        verdicts: &[],
+        reach: &[Verdict {
+            user: JOE,
+            path: b"b/1",
+            byte: 0,
+        }],
+    },
+];
+
+#[test]
+fn lines_on_many_files_cost_their_labels(rt: HostRuntime) {
+    for rows in [&ALL_FILES as &[Row], &A_FOLDER] {
+        let mut world = nothing(rt.alloc()).expect(&rt, "memory");
+        assert_eq!(rt; first_wrong(rt.alloc(), &mut world, &SETUP), None);
+        assert_eq!(rt; first_wrong(rt.alloc(), &mut world, rows), None);
+    }
+}

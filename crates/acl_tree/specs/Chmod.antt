@@ -1,0 +1,21 @@
+-- chmod(1): a mode put into the files of a command.
+use Rattle.std.specs.Prelude.{ℕ, List, Bool, Option, Some, None, Result, Ok, Err}
+use Rattle.acl_files.specs.acl_edit.Nodes as nodes
+use Rattle.acl_files.specs.Files.{PathOf, Recorded}
+use Rattle.acl_files.specs.Operands.{is_file, first_missing, edit_files}
+use Rattle.acl_files.specs.declared.fault.TreeFault.{TreeFault}
+use Rattle.acl_files.specs.declared.fault.TreeFault.TheVariants.{NoSuchFile}
+use Rattle.acl_tree.specs.State.{State}
+
+-- the files of the command with a mode put into them
+abbrev pub chmod_all : Bool → List PathOf → ℕ → Recorded → Recorded
+chmod_all recursive paths mode tree = record tree { files = edit_files (is_file recursive paths) (λ _ n. nodes.chmod n mode) tree.files }
+
+-- the state, unless a path is missing
+abbrev pub or_missing : Option PathOf → State → Result State TreeFault
+or_missing None s = Ok s
+or_missing (Some p) s = Err (NoSuchFile p)
+
+-- the state after the command, unless an operand is missing
+abbrev pub chmod : Bool → List PathOf → ℕ → State → Result State TreeFault
+chmod recursive paths mode s = or_missing (first_missing paths s.tree.files) (record s { tree = chmod_all recursive paths mode s.tree })

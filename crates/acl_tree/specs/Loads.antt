@@ -1,0 +1,49 @@
+-- load: the texts of users, groups and files.
+use Rattle.std.specs.Prelude.{ℕ, List, length, Bool, true, nat_lt, ◌||◌, if◌then◌else◌, Result, Ok, Err}
+use Rattle.acl_files.specs.acl_syntax.declared.fault.TextFault.{TextFault}
+use Rattle.acl_files.specs.acl_dump.declared.record.DumpRecord.{DumpRecord}
+use Rattle.acl_files.specs.acl_dump.declared.record.DumpUse.TheVariants as uses
+use Rattle.acl_files.specs.acl_dump.Records.{dump_of}
+use Rattle.acl_files.specs.Files.{max_files}
+use Rattle.acl_files.specs.Loading.{files_of}
+use Rattle.acl_files.specs.declared.fault.TreeFault.{TreeFault}
+use Rattle.acl_files.specs.declared.fault.TreeFault.TheVariants.{TooMany, AlreadyLoaded, Text, NoMemory}
+use Rattle.acl_people.specs.declared.fault.LoadFault.{LoadFault}
+use Rattle.acl_people.specs.declared.fault.LoadFault.TheVariants as loads
+use Rattle.acl_people.specs.KnownPeople.{KnownPeople, load_passwd, load_group, naming_of}
+use Rattle.acl_tree.specs.declared.command.Table.{Table}
+use Rattle.acl_tree.specs.declared.command.Table.TheVariants.{Passwd, Group, Dump}
+use Rattle.acl_tree.specs.State.{State}
+
+abbrev pub tree_fault : LoadFault → TreeFault
+tree_fault loads.AlreadyLoaded = AlreadyLoaded
+tree_fault (loads.Text fault) = Text fault
+tree_fault loads.NoMemory = NoMemory
+
+abbrev pub with_people : State → Result KnownPeople LoadFault → Result State TreeFault
+with_people s (Ok people) = Ok (record s { people = people })
+with_people s (Err fault) = Err (tree_fault fault)
+
+abbrev pub with_records : State → Result (List DumpRecord) TextFault → Result State TreeFault
+with_records s (Err fault) = Err (Text fault)
+with_records s (Ok records) =
+    if nat_lt max_files (length records) then Err TooMany
+    else Ok (record s { tree = record { files = files_of records; loaded = true } })
+
+-- the records of a dump, whose users and groups are looked up
+abbrev pub dump_records : KnownPeople → List ℕ → Result (List DumpRecord) TextFault
+dump_records known bytes = dump_of (naming_of known) uses.Load bytes
+
+abbrev pub load_dump : State → List ℕ → Result State TreeFault
+load_dump s bytes = with_records s (dump_records s.people bytes)
+
+abbrev pub load : State → Table → List ℕ → Result State TreeFault
+load s Passwd bytes = if s.tree.loaded then Err AlreadyLoaded else with_people s (load_passwd s.people bytes)
+load s Group bytes = if s.tree.loaded then Err AlreadyLoaded else with_people s (load_group s.people bytes)
+load s Dump bytes = if s.tree.loaded then Err AlreadyLoaded else load_dump s bytes
+
+-- whether a text was loaded, or can be no more: users and groups are loaded before a dump
+abbrev pub is_loaded : State → Table → Bool
+is_loaded s Passwd = s.tree.loaded || s.people.passwd_loaded
+is_loaded s Group = s.tree.loaded || s.people.group_loaded
+is_loaded s Dump = s.tree.loaded

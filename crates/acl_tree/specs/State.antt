@@ -1,0 +1,34 @@
+-- The whole state: the recorded files, and the users and groups.
+use Rattle.std.specs.Prelude.{Result, Ok, Err, refl}
+use Rattle.std.specs.Coded.{Coded, code_by, coded×}
+use Rattle.acl_files.specs.Files.{Recorded, coded_recorded, no_files}
+use Rattle.acl_files.specs.declared.fault.TreeFault.{TreeFault}
+use Rattle.acl_people.specs.KnownPeople.{KnownPeople, nobody}
+use Rattle.acl_people.specs.contracts.people.People as people_contracts
+use Rattle.acl_tree.specs.Memberships.{ChangedUser}
+
+-- the recorded files, and the users and groups
+pub record State : Type 0 where
+  pub tree : Recorded
+  pub people : KnownPeople
+
+abbrev pub coded_state : Coded State
+coded_state =
+    code_by (Recorded × KnownPeople) (coded× coded_recorded people_contracts.the_row.coded) (λ s. (s.tree, s.people)) (λ p. record { tree = p.0; people = p.1 }) (λ _. refl)
+
+abbrev pub state_from : Recorded → KnownPeople → State
+state_from tree people = record { tree = tree; people = people }
+
+-- no file is recorded, and nobody is known
+abbrev pub nothing : State
+nothing = state_from no_files nobody
+
+-- the state with the tree that a command makes, or the command's fault
+abbrev pub with_tree : State → Result Recorded TreeFault → Result State TreeFault
+with_tree s (Ok tree) = Ok (record s { tree = tree })
+with_tree s (Err fault) = Err fault
+
+-- the state with the people that a change of a user makes, or the fault of the change
+abbrev pub with_change : State → Result ChangedUser TreeFault → Result State TreeFault
+with_change s (Ok change) = Ok (record s { people = change.people })
+with_change s (Err fault) = Err fault

@@ -1,0 +1,11 @@
+use Rattle.std.proofs.Common.{ap, ◌∙◌}
+use Rattle.acl_files.specs.kinds.Numbered.{entries_in}
+use Rattle.acl_verdicts.specs.declared.kind_rows.LabelRow.{LabelRow}
+use Rattle.acl_verdicts.specs.KindRows.{each_row}
+use Rattle.acl_verdicts.proofs.RowsOfKinds.{again_where}
+use Rattle.acl_verdicts.proofs.kind_rows.KindRows.with_user_updated.Goals as goal
+
+pub returns-clause-rows : goal.returns-clause-rows
+returns-clause-rows g c =
+    c.in_ok-rows.ensures.entries
+    ∙ ap (λ (f : LabelRow → LabelRow). each_row f (entries_in c.args.self.now.rows)) (again_where g.J.Judge.verdict_of c.args.at c.args.user.now c.args.groups.now)

@@ -1,7 +1,0 @@
-use Rattle.std.proofs.Common.{take}
-use Rattle.acl_tree.specs.acl_people.KnownPeople.{naming_of}
-use Rattle.acl_tree.specs.acl_syntax.Writing.{AreNamed}
-use Rattle.facl_output.proofs.again.list_is_read_again.Given as goal
-
-abbrev pub invariant-loop-entry : goal.invariant-loop-entry
-invariant-loop-entry l = AreNamed (naming_of l.people) (take l.entry-index l.entry-items)

@@ -1,6 +1,0 @@
-use Rattle.std.proofs.Common.{take}
-use Rattle.kinds.specs.Inner.{ReleasesBut}
-use Rattle.kinds.proofs.map.release_all.Given as goal
-
-abbrev pub invariant-loop-one : goal.invariant-loop-one
-invariant-loop-one g l = ReleasesBut l.fn.kinds (take l.one-index l.found) l.kinds l.last l.pending

@@ -1,0 +1,88 @@
+//! The paths of a map whose nodes pass a test, by a table of the numbers: each kind is tested once.
+
+ghost use Rattle.std.specs.Prelude.{◌≡◌, false, map, filter, get_or, IfOk};
+ghost use Rattle.kinds.specs.Numbered.{entries_in};
+ghost use Rattle.kinds.specs.Kinds.{node_at};
+ghost use Rattle.kinds.specs.Passing.{passed};
+
+use crate::kinds::Kinds;
+use crate::map::KindMap;
+use crate::renew::KindTest;
+use acl_names::Path;
+use path_map::PathMap;
+use std::alloc::{AllocError, Global};
+
+/// Whether the node of a number passes a test, if it has one.
+fn passes<N, T: KindTest<N>>(kinds: &Kinds<N>, test: &T, number: usize) -> bool
+    ensures { result ≡ passed (T.passes test.now) (node_at kinds.now number) }
+{
+    match kinds.get(number) {
+        Some(node) => test.passes(node),
+        None => false,
+    }
+}
+
+/// For each number whether its node passes a test.
+fn table_of<N, T: KindTest<N>>(
+    alloc: Global,
+    kinds: &Kinds<N>,
+    test: &T,
+) -> Result<Vec<bool>, AllocError>
+    ensures { IfOk result (λ table. table.items ≡ map (passed (T.passes test.now)) kinds.now.0) }
+{
+    let mut table = Vec::with_capacity(alloc, kinds.len())?;
+    for number in 0..kinds.len() {
+        table.push(passes(kinds, test, number))?;
+    }
+    Ok(table)
+}
+
+/// What a table has for a number.
+fn is_set(table: &[bool], number: usize) -> bool
+    ensures { result ≡ get_or table.now number false }
+{
+    number < table.len() && table[number]
+}
+
+/// The paths with numbers that a table has, in path order.
+fn paths_of<'a>(
+    alloc: Global,
+    numbers: &'a PathMap<usize>,
+    table: &[bool],
+) -> Result<Vec<&'a Path>, AllocError>
+    ensures { IfOk result (λ paths. map (λ p. p.now) paths.items ≡ map (λ e. e.0) (filter (λ e. get_or table.now e.1 false) numbers.now)) }
+{
+    let mut paths = Vec::new(alloc);
+    let mut rest = numbers.iter();
+    while let Some(entry) = rest.next() {
+        if is_set(table, entry.1) {
+            paths.push(entry.0)?;
+        }
+    }
+    Ok(paths)
+}
+
+impl<N> KindMap<N> {
+    /// For each number whether it has a node that passes a test: each kind is tested once. Fails only if memory runs out.
+    pub fn table_where<T: KindTest<N>>(
+        &self,
+        alloc: Global,
+        test: &T,
+    ) -> Result<Vec<bool>, AllocError>
+        ensures { IfOk result (λ table. table.items ≡ map (passed (T.passes test.now)) self.now.0.0) }
+    {
+        table_of(alloc, self.kinds(), test)
+    }
+
+    /// The paths whose nodes pass a test, in path order: each kind is tested once. Fails only if memory runs out.
+    pub fn paths_where<T: KindTest<N>>(
+        &self,
+        alloc: Global,
+        test: &T,
+    ) -> Result<Vec<&Path>, AllocError>
+        ensures { IfOk result (λ paths. map (λ p. p.now) paths.items ≡ map (λ e. e.0) (filter (λ e. T.passes test.now e.1) (entries_in self.now))) }
+    {
+        let table = table_of(alloc, self.kinds(), test)?;
+        paths_of(alloc, self.numbers(), &table)
+    }
+}

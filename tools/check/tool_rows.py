@@ -1,0 +1,145 @@
+"""The tools and options that the program has by its sources, and which of them the commands and the documents lack.
+documents.py calls it."""
+from __future__ import annotations
+
+import ast
+import importlib.util
+import os
+import re
+from typing import Dict, Iterator, List, NamedTuple, Set, Tuple
+
+from memory_faults import found_in, text_of
+
+PAGE, README, SPECIFICATION = "docs/facl.1", "README.md", "docs/SPECIFICATION.md"
+COMMANDS_PAGE, RECORDS = "docs/facl-commands.1", "commands/facl_commands/tools.py"
+CAUSES = "commands/facl_commands/cause_rows.py"
+NAMED = re.compile(r'\brow!\(\w+, "(\w+)"')
+SWITCHES = re.compile(r"\b(flags|options): &\[(.*?)\]", re.S)
+SWITCH = re.compile(r"\b(both|by_letter|by_name)!\((?:'(\w)', )?\"([\w-]+)\"(, of_text)?")
+NOTHING, VALUE, TEXT = "no value", "a value", "a text"
+ROW_PLACE = 5  # Of the refused line among the words of a cause's row.
+Fault = Tuple[str, int, str]
+
+
+class Switch(NamedTuple):
+    names: Tuple[str, ...]
+    takes: str
+
+
+def switches_of(source: str) -> List[Switch]:
+    """The options of a tool's row in its source."""
+    found: List[Switch] = []
+    for kind, part in SWITCHES.findall(source):
+        for macro, letter, name, text in SWITCH.findall(part):
+            names = [f"-{letter}"] * bool(letter) + [f"--{name}"] * (macro != "by_letter")
+            found.append(Switch(tuple(names), NOTHING if kind == "flags" else TEXT if text else VALUE))
+    return found
+
+
+def options_shown(text: str) -> Set[str]:
+    """The options that heads and tags of a part of the page have."""
+    tags = re.sub(r"\\f[BIRP]", "", "\n".join(re.findall(r"^(?:\.SS|\.T[PQ]\n)(.*)", text, re.M))).replace("\\-", "-")
+    letters = {f"-{letter}" for word in re.findall(r"(?<![\w-])-([A-Za-z]+)", tags) for letter in word}
+    return letters | set(re.findall(r"(?<![\w-])--[A-Za-z][A-Za-z-]*", tags))
+
+
+def records_of(path: str) -> Tuple[Dict[str, List[Switch]], List[str]]:
+    """The tools that the commands know, with their options, of which completion and causes are made; and those of
+    facl-plan alone."""
+    spec = importlib.util.spec_from_file_location("tools", path)
+    assert spec is not None and spec.loader is not None
+    module = importlib.util.module_from_spec(spec)
+    spec.loader.exec_module(module)
+    takes = {"": NOTHING, module.TEXT: TEXT}
+    found = {tool.name.decode(): [Switch(tuple(map(bytes.decode, row.names)), takes.get(row.value, VALUE))
+                                  for row in tool.options]
+             for tool in module.ROWS}
+    of_plans = [name.decode() for name in module.TOOLS_OF_PLANS]
+    return {name: rows for name, rows in found.items() if name not in of_plans}, of_plans
+
+
+def tools_of_causes(text: str) -> Iterator[str]:
+    """The words by which rows of the table of causes name tools: in their tests, and first in a refused line."""
+    for call in ast.walk(ast.parse(text)):
+        if isinstance(call, ast.Call) and isinstance(call.func, ast.Name) and call.args:
+            place = ROW_PLACE if call.func.id == "row" else 0
+            word = call.args[place] if len(call.args) > place else None
+            value = word.value if isinstance(word, ast.Constant) else ""
+            words = (value.decode() if isinstance(value, bytes) else str(value)).split()
+            if call.func.id in ("first", "has_option", "operands", "row"):
+                yield from words[:1] if call.func.id == "row" else words
+
+
+class ToolRows:
+    """The checks of a repository."""
+
+    def __init__(self, top: str) -> None:
+        self.top = top
+        names = NAMED.findall(text_of(top, "crates/facl/src/tools.rt"))
+        self.tools = {name: switches_of(text_of(top, f"crates/facl/src/tools/{name}.rt")) for name in names}
+        self.program = {f"--{name}" for _, _, name, _ in SWITCH.findall(text_of(top, "crates/facl_words/src/args.rt"))}
+
+    def all_faults(self) -> Iterator[Fault]:
+        yield from self.of_page()
+        yield from self.of_records()
+        yield from self.of_readme()
+        yield from self.of_specification()
+        yield from self.of_causes()
+
+    def unlike(self, path: str, named: Set[str], tools: Set[str]) -> Iterator[Fault]:
+        yield from ((path, 1, f"the tool {name} is not in it") for name in tools - named)
+        yield from ((path, 1, f"the program has no tool {name}") for name in named - tools)
+
+    def of_page(self) -> Iterator[Fault]:
+        """Tools and options that the program has and the manual page has not, or the other way round."""
+        sections = dict(re.findall(r"^\.SH (.*)\n((?:(?!\.SH ).*\n)*)", text_of(self.top, PAGE), re.M))
+        shown = {"facl": sections.get("OPTIONS", "")}
+        for name, part in re.findall(r"^\.SS (\w+)(.*\n(?:(?!\.SS ).*\n)*)", sections.get("TOOLS", ""), re.M):
+            shown[name] = shown.get(name, "") + ".SS" + part
+        options = {name: {it for row in rows for it in row.names} for name, rows in self.tools.items()}
+        options["facl"] = self.program
+        yield from self.unlike(PAGE, set(shown), set(options))
+        for name in set(options) & set(shown):
+            tags, read = options_shown(shown[name]), options[name]
+            yield from ((PAGE, 1, f"{name} does not read {option}") for option in tags - read)
+            yield from ((PAGE, 1, f"{name} has no {option} here") for option in read - tags)
+
+    def of_records(self) -> Iterator[Fault]:
+        """The same of the records of the commands; and whether each option takes the same. The manual page of the
+        commands has the tools of facl-plan."""
+        known, of_plans = records_of(os.path.join(self.top, RECORDS))
+        yield from self.unlike(RECORDS, set(known), set(self.tools))
+        for name in set(known) & set(self.tools):
+            ours, read = ({row.names: row.takes for row in rows} for rows in (known[name], self.tools[name]))
+            for names in set(ours) | set(read):
+                option, takes = " ".join(names), read.get(names, "")
+                if names not in read:
+                    yield RECORDS, 1, f"{name} does not read {option}"
+                elif ours.get(names) != takes:
+                    yield RECORDS, 1, f"{name} has no {option} here" if names not in ours else f"{option} takes {takes}"
+        page = text_of(self.top, COMMANDS_PAGE) if of_plans else ""
+        yield from ((COMMANDS_PAGE, 1, f"the tool {name} is not in it") for name in of_plans
+                    if not re.search(rf"\b{name}\b", page))
+
+    def of_readme(self) -> Iterator[Fault]:
+        """The table of tools."""
+        part = re.search(r"^## The tools of a script\n(?:(?!## ).*\n)*", text_of(self.top, README), re.M)
+        cells = [line.split("|")[1] for line in part[0].split("\n") if line.startswith("| `")] if part else []
+        named = {name for cell in cells for name in re.findall(r"`(\w+)`", cell)}
+        yield from self.unlike(README, named, set(self.tools))
+
+    def of_specification(self) -> Iterator[Fault]:
+        """Each tool, and each option by one of its names, is in code of the rules."""
+        codes = [code.split() for code in re.findall(r"`([^`]+)`", text_of(self.top, SPECIFICATION))]
+        tools = {words[0] for words in codes if words}
+        yield from ((SPECIFICATION, 1, f"the tool {name} is not in it") for name in set(self.tools) - tools)
+        named = {word.partition("=")[0] for words in codes for word in words}
+        for name, row in ((name, row) for name, rows in self.tools.items() for row in rows):
+            if named.isdisjoint(row.names):
+                yield SPECIFICATION, 1, f"{name} has no {' '.join(row.names)} here"
+
+    def of_causes(self) -> Iterator[Fault]:
+        """Each tool has a row in the table of causes; its options come into it by the records."""
+        paths = found_in(self.top, "commands/facl_commands/cause_rows*.py")
+        named = {word for path in paths for word in tools_of_causes(text_of(self.top, path))}
+        yield from ((CAUSES, 1, f"the tool {name} is not in it") for name in set(self.tools) - named)
