@@ -11,4 +11,3 @@ pub mod KnownBodies
 pub mod Writing
 pub mod Again
 pub mod Laws
-pub use Rattle.acl_syntax.specs as acl_syntax

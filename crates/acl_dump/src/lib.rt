@@ -18,10 +18,6 @@ mod record;
 mod seen;
 mod writing;
 
-pub use acl_syntax::{
-    FaultKind, Form, Names, NoNames, PasswdRow, Sep, Spec, TextFault, Want, Which, append_entry,
-    append_id, append_short, read_entries, read_id, read_perms, trim,
-};
 pub use dump::read_dump;
 pub use effective::Effective;
 pub use header::{Header, append_header, append_record};

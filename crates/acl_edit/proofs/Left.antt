@@ -11,7 +11,7 @@ use Rattle.acl_edit.specs.Steps.{gives_execute, strip, replace, fill_from}
 use Rattle.acl_edit.specs.Masks.{takes_mask, with_mask}
 use Rattle.acl_edit.specs.Edits.{worked, access_after, default_after, access_before, default_before}
 use Rattle.acl_edit.specs.Laws.{left_at, mask_after, had_access, had_default, IsAccessLeft, IsDefaultLeft}
-use Rattle.acl_edit.specs.Changes.{Change}
+use Rattle.acl_edit.specs.declared.edit.Change.{Change}
 use Rattle.acl_edit.specs.declared.node.Node.{Node}
 use Rattle.acl_edit.proofs.Kept.{access_unnamed, default_unnamed}
 use Rattle.acl_edit.proofs.Given.{get-masked, unnamed_left, or_right}

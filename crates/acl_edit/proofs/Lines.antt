@@ -18,7 +18,7 @@ use Rattle.acl_edit.specs.Masks.{takes_mask, with_mask, add_mask, recalculate, i
 use Rattle.acl_syntax.specs.InTurn.{◌>>=◌}
 use Rattle.acl_edit.specs.Edits.{worked, checked, checked_default, access_after, default_after, access_before, default_before, changed_access, changed_default}
 use Rattle.acl_edit.specs.Laws.{HidesNothing, LeavesUnnamed, ShowsRecalculated, KeepsGranted, GivesModified, GoesByKey, LeavesByKey, CopiesBase, MakesMask, BoundsRecalculated, MasksNoMore, DropsDefault, last_for, given, has_entry, left_at, mask_made, mask_after, had_access, had_default}
-use Rattle.acl_edit.specs.Changes.{Change}
+use Rattle.acl_edit.specs.declared.edit.Change.{Change}
 use Rattle.acl_edit.specs.declared.edit.EditFault.{EditFault}
 use Rattle.acl_edit.specs.declared.edit.EditFault.TheVariants.{List as ListIs}
 use Rattle.acl_edit.specs.declared.node.Kind.{Kind}

@@ -6,7 +6,7 @@ use Rattle.acl_edit.specs.Nodes.{IsSound, with_lists}
 use Rattle.acl_edit.specs.Edits as steps
 use Rattle.acl_syntax.specs.InTurn.{◌>>=◌}
 use Rattle.acl_edit.specs.Edits.{edit, allowed, changed_access, changed_default, is_misplaced}
-use Rattle.acl_edit.specs.Changes.{Change}
+use Rattle.acl_edit.specs.declared.edit.Change.{Change}
 use Rattle.acl_edit.specs.declared.edit.Edit.{Edit}
 use Rattle.acl_edit.specs.declared.edit.Edit.TheVariants as edits
 use Rattle.acl_edit.specs.declared.edit.EditFault.{EditFault}

@@ -14,7 +14,7 @@ use Rattle.acl_edit.specs.Edits as steps
 use Rattle.acl_syntax.specs.InTurn.{◌>>=◌}
 use Rattle.acl_edit.specs.Edits.{edit, edit_of, checked_default, changed_default, is_misplaced, allowed}
 use Rattle.acl_edit.specs.Laws.{OfLine, puts_default, misplaces_default, RefusesLists, RefusesNoList}
-use Rattle.acl_edit.specs.Changes.{Change}
+use Rattle.acl_edit.specs.declared.edit.Change.{Change}
 use Rattle.acl_edit.specs.declared.edit.Edit.{Edit}
 use Rattle.acl_edit.specs.declared.edit.Edit.TheVariants as edits
 use Rattle.acl_edit.specs.declared.edit.EditFault.{EditFault}

@@ -1,9 +1,7 @@
 -- What a setfacl(1) line asks for: its options but --restore and --test.
 use Rattle.std.specs.Prelude.{Bool, List}
 use Rattle.acl_syntax.specs.declared.entries.Spec.{Spec}
-pub use Rattle.acl_edit.specs.declared.edit.Change.{Change}
-pub use Rattle.acl_edit.specs.declared.edit.ChangeEntries.{ChangeEntries}
-pub use Rattle.acl_edit.specs.declared.edit.ChangeFlags.{ChangeFlags}
+use Rattle.acl_edit.specs.declared.edit.Change.{Change}
 
 -- these options
 abbrev pub options : Bool → Bool → Bool → Bool → Bool → List Spec → List Spec → List Spec → Change

@@ -17,7 +17,7 @@ use Rattle.acl_edit.specs.Steps.{perms_of, gives_execute}
 use Rattle.acl_syntax.specs.declared.entries.Spec.{Spec}
 use Rattle.acl_edit.specs.Masks.{has_named, is_recalculated}
 use Rattle.acl_edit.specs.Edits.{edit, edit_of}
-use Rattle.acl_edit.specs.Changes.{Change}
+use Rattle.acl_edit.specs.declared.edit.Change.{Change}
 use Rattle.acl_edit.specs.declared.edit.Edit.{Edit}
 use Rattle.acl_edit.specs.declared.edit.Edit.TheVariants as edits
 use Rattle.acl_edit.specs.declared.edit.EditFault.{EditFault}

@@ -7,7 +7,7 @@ use Rattle.acl_entry.specs.Keys.{is_named}
 use Rattle.acl_entry.specs.declared.entry.Key.TheVariants.{OwningGroup, Mask}
 use Rattle.acl_edit.specs.Parts.{Part, gives_mask, is_of_mask}
 use Rattle.acl_edit.specs.Steps.{put_some}
-use Rattle.acl_edit.specs.Changes.{Change}
+use Rattle.acl_edit.specs.declared.edit.Change.{Change}
 
 abbrev pub has_mask : KeyMap → Bool
 has_mask m = maps.contains_key m Mask

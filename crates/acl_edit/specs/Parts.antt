@@ -6,7 +6,7 @@ use Rattle.acl_entry.specs.declared.entry.Key.TheVariants.{Owner, User, OwningGr
 use Rattle.acl_syntax.specs.declared.entries.Spec.{Spec}
 use Rattle.acl_syntax.specs.declared.fault.Which.{Which}
 use Rattle.acl_syntax.specs.declared.fault.Which.TheVariants.{Access, Default}
-use Rattle.acl_edit.specs.Changes.{Change}
+use Rattle.acl_edit.specs.declared.edit.Change.{Change}
 use Rattle.acl_edit.specs.declared.change.Scope.{Scope}
 
 -- the entry is for this list: under -d plain entries are default ones, and default ones are dropped

@@ -222,8 +222,7 @@ pub struct Perm {
 
 impl Model for Perm {
     ghost use Rattle.std.specs.Prelude.{◌<◌};
-    ghost use Rattle.acl_entry.specs.Perms.{Perms, number, numbered};
-    ghost use Rattle.acl_entry.specs.Perms.{number-numbered};
+    ghost use Rattle.acl_entry.specs.Perms.{Perms, number, numbered, number-numbered};
     ghost use Rattle.std.proofs.Common.{ap};
 
     ghost Value = { Perms };

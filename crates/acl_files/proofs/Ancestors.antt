@@ -1,7 +1,8 @@
 -- The paths of the files that a path is below: the nearest, and those above it.
 use Rattle.std.proofs.Common.{◌≡◌, ◌<◌, List, [], ◌∷◌, ◌++◌, length, map, reverse, append-nil, append_assoc, Option, Some, None, refl, sym, ap, subst, ◌∙◌, arith}
 use Rattle.std.proofs.lemmas.List.{map-append, reverse-append}
-use Rattle.path_map.specs.Entries.{PathOf, IsInOrder}
+use Rattle.acl_names.specs.Paths.{PathOf}
+use Rattle.path_map.specs.Entries.{IsInOrder}
 use Rattle.path_map.specs.Below.{nearest_above}
 use Rattle.path_map.proofs.AllAbove.{those, nearest_empty, nearest_last}
 use Rattle.acl_files.specs.Walks.{ancestors}

@@ -2,7 +2,8 @@
 use Rattle.std.proofs.Common.{◌≡◌, ◌≢◌, Bool, List, [], ◌∷◌, Some, Result, Ok, Err, refl, sym, ap, subst, ◌∙◌}
 use Rattle.acl_edit.specs.declared.edit.EditFault.{EditFault}
 use Rattle.acl_edit.specs.declared.node.Node.{Node}
-use Rattle.path_map.specs.Entries.{PathOf, IsInOrder}
+use Rattle.acl_names.specs.Paths.{PathOf, path_cmp}
+use Rattle.path_map.specs.Entries.{IsInOrder}
 use Rattle.kinds.specs.declared.edit.Stop.{Stop}
 use Rattle.kinds.specs.declared.edit.Stop.TheVariants as stops
 use Rattle.kinds.specs.Kinds.{KindsOf}
@@ -13,7 +14,6 @@ use Rattle.kinds.specs.Numbered.{Numbers, Kept, entries_by, entries_in, AreUsed,
 use Rattle.kinds.specs.Stops.{IsFaultOf}
 use Rattle.kinds.proofs.Chosen.{all_filter, among_all, in_order-filter, entries_filter, used_filter}
 use Rattle.std.specs.FinMap.{find}
-use Rattle.acl_names.specs.Paths.{path_cmp}
 use Rattle.acl_files.specs.declared.edit.FileFault.{FileFault}
 use Rattle.acl_files.specs.declared.edit.FileFault.TheVariants.{Edit, NoMemory}
 use Rattle.path_map.specs.Merged.{put_all}

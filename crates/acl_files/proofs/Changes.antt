@@ -13,9 +13,10 @@ use Rattle.acl_entry.specs.declared.entry.Entry.{Entry}
 use Rattle.acl_entry.specs.declared.label.Label.{Label}
 use Rattle.acl_entry.proofs.KeyLaws.{key_total, exact_keys}
 use Rattle.acl_entry.proofs.Maps.{map_of-entries}
-use Rattle.acl_names.specs.Paths.{path_cmp}
+use Rattle.acl_names.specs.Paths.{path_cmp, PathOf}
 use Rattle.acl_edit.specs.declared.node.Node.{Node}
-use Rattle.acl_files.specs.Files.{PathOf, Files, IsInOrder}
+use Rattle.acl_files.specs.Files.{Files}
+use Rattle.path_map.specs.Entries.{IsInOrder}
 use Rattle.acl_files.specs.Changed.{same_entry, same_entries, same_label, changed_between, gone_between, differs, differing, SameBut}
 use Rattle.acl_files.specs.Operands.{edit_files}
 use Rattle.path_map.proofs.Differences.{Leads, leads_all}

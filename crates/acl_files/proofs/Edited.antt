@@ -3,9 +3,10 @@ use Rattle.std.proofs.Common.{◌≡◌, ◌&&◌, [], ◌∷◌, refl, ap, ◌�
 use Rattle.std.specs.Ordering.{is_lt}
 use Rattle.std.specs.FinMap.{is_sorted}
 use Rattle.std.specs.FinMap.Entries.{below_all}
-use Rattle.acl_names.specs.Paths.{path_cmp}
+use Rattle.acl_names.specs.Paths.{path_cmp, PathOf}
 use Rattle.acl_edit.specs.declared.node.Node.{Node}
-use Rattle.acl_files.specs.Files.{PathOf, Files, IsInOrder}
+use Rattle.acl_files.specs.Files.{Files}
+use Rattle.path_map.specs.Entries.{IsInOrder}
 use Rattle.acl_files.specs.Operands.{edit_files}
 
 below_edited : (x : PathOf) (test : PathOf → Bool) (g : PathOf → Node → Node) (t : Files) → below_all path_cmp x (edit_files test g t) ≡ below_all path_cmp x t

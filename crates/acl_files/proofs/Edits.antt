@@ -5,7 +5,9 @@ use Rattle.acl_edit.specs.declared.node.Node.{Node}
 use Rattle.path_map.specs.Merged.{put_all}
 use Rattle.path_map.proofs.Edits.{put_edited}
 use Rattle.acl_files.specs.declared.edit.FileFault.{FileFault}
-use Rattle.acl_files.specs.Files.{PathOf, Files, Recorded, IsInOrder}
+use Rattle.acl_names.specs.Paths.{PathOf}
+use Rattle.acl_files.specs.Files.{Files, Recorded}
+use Rattle.path_map.specs.Entries.{IsInOrder}
 use Rattle.acl_files.specs.Operands.{is_file, edit_files, files_meant}
 use Rattle.acl_files.specs.Edits.{KeepsPlace, and_others, edit_each, edit_all, with_edits}
 use Rattle.acl_files.specs.Inner.{ok_or, node_after}

@@ -5,13 +5,15 @@ use Rattle.std.specs.FinMap.{is_sorted}
 use Rattle.std.specs.FinMap.Entries.{below_all}
 use Rattle.std.proofs.lemmas.Bool.{and_parts}
 use Rattle.std.proofs.lemmas.List.Folds.{list_any-append}
-use Rattle.acl_names.specs.Paths.{path_cmp}
+use Rattle.acl_names.specs.Paths.{path_cmp, PathOf}
 use Rattle.acl_names.proofs.Below.{below_less, convex_below, not_below_itself}
 use Rattle.acl_edit.specs.declared.node.Node.{Node}
-use Rattle.acl_files.specs.Files.{PathOf, Files, IsInOrder, holds_below}
+use Rattle.acl_files.specs.Files.{Files}
+use Rattle.path_map.specs.Entries.{IsInOrder}
+use Rattle.path_map.specs.Below.{holds_below}
 use Rattle.acl_names.specs.Below.{is_above}
 use Rattle.acl_files.specs.Inner.{next_file_below}
-pub use Rattle.path_map.proofs.Places.{above}
+use Rattle.path_map.proofs.Places.{above}
 
 false_from : (b : Bool) → (b ≡ true → ⊥) → b ≡ false
 false_from true h = absurd (h refl)

@@ -4,16 +4,17 @@ use Rattle.std.specs.Prelude.{fold}
 use Rattle.std.specs.FinMap.Entries.{by_order}
 use Rattle.std.proofs.lemmas.List.{length-map}
 use Rattle.acl_entry.specs.Lists.{KeyMap}
-use Rattle.acl_names.specs.Paths.{path_cmp}
+use Rattle.acl_names.specs.Paths.{path_cmp, PathOf}
 use Rattle.acl_dump.specs.declared.record.DumpRecord.{DumpRecord}
 use Rattle.acl_edit.specs.declared.node.Node.{Node}
 use Rattle.acl_edit.specs.declared.node.Kind.TheVariants.{Plain, Directory}
-use Rattle.acl_files.specs.Files.{PathOf, Files, Recorded, max_files}
+use Rattle.acl_files.specs.Files.{Files, Recorded, max_files}
 use Rattle.acl_names.specs.Below.{is_above}
 use Rattle.acl_files.specs.Operands.{edit_files}
 use Rattle.acl_files.specs.Edits.{KeepsPlace}
 use Rattle.acl_files.specs.Loading.{insert_record, is_directory, node_of, has_below, as_files, files_of, in_path_order}
-use Rattle.acl_files.specs.Sound.{holds_below, IsPlaced, ArePlaced, IsSoundTree}
+use Rattle.path_map.specs.Below.{holds_below}
+use Rattle.acl_files.specs.Sound.{IsPlaced, ArePlaced, IsSoundTree}
 use Rattle.acl_files.proofs.Edited.{in_order-edited}
 use Rattle.acl_files.proofs.Shared.{any-map}
 use Rattle.acl_files.proofs.Loaded.{files_in_order}

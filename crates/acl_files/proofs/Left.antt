@@ -6,7 +6,7 @@ use Rattle.std.specs.FinMap.Entries.{by_order, below_all}
 use Rattle.std.specs.Ordering.{is_lt}
 use Rattle.std.proofs.lemmas.Bool.{and_parts}
 use Rattle.std.proofs.lemmas.Cmp.{tied_itself}
-use Rattle.acl_names.specs.Paths.{path_cmp}
+use Rattle.acl_names.specs.Paths.{path_cmp, PathOf}
 use Rattle.acl_names.proofs.PathOrder.{path_total}
 use Rattle.acl_edit.specs.declared.edit.EditFault.{EditFault}
 use Rattle.acl_edit.specs.declared.node.Node.{Node}
@@ -15,7 +15,8 @@ use Rattle.path_map.specs.Merged.{put_all}
 use Rattle.path_map.proofs.Chunks.{both}
 use Rattle.path_map.proofs.Merges.{put_past, later_after}
 use Rattle.path_map.proofs.Rows.{in_order-filter}
-use Rattle.acl_files.specs.Files.{PathOf, Files, IsInOrder}
+use Rattle.acl_files.specs.Files.{Files}
+use Rattle.path_map.specs.Entries.{IsInOrder}
 use Rattle.acl_files.specs.Operands.{edit_files}
 use Rattle.acl_files.specs.Edits.{FileEdit, and_others, edit_each}
 use Rattle.acl_files.specs.Inner.{OneOf, SomeEdited, PutsOrLeaves, ok_or, node_after}

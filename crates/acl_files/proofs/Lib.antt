@@ -16,9 +16,3 @@ pub mod SortedRecords
 pub mod Without
 pub mod ByKind
 pub mod SameNodes
-pub use Rattle.acl_dump.proofs as of_acl_dump
-pub use Rattle.acl_edit.proofs as of_acl_edit
-pub use Rattle.acl_entry.proofs as of_acl_entry
-pub use Rattle.acl_names.proofs as of_acl_names
-pub use Rattle.kinds.proofs as of_kinds
-pub use Rattle.path_map.proofs as of_path_map

@@ -4,17 +4,16 @@ use Rattle.std.specs.Prelude.{fold, reverse}
 use Rattle.std.specs.FinMap.{put}
 use Rattle.std.specs.FinMap.Entries.{by_order}
 use Rattle.std.proofs.lemmas.List.{map-append, reverse-append}
-use Rattle.acl_names.specs.Paths.{path_cmp}
+use Rattle.acl_names.specs.Paths.{path_cmp, PathOf}
 use Rattle.acl_names.proofs.PathOrder.{exact_paths}
 use Rattle.acl_dump.specs.declared.record.DumpRecord.{DumpRecord}
 use Rattle.acl_edit.specs.declared.node.Node.{Node}
 use Rattle.path_map.specs.Entries.{IsInOrder}
-use Rattle.acl_files.specs.Files.{PathOf, holds_below}
+use Rattle.path_map.specs.Below.{holds_below}
 use Rattle.acl_names.specs.Below.{is_above}
 use Rattle.acl_files.specs.Loading.{insert_record, in_path_order, node_of, has_below, as_files, files_of}
 use Rattle.acl_files.specs.Inner.{next_below, files_from, next_file_below}
-use Rattle.acl_files.proofs.Shared.{in_order-put}
-use Rattle.acl_files.proofs.Shared.{any-map}
+use Rattle.acl_files.proofs.Shared.{in_order-put, any-map}
 use Rattle.acl_files.proofs.Follows.{known_by_next}
 
 -- ---- path order

@@ -4,7 +4,7 @@ use Rattle.std.specs.FinMap.{is_sorted, find}
 use Rattle.std.specs.FinMap.Entries.{below_all}
 use Rattle.std.specs.Ordering.{is_gt}
 use Rattle.std.proofs.lemmas.Bool.{and_parts}
-use Rattle.acl_names.specs.Paths.{path_cmp}
+use Rattle.acl_names.specs.Paths.{path_cmp, PathOf}
 use Rattle.acl_names.specs.Below.{encloses}
 use Rattle.acl_names.proofs.Below.{convex}
 use Rattle.acl_edit.specs.declared.node.Node.{Node}
@@ -17,7 +17,8 @@ use Rattle.kinds.specs.Kinds.{KindsOf, node_at}
 use Rattle.kinds.specs.Numbered.{Numbers, entries_by, AreUsed}
 use Rattle.kinds.proofs.EntriesBy.{entry_first}
 use Rattle.kinds.proofs.Chosen.{entries_filter, used_filter}
-use Rattle.acl_files.specs.Files.{PathOf, Files, IsInOrder}
+use Rattle.acl_files.specs.Files.{Files}
+use Rattle.path_map.specs.Entries.{IsInOrder}
 use Rattle.acl_files.specs.Changed.{differs, differing, outside}
 use Rattle.acl_files.specs.Operands.{is_file, files_meant}
 use Rattle.acl_files.specs.Inner.{IsTaken}

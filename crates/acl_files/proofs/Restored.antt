@@ -8,7 +8,7 @@ use Rattle.std.specs.List.Sorted.{IsSortedBy}
 use Rattle.std.specs.FinMap.{find, is_sorted}
 use Rattle.std.specs.FinMap.Entries.{below_all, find-where_key, same_entries}
 use Rattle.std.proofs.lemmas.List.Elements.{recursion_from_All}
-use Rattle.acl_names.specs.Paths.{path_cmp}
+use Rattle.acl_names.specs.Paths.{path_cmp, PathOf}
 use Rattle.acl_names.proofs.PathOrder.{path_total, exact_paths}
 use Rattle.acl_dump.specs.declared.record.DumpRecord.{DumpRecord}
 use Rattle.acl_edit.specs.declared.edit.EditFault.{EditFault}
@@ -22,10 +22,9 @@ use Rattle.acl_files.proofs.Mapped.{found}
 use Rattle.acl_files.specs.declared.fault.TreeFault.TheVariants as faults
 use Rattle.acl_files.specs.declared.edit.FileFault.{FileFault}
 use Rattle.acl_files.specs.declared.edit.FileFault.TheVariants as of_files
-use Rattle.acl_files.specs.Files.{PathOf, Files, Recorded}
+use Rattle.acl_files.specs.Files.{Files, Recorded}
 use Rattle.acl_files.specs.Operands.{is_file, files_meant, first_missing}
-use Rattle.acl_files.specs.Edits.{and_others, edit_each, edit_all}
-use Rattle.acl_files.specs.Edits.{file_fault, unless_missing}
+use Rattle.acl_files.specs.Edits.{and_others, edit_each, edit_all, file_fault, unless_missing}
 use Rattle.acl_files.specs.Restoring.{edit_of, edit_if_some, restore_one, paths_of, restored_tree}
 use Rattle.acl_files.specs.Inner.{RestoredFile, IsFileOf, restored, restore_each}
 

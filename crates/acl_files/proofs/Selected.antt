@@ -6,11 +6,11 @@ use Rattle.std.specs.List.Sorted.{IsSortedBy}
 use Rattle.std.specs.Ordering.{is_eq, is_gt, is_lt, eq_by_cmp}
 use Rattle.std.proofs.lemmas.Bool.{and_parts}
 use Rattle.std.proofs.lemmas.Cmp.{tied_itself}
-use Rattle.acl_names.specs.Paths.{path_cmp}
+use Rattle.acl_names.specs.Paths.{path_cmp, PathOf}
 use Rattle.acl_names.proofs.PathOrder.{path_total, exact_paths}
 use Rattle.acl_edit.specs.declared.node.Node.{Node}
-use Rattle.path_map.specs.Below.{from}
-use Rattle.path_map.specs.Entries.{first}
+use Rattle.path_map.specs.Below.{from, holds_below}
+use Rattle.path_map.specs.Entries.{first, IsInOrder}
 use Rattle.path_map.specs.Inner.{After, IsEndOf}
 use Rattle.acl_names.proofs.Below.{convex, not_before}
 use Rattle.path_map.proofs.Merges.{before_from, before_later, before_part, later_after}
@@ -19,10 +19,9 @@ use Rattle.path_map.proofs.Ranges.{from-append, from_none, from_end}
 use Rattle.kinds.specs.Kinds.{KindsOf, node_at}
 use Rattle.kinds.specs.Numbered.{Numbers, entries_by, AreUsed}
 use Rattle.kinds.proofs.EntriesBy.{entry_first, entries_append}
-use Rattle.acl_files.specs.Files.{PathOf, Files, IsInOrder}
+use Rattle.acl_files.specs.Files.{Files}
 use Rattle.acl_names.specs.Below.{encloses, is_above}
 use Rattle.acl_files.specs.Operands.{means, is_file, files_meant}
-use Rattle.acl_files.specs.Sound.{holds_below}
 use Rattle.acl_files.specs.Inner.{NoneBefore, Ascend, next_file_below}
 use Rattle.acl_files.proofs.Follows.{known_by_next}
 

@@ -2,14 +2,15 @@
 use Rattle.std.proofs.Common.{◌≡◌, Bool, true, false, ◌&&◌, not, cond, is_some, Some, [], ◌∷◌, filter, refl, sym, ap, ◌∙◌}
 use Rattle.std.specs.Ordering.{is_eq}
 use Rattle.std.specs.FinMap.{find}
-use Rattle.acl_names.specs.Paths.{path_cmp}
+use Rattle.acl_names.specs.Paths.{path_cmp, PathOf}
 use Rattle.path_map.specs.Merged.{has, without_all}
 use Rattle.path_map.proofs.Differences.{Leads, leads_all, has_where}
 use Rattle.acl_edit.specs.declared.node.Node.{Node}
 use Rattle.kinds.specs.Kinds.{KindsOf}
 use Rattle.kinds.specs.Numbered.{Numbers, entries_by, AreUsed}
 use Rattle.kinds.proofs.EntriesBy.{entry_first}
-use Rattle.acl_files.specs.Files.{PathOf, Files, IsInOrder}
+use Rattle.acl_files.specs.Files.{Files}
+use Rattle.path_map.specs.Entries.{IsInOrder}
 
 and_true : (a b : Bool) → b ≡ true → (a && b) ≡ a
 and_true true b h = h

@@ -8,9 +8,9 @@ use Rattle.acl_entry.specs.Lists.{entries}
 use Rattle.acl_entry.specs.declared.entry.Entry.{Entry}
 use Rattle.acl_entry.specs.declared.label.Label.{Label}
 use Rattle.acl_names.specs.Below.{encloses}
-use Rattle.acl_names.specs.Paths.{path_cmp}
+use Rattle.acl_names.specs.Paths.{path_cmp, PathOf}
 use Rattle.acl_edit.specs.declared.node.Node.{Node}
-use Rattle.acl_files.specs.Files.{PathOf, Files}
+use Rattle.acl_files.specs.Files.{Files}
 
 abbrev pub same_entry : Entry → Entry → Bool
 same_entry a b = same_key a.key b.key && (number a.perm == number b.perm)

@@ -8,7 +8,8 @@ use Rattle.acl_files.specs.declared.edit.FileFault.{FileFault}
 use Rattle.acl_files.specs.declared.edit.FileFault.TheVariants as of_files
 use Rattle.acl_files.specs.declared.fault.TreeFault.{TreeFault}
 use Rattle.acl_files.specs.declared.fault.TreeFault.TheVariants as faults
-use Rattle.acl_files.specs.Files.{PathOf, Files, Recorded}
+use Rattle.acl_names.specs.Paths.{PathOf}
+use Rattle.acl_files.specs.Files.{Files, Recorded}
 use Rattle.acl_files.specs.Operands.{files_meant}
 
 -- a directory stays a directory, and only directories have default lists

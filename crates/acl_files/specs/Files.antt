@@ -3,8 +3,7 @@ use Rattle.std.specs.Prelude.{ℕ, List, [], Bool, false, refl}
 use Rattle.std.specs.Coded.{Coded, code_by, coded×, coded_ℕ, coded_list, coded_bool}
 use Rattle.acl_edit.specs.contracts.node.Node as node_contracts
 use Rattle.acl_edit.specs.declared.node.Node.{Node}
-pub use Rattle.path_map.specs.Entries.{PathOf, IsInOrder}
-pub use Rattle.path_map.specs.Below.{holds_below}
+use Rattle.acl_names.specs.Paths.{PathOf}
 
 abbrev pub Files : Type 0
 Files = List (PathOf × Node)

@@ -3,8 +3,9 @@ use Rattle.std.specs.Prelude.{◌≡◌, ◌≢◌, List, Bool, map, None, Resul
 use Rattle.std.specs.Coded.{Coded, code_by, coded×, coded_ℕ, coded_list, coded_bool}
 use Rattle.acl_edit.specs.declared.node.Node.{Node}
 use Rattle.acl_edit.specs.contracts.node.Node as node_contracts
-use Rattle.acl_files.specs.Files.{PathOf, Files}
-use Rattle.acl_files.specs.Sound.{holds_below}
+use Rattle.acl_names.specs.Paths.{PathOf}
+use Rattle.acl_files.specs.Files.{Files}
+use Rattle.path_map.specs.Below.{holds_below}
 use Rattle.acl_files.specs.Operands.{first_missing, IsMissing, files_meant}
 use Rattle.acl_files.specs.declared.fault.TreeFault.{TreeFault}
 use Rattle.acl_files.specs.declared.fault.TreeFault.TheVariants.{NoMemory}

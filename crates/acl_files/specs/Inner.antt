@@ -4,7 +4,7 @@ use Rattle.std.specs.Coded.{Coded, coded×, coded_ℕ, coded_list}
 use Rattle.std.specs.FinMap.{find}
 use Rattle.std.specs.List.{All}
 use Rattle.std.specs.declared.cmp.Ordering.TheVariants.{Greater}
-use Rattle.acl_names.specs.Paths.{path_cmp}
+use Rattle.acl_names.specs.Paths.{path_cmp, PathOf}
 use Rattle.acl_dump.specs.declared.record.DumpRecord.{DumpRecord}
 use Rattle.acl_dump.specs.contracts.record.DumpRecord as record_contracts
 use Rattle.acl_edit.specs.Edits.{edit}
@@ -17,7 +17,7 @@ use Rattle.kinds.specs.Numbered.{Numbers}
 use Rattle.kinds.specs.declared.edit.Stop.{Stop}
 use Rattle.kinds.specs.declared.edit.Stop.TheVariants as stops
 use Rattle.acl_names.specs.Below.{is_above}
-use Rattle.acl_files.specs.Files.{PathOf, Files}
+use Rattle.acl_files.specs.Files.{Files}
 use Rattle.acl_files.specs.Loading.{node_of}
 use Rattle.acl_files.specs.Edits.{FileEdit, and_others, edit_each}
 use Rattle.acl_files.specs.Restoring.{edit_of}

@@ -1,9 +1,8 @@
 -- What is true of these definitions. It is proved as a law of src/laws.rt, whose comment has it in words.
 use Rattle.std.specs.Prelude.{◌≡◌, List}
 use Rattle.std.specs.FinMap.{find}
-use Rattle.acl_names.specs.Paths.{path_cmp}
+use Rattle.acl_names.specs.Paths.{path_cmp, PathOf}
 use Rattle.acl_dump.specs.declared.record.DumpRecord.{DumpRecord}
-use Rattle.acl_files.specs.Files.{PathOf}
 use Rattle.acl_files.specs.Loading.{files_of, loaded_at}
 
 abbrev pub EachRecordIsAFile : Type 0

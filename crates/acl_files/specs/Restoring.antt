@@ -7,7 +7,8 @@ use Rattle.acl_edit.specs.declared.edit.Edit.TheVariants.{Restore}
 use Rattle.acl_edit.specs.declared.edit.EditFault.{EditFault}
 use Rattle.acl_edit.specs.declared.node.Node.{Node}
 use Rattle.acl_files.specs.declared.fault.TreeFault.{TreeFault}
-use Rattle.acl_files.specs.Files.{PathOf, Recorded}
+use Rattle.acl_names.specs.Paths.{PathOf}
+use Rattle.acl_files.specs.Files.{Recorded}
 use Rattle.acl_files.specs.Operands.{first_missing}
 use Rattle.acl_files.specs.Loading.{record_at}
 use Rattle.acl_files.specs.Edits.{edit_all, unless_missing}

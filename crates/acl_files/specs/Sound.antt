@@ -3,8 +3,10 @@ use Rattle.std.specs.Prelude.{◌≡◌, ◌≤◌, ⊤, [], ◌∷◌, length, 
 use Rattle.acl_edit.specs.Nodes as nodes
 use Rattle.acl_edit.specs.declared.node.Node.{Node}
 use Rattle.acl_edit.specs.declared.node.Kind.TheVariants.{Directory}
-use Rattle.acl_files.specs.Files.{PathOf, Files, IsInOrder, Recorded, max_files}
-pub use Rattle.acl_files.specs.Files.{holds_below}
+use Rattle.acl_names.specs.Paths.{PathOf}
+use Rattle.acl_files.specs.Files.{Files, Recorded, max_files}
+use Rattle.path_map.specs.Entries.{IsInOrder}
+use Rattle.path_map.specs.Below.{holds_below}
 
 -- the root and what has a file below it are directories, and only directories have default lists
 pub record IsPlaced (es : Files) (e : PathOf × Node) : Type 0 where

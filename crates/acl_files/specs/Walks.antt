@@ -1,6 +1,7 @@
 -- The recorded files around a path: at it or below it, and above it.
 use Rattle.std.specs.Prelude.{List, map, filter}
-use Rattle.acl_files.specs.Files.{PathOf, Files}
+use Rattle.acl_names.specs.Paths.{PathOf}
+use Rattle.acl_files.specs.Files.{Files}
 use Rattle.acl_names.specs.Below.{encloses, is_above}
 
 -- the paths of the files at or below a path, in path order

@@ -2,7 +2,7 @@
 
 ghost use Rattle.std.specs.Prelude.{◌≡◌, Bool, false, true, ◌∷◌, [], IfOk, map};
 ghost use Rattle.path_map.specs.Entries.{seen};
-ghost use Rattle.acl_files.specs.Files.{PathOf};
+ghost use Rattle.acl_names.specs.Paths.{PathOf};
 ghost use Rattle.acl_files.specs.Inner.{Ascend};
 ghost use Rattle.acl_files.specs.Operands.{is_file, in_region, files_meant};
 

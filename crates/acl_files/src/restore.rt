@@ -4,12 +4,12 @@ ghost use Rattle.std.specs.Prelude.{◌≡◌, ◌≢◌, true, map, false, IfOk
 ghost use Rattle.std.specs.List.Sorted.{IsPermutation};
 ghost use Rattle.std.specs.Coded.{coded_list};
 ghost use Rattle.kinds.specs.Numbered.{entries_in};
-ghost use Rattle.acl_dump.specs.acl_syntax.InTurn.{GivesUnless};
+ghost use Rattle.acl_syntax.specs.InTurn.{GivesUnless};
 ghost use Rattle.acl_dump.specs.OwnPaths.{have_own_paths};
 ghost use Rattle.acl_edit.specs.Edits.{Gives, allowed};
 ghost use Rattle.acl_files.specs.Loading.{in_path_order};
 ghost use Rattle.acl_files.specs.Inner.{AreFilesOf, restore_each, RestoredFile, coded_restored, restored_by, restored, SomeEdited, PutsOrLeaves};
-ghost use Rattle.acl_files.specs.Files.{PathOf};
+ghost use Rattle.acl_names.specs.Paths.{PathOf};
 ghost use Rattle.acl_files.specs.Operands.{LooksUp, first_missing, is_file, in_region};
 ghost use Rattle.acl_files.specs.Restoring.{paths_of, restored_tree};
 ghost use Rattle.acl_dump.specs.contracts.record.DumpRecord as record_contracts;

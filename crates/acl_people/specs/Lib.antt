@@ -7,5 +7,3 @@ pub mod Members
 pub mod Changes
 pub mod Moves
 pub mod Laws
-pub use Rattle.acl_syntax.specs.UserNames
-pub use Rattle.acl_subjects.specs.GroupsOfOne

@@ -3,25 +3,25 @@ use Rattle.std.proofs.Common.{◌≡◌, not, Option, Some, None, length-append,
 use Rattle.std.specs.Prelude.{count_by, option_and_then, if◌then◌else◌}
 use Rattle.std.specs.Option.{option_map_or}
 use Rattle.std.specs.FinMap.{find}
-use Rattle.acl_tree.specs.acl_names.Paths.{path_cmp}
+use Rattle.acl_names.specs.Paths.{path_cmp}
 use Rattle.std.proofs.lemmas.List.{length-map}
 use Rattle.std.proofs.lemmas.List.Sums.{length-filter}
-use Rattle.acl_tree.specs.acl_edit.declared.node.Node.{Node}
-use Rattle.acl_tree.specs.acl_people.KnownPeople.{KnownPeople}
-use Rattle.acl_tree.specs.Files.{Files, Recorded}
-use Rattle.acl_tree.specs.Changed.{same_label, is_changed, changed_between}
-use Rattle.acl_tree.proofs.of_acl_files.Changes.{label_itself}
-use Rattle.acl_tree.specs.acl_people.KnownPeople.{persons}
+use Rattle.acl_edit.specs.declared.node.Node.{Node}
+use Rattle.acl_people.specs.KnownPeople.{KnownPeople, persons}
+use Rattle.acl_files.specs.Files.{Files, Recorded}
+use Rattle.acl_files.specs.Changed.{same_label, is_changed, changed_between}
+use Rattle.acl_files.proofs.Changes.{label_itself}
 use Rattle.acl_tree.specs.Reports.{StagedState}
 use Rattle.acl_tree.specs.declared.user_change.UserChange.{UserChange}
 use Rattle.acl_tree.specs.declared.user_change.UserChange.TheVariants.{Unchanged, Loaded, Memberships, Added, Removed}
 use Rattle.path_map.specs.Entries.{IsInOrder}
-use Rattle.acl_rights.specs.Tables.{Verdict, Rows}
+use Rattle.acl_verdicts.specs.Rows.{Verdict, Rows}
 use Rattle.acl_rights.specs.Kept.{GoesFrom}
 use Rattle.acl_verdicts.proofs.Counted.{few_pass}
 use Rattle.acl_verdicts.proofs.Maps.{map_filter, find-filter, same_found, one_more, times_le}
 use Rattle.acl_rights.proofs.Goes.{moves, moved_user_in, joins}
-use Rattle.acl_rights.specs.Stages.{mentions_one, moves_asked, most_asked}
+use Rattle.acl_rights.specs.Groups.{mentions_one}
+use Rattle.acl_rights.specs.Stages.{moves_asked, most_asked}
 
 right_le : (a b c d : ℕ) → d ≡ a + b → b ≡ c → c ≤ d
 right_le a b c d e f = omega (arith, e, f)

@@ -8,15 +8,14 @@ use Rattle.std.specs.FinMap.Entries.{below_all}
 use Rattle.std.proofs.lemmas.Bool.{and_parts, eqb-true, eq-eqb, ltb-true, ltb-false}
 use Rattle.std.proofs.lemmas.List.Sums.{sum_by-cons}
 use Rattle.std.proofs.lemmas.Cmp.{tied_itself}
-use Rattle.acl_tree.specs.acl_entry.Person.{Person}
-use Rattle.acl_tree.specs.acl_names.Paths.{path_cmp}
-use Rattle.acl_tree.proofs.of_acl_names.PathOrder.{path_total, exact_paths}
-use Rattle.acl_tree.specs.acl_names.Below.{is_above}
-use Rattle.acl_tree.specs.Files.{PathOf}
+use Rattle.acl_entry.specs.Person.{Person}
+use Rattle.acl_names.specs.Paths.{path_cmp, PathOf}
+use Rattle.acl_names.proofs.PathOrder.{path_total, exact_paths}
+use Rattle.acl_names.specs.Below.{is_above}
 use Rattle.path_map.proofs.Places.{above}
 use Rattle.path_map.specs.Entries.{IsInOrder}
-use Rattle.acl_rights.specs.Tables.{Rows}
-use Rattle.acl_rights.specs.Reach.{reached_from}
+use Rattle.acl_verdicts.specs.Rows.{Rows}
+use Rattle.acl_verdicts.specs.Reach.{reached_from}
 use Rattle.acl_verdicts.specs.Differing.{fails_from}
 use Rattle.acl_verdicts.proofs.Maps.{map_filter, find-values, find-filter, same_found}
 use Rattle.acl_verdicts.proofs.Orders.{in_order-values}

@@ -1,13 +1,13 @@
 -- Rows that are those of a state from which a line goes.
 use Rattle.std.proofs.Common.{◌≡◌, ℕ, ◌<◌, List, length, map, sym, ap, subst, ◌∙◌}
-use Rattle.acl_tree.specs.acl_edit.declared.node.Node.{Node}
-use Rattle.acl_tree.specs.Files.{PathOf}
-use Rattle.acl_tree.specs.acl_people.KnownPeople.{persons}
-use Rattle.acl_tree.specs.acl_people.Moves.{MovesUser, JoinsUser, LeavesUser}
+use Rattle.acl_edit.specs.declared.node.Node.{Node}
+use Rattle.acl_names.specs.Paths.{PathOf}
+use Rattle.acl_people.specs.KnownPeople.{persons}
+use Rattle.acl_people.specs.Moves.{MovesUser, JoinsUser, LeavesUser}
 use Rattle.acl_tree.specs.Reports.{StagedState, UsersMoved}
 use Rattle.acl_tree.specs.declared.user_change.UserChange.TheVariants.{Memberships, Added, Removed}
 use Rattle.path_map.specs.Entries.{IsInOrder}
-use Rattle.acl_rights.specs.Tables.{Verdict, Rows}
+use Rattle.acl_verdicts.specs.Rows.{Verdict, Rows}
 use Rattle.acl_rights.specs.Kept.{GoesFrom}
 use Rattle.acl_verdicts.proofs.Orders.{same_order}
 use Rattle.acl_rights.proofs.Lines.{row_paths, moved_in, moved_long}

@@ -6,14 +6,15 @@ use Rattle.std.specs.FinSet as sets
 use Rattle.std.proofs.lemmas.Bool.{eqb-true}
 use Rattle.std.proofs.lemmas.List.{map-set, map-append}
 use Rattle.std.proofs.Math.Seq.{map-set_same}
-use Rattle.acl_tree.specs.acl_entry.Mentions.{mentions, meets, is_one_of, AgreeOnMentions}
-use Rattle.acl_tree.specs.acl_entry.Person.{Person}
-use Rattle.acl_tree.specs.acl_entry.declared.label.Label.{Label}
-use Rattle.acl_tree.specs.acl_edit.declared.node.Node.{Node}
-use Rattle.acl_tree.specs.Files.{PathOf, Files}
-use Rattle.acl_tree.specs.acl_people.GroupsOfOne.{in_just_one}
-use Rattle.acl_tree.specs.acl_people.Moves.{MovesUser}
-use Rattle.acl_rights.specs.Tables.{Verdict, cells_of, rows_of}
+use Rattle.acl_entry.specs.Mentions.{mentions, meets, is_one_of, AgreeOnMentions}
+use Rattle.acl_entry.specs.Person.{Person}
+use Rattle.acl_entry.specs.declared.label.Label.{Label}
+use Rattle.acl_edit.specs.declared.node.Node.{Node}
+use Rattle.acl_names.specs.Paths.{PathOf}
+use Rattle.acl_files.specs.Files.{Files}
+use Rattle.acl_subjects.specs.GroupsOfOne.{in_just_one}
+use Rattle.acl_people.specs.Moves.{MovesUser}
+use Rattle.acl_verdicts.specs.Rows.{Verdict, cells_of, rows_of}
 
 -- ---- a user who moves
 

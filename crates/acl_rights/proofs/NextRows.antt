@@ -4,13 +4,14 @@ use Rattle.std.specs.Prelude.{count_by, slice_get}
 use Rattle.std.specs.Borrow.{Bor}
 use Rattle.std.proofs.lemmas.List.{length-append, length-map}
 use Rattle.std.proofs.lemmas.List.Sums.{length-filter}
-use Rattle.acl_tree.specs.acl_entry.Mentions.{AgreeOnMentions}
-use Rattle.acl_tree.specs.acl_entry.Person.{Person}
-use Rattle.acl_tree.specs.acl_entry.declared.label.Label.{Label}
-use Rattle.acl_tree.specs.acl_edit.declared.node.Node.{Node}
-use Rattle.acl_tree.specs.Files.{PathOf, Files, Recorded}
-use Rattle.acl_tree.specs.Changed.{is_changed}
-use Rattle.acl_tree.specs.acl_people.KnownPeople.{persons}
+use Rattle.acl_entry.specs.Mentions.{AgreeOnMentions}
+use Rattle.acl_entry.specs.Person.{Person}
+use Rattle.acl_entry.specs.declared.label.Label.{Label}
+use Rattle.acl_edit.specs.declared.node.Node.{Node}
+use Rattle.acl_names.specs.Paths.{PathOf}
+use Rattle.acl_files.specs.Files.{Files, Recorded}
+use Rattle.acl_files.specs.Changed.{is_changed}
+use Rattle.acl_people.specs.KnownPeople.{persons}
 use Rattle.acl_tree.specs.Reports.{StagedState, UsersMoved}
 use Rattle.acl_tree.specs.declared.user_change.UserChange.{UserChange}
 use Rattle.acl_tree.specs.declared.user_change.UserChange.TheVariants.{Unchanged, Memberships, Added, Removed}
@@ -18,15 +19,16 @@ use Rattle.path_map.specs.Entries.{IsInOrder, seen}
 use Rattle.path_map.specs.Merged.{merged}
 use Rattle.path_map.specs.Below.{lies_in}
 use Rattle.acl_verdicts.specs.declared.kind_rows.LabelRow.{LabelRow}
-use Rattle.acl_verdicts.specs.KindRows.{RowedPaths, AreRowsOf, with_label, rowed, rowed_labels, each_row, with_last, without_at, with_again, mentions_any}
+use Rattle.acl_verdicts.specs.KindRows.{RowedPaths, AreRowsOf, with_label, rowed, rowed_labels, each_row, with_last, without_at, with_again, mentions_any, rows_at}
 use Rattle.acl_verdicts.proofs.Counted.{no_length}
 use Rattle.acl_verdicts.proofs.RowsOfKinds.{rowed_rows}
 use Rattle.acl_verdicts.proofs.Maps.{map_filter, map_twice, times_le}
 use Rattle.acl_verdicts.proofs.Orders.{same_order}
-use Rattle.acl_rights.specs.Tables.{Verdict}
-use Rattle.acl_rights.specs.Stages.{mentions_one, moves_looked, most_asked}
+use Rattle.acl_verdicts.specs.Rows.{Verdict}
+use Rattle.acl_rights.specs.Groups.{mentions_one}
+use Rattle.acl_rights.specs.Stages.{moves_looked, most_asked}
 use Rattle.acl_rights.specs.Reach.{moves_refreshed, verdicts_refreshed}
-use Rattle.acl_rights.specs.Lines.{rows_at, labels_of, AreBefore}
+use Rattle.acl_rights.specs.Lines.{labels_of, AreBefore}
 use Rattle.acl_rights.proofs.Costs.{all_users, within, nothing_changed, moved_cost}
 use Rattle.acl_rights.proofs.Counts.{person_same}
 use Rattle.acl_rights.proofs.Goes.{moves, joins, leaves}

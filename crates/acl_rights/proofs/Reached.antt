@@ -5,19 +5,21 @@ use Rattle.std.specs.Option.{option_map_or}
 use Rattle.std.specs.FinMap.{find}
 use Rattle.std.proofs.lemmas.Bool.{ltb-true, ltb-false}
 use Rattle.std.proofs.lemmas.List.{length-map}
-use Rattle.acl_tree.specs.acl_entry.Check.{has}
-use Rattle.acl_tree.specs.acl_entry.Perms.{Perms}
-use Rattle.acl_tree.specs.acl_entry.Person.{Person}
-use Rattle.acl_tree.specs.acl_names.Paths.{path_cmp}
-use Rattle.acl_tree.proofs.of_acl_names.PathOrder.{exact_paths}
+use Rattle.acl_entry.specs.Check.{has}
+use Rattle.acl_entry.specs.Perms.{Perms}
+use Rattle.acl_entry.specs.Person.{Person}
+use Rattle.acl_names.specs.Paths.{path_cmp, PathOf}
+use Rattle.acl_names.proofs.PathOrder.{exact_paths}
 use Rattle.std.specs.Ordering.{is_eq}
-use Rattle.acl_tree.specs.acl_edit.declared.node.Node.{Node}
-use Rattle.acl_tree.specs.acl_names.Below.{is_above}
-use Rattle.acl_tree.specs.Files.{PathOf, Files}
-use Rattle.acl_tree.specs.acl_people.KnownPeople.{person, persons}
+use Rattle.acl_edit.specs.declared.node.Node.{Node}
+use Rattle.acl_names.specs.Below.{is_above}
+use Rattle.acl_files.specs.Files.{Files}
+use Rattle.acl_people.specs.KnownPeople.{person, persons}
 use Rattle.acl_tree.specs.State.{State}
-use Rattle.acl_rights.specs.Tables.{Verdict, VerdictTable, IsWhole, Rows, cells_of, rows_of, places_from, who_in, grants_to, may_in}
-use Rattle.acl_rights.specs.Reach.{execute, passes, reach, reach_at, users_reaching, files_reached, can_search, passes_in, reach_cell, reached_from, reached_rows, reached_at}
+use Rattle.acl_verdicts.specs.Rows.{Verdict, Rows, cells_of, rows_of, places_from, who_in, grants_to, may_in}
+use Rattle.acl_rights.specs.Tables.{VerdictTable, IsWhole}
+use Rattle.acl_verdicts.specs.Reach.{execute, can_search, passes_in, reach_cell, reached_from, reached_rows, reached_at}
+use Rattle.acl_rights.specs.Reach.{passes, reach, reach_at, users_reaching, files_reached}
 use Rattle.acl_verdicts.proofs.Maps.{find-values}
 use Rattle.acl_rights.proofs.Asked.{got-map, got, none_got}
 

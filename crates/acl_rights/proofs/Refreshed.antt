@@ -7,33 +7,33 @@ use Rattle.std.specs.FinMap.{find}
 use Rattle.std.proofs.lemmas.Bool.{and_from, eqb-true, eq-eqb}
 use Rattle.std.proofs.lemmas.List.{length-map}
 use Rattle.std.proofs.lemmas.List.Sums.{sum_by-cons}
-use Rattle.acl_tree.specs.acl_entry.Check.{has}
-use Rattle.acl_tree.specs.acl_entry.Mentions.{AgreeOnMentions}
-use Rattle.acl_tree.specs.acl_entry.Person.{Person}
-use Rattle.acl_tree.specs.acl_entry.declared.label.Label.{Label}
-use Rattle.acl_tree.specs.acl_names.Paths.{path_cmp}
-use Rattle.acl_tree.specs.acl_edit.declared.node.Node.{Node}
-use Rattle.acl_tree.specs.acl_names.Below.{encloses, is_above}
-use Rattle.acl_tree.specs.Changed.{same_label, is_changed, changed_between, gone_between}
-use Rattle.acl_tree.specs.Files.{PathOf, Files, Recorded}
-use Rattle.acl_tree.specs.acl_people.KnownPeople.{persons}
-use Rattle.acl_tree.specs.acl_people.Moves.{MovesUser}
-use Rattle.acl_tree.specs.Sound.{holds_below}
+use Rattle.acl_entry.specs.Check.{has}
+use Rattle.acl_entry.specs.Mentions.{AgreeOnMentions}
+use Rattle.acl_entry.specs.Person.{Person}
+use Rattle.acl_entry.specs.declared.label.Label.{Label}
+use Rattle.acl_names.specs.Paths.{path_cmp, PathOf}
+use Rattle.acl_edit.specs.declared.node.Node.{Node}
+use Rattle.acl_names.specs.Below.{encloses, is_above}
+use Rattle.acl_files.specs.Changed.{same_label, is_changed, changed_between, gone_between}
+use Rattle.acl_files.specs.Files.{Files, Recorded}
+use Rattle.acl_people.specs.KnownPeople.{persons}
+use Rattle.acl_people.specs.Moves.{MovesUser}
+use Rattle.path_map.specs.Below.{holds_below, lies_in}
 use Rattle.acl_tree.specs.Reports.{StagedState, UsersMoved, place_left}
 use Rattle.acl_tree.specs.declared.user_change.UserChange.{UserChange}
 use Rattle.acl_tree.specs.declared.user_change.UserChange.TheVariants.{Unchanged, Loaded, Memberships, Added, Removed}
-use Rattle.acl_tree.proofs.of_acl_files.Changes.{label_is_same}
+use Rattle.acl_files.proofs.Changes.{label_is_same}
 use Rattle.path_map.specs.Entries.{IsInOrder}
-use Rattle.path_map.specs.Below.{lies_in}
-use Rattle.acl_rights.specs.Tables.{Verdict, Rows, cells_of, rows_of}
-use Rattle.acl_rights.specs.Stages.{mentions_one}
-use Rattle.acl_rights.specs.Reach.{execute, passes, reach, reached_from, reached_rows, moves_refreshed, verdicts_refreshed}
+use Rattle.acl_verdicts.specs.Rows.{Verdict, Rows, cells_of, rows_of}
+use Rattle.acl_rights.specs.Groups.{mentions_one}
+use Rattle.acl_verdicts.specs.Reach.{execute, reached_from, reached_rows}
+use Rattle.acl_rights.specs.Reach.{passes, reach, moves_refreshed, verdicts_refreshed}
 use Rattle.acl_verdicts.specs.Differing.{place_before, is_as_before, is_as_in, fails_from, differing}
 use Rattle.acl_rights.specs.Kept.{GoesFrom}
 use Rattle.acl_rights.proofs.Lines.{agree, got_in, set_here}
 use Rattle.acl_rights.proofs.Reached.{reached_is, cell_reached}
 use Rattle.acl_rights.proofs.Goes.{moves, joins, leaves, old_order}
-use Rattle.acl_tree.proofs.of_acl_names.Below.{below_within, within_cases, within_itself}
+use Rattle.acl_names.proofs.Below.{below_within, within_cases, within_itself}
 use Rattle.acl_verdicts.proofs.Maps.{map_twice}
 use Rattle.acl_rights.proofs.Counts.{clash, false_from, missed_most, missed_none, missed_one, any_found, any_filter, each_found, alike_above, some_same, long_row, sum_le, finds, times_one, times_none, sum_parts, set_other, joined_was, left_was, person_same}
 

@@ -8,24 +8,24 @@ use Rattle.std.specs.FinMap.{find}
 use Rattle.std.proofs.lemmas.Bool.{lt-ltb}
 use Rattle.std.proofs.lemmas.List.{length-map}
 use Rattle.std.proofs.lemmas.List.Sums.{sum_by-cons}
-use Rattle.acl_tree.specs.acl_entry.Mentions.{mentions, meets, AgreeOnMentions}
-use Rattle.acl_tree.specs.acl_entry.Person.{Person}
-use Rattle.acl_tree.specs.acl_entry.declared.label.Label.{Label}
-use Rattle.acl_tree.specs.acl_names.Paths.{path_cmp}
-use Rattle.acl_tree.specs.acl_edit.declared.node.Node.{Node}
-use Rattle.acl_tree.specs.acl_people.Moves.{MovesUser}
-use Rattle.acl_tree.specs.Changed.{same_label, changed_between, gone_between}
-use Rattle.acl_tree.specs.Files.{PathOf, Files}
-use Rattle.acl_tree.proofs.of_acl_files.Changes.{label_is_same}
+use Rattle.acl_entry.specs.Mentions.{mentions, meets, AgreeOnMentions}
+use Rattle.acl_entry.specs.Person.{Person}
+use Rattle.acl_entry.specs.declared.label.Label.{Label}
+use Rattle.acl_names.specs.Paths.{path_cmp, PathOf}
+use Rattle.acl_edit.specs.declared.node.Node.{Node}
+use Rattle.acl_people.specs.Moves.{MovesUser}
+use Rattle.acl_files.specs.Changed.{same_label, changed_between, gone_between}
+use Rattle.acl_files.specs.Files.{Files}
+use Rattle.acl_files.proofs.Changes.{label_is_same}
 use Rattle.path_map.specs.Entries.{IsInOrder}
 use Rattle.path_map.specs.Merged.{has, merged, put_all}
 use Rattle.path_map.proofs.Rows.{rows_merged}
 use Rattle.acl_verdicts.specs.declared.kind_rows.LabelRow.{LabelRow}
-use Rattle.acl_verdicts.specs.KindRows.{RowedPaths, label_row, rowed, rowed_labels, each_row, with_last, without_at, with_again, mentions_any}
+use Rattle.acl_verdicts.specs.KindRows.{RowedPaths, label_row, rowed, rowed_labels, each_row, with_last, without_at, with_again, mentions_any, rows_at}
 use Rattle.acl_verdicts.proofs.Maps.{map_twice}
-use Rattle.acl_rights.specs.Tables.{Verdict, cells_of, rows_of}
-use Rattle.acl_rights.specs.Stages.{mentions_one}
-use Rattle.acl_rights.specs.Lines.{rows_at, labels_of, HaveLabels}
+use Rattle.acl_verdicts.specs.Rows.{Verdict, cells_of, rows_of}
+use Rattle.acl_rights.specs.Groups.{mentions_one}
+use Rattle.acl_rights.specs.Lines.{labels_of, HaveLabels}
 use Rattle.acl_rights.proofs.Lines.{moved_in, cells_again, cells_kept, longer, remove_seen}
 
 same_heads : {A : Type 0} {x y : A} {xs ys : List A} → x ∷ xs ≡ y ∷ ys → x ≡ y

@@ -1,9 +1,10 @@
 -- The files that mention a group.
 use Rattle.std.specs.Prelude.{ℕ, Bool, List, filter, length}
 use Rattle.std.specs.List.{sum_by}
-use Rattle.acl_tree.specs.acl_entry.Mentions.{mentions, is_one_of, meets}
-use Rattle.acl_tree.specs.acl_edit.declared.node.Node.{Node}
-use Rattle.acl_tree.specs.Files.{PathOf, Files}
+use Rattle.acl_entry.specs.Mentions.{mentions, is_one_of, meets}
+use Rattle.acl_edit.specs.declared.node.Node.{Node}
+use Rattle.acl_names.specs.Paths.{PathOf}
+use Rattle.acl_files.specs.Files.{Files}
 
 -- whether a file's label mentions a group
 abbrev pub mentions_group : ℕ → PathOf × Node → Bool

@@ -1,14 +1,15 @@
 -- For inner functions: the rows of a state from which a line goes, and those after the line.
 use Rattle.std.specs.Prelude.{◌≡◌, ℕ, List, map}
-use Rattle.acl_tree.specs.acl_entry.declared.label.Label.{Label}
-use Rattle.acl_tree.specs.acl_files.kinds.Numbered.{entries_in}
-use Rattle.acl_tree.specs.acl_people.KnownPeople.{persons}
-use Rattle.acl_tree.specs.Files.{PathOf, Files}
+use Rattle.acl_entry.specs.declared.label.Label.{Label}
+use Rattle.kinds.specs.Numbered.{entries_in}
+use Rattle.acl_people.specs.KnownPeople.{persons}
+use Rattle.acl_names.specs.Paths.{PathOf}
+use Rattle.acl_files.specs.Files.{Files}
 use Rattle.acl_tree.specs.Reports.{StagedState}
-use Rattle.acl_verdicts.specs.KindRows.{RowedPaths, rowed}
+use Rattle.acl_verdicts.specs.KindRows.{RowedPaths, rowed, rows_at}
 use Rattle.acl_verdicts.specs.declared.kind_rows.KindRows.{KindRows}
-pub use Rattle.acl_verdicts.specs.KindRows.{rows_at}
-use Rattle.acl_rights.specs.Tables.{Verdict, VerdictTable}
+use Rattle.acl_verdicts.specs.Rows.{Verdict}
+use Rattle.acl_rights.specs.Tables.{VerdictTable}
 use Rattle.acl_rights.specs.Stages.{moves_looked}
 use Rattle.acl_rights.specs.Reach.{verdicts_refreshed}
 use Rattle.acl_rights.specs.Kept.{GoesFrom}

@@ -2,23 +2,23 @@
 use Rattle.std.specs.Prelude.{ℕ, ◌+◌, ◌*◌, ◌||◌, not, Bool, List, map, filter, length, slice_get, Option, option_map, option_and_then, count_by, if◌then◌else◌}
 use Rattle.std.specs.List.{list_all}
 use Rattle.std.specs.FinMap.{find}
-use Rattle.acl_tree.specs.acl_entry.Perms.{Perms}
-use Rattle.acl_tree.specs.acl_entry.Check.{has}
-use Rattle.acl_tree.specs.acl_entry.Person.{Person}
-use Rattle.acl_tree.specs.acl_names.Paths.{path_cmp}
-use Rattle.acl_tree.specs.acl_edit.declared.node.Node.{Node}
-use Rattle.acl_tree.specs.acl_people.KnownPeople.{persons}
-use Rattle.acl_tree.specs.acl_names.Below.{is_above}
-use Rattle.acl_tree.specs.Files.{PathOf, Files}
+use Rattle.acl_entry.specs.Perms.{Perms}
+use Rattle.acl_entry.specs.Check.{has}
+use Rattle.acl_entry.specs.Person.{Person}
+use Rattle.acl_names.specs.Paths.{path_cmp, PathOf}
+use Rattle.acl_edit.specs.declared.node.Node.{Node}
+use Rattle.acl_people.specs.KnownPeople.{persons}
+use Rattle.acl_names.specs.Below.{is_above}
+use Rattle.acl_files.specs.Files.{Files}
 use Rattle.acl_tree.specs.State.{State}
 use Rattle.acl_tree.specs.Reports.{StagedState, place_left}
 use Rattle.acl_tree.specs.declared.user_change.UserChange.{UserChange}
 use Rattle.acl_tree.specs.declared.user_change.UserChange.TheVariants.{Unchanged, Loaded, Memberships, Added, Removed}
-pub use Rattle.acl_verdicts.specs.Reach.{execute, can_search, passes_in, reach_cell, reached_from, reached_rows, reached_at, rows_along}
+use Rattle.acl_verdicts.specs.Reach.{execute, reached_rows}
 use Rattle.acl_verdicts.specs.Differing.{differing}
 use Rattle.path_map.specs.Below.{lies_in}
-use Rattle.acl_rights.specs.Tables.{Verdict, Rows, places_from}
-use Rattle.acl_rights.specs.Stages.{mentions_one}
+use Rattle.acl_verdicts.specs.Rows.{Verdict, Rows, places_from}
+use Rattle.acl_rights.specs.Groups.{mentions_one}
 
 -- ---- in a state
 

@@ -1,12 +1,13 @@
 -- A line on a table.
 use Rattle.std.specs.Prelude.{ℕ, ◌+◌, ◌*◌, Bool, true, false, length, count_by}
-use Rattle.acl_tree.specs.Files.{Files}
+use Rattle.acl_files.specs.Files.{Files}
 use Rattle.acl_tree.specs.State.{State}
 use Rattle.acl_tree.specs.Reports.{StagedState, Reports}
 use Rattle.acl_tree.specs.declared.user_change.UserChange.{UserChange}
 use Rattle.acl_tree.specs.declared.user_change.UserChange.TheVariants.{Unchanged, Loaded, Memberships, Added, Removed}
-pub use Rattle.acl_rights.specs.Groups.{mentions_one, mentioning, sum_mentioning}
-use Rattle.acl_rights.specs.Tables.{Verdict, VerdictTable, IsWhole}
+use Rattle.acl_rights.specs.Groups.{mentions_one, mentioning, sum_mentioning}
+use Rattle.acl_verdicts.specs.Rows.{Verdict}
+use Rattle.acl_rights.specs.Tables.{VerdictTable, IsWhole}
 
 -- the index is the whole table of some state, from which the line goes
 pub record CanStage (V : Verdict) (index : VerdictTable) (t : StagedState) : Type 0 where

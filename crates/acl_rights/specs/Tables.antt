@@ -5,15 +5,15 @@ use Rattle.std.specs.Coded.{Coded, code_by, coded×, coded_ℕ}
 use Rattle.std.specs.FinMap.{find}
 use Rattle.std.specs.declared.alloc.Global.{Global}
 use Rattle.std.specs.declared.vec.Vec.{Vec}
-use Rattle.acl_tree.specs.acl_entry.Check.{has}
-use Rattle.acl_tree.specs.acl_entry.Perms.{Perms}
-use Rattle.acl_tree.specs.acl_names.Paths.{path_cmp}
-use Rattle.acl_tree.specs.acl_names.declared.path.Path.{Path}
-use Rattle.acl_tree.specs.acl_people.KnownPeople.{persons}
-use Rattle.acl_tree.specs.Files.{PathOf, Files}
+use Rattle.acl_entry.specs.Check.{has}
+use Rattle.acl_entry.specs.Perms.{Perms}
+use Rattle.acl_names.specs.Paths.{path_cmp, PathOf}
+use Rattle.acl_names.specs.declared.path.Path.{Path}
+use Rattle.acl_people.specs.KnownPeople.{persons}
+use Rattle.acl_files.specs.Files.{Files}
 use Rattle.acl_tree.specs.State.{State}
 use Rattle.acl_tree.specs.Reports.{coded_files}
-pub use Rattle.acl_verdicts.specs.Rows.{Verdict, Rows, cells_of, rows_of, coded_rows, places_from, who_in, grants_to, may_in}
+use Rattle.acl_verdicts.specs.Rows.{Verdict, Rows, cells_of, rows_of, coded_rows, places_from, who_in, may_in}
 
 -- how many users there are, the files, and a row for each
 pub record VerdictTable : Type 0 where

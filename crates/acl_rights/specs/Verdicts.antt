@@ -1,16 +1,16 @@
 -- The verdicts of a state: those on its files alone, or those that count only with search along the path.
 use Rattle.std.specs.Prelude.{ℕ, Bool, if◌then◌else◌, List, map, filter, slice_get, Option, option_map, option_and_then}
 use Rattle.std.specs.FinMap.{find}
-use Rattle.acl_tree.specs.acl_entry.Check.{has}
-use Rattle.acl_tree.specs.acl_entry.Perms.{Perms}
-use Rattle.acl_tree.specs.acl_names.Paths.{path_cmp}
-use Rattle.acl_tree.specs.acl_syntax.declared.rows.PasswdRow.{PasswdRow}
-use Rattle.acl_tree.specs.acl_edit.declared.node.Node.{Node}
-use Rattle.acl_tree.specs.acl_people.KnownPeople.{person, persons}
-use Rattle.acl_tree.specs.Files.{PathOf}
+use Rattle.acl_entry.specs.Check.{has}
+use Rattle.acl_entry.specs.Perms.{Perms}
+use Rattle.acl_names.specs.Paths.{path_cmp, PathOf}
+use Rattle.acl_syntax.specs.declared.rows.PasswdRow.{PasswdRow}
+use Rattle.acl_edit.specs.declared.node.Node.{Node}
+use Rattle.acl_people.specs.KnownPeople.{person, persons}
 use Rattle.acl_tree.specs.State.{State}
-use Rattle.acl_rights.specs.Tables.{Verdict, Rows, places_from, rows_of}
-use Rattle.acl_rights.specs.Reach.{reach, rows_along}
+use Rattle.acl_verdicts.specs.Rows.{Verdict, Rows, places_from, rows_of}
+use Rattle.acl_rights.specs.Reach.{reach}
+use Rattle.acl_verdicts.specs.Reach.{rows_along}
 
 -- the requests that a user is granted on a file: by the file's list alone, or only where the user can search each
 -- recorded directory above it too

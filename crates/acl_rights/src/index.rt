@@ -1,8 +1,8 @@
 //! The index: the whole table of verdicts of a state.
 
 ghost use Rattle.std.specs.Prelude.{◌≡◌, ◌+◌, ◌<◌, ◌≤◌, ◌^◌, length, IfOk, true};
-ghost use Rattle.acl_tree.specs.acl_files.kinds.Numbered.{entries_in};
-ghost use Rattle.acl_tree.specs.acl_people.KnownPeople.{persons};
+ghost use Rattle.kinds.specs.Numbered.{entries_in};
+ghost use Rattle.acl_people.specs.KnownPeople.{persons};
 ghost use Rattle.acl_tree.specs.State.{state_from};
 ghost use Rattle.acl_verdicts.specs.Rows.{Asks};
 ghost use Rattle.acl_verdicts.specs.KindRows.{rowed};
@@ -10,7 +10,9 @@ ghost use Rattle.acl_rights.specs.Costs.{all_pairs};
 ghost use Rattle.acl_rights.specs.Lines.{HaveLabels, AreBefore, table_of};
 
 use crate::stage::{NextRows, after_line};
-use acl_tree::{NoMemory, People, Staged, Tree};
+use acl_entry::NoMemory;
+use acl_people::People;
+use acl_tree::{Staged, Tree};
 use acl_verdicts::{Judge, KindRows};
 use std::alloc::{AllocError, Global};
 use std::marker::{Model, PhantomData};
@@ -27,7 +29,7 @@ pub(crate) struct VerdictTable {
 impl Model for VerdictTable {
     ghost use Rattle.acl_rights.specs.Tables.{VerdictTable as Whole, coded_table};
     ghost use Rattle.acl_rights.specs.Lines.{HaveLabels, table_of};
-    ghost use Rattle.acl_tree.specs.acl_files.kinds.Numbered.{entries_in};
+    ghost use Rattle.kinds.specs.Numbered.{entries_in};
 
     ghost Value = { Whole };
 

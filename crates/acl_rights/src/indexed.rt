@@ -11,7 +11,9 @@ ghost use Rattle.acl_rights.specs.Verdicts.{can_requests, users_granted, paths_g
 ghost use Rattle.acl_rights.specs.States.{IsPrepared, from_start, loaded_state, states_after, states_in, state_after, most_after};
 
 use crate::index::Index;
-use acl_tree::{Path, Perm, Requests, Staged, State};
+use acl_entry::{Perm, Requests};
+use acl_names::Path;
+use acl_tree::{Staged, State};
 use acl_verdicts::{FileRows, Judge};
 use std::alloc::{AllocError, Global};
 use std::marker::Model;

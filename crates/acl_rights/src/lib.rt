@@ -26,16 +26,15 @@ mod indexed;
 mod questions;
 mod stage;
 
-pub use acl_tree::{
-    Acl, Change, ChangeEntries, ChangeFlags, Command, Draft, DumpRecord, DumpRecords, DumpUse,
-    Edit, Effective, Entry, FaultKind, FilesIter, Form, Found, Header, Id, Key, Kind, Label,
-    Membership, Name, Names, NewFile, NewUser, NoMemory, NoNames, Node, Path, Paths, People, Perm,
-    Requests, Selection, Sep, Spec, Specs, Staged, State, Subject, Table, TextFault, Tree,
-    TreeFault, UserName, Want, Which, append_entry, append_header, append_line, append_list,
-    append_name, append_path, append_short, each_file_is_edited, read_dump, read_entries, read_id,
-    read_name, read_path, read_perms, records_are_read_again, restore_of_what_is_changes_nothing,
-    trim, write_name,
-};
-pub use acl_verdicts::{Cells, FileRow, FileRows, Judge, Posix, Subjects, same_row};
 pub use index::{Index, Rows};
 pub use indexed::{IndexedState, IndexedStates, States, Verdicts};
+
+// The public calls take and give these values of the crates below.
+pub use acl_edit::{Change, ChangeEntries, ChangeFlags, Edit, Kind, Specs};
+pub use acl_entry::{Acl, Id, Key, Label, NoMemory, Perm, Requests, Subject};
+pub use acl_files::{DumpRecords, Paths};
+pub use acl_names::{Name, Path, read_name};
+pub use acl_people::{People, UserName};
+pub use acl_syntax::Spec;
+pub use acl_tree::{Command, Membership, NewFile, NewUser, Staged, State, Table, Tree};
+pub use acl_verdicts::{Cells, FileRow, FileRows, Judge, Posix};

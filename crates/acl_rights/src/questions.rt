@@ -3,17 +3,19 @@
 ghost use Rattle.std.specs.Prelude.{◌≡◌};
 ghost use Rattle.std.specs.Option.{option_copied};
 ghost use Rattle.std.specs.FinMap.{find};
-ghost use Rattle.acl_tree.specs.acl_names.Paths.{path_cmp};
+ghost use Rattle.acl_names.specs.Paths.{path_cmp};
 ghost use Rattle.acl_tree.specs.State as states;
 
 use crate::index::Index;
-use acl_tree::{NoMemory, Path, Perm, Requests};
+use acl_entry::{NoMemory, Perm, Requests};
+use acl_names::Path;
 use acl_verdicts::{FileRows, Judge, granted_users};
 use std::alloc::Global;
 
 impl<J: Judge> Index<J> {
     ghost use Rattle.acl_rights.specs.Tables.{IsWhole, FindsUsers, FindsFiles, cell_at, users_at, files_at, verdict_at, row_at, users_granted, files_granted};
-    ghost use Rattle.acl_rights.specs.Reach.{rows_along, reached_rows, reached_at, reach_at, users_reaching, files_reached};
+    ghost use Rattle.acl_verdicts.specs.Reach.{rows_along, reached_rows, reached_at};
+    ghost use Rattle.acl_rights.specs.Reach.{reach_at, users_reaching, files_reached};
 
     /// The verdict on a user and a file.
     fn cell(&self, user: usize, path: &Path) -> Option<Requests>

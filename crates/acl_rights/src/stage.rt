@@ -1,15 +1,18 @@
 //! The rows of verdicts after a line, by how the line moves the users.
 
 ghost use Rattle.std.specs.Prelude.{◌≡◌, ◌+◌, ◌-◌, ◌<◌, ◌≤◌, ◌^◌, true, Some, length, map, slice_get, IfOk, MatchOption};
-ghost use Rattle.acl_tree.specs.Files.{Files};
-ghost use Rattle.acl_tree.specs.acl_files.kinds.Numbered.{entries_in};
-ghost use Rattle.acl_tree.specs.acl_people.KnownPeople.{persons};
+ghost use Rattle.acl_files.specs.Files.{Files};
+ghost use Rattle.kinds.specs.Numbered.{entries_in};
+ghost use Rattle.acl_people.specs.KnownPeople.{persons};
 ghost use Rattle.acl_verdicts.specs.KindRows.{rowed, with_label};
 ghost use Rattle.acl_rights.specs.Costs.{all_pairs};
 ghost use Rattle.acl_rights.specs.Stages.{most_asked, moves_groups};
 ghost use Rattle.acl_rights.specs.Lines.{labels_of, AreBefore, IsAfter};
 
-use acl_tree::{Differences, GroupIds, Label, Path, Staged, Subject, UserChange};
+use acl_entry::{Label, Subject};
+use acl_files::Differences;
+use acl_names::Path;
+use acl_tree::{GroupIds, Staged, UserChange};
 use acl_verdicts::{Judge, KindRows};
 use std::alloc::{AllocError, Global};
 

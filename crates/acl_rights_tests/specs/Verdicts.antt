@@ -1,9 +1,9 @@
 -- The verdicts of a judge of the user's own, and their locality.
 use Rattle.std.specs.Prelude.{◌≡◌, ℕ, ◌==◌, if◌then◌else◌}
 use Rattle.std.proofs.Common.{ap}
-use Rattle.acl_rights.specs.acl_entry.Mentions.{AgreeOnMentions}
-use Rattle.acl_rights.specs.acl_entry.Person.{Person}
-use Rattle.acl_rights.specs.acl_entry.declared.label.Label.{Label}
+use Rattle.acl_entry.specs.Mentions.{AgreeOnMentions}
+use Rattle.acl_entry.specs.Person.{Person}
+use Rattle.acl_entry.specs.declared.label.Label.{Label}
 
 -- the owner is granted all requests, and nobody else is granted any
 abbrev pub owner_alone : Person → Label → ℕ

@@ -3,10 +3,13 @@
 //! A row is data, so a new one needs no code.
 
 ghost use Rattle.std.specs.Prelude.{IfSome};
-ghost use Rattle.acl_rights.specs.acl_tree.Reports.{Reports};
+ghost use Rattle.acl_tree.specs.Reports.{Reports};
 
 use crate::lines::{Line, command, path, paths};
-use acl_rights::{IndexedState, Judge, Perm, Posix, Staged, State, Verdicts};
+use acl_entry::Perm;
+use acl_rights::{IndexedState, Verdicts};
+use acl_tree::{Staged, State};
+use acl_verdicts::{Judge, Posix};
 use facl::{files_asked, write_changes, write_index, write_may, write_who, write_why};
 use std::alloc::Global;
 use std::mem;

@@ -2,7 +2,7 @@
 
 use crate::asked::{Question, Row, expect_rows};
 use crate::lines::Line;
-use acl_rights::Table;
+use acl_tree::Table;
 
 const PASSWD: &[u8] = b"lisa:x:1001:50:Lisa:/home/lisa:/bin/sh\n\
 joe:x:1000:100:Joe:/home/joe:/bin/sh\nann:x:1002:100:Ann:/home/ann:/bin/sh\n";

@@ -1,10 +1,10 @@
 //! What lines cost.
-ghost use Rattle.acl_rights.specs.acl_entry.Check.{rights};
+ghost use Rattle.acl_entry.specs.Check.{rights};
 ghost use Rattle.acl_rights.specs.Tables.{IsWhole};
 
 use crate::lines::Line;
 use crate::world::{Row, Verdict, World, asked_by_build, first_wrong, nothing};
-use acl_rights::Table;
+use acl_tree::Table;
 use std::alloc::Global;
 use std::process::Abort;
 

@@ -1,9 +1,12 @@
 //! Commands as they are written.
 
-use acl_rights::{
-    Change, ChangeEntries, ChangeFlags, Command, Edit, Id, Membership, Name, NewUser, Path, Paths,
-    People, Sep, Specs, Table, UserName, Want, read_entries, read_path,
-};
+use acl_edit::{Change, ChangeEntries, ChangeFlags, Edit, Specs};
+use acl_entry::Id;
+use acl_files::Paths;
+use acl_names::{Name, Path, read_path};
+use acl_people::{People, UserName};
+use acl_syntax::{Sep, Want, read_entries};
+use acl_tree::{Command, Membership, NewUser, Table};
 use std::alloc::Global;
 
 /// A command, its operands and texts as they are written.

@@ -1,6 +1,7 @@
 //! Listings of one file and of several.
 use crate::made::{all_found, setup};
-use acl_rights::{Effective, State};
+use acl_dump::Effective;
+use acl_tree::State;
 use facl_output::{Options, append_listing, listing_is_loaded_again};
 use std::alloc::Global;
 use std::process::Abort;

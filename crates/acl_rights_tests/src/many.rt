@@ -3,7 +3,7 @@
 use crate::lines::Line;
 use crate::small_tree::{GROUP, PASSWD};
 use crate::world::{Row, Verdict, first_wrong, nothing};
-use acl_rights::Table;
+use acl_tree::Table;
 
 /// Twelve files of two labels.
 const FILES: &[u8] =

@@ -1,5 +1,5 @@
 //! The line of the requests that are granted.
-use acl_rights::{Perm, Requests};
+use acl_entry::{Perm, Requests};
 use facl::append_requests;
 use std::alloc::Global;
 use std::process::Abort;

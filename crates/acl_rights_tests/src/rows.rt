@@ -2,7 +2,9 @@
 use crate::costs::after;
 use crate::lines::Line;
 use crate::world::Row;
-use acl_rights::{FileRow, FileRows, Requests, read_path};
+use acl_entry::Requests;
+use acl_names::read_path;
+use acl_verdicts::{FileRow, FileRows};
 use std::alloc::Global;
 use std::cmp::Ordering;
 

@@ -1,7 +1,9 @@
 //! Where users are found, and the verdicts on all of them at once.
 ghost use Rattle.std.specs.Prelude.{◌≡◌, IfSome};
 
-use acl_rights::{Acl, Entry, Id, Judge, Key, Label, Perm, Posix, Requests, Subject, Subjects};
+use acl_entry::{Acl, Entry, Id, Key, Label, Perm, Requests, Subject};
+use acl_subjects::Subjects;
+use acl_verdicts::{Judge, Posix};
 use std::alloc::Global;
 use std::rc::Rc;
 

@@ -1,11 +1,14 @@
 //! A state with its index, line after line.
 
 ghost use Rattle.std.specs.Prelude.{IfSome};
-ghost use Rattle.acl_rights.specs.acl_entry.Check.{rights};
+ghost use Rattle.acl_entry.specs.Check.{rights};
 ghost use Rattle.acl_rights.specs.Tables.{IsWhole};
 
 use crate::lines::{Line, command};
-use acl_rights::{Command, Index, Judge, Posix, State, read_path};
+use acl_names::read_path;
+use acl_rights::Index;
+use acl_tree::{Command, State};
+use acl_verdicts::{Judge, Posix};
 use std::alloc::Global;
 
 /// A state, its index, and the judge of the index.

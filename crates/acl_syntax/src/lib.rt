@@ -14,9 +14,6 @@ mod table;
 mod user_name;
 mod writing;
 
-pub use acl_names::{
-    Name, Path, append_name, append_path, read_name, read_path, write_name, write_path,
-};
 pub use entries::{Form, PermSpec, Rules, Sep, Spec, Want, content, entry_of, read_entries};
 pub use fault::{FaultKind, TextFault, Which};
 pub use fields::{is_number, read_id, read_perms, trim, trim_front};

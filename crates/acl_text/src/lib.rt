@@ -2,6 +2,7 @@
 //! and attribute bytes. Whoever reads or writes a text lists this crate, and none of the four that it passes on.
 #![tactic(auto)]
 
+// The public calls take and give these values of the crates below.
 pub use acl_attr::{decode_attr, encode_attr};
 pub use acl_dump::{
     DumpRecord, DumpUse, Effective, Header, append_header, append_list, append_record, read_dump,

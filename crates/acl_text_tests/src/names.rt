@@ -1,7 +1,8 @@
 //! Escapes, names and paths.
 
 use crate::made::{expect_bytes, expect_row, expect_same};
-use acl_text::{Path, is_user_name, read_name, read_path, write_name, write_path};
+use acl_names::{Path, read_name, read_path, write_name, write_path};
+use acl_syntax::is_user_name;
 use std::alloc::Global;
 use std::cmp::Ordering;
 use std::process::Abort;

@@ -5,22 +5,22 @@ use Rattle.std.specs.List.{AllByRecursion}
 use Rattle.std.specs.Option.{option_or}
 use Rattle.std.specs.Ordering.{eq_by_cmp}
 use Rattle.std.specs.FinMap.{find}
-use Rattle.acl_files.specs.acl_entry.Lists.{KeyMap}
-use Rattle.acl_files.specs.acl_names.Paths.{path_cmp}
-use Rattle.acl_files.specs.acl_dump.declared.record.DumpRecord.{DumpRecord}
-use Rattle.acl_files.specs.acl_edit.Nodes.{IsSound}
-use Rattle.acl_files.specs.acl_syntax.InTurn.{◌>>=◌}
-use Rattle.acl_files.specs.acl_edit.Edits.{allowed, edit, restore}
-use Rattle.acl_files.specs.acl_edit.declared.node.Kind.{Kind}
-use Rattle.acl_files.specs.acl_edit.declared.node.Kind.TheVariants.{Plain, Directory}
-use Rattle.acl_files.specs.acl_edit.declared.node.Node.{Node}
-use Rattle.acl_files.specs.path_map.Merged.{put_all}
-pub use Rattle.acl_files.proofs.of_path_map.Differences.{Leads, leads_all}
-use Rattle.acl_files.proofs.of_path_map.Edits.{put_edited}
+use Rattle.acl_entry.specs.Lists.{KeyMap}
+use Rattle.acl_names.specs.Paths.{path_cmp, PathOf}
+use Rattle.acl_dump.specs.declared.record.DumpRecord.{DumpRecord}
+use Rattle.acl_edit.specs.Nodes.{IsSound}
+use Rattle.acl_syntax.specs.InTurn.{◌>>=◌}
+use Rattle.acl_edit.specs.Edits.{allowed, edit, restore}
+use Rattle.acl_edit.specs.declared.node.Kind.{Kind}
+use Rattle.acl_edit.specs.declared.node.Kind.TheVariants.{Plain, Directory}
+use Rattle.acl_edit.specs.declared.node.Node.{Node}
+use Rattle.path_map.specs.Merged.{put_all}
+use Rattle.path_map.proofs.Differences.{Leads, leads_all}
+use Rattle.path_map.proofs.Edits.{put_edited}
 use Rattle.acl_tree.specs.declared.command.Command.TheVariants.{Restore}
-use Rattle.acl_files.specs.Files.{PathOf, Files, IsInOrder}
-use Rattle.acl_files.specs.Edits.{unless_missing}
-use Rattle.acl_files.specs.Edits.{and_others, edit_each, edit_all, with_edits}
+use Rattle.acl_files.specs.Files.{Files}
+use Rattle.path_map.specs.Entries.{IsInOrder}
+use Rattle.acl_files.specs.Edits.{unless_missing, and_others, edit_each, edit_all, with_edits}
 use Rattle.acl_tree.specs.Laws.{Contains, IsAsRecorded}
 use Rattle.acl_files.specs.Loading.{record_at}
 use Rattle.acl_files.specs.Operands.{is_file, first_missing, files_meant}

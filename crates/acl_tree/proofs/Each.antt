@@ -3,19 +3,19 @@ use Rattle.std.proofs.Common.{◌≡◌, Bool, true, false, cond, if◌then◌el
 use Rattle.std.specs.Prelude.{option_map}
 use Rattle.std.specs.Ordering.{is_eq}
 use Rattle.std.specs.FinMap.{find}
-use Rattle.acl_files.specs.acl_names.Paths.{path_cmp}
-use Rattle.acl_files.proofs.of_acl_names.PathOrder.{exact_paths}
-use Rattle.acl_files.specs.acl_dump.declared.record.DumpRecord.{DumpRecord}
-use Rattle.acl_files.specs.acl_edit.declared.edit.Edit.{Edit}
-use Rattle.acl_files.specs.acl_edit.declared.edit.EditFault.{EditFault}
-use Rattle.acl_files.specs.acl_edit.declared.node.Node.{Node}
+use Rattle.acl_names.specs.Paths.{path_cmp, PathOf}
+use Rattle.acl_names.proofs.PathOrder.{exact_paths}
+use Rattle.acl_dump.specs.declared.record.DumpRecord.{DumpRecord}
+use Rattle.acl_edit.specs.declared.edit.Edit.{Edit}
+use Rattle.acl_edit.specs.declared.edit.EditFault.{EditFault}
+use Rattle.acl_edit.specs.declared.node.Node.{Node}
 use Rattle.acl_files.specs.declared.fault.TreeFault.{TreeFault}
 use Rattle.acl_files.specs.declared.edit.FileFault.{FileFault}
-use Rattle.acl_files.specs.Files.{PathOf, Files, Recorded, IsInOrder}
+use Rattle.acl_files.specs.Files.{Files, Recorded}
+use Rattle.path_map.specs.Entries.{IsInOrder}
 use Rattle.acl_files.specs.Operands.{is_file, edit_files, files_meant, first_missing}
-use Rattle.acl_files.specs.Edits.{and_others, edit_each, edit_all, with_edits}
+use Rattle.acl_files.specs.Edits.{and_others, edit_each, edit_all, with_edits, unless_missing}
 use Rattle.acl_tree.specs.EditCommand.{edit_one, edited_tree}
-use Rattle.acl_files.specs.Edits.{unless_missing}
 use Rattle.acl_files.specs.Restoring.{restore_one, paths_of, restored_tree}
 use Rattle.acl_files.specs.Inner.{ok_or, node_after}
 use Rattle.acl_tree.specs.Laws.{EditsEach}

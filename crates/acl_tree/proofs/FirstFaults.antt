@@ -1,5 +1,5 @@
 -- Every command is refused for the first fault that applies.
-use Rattle.acl_files.specs.Files.{IsInOrder}
+use Rattle.path_map.specs.Entries.{IsInOrder}
 use Rattle.acl_tree.specs.declared.command.Command.{Command}
 use Rattle.acl_tree.specs.declared.command.Command.TheVariants.{Load, Chmod, Edit, Restore, Creat, Rm, Gpasswd, Usermod, Useradd, Userdel}
 use Rattle.acl_tree.specs.State.{State}

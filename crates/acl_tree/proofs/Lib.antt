@@ -18,8 +18,3 @@ pub mod RefusedOperands
 pub mod RefusedEdits
 pub mod RefusedLoads
 pub mod FirstFaults
-pub use Rattle.acl_files.proofs.of_acl_dump
-pub use Rattle.acl_files.proofs.of_acl_entry
-pub use Rattle.acl_files.proofs as of_acl_files
-pub use Rattle.acl_files.proofs.of_acl_names
-pub use Rattle.acl_files.proofs.of_path_map

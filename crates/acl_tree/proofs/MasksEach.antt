@@ -1,16 +1,18 @@
 -- The rules on masks, at each file of an edit.
 use Rattle.std.proofs.Common.{◌≡◌, Bool, true, false, List, Option, Some, Result, Ok, Err, if◌then◌else◌, refl, sym, ap, subst, ◌∙◌}
 use Rattle.std.specs.Prelude.{option_map}
-use Rattle.acl_files.specs.acl_entry.Lists.{KeyMap}
-use Rattle.acl_files.specs.acl_syntax.InTurn.{◌>>=◌}
-use Rattle.acl_files.specs.acl_edit.Edits.{edit, edit_of, change, changed_access, changed_default, is_misplaced}
-use Rattle.acl_files.specs.acl_edit.Nodes.{with_lists}
-use Rattle.acl_files.specs.acl_edit.declared.edit.Change.{Change}
-use Rattle.acl_files.specs.acl_edit.declared.edit.EditFault.{EditFault}
-use Rattle.acl_files.specs.acl_edit.declared.edit.EditFault.TheVariants.{DefaultOnFile}
-use Rattle.acl_files.specs.acl_edit.declared.node.Node.{Node}
-use Rattle.acl_files.proofs.of_acl_edit.Lines.{makes_mask, shows_recalculated, bounds_recalculated}
-use Rattle.acl_files.specs.Files.{PathOf, Recorded, IsInOrder}
+use Rattle.acl_entry.specs.Lists.{KeyMap}
+use Rattle.acl_syntax.specs.InTurn.{◌>>=◌}
+use Rattle.acl_edit.specs.Edits.{edit, edit_of, change, changed_access, changed_default, is_misplaced}
+use Rattle.acl_edit.specs.Nodes.{with_lists}
+use Rattle.acl_edit.specs.declared.edit.Change.{Change}
+use Rattle.acl_edit.specs.declared.edit.EditFault.{EditFault}
+use Rattle.acl_edit.specs.declared.edit.EditFault.TheVariants.{DefaultOnFile}
+use Rattle.acl_edit.specs.declared.node.Node.{Node}
+use Rattle.acl_edit.proofs.Lines.{makes_mask, shows_recalculated, bounds_recalculated}
+use Rattle.acl_names.specs.Paths.{PathOf}
+use Rattle.acl_files.specs.Files.{Recorded}
+use Rattle.path_map.specs.Entries.{IsInOrder}
 use Rattle.acl_tree.specs.EditCommand.{edited_tree}
 use Rattle.acl_tree.specs.Laws.{KeepsMaskRules, MasksEach}
 use Rattle.acl_tree.proofs.Each.{edit_each_file}

@@ -6,27 +6,28 @@ use Rattle.std.specs.Ordering.{is_eq, eq_by_cmp}
 use Rattle.std.specs.FinMap.{find, put}
 use Rattle.std.specs.FinMap.Entries.{by_order}
 use Rattle.std.proofs.lemmas.Bool.{eqb-true}
-use Rattle.acl_files.specs.acl_names.Paths.{path_cmp}
-use Rattle.acl_files.proofs.of_acl_names.PathOrder.{exact_paths}
-use Rattle.acl_files.specs.acl_edit.declared.node.Node.{Node}
-use Rattle.acl_files.specs.acl_syntax.declared.rows.PasswdRow.{PasswdRow}
-use Rattle.acl_files.specs.acl_edit.Creation.{inherit}
-use Rattle.acl_files.specs.acl_edit.Nodes.{IsSound, is_directory}
-use Rattle.acl_files.specs.acl_edit.declared.node.Kind.{Kind}
-use Rattle.acl_files.specs.acl_edit.declared.node.Kind.TheVariants.{Plain, Directory}
-use Rattle.acl_files.specs.path_map.Merged.{has}
-use Rattle.acl_files.proofs.of_acl_names.Below.{below_within, not_before, not_below_itself, within_below, within_itself}
-use Rattle.acl_files.proofs.of_acl_names.Parents.{below_parent}
-use Rattle.acl_files.proofs.of_path_map.Differences.{Leads, leads_all, has_put_all}
-use Rattle.acl_files.specs.Files.{PathOf, Files, Recorded, max_files}
-use Rattle.acl_files.specs.acl_names.Below.{is_above, encloses, parent}
+use Rattle.acl_names.specs.Paths.{path_cmp, PathOf}
+use Rattle.acl_names.proofs.PathOrder.{exact_paths}
+use Rattle.acl_edit.specs.declared.node.Node.{Node}
+use Rattle.acl_syntax.specs.declared.rows.PasswdRow.{PasswdRow}
+use Rattle.acl_edit.specs.Creation.{inherit}
+use Rattle.acl_edit.specs.Nodes.{IsSound, is_directory}
+use Rattle.acl_edit.specs.declared.node.Kind.{Kind}
+use Rattle.acl_edit.specs.declared.node.Kind.TheVariants.{Plain, Directory}
+use Rattle.path_map.specs.Merged.{has}
+use Rattle.acl_names.proofs.Below.{below_within, not_before, not_below_itself, within_below, within_itself}
+use Rattle.acl_names.proofs.Parents.{below_parent}
+use Rattle.path_map.proofs.Differences.{Leads, leads_all, has_put_all}
+use Rattle.acl_files.specs.Files.{Files, Recorded, max_files}
+use Rattle.acl_names.specs.Below.{is_above, encloses, parent}
 use Rattle.acl_files.specs.Changed.{gone_between}
 use Rattle.acl_tree.specs.Creat.{exists, only_directory, directory_at, creat_in, creat_by}
 use Rattle.acl_tree.specs.declared.command.NewFile.{NewFile}
 use Rattle.acl_files.specs.declared.fault.TreeFault.{TreeFault}
 use Rattle.acl_files.specs.declared.fault.TreeFault.TheVariants.{NotDirectory, Exists, TooMany}
 use Rattle.acl_tree.specs.Inner.{IsNewIn}
-use Rattle.acl_files.specs.Sound.{holds_below, IsPlaced, ArePlaced, IsSoundTree}
+use Rattle.path_map.specs.Below.{holds_below}
+use Rattle.acl_files.specs.Sound.{IsPlaced, ArePlaced, IsSoundTree}
 use Rattle.acl_files.proofs.Changes.{none_gone}
 use Rattle.acl_files.proofs.Shared.{in_order-put}
 

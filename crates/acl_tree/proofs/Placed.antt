@@ -1,9 +1,9 @@
 -- An edit of one file keeps its place.
 use Rattle.std.proofs.Common.{◌≡◌, Bool, Ok}
-use Rattle.acl_files.specs.acl_edit.declared.edit.Edit.{Edit}
-use Rattle.acl_files.specs.acl_edit.declared.node.Node.{Node}
-use Rattle.acl_files.proofs.of_acl_edit.Placed.{keeps_kind}
-use Rattle.acl_files.specs.Files.{PathOf}
+use Rattle.acl_edit.specs.declared.edit.Edit.{Edit}
+use Rattle.acl_edit.specs.declared.node.Node.{Node}
+use Rattle.acl_edit.proofs.Placed.{keeps_kind}
+use Rattle.acl_names.specs.Paths.{PathOf}
 use Rattle.acl_files.specs.Edits.{KeepsPlace}
 use Rattle.acl_tree.specs.EditCommand.{edit_one}
 

@@ -3,17 +3,18 @@ use Rattle.std.proofs.Common.{◌≡◌, ◌≤◌, Bool, true, false, cond, ◌
 use Rattle.std.specs.Option.{option_or}
 use Rattle.std.specs.Ordering.{is_eq}
 use Rattle.std.specs.FinMap.{find}
-use Rattle.acl_files.specs.acl_names.Paths.{path_cmp}
-use Rattle.acl_files.proofs.of_path_map.Differences.{Leads, leads_all}
-use Rattle.acl_files.specs.acl_dump.declared.record.DumpRecord.{DumpRecord}
-use Rattle.acl_files.specs.acl_edit.declared.edit.Edit.{Edit}
-use Rattle.acl_files.specs.acl_edit.declared.edit.EditFault.{EditFault}
-use Rattle.acl_files.specs.acl_edit.declared.node.Node.{Node}
+use Rattle.acl_names.specs.Paths.{path_cmp, PathOf}
+use Rattle.path_map.proofs.Differences.{Leads, leads_all}
+use Rattle.acl_dump.specs.declared.record.DumpRecord.{DumpRecord}
+use Rattle.acl_edit.specs.declared.edit.Edit.{Edit}
+use Rattle.acl_edit.specs.declared.edit.EditFault.{EditFault}
+use Rattle.acl_edit.specs.declared.node.Node.{Node}
 use Rattle.acl_files.specs.declared.edit.FileFault.{FileFault}
 use Rattle.acl_files.specs.declared.edit.FileFault.TheVariants as of_files
 use Rattle.acl_files.specs.declared.fault.TreeFault.{TreeFault}
 use Rattle.acl_files.specs.declared.fault.TreeFault.TheVariants as faults
-use Rattle.acl_files.specs.Files.{PathOf, Files, IsInOrder}
+use Rattle.acl_files.specs.Files.{Files}
+use Rattle.path_map.specs.Entries.{IsInOrder}
 use Rattle.acl_files.specs.Operands.{is_file, files_meant, first_missing}
 use Rattle.acl_files.specs.Edits.{and_others, edit_each, with_edits, file_fault, unless_missing}
 use Rattle.acl_files.specs.Restoring.{restore_one, paths_of}

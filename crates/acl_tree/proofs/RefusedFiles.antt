@@ -7,20 +7,21 @@ use Rattle.std.proofs.lemmas.List.{length-map}
 use Rattle.std.proofs.lemmas.List.Quantifiers.{position-Some}
 use Rattle.std.proofs.lemmas.Option.{slice_get-get_or}
 use Rattle.std.specs.Ordering.{is_eq}
-use Rattle.acl_files.specs.acl_names.Paths.{path_cmp}
-use Rattle.acl_files.proofs.of_acl_names.PathOrder.{exact_paths}
-use Rattle.acl_files.proofs.of_path_map.Differences.{Leads, leads_all}
-use Rattle.acl_files.specs.acl_names.Below.{encloses, parent}
-use Rattle.acl_files.specs.acl_syntax.Ids.{is_number, id_of}
-use Rattle.acl_files.specs.acl_syntax.declared.rows.PasswdRow.{PasswdRow}
-use Rattle.acl_files.specs.acl_edit.Creation.{inherit}
-use Rattle.acl_files.specs.acl_edit.Nodes.{is_directory}
-use Rattle.acl_files.specs.acl_edit.declared.node.Kind.{Kind}
-use Rattle.acl_files.specs.acl_edit.declared.node.Kind.TheVariants.{Plain, Directory}
-use Rattle.acl_files.specs.acl_edit.declared.node.Node.{Node}
+use Rattle.acl_names.specs.Paths.{path_cmp, PathOf}
+use Rattle.acl_names.proofs.PathOrder.{exact_paths}
+use Rattle.path_map.proofs.Differences.{Leads, leads_all}
+use Rattle.acl_names.specs.Below.{encloses, parent}
+use Rattle.acl_syntax.specs.Ids.{is_number, id_of}
+use Rattle.acl_syntax.specs.declared.rows.PasswdRow.{PasswdRow}
+use Rattle.acl_edit.specs.Creation.{inherit}
+use Rattle.acl_edit.specs.Nodes.{is_directory}
+use Rattle.acl_edit.specs.declared.node.Kind.{Kind}
+use Rattle.acl_edit.specs.declared.node.Kind.TheVariants.{Plain, Directory}
+use Rattle.acl_edit.specs.declared.node.Node.{Node}
 use Rattle.acl_files.specs.declared.fault.TreeFault.{TreeFault}
 use Rattle.acl_files.specs.declared.fault.TreeFault.TheVariants.{NoSuchUser, Exists, NoSuchFile, NotDirectory, TooMany}
-use Rattle.acl_files.specs.Files.{PathOf, Files, IsInOrder, Recorded, max_files}
+use Rattle.acl_files.specs.Files.{Files, Recorded, max_files}
+use Rattle.path_map.specs.Entries.{IsInOrder}
 use Rattle.acl_people.specs.Entries.{user_entry}
 use Rattle.acl_people.specs.KnownPeople.{KnownPeople, users_of}
 use Rattle.acl_people.specs.NameTables.{Named, is_id, is_name, place_of_word}

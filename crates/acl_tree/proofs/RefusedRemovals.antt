@@ -2,14 +2,13 @@
 use Rattle.std.proofs.Common.{◌≡◌, ◌≤◌, ℕ, Bool, true, false, not, ◌&&◌, List, [], ◌∷◌, Option, Some, None, if◌then◌else◌, refl, sym, ap, subst, ◌∙◌, arith}
 use Rattle.std.specs.Option.{option_or}
 use Rattle.std.specs.FinMap.{find}
-use Rattle.acl_files.specs.acl_names.Paths.{path_cmp}
-use Rattle.acl_files.specs.acl_edit.Nodes.{is_directory}
-use Rattle.acl_files.specs.acl_edit.declared.node.Kind.{Kind}
-use Rattle.acl_files.specs.acl_edit.declared.node.Kind.TheVariants.{Plain, Directory}
-use Rattle.acl_files.specs.acl_edit.declared.node.Node.{Node}
+use Rattle.acl_names.specs.Paths.{path_cmp, PathOf}
+use Rattle.acl_edit.specs.Nodes.{is_directory}
+use Rattle.acl_edit.specs.declared.node.Kind.{Kind}
+use Rattle.acl_edit.specs.declared.node.Kind.TheVariants.{Plain, Directory}
+use Rattle.acl_edit.specs.declared.node.Node.{Node}
 use Rattle.acl_files.specs.declared.fault.TreeFault.{TreeFault}
 use Rattle.acl_files.specs.declared.fault.TreeFault.TheVariants.{NoSuchFile, IsDirectory}
-use Rattle.acl_files.specs.Files.{PathOf}
 use Rattle.acl_tree.specs.declared.command.Command.{Command}
 use Rattle.acl_tree.specs.declared.command.Command.TheVariants.{Rm}
 use Rattle.acl_tree.specs.Rm.{refusal, first_refused, without_files, or_refused}

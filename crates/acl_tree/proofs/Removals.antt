@@ -4,21 +4,23 @@ use Rattle.std.specs.List.{AllByRecursion}
 use Rattle.std.specs.Option.{option_or}
 use Rattle.std.specs.Ordering.{eq_by_cmp}
 use Rattle.std.specs.FinMap.{find}
-use Rattle.acl_files.specs.acl_names.Paths.{path_cmp}
-use Rattle.acl_files.specs.acl_edit.Nodes.{is_directory}
-use Rattle.acl_files.specs.acl_edit.declared.node.Node.{Node}
-use Rattle.acl_files.specs.path_map.Merged.{has}
-use Rattle.acl_files.proofs.of_path_map.Differences.{Leads, leads_all, has_where}
-pub use Rattle.acl_files.proofs.of_path_map.Rows.{in_order-filter}
+use Rattle.acl_names.specs.Paths.{path_cmp, PathOf}
+use Rattle.acl_edit.specs.Nodes.{is_directory}
+use Rattle.acl_edit.specs.declared.node.Node.{Node}
+use Rattle.path_map.specs.Merged.{has}
+use Rattle.path_map.proofs.Differences.{Leads, leads_all, has_where}
+use Rattle.path_map.proofs.Rows.{in_order-filter}
 use Rattle.acl_files.specs.declared.fault.TreeFault.{TreeFault}
 use Rattle.acl_files.specs.declared.fault.TreeFault.TheVariants.{IsDirectory}
-use Rattle.acl_files.specs.Files.{PathOf, Files, Recorded, IsInOrder}
-use Rattle.acl_files.specs.acl_names.Below.{is_above, encloses}
+use Rattle.acl_files.specs.Files.{Files, Recorded}
+use Rattle.path_map.specs.Entries.{IsInOrder}
+use Rattle.acl_names.specs.Below.{is_above, encloses}
 use Rattle.acl_files.specs.Changed.{gone_between}
 use Rattle.acl_files.specs.Operands.{is_file, files_meant}
 use Rattle.acl_tree.specs.Rm.{refusal, first_refused, without_files}
-use Rattle.acl_files.specs.Sound.{holds_below, IsPlaced, ArePlaced, IsSoundTree}
-use Rattle.acl_files.proofs.of_acl_names.Below.{below_within, within_trans}
+use Rattle.path_map.specs.Below.{holds_below}
+use Rattle.acl_files.specs.Sound.{IsPlaced, ArePlaced, IsSoundTree}
+use Rattle.acl_names.proofs.Below.{below_within, within_trans}
 use Rattle.acl_files.proofs.Selected.{same_path}
 
 and_true : (a b : Bool) → b ≡ true → (a && b) ≡ a

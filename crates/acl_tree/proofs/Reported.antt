@@ -5,9 +5,10 @@ use Rattle.acl_people.specs.KnownPeople.{KnownPeople, persons}
 use Rattle.acl_people.specs.Moves.{MovesUser}
 use Rattle.acl_tree.specs.declared.user_change.UserChange.{UserChange}
 use Rattle.acl_tree.specs.declared.user_change.UserChange.TheVariants.{Unchanged}
-use Rattle.acl_files.specs.Files.{Files, Recorded, IsInOrder}
+use Rattle.acl_files.specs.Files.{Files, Recorded}
+use Rattle.path_map.specs.Entries.{IsInOrder}
 use Rattle.acl_files.specs.Changed.{gone_between}
-use Rattle.acl_files.specs.Sound.{holds_below}
+use Rattle.path_map.specs.Below.{holds_below}
 use Rattle.acl_tree.specs.State.{State, state_from}
 use Rattle.acl_tree.specs.Reports.{StagedState, UsersMoved, Reports, staged_from}
 use Rattle.acl_tree.specs.UserMoves.{move_of}

@@ -1,26 +1,25 @@
 -- A new file that is removed again.
 use Rattle.std.proofs.Common.{◌≡◌, Bool, true, false, not, cond, ◌&&◌, ◌||◌, [], ◌∷◌, Some, None, Ok, if◌then◌else◌, Ordering, Less, Equal, Greater, refl, sym, ap, subst, ◌∙◌, true≢false}
 use Rattle.std.specs.Option.{option_or}
-use Rattle.std.specs.Ordering.{eq_by_cmp}
+use Rattle.std.specs.Ordering.{eq_by_cmp, is_eq}
 use Rattle.std.specs.FinMap.{find, put}
 use Rattle.std.specs.FinMap.Entries.{by_order, find-put}
-use Rattle.std.specs.Ordering.{is_eq}
 use Rattle.std.proofs.lemmas.Cmp.{tied_itself}
-use Rattle.acl_files.specs.acl_names.Paths.{path_cmp}
-use Rattle.acl_files.proofs.of_acl_names.PathOrder.{path_total, exact_paths}
-use Rattle.acl_files.specs.acl_edit.Nodes.{is_directory}
-use Rattle.acl_files.specs.acl_edit.declared.node.Node.{Node}
+use Rattle.acl_names.specs.Paths.{path_cmp, PathOf}
+use Rattle.acl_names.proofs.PathOrder.{path_total, exact_paths}
+use Rattle.acl_edit.specs.Nodes.{is_directory}
+use Rattle.acl_edit.specs.declared.node.Node.{Node}
 use Rattle.acl_tree.specs.declared.command.Command.TheVariants.{Creat, Rm}
 use Rattle.acl_tree.specs.declared.command.NewFile.{NewFile}
 use Rattle.acl_files.specs.declared.fault.TreeFault.TheVariants.{IsDirectory}
-use Rattle.acl_files.specs.Files.{PathOf, Files}
-use Rattle.acl_files.specs.acl_names.Below.{encloses}
+use Rattle.acl_files.specs.Files.{Files}
+use Rattle.acl_names.specs.Below.{encloses}
 use Rattle.acl_tree.specs.Creat.{row_of, exists, creat}
 use Rattle.acl_files.specs.Operands.{is_file}
 use Rattle.acl_tree.specs.Rm.{refusal, first_refused, without_files, or_refused}
 use Rattle.acl_tree.specs.State.{State, with_tree}
 use Rattle.acl_tree.specs.Step.{step}
-use Rattle.acl_files.proofs.of_acl_names.Below.{within_itself}
+use Rattle.acl_names.proofs.Below.{within_itself}
 use Rattle.acl_files.proofs.Selected.{same_path}
 use Rattle.acl_tree.proofs.Unnamed.{only_tree, puts_by}
 

@@ -3,12 +3,12 @@ use Rattle.std.proofs.Common.{◌≡◌, ℕ, Bool, true, false, not, cond, nat_
 use Rattle.std.specs.Prelude.{option_map}
 use Rattle.std.specs.FinMap.{find, put}
 use Rattle.std.specs.FinMap.Entries.{find-put, find-where_key}
-use Rattle.acl_files.specs.acl_names.Paths.{path_cmp}
-use Rattle.acl_files.proofs.of_acl_names.PathOrder.{path_total, exact_paths}
-use Rattle.acl_files.specs.acl_syntax.declared.rows.PasswdRow.{PasswdRow}
-use Rattle.acl_files.specs.acl_edit.Creation.{inherit}
-use Rattle.acl_files.specs.acl_edit.Nodes as nodes
-use Rattle.acl_files.specs.acl_edit.declared.node.Node.{Node}
+use Rattle.acl_names.specs.Paths.{path_cmp, PathOf}
+use Rattle.acl_names.proofs.PathOrder.{path_total, exact_paths}
+use Rattle.acl_syntax.specs.declared.rows.PasswdRow.{PasswdRow}
+use Rattle.acl_edit.specs.Creation.{inherit}
+use Rattle.acl_edit.specs.Nodes as nodes
+use Rattle.acl_edit.specs.declared.node.Node.{Node}
 use Rattle.acl_people.specs.KnownPeople.{KnownPeople, load_passwd, load_group}
 use Rattle.acl_people.specs.declared.fault.LoadFault.{LoadFault}
 use Rattle.acl_tree.specs.declared.command.Command.{Command}
@@ -17,8 +17,9 @@ use Rattle.acl_tree.specs.declared.command.NewFile.{NewFile}
 use Rattle.acl_tree.specs.declared.command.Table.TheVariants.{Passwd, Group, Dump}
 use Rattle.acl_files.specs.declared.fault.TreeFault.{TreeFault}
 use Rattle.acl_files.specs.declared.fault.TreeFault.TheVariants.{Exists, TooMany, AlreadyLoaded}
-use Rattle.acl_files.specs.Files.{PathOf, Files, Recorded, IsInOrder, max_files}
-use Rattle.acl_files.specs.acl_names.Below.{parent}
+use Rattle.acl_files.specs.Files.{Files, Recorded, max_files}
+use Rattle.path_map.specs.Entries.{IsInOrder}
+use Rattle.acl_names.specs.Below.{parent}
 use Rattle.acl_tree.specs.Creat.{row_of, exists, directory_at, creat_in, creat_by, creat}
 use Rattle.acl_tree.specs.EditCommand.{edited_tree}
 use Rattle.acl_tree.specs.Accounts.{useradd, userdel}

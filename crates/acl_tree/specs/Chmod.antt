@@ -1,7 +1,8 @@
 -- chmod(1): a mode put into the files of a command.
 use Rattle.std.specs.Prelude.{ℕ, List, Bool, Option, Some, None, Result, Ok, Err}
-use Rattle.acl_files.specs.acl_edit.Nodes as nodes
-use Rattle.acl_files.specs.Files.{PathOf, Recorded}
+use Rattle.acl_edit.specs.Nodes as nodes
+use Rattle.acl_names.specs.Paths.{PathOf}
+use Rattle.acl_files.specs.Files.{Recorded}
 use Rattle.acl_files.specs.Operands.{is_file, first_missing, edit_files}
 use Rattle.acl_files.specs.declared.fault.TreeFault.{TreeFault}
 use Rattle.acl_files.specs.declared.fault.TreeFault.TheVariants.{NoSuchFile}

@@ -2,18 +2,18 @@
 use Rattle.std.specs.Prelude.{ℕ, List, length, slice_get, nat_lt, Bool, if◌then◌else◌, Option, Some, None, option_and_then, Result, Ok, Err}
 use Rattle.std.specs.List.{list_any}
 use Rattle.std.specs.FinMap.{find, put}
-use Rattle.acl_files.specs.acl_names.Paths.{path_cmp}
-use Rattle.acl_files.specs.acl_syntax.declared.rows.PasswdRow.{PasswdRow}
-use Rattle.acl_files.specs.acl_edit.Nodes.{is_directory}
-use Rattle.acl_files.specs.acl_edit.Creation.{inherit}
-use Rattle.acl_files.specs.acl_edit.declared.node.Node.{Node}
+use Rattle.acl_names.specs.Paths.{path_cmp, PathOf}
+use Rattle.acl_syntax.specs.declared.rows.PasswdRow.{PasswdRow}
+use Rattle.acl_edit.specs.Nodes.{is_directory}
+use Rattle.acl_edit.specs.Creation.{inherit}
+use Rattle.acl_edit.specs.declared.node.Node.{Node}
 use Rattle.acl_people.specs.NameTables.{place_of_word}
 use Rattle.acl_people.specs.KnownPeople.{KnownPeople, users_of}
 use Rattle.acl_tree.specs.declared.command.NewFile.{NewFile}
 use Rattle.acl_files.specs.declared.fault.TreeFault.{TreeFault}
 use Rattle.acl_files.specs.declared.fault.TreeFault.TheVariants.{NoSuchFile, NotDirectory, Exists, NoSuchUser, TooMany}
-use Rattle.acl_files.specs.Files.{PathOf, Files, Recorded, max_files}
-use Rattle.acl_files.specs.acl_names.Below.{encloses, parent}
+use Rattle.acl_files.specs.Files.{Files, Recorded, max_files}
+use Rattle.acl_names.specs.Below.{encloses, parent}
 
 -- the row of the user that a word means
 abbrev pub row_of : KnownPeople → List ℕ → Option PasswdRow

@@ -1,11 +1,12 @@
 -- setfacl(1) and chacl(1): the operands and, with `-R`, the files below them, edited.
 use Rattle.std.specs.Prelude.{List, Bool, Result}
-use Rattle.acl_files.specs.acl_edit.Edits as edits
-use Rattle.acl_files.specs.acl_edit.declared.edit.Edit.{Edit}
-use Rattle.acl_files.specs.acl_edit.declared.edit.EditFault.{EditFault}
-use Rattle.acl_files.specs.acl_edit.declared.node.Node.{Node}
+use Rattle.acl_edit.specs.Edits as edits
+use Rattle.acl_edit.specs.declared.edit.Edit.{Edit}
+use Rattle.acl_edit.specs.declared.edit.EditFault.{EditFault}
+use Rattle.acl_edit.specs.declared.node.Node.{Node}
 use Rattle.acl_files.specs.declared.fault.TreeFault.{TreeFault}
-use Rattle.acl_files.specs.Files.{PathOf, Recorded}
+use Rattle.acl_names.specs.Paths.{PathOf}
+use Rattle.acl_files.specs.Files.{Recorded}
 use Rattle.acl_files.specs.Operands.{first_missing}
 use Rattle.acl_files.specs.Edits.{edit_all, unless_missing}
 

@@ -1,16 +1,16 @@
 -- For inner functions: no public contract names these definitions.
 use Rattle.std.specs.Prelude.{◌≡◌, ◌≢◌, ◌<◌, length, Option, Some, None, false, Result, MatchResult}
 use Rattle.std.specs.FinMap.{find}
-use Rattle.acl_files.specs.acl_names.Paths.{path_cmp}
-use Rattle.acl_files.specs.acl_syntax.InTurn.{GivesUnless}
-use Rattle.acl_files.specs.acl_edit.Nodes as nodes
-use Rattle.acl_files.specs.acl_edit.declared.node.Node.{Node}
-use Rattle.acl_files.specs.acl_edit.declared.node.Kind.TheVariants.{Directory}
-use Rattle.acl_files.specs.Files.{PathOf, Files, Recorded, max_files}
+use Rattle.acl_names.specs.Paths.{path_cmp, PathOf}
+use Rattle.acl_syntax.specs.InTurn.{GivesUnless}
+use Rattle.acl_edit.specs.Nodes as nodes
+use Rattle.acl_edit.specs.declared.node.Node.{Node}
+use Rattle.acl_edit.specs.declared.node.Kind.TheVariants.{Directory}
+use Rattle.acl_files.specs.Files.{Files, Recorded, max_files}
 use Rattle.acl_files.specs.Sound.{IsSoundTree}
 use Rattle.acl_files.specs.declared.fault.TreeFault.{TreeFault}
 use Rattle.acl_files.specs.declared.fault.TreeFault.TheVariants.{NoMemory}
-use Rattle.acl_files.specs.acl_names.Below.{parent}
+use Rattle.acl_names.specs.Below.{parent}
 use Rattle.acl_people.specs.KnownPeople.{KnownPeople}
 use Rattle.acl_tree.specs.Creat.{exists}
 use Rattle.acl_tree.specs.State.{State, state_from}

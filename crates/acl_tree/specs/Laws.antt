@@ -3,24 +3,25 @@ use Rattle.std.specs.Prelude.{◌≡◌, List, [], ◌∷◌, Bool, true, false,
 use Rattle.std.specs.List.{AllByRecursion, list_any}
 use Rattle.std.specs.Ordering.{eq_by_cmp}
 use Rattle.std.specs.FinMap.{find}
-use Rattle.acl_files.specs.acl_names.Paths.{path_cmp}
-use Rattle.acl_files.specs.acl_dump.declared.record.DumpRecord.{DumpRecord}
-use Rattle.acl_files.specs.acl_edit.Edits.{edit_of, no_flags}
-use Rattle.acl_files.specs.acl_edit.Laws.{ShowsRecalculated, BoundsRecalculated, MakesMask}
-use Rattle.acl_files.specs.acl_edit.Nodes.{is_directory}
-use Rattle.acl_files.specs.acl_edit.declared.edit.Change.{Change}
-use Rattle.acl_files.specs.acl_edit.declared.edit.Edit as edits
-use Rattle.acl_files.specs.acl_edit.declared.edit.EditFault.{EditFault}
-use Rattle.acl_files.specs.acl_edit.declared.node.Node.{Node}
+use Rattle.acl_names.specs.Paths.{path_cmp, PathOf}
+use Rattle.acl_dump.specs.declared.record.DumpRecord.{DumpRecord}
+use Rattle.acl_edit.specs.Edits.{edit_of, no_flags}
+use Rattle.acl_edit.specs.Laws.{ShowsRecalculated, BoundsRecalculated, MakesMask}
+use Rattle.acl_edit.specs.Nodes.{is_directory}
+use Rattle.acl_edit.specs.declared.edit.Change.{Change}
+use Rattle.acl_edit.specs.declared.edit.Edit as edits
+use Rattle.acl_edit.specs.declared.edit.EditFault.{EditFault}
+use Rattle.acl_edit.specs.declared.node.Node.{Node}
 use Rattle.acl_people.specs.KnownPeople.{names_user}
-use Rattle.acl_people.specs.UserNames.{is_user_name}
+use Rattle.acl_syntax.specs.UserNames.{is_user_name}
 use Rattle.acl_tree.specs.declared.command.Command.{Command}
 use Rattle.acl_tree.specs.declared.command.Command.TheVariants.{Load, Chmod, Edit, Restore, Creat, Rm, Gpasswd, Usermod, Useradd, Userdel}
 use Rattle.acl_tree.specs.declared.command.NewFile.{NewFile}
 use Rattle.acl_tree.specs.declared.command.NewUser.{NewUser}
 use Rattle.acl_tree.specs.declared.command.Table.{Table}
 use Rattle.acl_tree.specs.declared.command.Table.TheVariants.{Passwd, Group, Dump}
-use Rattle.acl_files.specs.Files.{PathOf, Files, IsInOrder, Recorded}
+use Rattle.acl_files.specs.Files.{Files, Recorded}
+use Rattle.path_map.specs.Entries.{IsInOrder}
 use Rattle.acl_files.specs.Operands.{is_file}
 use Rattle.acl_files.specs.Restoring.{restore_one, paths_of, restored_tree}
 use Rattle.acl_files.specs.Sound.{IsSoundTree}

@@ -2,16 +2,17 @@
 use Rattle.std.specs.Prelude.{◌≡◌, ◌≤◌, ◌<◌, ◌↔◌, ℕ, suc, List, [], ◌∷◌, length, map, Bool, true, false, if◌then◌else◌, Some, None, Result, Ok, Err, IsErr}
 use Rattle.std.specs.Ordering.{eq_by_cmp}
 use Rattle.std.specs.FinMap.{find}
-use Rattle.acl_files.specs.acl_names.Paths.{path_cmp}
-use Rattle.acl_files.specs.acl_syntax.Rows.{passwd_of, group_of, most_rows}
-use Rattle.acl_files.specs.acl_syntax.declared.fault.TextFault.{TextFault}
-use Rattle.acl_files.specs.acl_dump.declared.record.DumpRecord.{DumpRecord}
-use Rattle.acl_files.specs.acl_edit.declared.edit.EditFault.{EditFault}
-use Rattle.acl_files.specs.acl_edit.declared.node.Kind.{Kind}
-use Rattle.acl_files.specs.acl_edit.declared.node.Kind.TheVariants.{Plain, Directory}
-use Rattle.acl_files.specs.acl_edit.declared.node.Node.{Node}
-use Rattle.acl_files.specs.acl_names.Below.{encloses, parent}
-use Rattle.acl_files.specs.Files.{PathOf, Files, IsInOrder, max_files}
+use Rattle.acl_names.specs.Paths.{path_cmp, PathOf}
+use Rattle.acl_syntax.specs.Rows.{passwd_of, group_of, most_rows}
+use Rattle.acl_syntax.specs.declared.fault.TextFault.{TextFault}
+use Rattle.acl_dump.specs.declared.record.DumpRecord.{DumpRecord}
+use Rattle.acl_edit.specs.declared.edit.EditFault.{EditFault}
+use Rattle.acl_edit.specs.declared.node.Kind.{Kind}
+use Rattle.acl_edit.specs.declared.node.Kind.TheVariants.{Plain, Directory}
+use Rattle.acl_edit.specs.declared.node.Node.{Node}
+use Rattle.acl_names.specs.Below.{encloses, parent}
+use Rattle.acl_files.specs.Files.{Files, max_files}
+use Rattle.path_map.specs.Entries.{IsInOrder}
 use Rattle.acl_files.specs.Operands.{is_file}
 use Rattle.acl_files.specs.Restoring.{restore_one, paths_of}
 use Rattle.acl_files.specs.declared.fault.TreeFault.{TreeFault}

@@ -2,7 +2,7 @@
 use Rattle.std.specs.Prelude.{◌≡◌, ◌≢◌, ◌==◌, ◌-◌, if◌then◌else◌, ℕ, List, [], ◌∷◌, false, Option, Some, None, IfSome, Result, Ok, Err, IfOk, refl}
 use Rattle.std.specs.List.{AllByRecursion}
 use Rattle.std.specs.Coded.{Coded, code_by, coded×, coded_ℕ, coded_list}
-use Rattle.acl_files.specs.acl_edit.contracts.node.Node as node_contracts
+use Rattle.acl_edit.specs.contracts.node.Node as node_contracts
 use Rattle.acl_people.specs.KnownPeople.{persons}
 use Rattle.acl_people.specs.Moves.{MovesUser, JoinsUser, LeavesUser}
 use Rattle.acl_tree.specs.declared.user_change.UserChange.{UserChange}
@@ -13,7 +13,8 @@ use Rattle.acl_tree.specs.declared.command.Command.TheVariants.{Load, Chmod, Edi
 use Rattle.acl_files.specs.declared.fault.TreeFault.{TreeFault}
 use Rattle.acl_files.specs.Files.{Files}
 use Rattle.acl_files.specs.Changed.{changed_between, gone_between}
-use Rattle.acl_files.specs.Sound.{IsSoundTree, holds_below}
+use Rattle.acl_files.specs.Sound.{IsSoundTree}
+use Rattle.path_map.specs.Below.{holds_below}
 use Rattle.acl_tree.specs.State.{State, coded_state}
 use Rattle.acl_tree.specs.Step.{refused_at_once, step, Stages}
 use Rattle.acl_tree.specs.Memberships.{gpasswd, usermod}

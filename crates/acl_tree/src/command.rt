@@ -1,6 +1,9 @@
 //! Commands.
 
-use acl_files::{DumpRecords, Edit, Id, Kind, Name, Path, Paths};
+use acl_edit::{Edit, Kind};
+use acl_entry::Id;
+use acl_files::{DumpRecords, Paths};
+use acl_names::{Name, Path};
 use acl_people::UserName;
 
 /// What a text is loaded as.

@@ -2,10 +2,10 @@
 
 ghost use Rattle.std.specs.Prelude.{◌≡◌, ◌≢◌, None, Some, IfOk, IfErr, OnErr, IsOkUnless};
 ghost use Rattle.std.specs.FinMap.{put};
-ghost use Rattle.acl_files.specs.acl_names.Paths.{path_cmp};
-ghost use Rattle.acl_files.specs.acl_edit.Creation.{inherit};
-ghost use Rattle.acl_files.specs.acl_edit.Nodes.{IsSound};
-ghost use Rattle.acl_files.specs.acl_names.Below.{parent};
+ghost use Rattle.acl_names.specs.Paths.{path_cmp};
+ghost use Rattle.acl_edit.specs.Creation.{inherit};
+ghost use Rattle.acl_edit.specs.Nodes.{IsSound};
+ghost use Rattle.acl_names.specs.Below.{parent};
 ghost use Rattle.acl_tree.specs.Creat.{row_of, exists, directory_at, creat_by};
 ghost use Rattle.acl_tree.specs.Inner.{Gives, IsNewIn, whole};
 ghost use Rattle.acl_tree.specs.Reports.{Prepares};
@@ -15,8 +15,11 @@ use crate::command::NewFile;
 use crate::dump::MAX_FILES;
 use crate::state::BorrowedState;
 use crate::step::Staged;
-use acl_files::{Files, Kind, Name, Node, PasswdRow, Path, Region, TreeFault, create, put_file};
+use acl_edit::{Kind, Node, create};
+use acl_files::{Files, Region, TreeFault, put_file};
+use acl_names::{Name, Path};
 use acl_people::People;
+use acl_syntax::PasswdRow;
 use std::alloc::Global;
 
 /// The row of the user that a word means.

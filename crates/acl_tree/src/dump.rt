@@ -10,7 +10,9 @@ ghost use Rattle.acl_tree.specs.declared.user_change.UserChange.{UserChange};
 
 use crate::state::BorrowedState;
 use crate::step::Staged;
-use acl_files::{DumpUse, FaultKind, Files, Region, TextFault, TreeFault, files_of, read_dump};
+use acl_dump::{DumpUse, read_dump};
+use acl_files::{Files, Region, TreeFault, files_of};
+use acl_syntax::{FaultKind, TextFault};
 use std::alloc::Global;
 
 /// The largest number of files of a tree.

@@ -2,7 +2,7 @@
 
 ghost use Rattle.std.specs.Prelude.{◌≡◌, IfOk};
 ghost use Rattle.acl_files.specs.Edits.{of_each, edit_all};
-ghost use Rattle.acl_files.specs.acl_syntax.InTurn.{GivesUnless};
+ghost use Rattle.acl_syntax.specs.InTurn.{GivesUnless};
 ghost use Rattle.acl_tree.specs.Inner.{IsStaged, whole};
 ghost use Rattle.acl_tree.specs.Reports.{Prepares};
 ghost use Rattle.acl_tree.specs.declared.user_change.UserChange.{UserChange};
@@ -11,9 +11,10 @@ ghost use Rattle.acl_tree.specs.declared.command.Command.TheVariants.{Restore};
 
 use crate::state::BorrowedState;
 use crate::step::Staged;
+use acl_edit::{Edit, EditFault, Node, apply, chmod};
 use acl_files::{
-    DumpRecords, Edit, EditFault, FileFault, Node, NodeEdit, Region, Selection, TreeFault, apply,
-    chmod, edit_files, look_up, restore_files,
+    DumpRecords, FileFault, NodeEdit, Region, Selection, TreeFault, edit_files, look_up,
+    restore_files,
 };
 use std::alloc::Global;
 
@@ -25,7 +26,7 @@ struct EachFile<'a> {
 }
 
 impl NodeEdit for EachFile<'_> {
-    ghost use Rattle.acl_files.specs.acl_edit.Edits as edits;
+    ghost use Rattle.acl_edit.specs.Edits as edits;
 
     ghost edited = { λ each n. edits.edit n each.edit.now each.recursive };
 
@@ -81,7 +82,7 @@ struct Mode {
 
 impl NodeEdit for Mode {
     ghost use Rattle.std.specs.Prelude.{Ok};
-    ghost use Rattle.acl_files.specs.acl_edit.Nodes as nodes;
+    ghost use Rattle.acl_edit.specs.Nodes as nodes;
 
     ghost edited = { λ mode n. Ok (nodes.chmod n mode.bits) };
 

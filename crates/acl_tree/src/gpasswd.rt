@@ -12,7 +12,8 @@ use crate::command::Membership;
 use crate::stage_people::{find_group, find_user, stage_user_change};
 use crate::state::BorrowedState;
 use crate::step::Staged;
-use acl_files::{Name, TreeFault};
+use acl_files::TreeFault;
+use acl_names::Name;
 use acl_people::People;
 use std::alloc::Global;
 

@@ -18,16 +18,6 @@ mod useradd;
 mod userdel;
 mod usermod;
 
-pub use acl_files::{
-    Acl, Change, ChangeEntries, ChangeFlags, Differences, Draft, DumpRecord, DumpRecords, DumpUse,
-    Edit, EditFault, Effective, Entry, FaultKind, FilesFinder, FilesIter, Form, Found, Header, Id,
-    Key, Kind, Label, ListFault, Name, Names, NoMemory, NoNames, Node, Path, Paths, Perm, Requests,
-    Selection, Sep, Spec, Specs, Subject, TextFault, TreeFault, Want, Which, append_entry,
-    append_header, append_id, append_line, append_list, append_name, append_path, append_short,
-    each_record_is_a_file, granted, read_dump, read_entries, read_id, read_name, read_path,
-    read_perms, records_are_read_again, rising_ids, trim, write_name,
-};
-pub use acl_people::{People, UserName};
 pub use command::{Command, Membership, NewFile, NewUser, Table};
 pub use laws::{
     commands_are_refused_for_their_first_fault, each_file_is_edited, new_file_is_removed,
@@ -37,3 +27,14 @@ pub use state::State;
 pub use step::Staged;
 pub use tree::Tree;
 pub use user_change::{GroupIds, UserChange};
+
+// The public calls take and give these values of the crates below.
+pub use acl_dump::{DumpRecord, DumpUse, read_dump};
+pub use acl_edit::{Change, ChangeEntries, ChangeFlags, Edit, EditFault, Kind, Node, Specs};
+pub use acl_entry::{Acl, Id, Key, Label, ListFault, NoMemory, Subject};
+pub use acl_files::{
+    Differences, DumpRecords, FilesFinder, FilesIter, Found, Paths, Selection, TreeFault,
+};
+pub use acl_names::{Name, Path, read_name};
+pub use acl_people::{People, UserName};
+pub use acl_syntax::{FaultKind, Names, NoNames, Spec, TextFault, Which};

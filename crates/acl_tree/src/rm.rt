@@ -1,7 +1,7 @@
 //! rm: files removed.
 
 ghost use Rattle.std.specs.FinMap.{find};
-ghost use Rattle.acl_files.specs.acl_names.Paths.{path_cmp};
+ghost use Rattle.acl_names.specs.Paths.{path_cmp};
 ghost use Rattle.acl_tree.specs.Inner.{IsRefusedFor, whole};
 ghost use Rattle.acl_tree.specs.Reports.{Prepares};
 ghost use Rattle.acl_tree.specs.Rm.{refusal, first_refused};
@@ -9,7 +9,9 @@ ghost use Rattle.acl_tree.specs.declared.command.Command.TheVariants.{Rm};
 
 use crate::state::BorrowedState;
 use crate::step::Staged;
-use acl_files::{Files, Kind, Path, Region, Selection, TreeFault, without_files};
+use acl_edit::Kind;
+use acl_files::{Files, Region, Selection, TreeFault, without_files};
+use acl_names::Path;
 use std::alloc::Global;
 
 /// Whether an operand may be removed.

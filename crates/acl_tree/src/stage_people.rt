@@ -11,7 +11,9 @@ ghost use Rattle.acl_tree.specs.Memberships.{user_at, group_at};
 use crate::state::BorrowedState;
 use crate::step::Staged;
 use crate::user_change::{GroupIds, UserChange};
-use acl_files::{Files, Id, Name, Region, TreeFault};
+use acl_entry::Id;
+use acl_files::{Files, Region, TreeFault};
+use acl_names::Name;
 use acl_people::People;
 use std::alloc::{AllocError, Global};
 

@@ -2,7 +2,7 @@
 
 ghost use Rattle.std.specs.Prelude.{◌≡◌};
 
-use acl_files::Id;
+use acl_entry::Id;
 use std::marker::Model;
 
 /// What a command changes of the users, their ids and groups.

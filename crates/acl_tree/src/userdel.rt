@@ -8,7 +8,8 @@ use crate::stage_people::{find_user, stage_people};
 use crate::state::BorrowedState;
 use crate::step::Staged;
 use crate::user_change::UserChange;
-use acl_files::{Name, TreeFault};
+use acl_files::TreeFault;
+use acl_names::Name;
 use std::alloc::Global;
 
 /// Removes a user.

@@ -7,7 +7,8 @@ ghost use Rattle.acl_tree.specs.declared.command.Command.TheVariants.{Usermod};
 use crate::stage_people::{find_group, find_user, stage_user_change};
 use crate::state::BorrowedState;
 use crate::step::Staged;
-use acl_files::{Name, TreeFault};
+use acl_files::TreeFault;
+use acl_names::Name;
 use std::alloc::Global;
 
 /// Changes the primary group of a user.

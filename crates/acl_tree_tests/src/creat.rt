@@ -1,6 +1,7 @@
 //! New files.
 use crate::rows::{Line, Row};
-use acl_tree::{Kind, Table};
+use acl_edit::Kind;
+use acl_tree::Table;
 
 pub const FAULTS: &[Row] = &[
     // Before what the path has.

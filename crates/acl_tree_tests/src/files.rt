@@ -2,10 +2,10 @@
 use crate::rows::{Line, after, command, paths};
 use crate::shown::{expect_text, listing};
 use crate::texts::{FOUR, PEOPLE};
-use acl_tree::{
-    Found, Paths, Selection, Staged, State, Tree, append_id, append_path, each_file_is_edited,
-    each_record_is_a_file,
-};
+use acl_files::{Found, Paths, Selection, each_record_is_a_file};
+use acl_names::append_path;
+use acl_syntax::append_id;
+use acl_tree::{Staged, State, Tree, each_file_is_edited};
 use std::alloc::Global;
 use std::process::Abort;
 

@@ -1,6 +1,10 @@
 //! Memberships, primary groups, and users that come and go: of `People` alone, with no command.
-use acl_people::{added_member_is_removed, added_user_is_removed, group_held_otherwise_stays};
-use acl_tree::{Id, Name, Names, People, UserName};
+use acl_entry::Id;
+use acl_names::Name;
+use acl_people::{
+    People, UserName, added_member_is_removed, added_user_is_removed, group_held_otherwise_stays,
+};
+use acl_syntax::Names;
 use std::alloc::Global;
 use std::mem;
 use std::process::Abort;

@@ -1,10 +1,12 @@
 //! What comes of a command, and what files are, as texts.
 use crate::rows::path;
-use acl_tree::{
-    Acl, Command, Differences, EditFault, Id, Kind, Label, Name, Names, Node, Path, People, Perm,
-    Requests, Staged, State, Subject, TextFault, Tree, TreeFault, UserChange, append_id,
-    append_path, append_short, granted,
-};
+use acl_edit::{EditFault, Kind, Node};
+use acl_entry::{Acl, Id, Label, Perm, Requests, Subject, granted};
+use acl_files::{Differences, TreeFault};
+use acl_names::{Name, Path, append_path};
+use acl_people::People;
+use acl_syntax::{Names, TextFault, append_id, append_short};
+use acl_tree::{Command, Staged, State, Tree, UserChange};
 use std::alloc::Global;
 use std::process::Abort;
 

@@ -1,5 +1,8 @@
 //! A small tree, as texts and loaded.
-use acl_tree::{Command, Path, People, Staged, Table, Tree, TreeFault, read_path};
+use acl_files::TreeFault;
+use acl_names::{Path, read_path};
+use acl_people::People;
+use acl_tree::{Command, Staged, Table, Tree};
 use std::alloc::Global;
 use std::process::Abort;
 

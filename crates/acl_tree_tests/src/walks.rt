@@ -2,7 +2,8 @@
 use crate::rows::{after, path};
 use crate::shown::expect_text;
 use crate::texts::{FOUR, PEOPLE};
-use acl_tree::{Path, Tree, append_path};
+use acl_names::{Path, append_path};
+use acl_tree::Tree;
 use std::alloc::Global;
 use std::process::Abort;
 

@@ -6,20 +6,20 @@ use Rattle.std.specs.FinMap.{is_sorted}
 use Rattle.std.specs.FinMap.Entries.{below_all}
 use Rattle.std.proofs.lemmas.Bool.{and_parts}
 use Rattle.std.proofs.lemmas.List.Sums.{sum_by-cons, length-filter}
-use Rattle.acl_files.specs.acl_names.Paths.{path_cmp}
-use Rattle.acl_files.specs.acl_names.Below.{encloses}
-use Rattle.acl_files.proofs.of_acl_names.PathOrder.{exact_paths}
-use Rattle.acl_files.proofs.of_acl_names.Below.{convex, not_before, within_trans}
-use Rattle.path_map.specs.Entries.{PathOf, IsInOrder}
+use Rattle.acl_names.specs.Paths.{path_cmp, PathOf}
+use Rattle.acl_names.specs.Below.{encloses}
+use Rattle.acl_names.proofs.PathOrder.{exact_paths}
+use Rattle.acl_names.proofs.Below.{convex, not_before, within_trans}
+use Rattle.path_map.specs.Entries.{IsInOrder}
 use Rattle.path_map.specs.Below.{within, lies_in}
 use Rattle.path_map.specs.Inner.{After}
 use Rattle.path_map.proofs.Merges.{later_after}
 use Rattle.path_map.proofs.Rows.{in_order-filter}
 use Rattle.acl_files.specs.Changed.{outside, IsTop}
 use Rattle.acl_files.specs.Files.{Files}
-use Rattle.acl_files.specs.acl_edit.declared.node.Node.{Node}
-use Rattle.acl_files.specs.kinds.Kinds.{KindsOf}
-use Rattle.acl_files.specs.kinds.Numbered.{Numbers, with_node, entries_by, AreUsed}
+use Rattle.acl_edit.specs.declared.node.Node.{Node}
+use Rattle.kinds.specs.Kinds.{KindsOf}
+use Rattle.kinds.specs.Numbered.{Numbers, with_node, entries_by, AreUsed}
 
 pub no_length : {A : Type 0} (xs : List A) → length xs ≡ 0 → xs ≡ []
 no_length [] h = refl

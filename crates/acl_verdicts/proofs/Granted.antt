@@ -1,8 +1,8 @@
 -- Paths whose rows grant a user a request.
 use Rattle.std.proofs.Common.{◌≡◌, ℕ, Bool, true, false, cond, List, [], ◌∷◌, map, refl, ap}
 use Rattle.std.specs.Prelude.{filter}
-use Rattle.acl_files.specs.acl_entry.Perms.{Perms}
-use Rattle.path_map.specs.Entries.{PathOf}
+use Rattle.acl_entry.specs.Perms.{Perms}
+use Rattle.acl_names.specs.Paths.{PathOf}
 use Rattle.acl_verdicts.specs.KindRows.{RowedPaths, rows_at}
 use Rattle.acl_verdicts.specs.Rows.{Rows, grants, may_in}
 use Rattle.acl_verdicts.specs.declared.kind_rows.LabelRow.{LabelRow}

@@ -7,13 +7,13 @@ use Rattle.std.specs.FinMap.{is_sorted}
 use Rattle.std.specs.FinMap.Entries.{below_all}
 use Rattle.std.proofs.lemmas.Bool.{and_parts}
 use Rattle.std.proofs.lemmas.Cmp.{tied_itself}
-use Rattle.acl_files.specs.acl_entry.Check.{has}
-use Rattle.acl_files.specs.acl_entry.Perms.{Perms}
-use Rattle.acl_files.specs.acl_names.Paths.{path_cmp}
-use Rattle.acl_files.specs.acl_names.Below.{encloses, is_above}
-use Rattle.acl_files.proofs.of_acl_names.PathOrder.{path_total, exact_paths}
-use Rattle.acl_files.proofs.of_acl_names.Below.{within_below, below_alike, below_less, below_trans, convex_below}
-use Rattle.path_map.specs.Entries.{PathOf, IsInOrder}
+use Rattle.acl_entry.specs.Check.{has}
+use Rattle.acl_entry.specs.Perms.{Perms}
+use Rattle.acl_names.specs.Paths.{path_cmp, PathOf}
+use Rattle.acl_names.specs.Below.{encloses, is_above}
+use Rattle.acl_names.proofs.PathOrder.{path_total, exact_paths}
+use Rattle.acl_names.proofs.Below.{within_below, below_alike, below_less, below_trans, convex_below}
+use Rattle.path_map.specs.Entries.{IsInOrder}
 use Rattle.path_map.proofs.Places.{less, above}
 use Rattle.acl_verdicts.specs.Rows.{Rows, grants, grants_to, may_in}
 use Rattle.acl_verdicts.specs.Reach.{execute, can_search, passes_in, reached_from}

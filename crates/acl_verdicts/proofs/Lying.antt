@@ -8,14 +8,14 @@ use Rattle.std.specs.FinMap.{is_sorted}
 use Rattle.std.specs.FinMap.Entries.{below_all}
 use Rattle.std.proofs.lemmas.Bool.{and_parts}
 use Rattle.std.proofs.lemmas.List.Sums.{sum_by-cons}
-use Rattle.acl_files.specs.acl_names.Paths.{path_cmp}
-use Rattle.acl_files.specs.acl_names.Below.{encloses}
-use Rattle.acl_files.proofs.of_acl_names.PathOrder.{path_total}
-use Rattle.acl_files.proofs.of_acl_names.Below.{within_itself, early_not_within}
-use Rattle.path_map.specs.Entries.{PathOf, IsInOrder}
+use Rattle.acl_names.specs.Paths.{path_cmp, PathOf}
+use Rattle.acl_names.specs.Below.{encloses}
+use Rattle.acl_names.proofs.PathOrder.{path_total}
+use Rattle.acl_names.proofs.Below.{within_itself, early_not_within}
+use Rattle.path_map.specs.Entries.{IsInOrder}
 use Rattle.path_map.specs.Below.{lies_in}
-use Rattle.acl_files.specs.kinds.Kinds.{KindsOf}
-use Rattle.acl_files.specs.kinds.Numbered.{Numbers, with_node, entries_by, AreUsed}
+use Rattle.kinds.specs.Kinds.{KindsOf}
+use Rattle.kinds.specs.Numbered.{Numbers, with_node, entries_by, AreUsed}
 use Rattle.acl_verdicts.specs.Walks.{AllBefore}
 use Rattle.acl_verdicts.specs.Subtrees.{covers, lying_from}
 use Rattle.acl_verdicts.proofs.Counted.{entries_counted}

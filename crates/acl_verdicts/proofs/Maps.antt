@@ -5,9 +5,9 @@ use Rattle.std.specs.Ordering.{is_eq, is_lt}
 use Rattle.std.specs.FinMap.{find, is_sorted}
 use Rattle.std.specs.FinMap.Entries.{below_all, same_entries}
 use Rattle.std.proofs.lemmas.Bool.{and_parts}
-use Rattle.acl_files.specs.acl_names.Paths.{path_cmp}
-use Rattle.acl_files.proofs.of_acl_names.PathOrder.{path_total, exact_paths}
-use Rattle.path_map.specs.Entries.{PathOf, IsInOrder}
+use Rattle.acl_names.specs.Paths.{path_cmp, PathOf}
+use Rattle.acl_names.proofs.PathOrder.{path_total, exact_paths}
+use Rattle.path_map.specs.Entries.{IsInOrder}
 
 less : (o : Ordering) → is_lt o ≡ true → o ≡ Less
 less Less h = refl

@@ -3,8 +3,8 @@ use Rattle.std.proofs.Common.{◌≡◌, ◌&&◌, List, [], ◌∷◌, map, ref
 use Rattle.std.specs.Ordering.{is_lt}
 use Rattle.std.specs.FinMap.{is_sorted}
 use Rattle.std.specs.FinMap.Entries.{below_all}
-use Rattle.acl_files.specs.acl_names.Paths.{path_cmp}
-use Rattle.path_map.specs.Entries.{PathOf, IsInOrder}
+use Rattle.acl_names.specs.Paths.{path_cmp, PathOf}
+use Rattle.path_map.specs.Entries.{IsInOrder}
 
 module _ {A B : Type 0} (g : PathOf × A → B) where
   below-values : (x : PathOf) (es : List (PathOf × A)) → below_all path_cmp x (map (λ e. (e.0, g e)) es) ≡ below_all path_cmp x es

@@ -5,10 +5,10 @@ use Rattle.std.specs.Borrow.{Bor}
 use Rattle.std.specs.Option.{option_map_or, MatchOption}
 use Rattle.std.specs.Ordering.{is_gt}
 use Rattle.std.proofs.lemmas.Cmp.{tied_itself}
-use Rattle.acl_files.specs.acl_names.Paths.{path_cmp}
-use Rattle.acl_files.proofs.of_acl_names.PathOrder.{path_total}
-use Rattle.path_map.specs.Entries.{PathOf, IsInOrder, first}
-use Rattle.acl_files.specs.kinds.Puts.{borrowed}
+use Rattle.acl_names.specs.Paths.{path_cmp, PathOf}
+use Rattle.acl_names.proofs.PathOrder.{path_total}
+use Rattle.path_map.specs.Entries.{IsInOrder, first}
+use Rattle.kinds.specs.Puts.{borrowed}
 use Rattle.acl_verdicts.specs.declared.kind_rows.LabelRow.{LabelRow}
 use Rattle.acl_verdicts.specs.KindRows.{RowedPaths}
 use Rattle.acl_verdicts.specs.Rows.{Rows}

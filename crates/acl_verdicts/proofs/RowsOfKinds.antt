@@ -6,20 +6,20 @@ use Rattle.std.specs.List.{sum_by, AllByRecursion}
 use Rattle.std.specs.FinMap.{is_sorted}
 use Rattle.std.proofs.lemmas.List.{length-append, map-append, take_more}
 use Rattle.std.proofs.lemmas.List.Sums.{sum_by-cons}
-use Rattle.acl_files.specs.acl_names.Paths.{path_cmp}
-use Rattle.path_map.specs.Entries.{PathOf, IsInOrder}
+use Rattle.acl_names.specs.Paths.{path_cmp, PathOf}
+use Rattle.path_map.specs.Entries.{IsInOrder}
 use Rattle.path_map.proofs.Rows.{sorted_rows}
 use Rattle.path_map.specs.Merged.{has, without_all}
-use Rattle.acl_files.specs.kinds.Kinds.{KindsOf, node_at}
-use Rattle.acl_files.specs.kinds.Numbered.{Kept, entries_in, with_node}
-use Rattle.acl_files.specs.kinds.Placed.{placed, given, AreGiven, ArePlaces}
-use Rattle.acl_files.specs.kinds.declared.placed.GivenNode.{GivenNode}
+use Rattle.kinds.specs.Kinds.{KindsOf, node_at}
+use Rattle.kinds.specs.Numbered.{Kept, entries_in, with_node}
+use Rattle.kinds.specs.Placed.{placed, given, AreGiven, ArePlaces}
+use Rattle.kinds.specs.declared.placed.GivenNode.{GivenNode}
 use Rattle.acl_verdicts.specs.declared.kind_rows.LabelRow.{LabelRow}
 use Rattle.acl_files.specs.Files.{Files}
-use Rattle.acl_files.specs.acl_entry.Person.{Person}
-use Rattle.acl_files.specs.acl_entry.declared.label.Label.{Label}
+use Rattle.acl_entry.specs.Person.{Person}
+use Rattle.acl_entry.specs.declared.label.Label.{Label}
 use Rattle.acl_verdicts.specs.Rows.{Verdict, row_of}
-use Rattle.acl_files.specs.kinds.Renewed.{changed_where}
+use Rattle.kinds.specs.Renewed.{changed_where}
 use Rattle.acl_verdicts.specs.KindRows.{RowedPaths, with_again, asked_again, mentions_any, label_row, rowed, some_row, rowed_labels, AreRowsOf, HasLabel, borrowed_labels, labels_at, some_labels, IsPlaced, ArePlaced}
 
 times_more : (n u : ℕ) → suc n * u ≡ u + n * u

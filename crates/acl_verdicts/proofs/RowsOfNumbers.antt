@@ -4,16 +4,16 @@ use Rattle.std.specs.Prelude.{Some, slice_get, option_map}
 use Rattle.std.specs.List.{AllByRecursion}
 use Rattle.std.specs.declared.rc.Rc.{Rc}
 use Rattle.std.proofs.lemmas.List.{map-append, length-map}
-use Rattle.acl_files.specs.kinds.Kinds.{KindsOf}
-use Rattle.acl_files.specs.kinds.Numbered.{Numbers, AreSound, entries_by}
-use Rattle.acl_files.specs.kinds.Renewed.{renewed_before}
-use Rattle.acl_files.specs.kinds.Placed.{placed, IsOfEntry}
-use Rattle.acl_files.specs.kinds.Given.{used_at, shared_nodes, HaveNodes}
-use Rattle.acl_files.proofs.of_kinds.Renewals.{length-renewed}
-use Rattle.acl_files.proofs.of_kinds.GivenNodes.{used_renewed, renewed_have, placed_renewed}
-use Rattle.acl_files.specs.acl_entry.Person.{Person}
-use Rattle.acl_files.specs.acl_entry.declared.label.Label.{Label}
-use Rattle.acl_files.specs.acl_edit.declared.node.Node.{Node}
+use Rattle.kinds.specs.Kinds.{KindsOf}
+use Rattle.kinds.specs.Numbered.{Numbers, AreSound, entries_by}
+use Rattle.kinds.specs.Renewed.{renewed_before}
+use Rattle.kinds.specs.Placed.{placed, IsOfEntry}
+use Rattle.kinds.specs.Given.{used_at, shared_nodes, HaveNodes}
+use Rattle.kinds.proofs.Renewals.{length-renewed}
+use Rattle.kinds.proofs.GivenNodes.{used_renewed, renewed_have, placed_renewed}
+use Rattle.acl_entry.specs.Person.{Person}
+use Rattle.acl_entry.specs.declared.label.Label.{Label}
+use Rattle.acl_edit.specs.declared.node.Node.{Node}
 use Rattle.acl_verdicts.specs.declared.kind_rows.LabelRow.{LabelRow}
 use Rattle.acl_verdicts.specs.Rows.{Verdict, row_of}
 use Rattle.acl_verdicts.specs.KindRows.{RowedPaths, label_row, node_row, rowed, shared_rows, AreRowsOf, AreRows, AreOfEntries, IsAmongRows}

@@ -5,10 +5,10 @@ use Rattle.std.specs.List.{list_all}
 use Rattle.std.specs.Ordering.{is_eq}
 use Rattle.std.specs.FinMap.{find}
 use Rattle.std.proofs.lemmas.List.Folds.{list_all-append}
-use Rattle.acl_files.specs.acl_names.Paths.{path_cmp}
-use Rattle.acl_files.specs.acl_names.Below.{is_above}
-use Rattle.acl_files.proofs.of_acl_names.PathOrder.{exact_paths}
-use Rattle.path_map.specs.Entries.{PathOf, IsInOrder}
+use Rattle.acl_names.specs.Paths.{path_cmp, PathOf}
+use Rattle.acl_names.specs.Below.{is_above}
+use Rattle.acl_names.proofs.PathOrder.{exact_paths}
+use Rattle.path_map.specs.Entries.{IsInOrder}
 use Rattle.path_map.specs.Below.{nearest_above}
 use Rattle.path_map.proofs.AllAbove.{those, nearest_empty, nearest_last, nearest_valued, count_up, count_nearest}
 use Rattle.path_map.proofs.Rows.{sorted_rows}

@@ -1,12 +1,11 @@
 -- What lies at some tops or below them.
 use Rattle.std.proofs.Common.{◌≡◌, Bool, true, false, ◌||◌, List, [], ◌∷◌, Ordering, Less, Equal, Greater, ◌++◌, refl, ap, ◌∙◌}
 use Rattle.std.specs.Ordering.{is_gt, is_lt}
-use Rattle.acl_files.specs.acl_names.Paths.{path_cmp}
-use Rattle.acl_files.proofs.of_acl_names.PathOrder.{exact_paths}
-use Rattle.acl_files.specs.acl_names.Below.{encloses}
-use Rattle.path_map.specs.Entries.{PathOf}
+use Rattle.acl_names.specs.Paths.{path_cmp, PathOf}
+use Rattle.acl_names.proofs.PathOrder.{exact_paths}
+use Rattle.acl_names.specs.Below.{encloses}
 use Rattle.path_map.specs.Below.{lies_in}
-use Rattle.acl_files.proofs.of_acl_names.Below.{convex, within_trans}
+use Rattle.acl_names.proofs.Below.{convex, within_trans}
 use Rattle.acl_verdicts.specs.Walks.{AllBefore}
 use Rattle.acl_verdicts.proofs.Walks.{false_from}
 

@@ -8,11 +8,11 @@ use Rattle.std.specs.FinMap.Entries.{below_all}
 use Rattle.std.proofs.lemmas.Bool.{and_parts}
 use Rattle.std.proofs.lemmas.List.{length-map}
 use Rattle.std.proofs.lemmas.Cmp.{tied_itself}
-use Rattle.acl_files.specs.acl_names.Paths.{path_cmp}
-use Rattle.acl_files.proofs.of_acl_names.PathOrder.{path_total, exact_paths}
-use Rattle.acl_files.specs.acl_names.Below.{encloses, is_above}
-use Rattle.acl_files.proofs.of_acl_names.Below.{below_within, convex_below}
-use Rattle.path_map.specs.Entries.{PathOf, IsInOrder}
+use Rattle.acl_names.specs.Paths.{path_cmp, PathOf}
+use Rattle.acl_names.proofs.PathOrder.{path_total, exact_paths}
+use Rattle.acl_names.specs.Below.{encloses, is_above}
+use Rattle.acl_names.proofs.Below.{below_within, convex_below}
+use Rattle.path_map.specs.Entries.{IsInOrder}
 use Rattle.acl_verdicts.specs.Walks.{nearest_from, nearest, last_from, last_of, cut_from, AllBefore}
 
 less : (o : Ordering) → is_lt o ≡ true → o ≡ Less

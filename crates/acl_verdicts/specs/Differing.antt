@@ -2,7 +2,7 @@
 use Rattle.std.specs.Prelude.{ℕ, suc, ◌+◌, ◌==◌, nat_lt, Bool, false, List, [], ◌∷◌, Option, None, Some, slice_get, option_and_then, if◌then◌else◌}
 use Rattle.std.specs.List.{sum_by}
 use Rattle.std.specs.FinMap.{find}
-use Rattle.acl_files.specs.acl_names.Paths.{path_cmp}
+use Rattle.acl_names.specs.Paths.{path_cmp}
 use Rattle.acl_verdicts.specs.Rows.{Rows}
 
 -- a user's place before, where the user at a place may have left

@@ -3,14 +3,14 @@ use Rattle.std.specs.Prelude.{◌≡◌, ◌≤◌, ◌+◌, ℕ, Bool, ◌++◌
 use Rattle.std.specs.Borrow.{Bor}
 use Rattle.std.specs.declared.rc.Rc.{Rc}
 use Rattle.std.specs.List.{remove, AllByRecursion}
-use Rattle.path_map.specs.Entries.{PathOf}
-use Rattle.acl_files.specs.kinds.Kinds.{node_at}
-use Rattle.acl_files.specs.kinds.Numbered.{Kept, entries_in}
-use Rattle.acl_files.specs.kinds.Placed.{IsOfEntry}
-use Rattle.acl_files.specs.acl_entry.Mentions.{mentions, meets}
-use Rattle.acl_files.specs.acl_entry.Person.{Person}
-use Rattle.acl_files.specs.acl_entry.declared.label.Label.{Label}
-use Rattle.acl_files.specs.acl_edit.declared.node.Node.{Node}
+use Rattle.acl_names.specs.Paths.{PathOf}
+use Rattle.kinds.specs.Kinds.{node_at}
+use Rattle.kinds.specs.Numbered.{Kept, entries_in}
+use Rattle.kinds.specs.Placed.{IsOfEntry}
+use Rattle.acl_entry.specs.Mentions.{mentions, meets}
+use Rattle.acl_entry.specs.Person.{Person}
+use Rattle.acl_entry.specs.declared.label.Label.{Label}
+use Rattle.acl_edit.specs.declared.node.Node.{Node}
 use Rattle.acl_files.specs.Files.{Files}
 use Rattle.acl_verdicts.specs.declared.kind_rows.LabelRow.{LabelRow}
 use Rattle.acl_verdicts.specs.Rows.{Verdict, Rows, row_of}

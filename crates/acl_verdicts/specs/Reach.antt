@@ -3,11 +3,10 @@ use Rattle.std.specs.Prelude.{ℕ, suc, ◌||◌, not, Bool, true, false, List, 
 use Rattle.std.specs.List.{list_all}
 use Rattle.std.specs.Option.{option_map_or}
 use Rattle.std.specs.FinMap.{find}
-use Rattle.acl_files.specs.acl_entry.Perms.{Perms}
-use Rattle.acl_files.specs.acl_entry.Check.{has}
-use Rattle.acl_files.specs.acl_names.Paths.{path_cmp}
-use Rattle.acl_files.specs.acl_names.Below.{is_above}
-use Rattle.path_map.specs.Entries.{PathOf}
+use Rattle.acl_entry.specs.Perms.{Perms}
+use Rattle.acl_entry.specs.Check.{has}
+use Rattle.acl_names.specs.Paths.{path_cmp, PathOf}
+use Rattle.acl_names.specs.Below.{is_above}
 use Rattle.acl_verdicts.specs.Rows.{Rows}
 
 abbrev pub execute : Perms

@@ -2,8 +2,8 @@
 use Rattle.std.specs.Prelude.{◌≡◌, ℕ, Bool, true, false, List, [], ◌∷◌, ◌++◌, take, Option, Some, None, if◌then◌else◌}
 use Rattle.std.specs.Borrow.{Bor}
 use Rattle.std.specs.Ordering.{is_gt}
-use Rattle.acl_files.specs.acl_names.Paths.{path_cmp}
-use Rattle.path_map.specs.Entries.{PathOf, IsInOrder}
+use Rattle.acl_names.specs.Paths.{path_cmp, PathOf}
+use Rattle.path_map.specs.Entries.{IsInOrder}
 use Rattle.acl_verdicts.specs.declared.kind_rows.LabelRow.{LabelRow}
 use Rattle.acl_verdicts.specs.KindRows.{RowedPaths}
 use Rattle.acl_verdicts.specs.Rows.{Rows}

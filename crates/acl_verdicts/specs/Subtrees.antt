@@ -1,7 +1,7 @@
 -- For inner functions: the entries at some paths and below them, counted by one walk.
 use Rattle.std.specs.Prelude.{ℕ, suc, Bool, false, List, [], ◌∷◌, Option, None, Some, if◌then◌else◌}
-use Rattle.acl_files.specs.acl_names.Below.{encloses}
-use Rattle.path_map.specs.Entries.{PathOf}
+use Rattle.acl_names.specs.Below.{encloses}
+use Rattle.acl_names.specs.Paths.{PathOf}
 
 -- whether a path is the one given or below it
 abbrev pub covers : Option PathOf → PathOf → Bool

@@ -1,13 +1,12 @@
 -- For inner functions: entries in path order, the nearest above a path, and verdicts that are cut.
 use Rattle.std.specs.Prelude.{◌≡◌, ⊤, ℕ, suc, not, Bool, true, false, List, [], ◌∷◌, ◌++◌, map, Option, Some, None, if◌then◌else◌}
 use Rattle.std.specs.Option.{option_map_or}
-use Rattle.acl_files.specs.acl_entry.Perms.{Perms}
+use Rattle.acl_entry.specs.Perms.{Perms}
 use Rattle.std.specs.declared.cmp.Ordering.TheVariants.{Less}
 use Rattle.std.specs.List.{AllByRecursion}
 use Rattle.std.specs.Ordering.{is_gt}
-use Rattle.acl_files.specs.acl_names.Paths.{path_cmp}
-use Rattle.acl_files.specs.acl_names.Below.{is_above}
-use Rattle.path_map.specs.Entries.{PathOf}
+use Rattle.acl_names.specs.Paths.{path_cmp, PathOf}
+use Rattle.acl_names.specs.Below.{is_above}
 use Rattle.acl_verdicts.specs.Reach.{can_search, passes_in, reached_from}
 use Rattle.acl_verdicts.specs.Rows.{Rows, may_in}
 

@@ -7,7 +7,7 @@ ghost use Rattle.acl_verdicts.specs.Reach.{execute};
 ghost use Rattle.acl_verdicts.specs.Walks.{lets, cut_from};
 
 use crate::judge::Judge;
-use acl_files::{Label, Perm, Requests, Subject};
+use acl_entry::{Label, Perm, Requests, Subject};
 use acl_subjects::Subjects;
 use std::alloc::{AllocError, Global};
 use std::marker::Model;

@@ -3,8 +3,8 @@
 ghost use Rattle.std.specs.Prelude.{◌≡◌, ◌+◌, ◌*◌, ◌<◌, ◌≤◌, ◌^◌, Some, true, length, map, slice_get, IfOk, IfSome, OnOk};
 ghost use Rattle.path_map.specs.Entries.{IsInOrder, seen};
 ghost use Rattle.path_map.specs.Merged.{merged};
-ghost use Rattle.acl_files.specs.kinds.Numbered.{entries_in};
-ghost use Rattle.acl_files.specs.kinds.Placed.{given};
+ghost use Rattle.kinds.specs.Numbered.{entries_in};
+ghost use Rattle.kinds.specs.Placed.{given};
 ghost use Rattle.acl_verdicts.specs.KindRows.{label_row, some_row, rowed_labels, with_label, borrowed_labels, AreRowsOf, HasLabel, IsPlaced, ArePlaced};
 
 use crate::cells::judged;
@@ -12,8 +12,10 @@ use crate::hash::hash_of;
 use crate::hints::Hints;
 use crate::judge::Judge;
 use crate::kind_rows::{KindRows, LabelRow, with_row};
-use acl_files::{GivenNode, KindMap, Label, Path};
+use acl_entry::Label;
+use acl_names::Path;
 use acl_subjects::Subjects;
+use kinds::{GivenNode, KindMap};
 use std::alloc::{AllocError, Global};
 use std::collections::BTreeMap;
 use std::rc::Rc;

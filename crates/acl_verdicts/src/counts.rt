@@ -3,12 +3,14 @@
 ghost use Rattle.std.specs.Prelude.{◌≡◌, ◌<◌, ◌^◌, false, get_or, filter, length, count_by, option_map, IfOk};
 ghost use Rattle.path_map.specs.Entries.{IsInOrder};
 ghost use Rattle.path_map.specs.Below.{lies_in};
-ghost use Rattle.acl_files.specs.kinds.Numbered.{entries_in};
+ghost use Rattle.kinds.specs.Numbered.{entries_in};
 ghost use Rattle.acl_verdicts.specs.KindRows.{mentions_any};
 ghost use Rattle.acl_verdicts.specs.Subtrees.{covers};
 
 use crate::kind_rows::{KindRows, Mentioning};
-use acl_files::{Differences, Id, Path};
+use acl_entry::Id;
+use acl_files::Differences;
+use acl_names::Path;
 use path_map::PathMap;
 use std::alloc::{AllocError, Global};
 

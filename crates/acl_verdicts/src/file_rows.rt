@@ -3,7 +3,7 @@
 
 ghost use Rattle.std.specs.Prelude.{◌≡◌, ◌≤◌, ◌++◌, ◌∷◌, [], true, map, length, take, drop, is_ok, option_map, IfOk, OnOk, OnErr, if◌then◌else◌};
 ghost use Rattle.path_map.specs.Entries.{first, seen};
-ghost use Rattle.acl_files.specs.kinds.Numbered.{entries_in};
+ghost use Rattle.kinds.specs.Numbered.{entries_in};
 ghost use Rattle.acl_verdicts.specs.KindRows.{rows_at};
 ghost use Rattle.acl_verdicts.specs.Reach.{rows_along};
 ghost use Rattle.acl_verdicts.specs.Walks.{last_of, cut_from, AllBefore};
@@ -12,7 +12,8 @@ ghost use Rattle.acl_verdicts.specs.RowsLeft.{IsShrunk, IsReachPut, IsRowPut};
 use crate::cells::{Cells, cut_or_shared};
 use crate::kind_rows::{KindRows, LabelRow};
 use crate::stack::{depth_above, last};
-use acl_files::{KindsIter, Path};
+use acl_names::Path;
+use kinds::KindsIter;
 use std::alloc::{AllocError, Global};
 use std::marker::Model;
 
@@ -134,7 +135,7 @@ pub struct FileRows<'a> {
 }
 
 impl<'a> Model for FileRows<'a> {
-    ghost use Rattle.acl_files.specs.kinds.Numbered.{entries_in};
+    ghost use Rattle.kinds.specs.Numbered.{entries_in};
     ghost use Rattle.acl_verdicts.specs.KindRows.{rows_at};
     ghost use Rattle.acl_verdicts.specs.Rows.{Rows, coded_rows};
     ghost use Rattle.acl_verdicts.specs.RowsLeft.{entries_left, rows_left, AreLeft};

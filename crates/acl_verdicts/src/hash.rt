@@ -1,6 +1,6 @@
 //! A number that is made of a label, by which labels that differ are looked up.
 
-use acl_files::{Entry, Key, Label};
+use acl_entry::{Entry, Key, Label};
 
 /// Some odd number whose bits have no order: the golden ratio's, as hashes use it.
 const SPREAD: u64 = 0x9E37_79B9_7F4A_7C15;

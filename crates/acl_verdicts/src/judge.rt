@@ -1,11 +1,11 @@
 //! Who decides on a user and a file; and the access check of acl(5) as a judge.
 
 ghost use Rattle.std.specs.Prelude.{◌≡◌, ◌+◌, ◌*◌, ◌<◌, ◌^◌, ℕ, length};
-ghost use Rattle.acl_files.specs.acl_entry.Mentions.{rights_local};
-ghost use Rattle.acl_files.specs.acl_entry.Check.{rights};
+ghost use Rattle.acl_entry.specs.Mentions.{rights_local};
+ghost use Rattle.acl_entry.specs.Check.{rights};
 ghost use Rattle.acl_verdicts.specs.Rows.{Verdict, row_of, IsLocal};
 
-use acl_files::{Label, Requests, Subject, granted};
+use acl_entry::{Label, Requests, Subject, granted};
 use acl_subjects::{Subjects, granted_to_all};
 
 /// Decides what a user may do with a file, by one definition for all values of the type, and counts its

@@ -4,16 +4,20 @@ ghost use Rattle.std.specs.Prelude.{◌≡◌, ◌+◌, ◌*◌, ◌<◌, ◌≤
 ghost use Rattle.std.specs.List.{remove};
 ghost use Rattle.std.specs.Option.{option_copied};
 ghost use Rattle.std.specs.FinMap.{find};
-ghost use Rattle.acl_files.specs.acl_names.Paths.{path_cmp};
-ghost use Rattle.acl_files.specs.kinds.Numbered.{entries_in};
-ghost use Rattle.acl_files.specs.kinds.Renewed.{one_where};
+ghost use Rattle.acl_names.specs.Paths.{path_cmp};
+ghost use Rattle.kinds.specs.Numbered.{entries_in};
+ghost use Rattle.kinds.specs.Renewed.{one_where};
 ghost use Rattle.acl_verdicts.specs.KindRows.{rows_at, label_row, rowed, each_row, with_last, without_at, with_again, asked_again, mentions_any};
 
 use crate::cells::{Cells, judged, judged_at, judged_last, without};
 use crate::hints::Hints;
 use crate::judge::Judge;
-use acl_files::{Files, Id, KindMap, KindTest, Label, Node, Path, Renewal, Subject};
+use acl_edit::Node;
+use acl_entry::{Id, Label, Subject};
+use acl_files::Files;
+use acl_names::Path;
 use acl_subjects::Subjects;
+use kinds::{KindMap, KindTest, Renewal};
 use std::alloc::{AllocError, Global};
 
 /// A label, and what each user may do with a file of this label, in the order of the users.

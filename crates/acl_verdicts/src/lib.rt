@@ -16,7 +16,6 @@ mod reached_paths;
 mod search;
 mod stack;
 
-pub use acl_subjects::Subjects;
 pub use answers::granted_users;
 pub use cells::{Cells, same_row};
 pub use file_rows::{FileRow, FileRows};

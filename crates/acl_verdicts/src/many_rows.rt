@@ -2,9 +2,9 @@
 //! asked for at most once.
 
 ghost use Rattle.std.specs.Prelude.{◌≡◌, ◌+◌, ◌*◌, ◌++◌, ◌∷◌, ◌<◌, ◌≤◌, ◌^◌, [], length, option_map, IfOk, IfSome};
-ghost use Rattle.acl_files.specs.kinds.Numbered.{entries_in};
-ghost use Rattle.acl_files.specs.kinds.Given.{used_at, shared_nodes};
-ghost use Rattle.acl_files.specs.kinds.Renewed.{renewed_before};
+ghost use Rattle.kinds.specs.Numbered.{entries_in};
+ghost use Rattle.kinds.specs.Given.{used_at, shared_nodes};
+ghost use Rattle.kinds.specs.Renewed.{renewed_before};
 ghost use Rattle.acl_verdicts.specs.KindRows.{label_row, node_row, rowed, shared_rows, AreRowsOf, AreRows, AreOfEntries, IsAmongRows};
 
 use crate::changed_rows::{is_same_label, judged_row};
@@ -12,8 +12,10 @@ use crate::hash::hash_of;
 use crate::hints::Hints;
 use crate::judge::Judge;
 use crate::kind_rows::{KindRows, LabelRow};
-use acl_files::{KindMap, Label, Node};
+use acl_edit::Node;
+use acl_entry::Label;
 use acl_subjects::Subjects;
+use kinds::KindMap;
 use std::alloc::{AllocError, Global};
 use std::collections::BTreeMap;
 use std::rc::Rc;

@@ -2,8 +2,8 @@
 
 ghost use Rattle.std.specs.Prelude.{◌≡◌, ◌++◌, ◌∷◌, [], true, false, cond, map, option_map, slice_get, IfOk, OnOk, if◌then◌else◌};
 ghost use Rattle.std.specs.Option.{option_map_or};
-ghost use Rattle.acl_files.specs.acl_entry.Check.{has};
-ghost use Rattle.acl_files.specs.kinds.Numbered.{entries_in};
+ghost use Rattle.acl_entry.specs.Check.{has};
+ghost use Rattle.kinds.specs.Numbered.{entries_in};
 ghost use Rattle.acl_verdicts.specs.KindRows.{rows_at};
 ghost use Rattle.acl_verdicts.specs.Walks.{is_open, closed_after, IsBefore};
 ghost use Rattle.acl_verdicts.specs.Rows.{may_in};
@@ -12,7 +12,8 @@ ghost use Rattle.acl_verdicts.specs.Reach.{reached_rows};
 use crate::answers::row_grants;
 use crate::cells::{Cells, search};
 use crate::kind_rows::KindRows;
-use acl_files::{Path, Perm, Requests};
+use acl_entry::{Perm, Requests};
+use acl_names::Path;
 use std::alloc::{AllocError, Global};
 
 /// A verdict, or nothing where the user does not reach the file.

@@ -2,14 +2,15 @@
 
 ghost use Rattle.std.specs.Prelude.{◌≡◌, IfOk, option_map};
 ghost use Rattle.std.specs.FinMap.{find};
-ghost use Rattle.acl_files.specs.acl_names.Paths.{path_cmp};
-ghost use Rattle.acl_files.specs.kinds.Numbered.{entries_in};
+ghost use Rattle.acl_names.specs.Paths.{path_cmp};
+ghost use Rattle.kinds.specs.Numbered.{entries_in};
 ghost use Rattle.acl_verdicts.specs.KindRows.{rows_at};
 ghost use Rattle.acl_verdicts.specs.Reach.{passes_in, reached_from, reached_rows, reached_at};
 
 use crate::cells::{can_search, clear_others};
 use crate::kind_rows::KindRows;
-use acl_files::{Path, Requests};
+use acl_entry::Requests;
+use acl_names::Path;
 use std::alloc::{AllocError, Global};
 
 impl KindRows {

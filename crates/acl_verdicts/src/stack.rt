@@ -5,7 +5,7 @@ ghost use Rattle.std.specs.Option.{option_copied};
 ghost use Rattle.path_map.specs.Entries.{seen};
 ghost use Rattle.acl_verdicts.specs.Walks.{last_of, AllBefore, IsLeftAbove};
 
-use acl_files::Path;
+use acl_names::Path;
 
 /// How many entries of a stack are left when those that are not above a path are taken off its end. Allocates nothing.
 pub(crate) fn depth_above<T>(stack: &[(&Path, T)], path: &Path) -> usize

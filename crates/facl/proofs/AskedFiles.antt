@@ -6,14 +6,14 @@ use Rattle.std.specs.Cmp.Lexicographic.{slice_cmp}
 use Rattle.std.specs.FinMap.{find}
 use Rattle.std.proofs.lemmas.Cmp.{tied_itself}
 use Rattle.std.proofs.lemmas.List.Folds.{list_any-append}
-use Rattle.acl_rights.specs.acl_names.Paths.{path_cmp}
-use Rattle.acl_rights.proofs.of_acl_names.PathOrder.{path_total, exact_paths}
-use Rattle.acl_rights.specs.acl_edit.declared.node.Node.{Node}
-use Rattle.acl_rights.specs.acl_names.Below.{is_above, encloses}
-use Rattle.acl_rights.specs.acl_files.Walks.{ancestors}
-use Rattle.acl_rights.specs.acl_tree.Files.{PathOf, Files}
-use Rattle.acl_rights.specs.acl_tree.Found.{found_in, files_found}
-use Rattle.acl_rights.specs.acl_tree.Operands.{is_file, first_missing}
+use Rattle.acl_names.specs.Paths.{path_cmp, PathOf}
+use Rattle.acl_names.proofs.PathOrder.{path_total, exact_paths}
+use Rattle.acl_edit.specs.declared.node.Node.{Node}
+use Rattle.acl_names.specs.Below.{is_above, encloses}
+use Rattle.acl_files.specs.Walks.{ancestors}
+use Rattle.acl_files.specs.Files.{Files}
+use Rattle.acl_files.specs.Found.{found_in, files_found}
+use Rattle.acl_files.specs.Operands.{is_file, first_missing}
 use Rattle.facl.specs.Inner.{ways, asked_paths}
 use Rattle.facl.specs.WhyText.{is_asked, files_asked}
 

@@ -7,20 +7,22 @@ use Rattle.std.specs.FinMap.{find, is_sorted}
 use Rattle.std.specs.FinMap.Entries.{below_all}
 use Rattle.std.proofs.lemmas.Bool.{and_parts}
 use Rattle.std.proofs.lemmas.List.Folds.{list_all-map}
-use Rattle.acl_rights.specs.acl_entry.Check.{check, has, rights}
-use Rattle.acl_rights.specs.acl_entry.Perms.{Perms}
-use Rattle.acl_rights.specs.acl_entry.Person.{Person}
-use Rattle.acl_rights.specs.acl_names.Paths.{path_cmp}
-use Rattle.acl_rights.specs.acl_edit.declared.node.Node.{Node}
-use Rattle.acl_rights.specs.acl_names.Below.{is_above, encloses}
-use Rattle.acl_rights.specs.acl_tree.Files.{PathOf, Files, IsInOrder}
-use Rattle.acl_rights.specs.acl_tree.Found.{found_file}
-use Rattle.acl_rights.specs.acl_tree.Sound.{holds_below}
-use Rattle.acl_rights.specs.Reach.{execute, passes}
-use Rattle.acl_rights.proofs.of_acl_entry.Bytes.{has-byte_of}
-use Rattle.acl_rights.proofs.of_acl_names.Below.{not_below_itself}
-use Rattle.acl_rights.proofs.of_acl_names.PathOrder.{path_total}
-use Rattle.acl_rights.proofs.of_path_map.Places.{less}
+use Rattle.acl_entry.specs.Check.{check, has, rights}
+use Rattle.acl_entry.specs.Perms.{Perms}
+use Rattle.acl_entry.specs.Person.{Person}
+use Rattle.acl_names.specs.Paths.{path_cmp, PathOf}
+use Rattle.acl_edit.specs.declared.node.Node.{Node}
+use Rattle.acl_names.specs.Below.{is_above, encloses}
+use Rattle.acl_files.specs.Files.{Files}
+use Rattle.path_map.specs.Entries.{IsInOrder}
+use Rattle.acl_files.specs.Found.{found_file}
+use Rattle.path_map.specs.Below.{holds_below}
+use Rattle.acl_verdicts.specs.Reach.{execute}
+use Rattle.acl_rights.specs.Reach.{passes}
+use Rattle.acl_entry.proofs.Bytes.{has-byte_of}
+use Rattle.acl_names.proofs.Below.{not_below_itself}
+use Rattle.acl_names.proofs.PathOrder.{path_total}
+use Rattle.path_map.proofs.Places.{less}
 use Rattle.facl.proofs.AskedFiles.{one_path, within_is}
 use Rattle.facl.proofs.Deciding.{decided}
 use Rattle.facl.specs.Inner.{HasValidList}

@@ -7,19 +7,19 @@ use Rattle.std.specs.Ordering.{is_eq, is_lt}
 use Rattle.std.specs.FinMap as maps
 use Rattle.std.specs.FinMap.Entries.{below_all}
 use Rattle.std.proofs.lemmas.Bool.{and_parts}
-use Rattle.acl_rights.specs.acl_entry.Check.{check, is_for, some_entry_grants}
-use Rattle.acl_rights.specs.acl_entry.Keys.{key_cmp, same_key, is_class}
-use Rattle.acl_rights.specs.acl_entry.Lists.{KeyMap, IsValid, entries, keys, is_among, missing_base, unmasked, repeated, most_entries, or_else, perm_at, masked, masked_by}
-use Rattle.acl_rights.specs.acl_entry.Perms.{Perms, none, contains}
-use Rattle.acl_rights.specs.acl_entry.Person.{Person}
-use Rattle.acl_rights.specs.acl_entry.declared.entry.Entry.{Entry}
-use Rattle.acl_rights.specs.acl_entry.declared.entry.ListFault.TheVariants.{TooLong, Repeated, MissingBase, MissingMask}
-use Rattle.acl_rights.specs.acl_entry.declared.entry.Key.{Key}
-use Rattle.acl_rights.specs.acl_entry.declared.entry.Key.TheVariants.{Owner, User, OwningGroup, Group, Mask, Other}
-use Rattle.acl_rights.specs.acl_entry.declared.label.Label.{Label}
-use Rattle.acl_rights.proofs.of_acl_entry.Faults.{is_among-keys}
-use Rattle.acl_rights.proofs.of_acl_entry.KeyLaws.{exact_keys}
-use Rattle.acl_rights.proofs.of_acl_entry.Maps.{get-map_of, map_of-entries, true_T}
+use Rattle.acl_entry.specs.Check.{check, is_for, some_entry_grants}
+use Rattle.acl_entry.specs.Keys.{key_cmp, same_key, is_class}
+use Rattle.acl_entry.specs.Lists.{KeyMap, IsValid, entries, keys, is_among, missing_base, unmasked, repeated, most_entries, or_else, perm_at, masked, masked_by}
+use Rattle.acl_entry.specs.Perms.{Perms, none, contains}
+use Rattle.acl_entry.specs.Person.{Person}
+use Rattle.acl_entry.specs.declared.entry.Entry.{Entry}
+use Rattle.acl_entry.specs.declared.entry.ListFault.TheVariants.{TooLong, Repeated, MissingBase, MissingMask}
+use Rattle.acl_entry.specs.declared.entry.Key.{Key}
+use Rattle.acl_entry.specs.declared.entry.Key.TheVariants.{Owner, User, OwningGroup, Group, Mask, Other}
+use Rattle.acl_entry.specs.declared.label.Label.{Label}
+use Rattle.acl_entry.proofs.Faults.{is_among-keys}
+use Rattle.acl_entry.proofs.KeyLaws.{exact_keys}
+use Rattle.acl_entry.proofs.Maps.{get-map_of, map_of-entries, true_T}
 use Rattle.facl.specs.Inner.{sole_key, is_chosen}
 use Rattle.facl.specs.WhyText.{perms_listed, some_decides, decides}
 

@@ -1,15 +1,15 @@
 -- How a run ends that stops in its script.
 use Rattle.std.proofs.Common.{◌≡◌, ℕ, Result, Ok, inr, subst}
 use Rattle.std.specs.Prelude.{IfSome}
-use Rattle.acl_rights.specs.acl_tree.State.{State}
-use Rattle.facl_output.specs.facl_script.Run.{StopsWith}
-use Rattle.facl_output.specs.facl_script.Streams.{moment}
-use Rattle.facl_output.specs.facl_script.declared.fault.ScriptFault.{ScriptFault}
-use Rattle.facl_output.specs.facl_script.declared.fault.ScriptFault.TheVariants.{Read, Write, TooLong, NoMemory}
-use Rattle.facl_output.specs.facl_words.TextWords.{line_asks}
+use Rattle.acl_tree.specs.State.{State}
+use Rattle.facl_script.specs.Run.{StopsWith}
+use Rattle.facl_script.specs.Streams.{moment}
+use Rattle.facl_script.specs.declared.fault.ScriptFault.{ScriptFault}
+use Rattle.facl_script.specs.declared.fault.ScriptFault.TheVariants.{Read, Write, TooLong, NoMemory}
+use Rattle.facl_words.specs.TextWords.{line_asks}
 use Rattle.facl_output.specs.Faults.{run_fault_of_script}
 use Rattle.facl_output.specs.declared.fault.RunFault.{RunFault}
-use Rattle.facl.specs.Tools.{Verdict}
+use Rattle.acl_verdicts.specs.Rows.{Verdict}
 use Rattle.acl_rights.specs.Costs.{all_pairs}
 use Rattle.acl_rights.specs.declared.indexed.States.{States}
 use Rattle.acl_rights.specs.States.{from_start}

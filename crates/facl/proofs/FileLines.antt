@@ -8,20 +8,21 @@ use Rattle.std.specs.FinMap.{is_sorted}
 use Rattle.std.specs.FinMap.Entries.{below_all}
 use Rattle.std.proofs.lemmas.Bool.{and_parts}
 use Rattle.std.proofs.lemmas.Cmp.{tied_itself}
-use Rattle.acl_rights.specs.acl_entry.Check.{has}
-use Rattle.acl_rights.specs.acl_entry.Perms.{Perms}
-use Rattle.acl_rights.specs.acl_names.Paths.{path_cmp}
-use Rattle.acl_rights.proofs.of_acl_names.PathOrder.{path_total}
-use Rattle.acl_rights.specs.acl_syntax.declared.rows.PasswdRow.{PasswdRow}
-use Rattle.acl_rights.specs.acl_edit.declared.node.Node.{Node}
-use Rattle.acl_rights.specs.acl_files.Inner.{next_file_below}
-use Rattle.acl_rights.proofs.of_acl_files.Follows.{known_by_next}
-use Rattle.acl_rights.proofs.of_path_map.Places.{less, above}
-use Rattle.acl_rights.specs.acl_tree.Files.{PathOf, Files, IsInOrder}
-use Rattle.acl_rights.specs.acl_tree.Found.{FoundFile, found_file, found_in}
-use Rattle.acl_rights.specs.acl_tree.Sound.{holds_below}
-use Rattle.acl_rights.specs.acl_tree.State.{State}
-use Rattle.acl_rights.specs.Tables.{Verdict}
+use Rattle.acl_entry.specs.Check.{has}
+use Rattle.acl_entry.specs.Perms.{Perms}
+use Rattle.acl_names.specs.Paths.{path_cmp, PathOf}
+use Rattle.acl_names.proofs.PathOrder.{path_total}
+use Rattle.acl_syntax.specs.declared.rows.PasswdRow.{PasswdRow}
+use Rattle.acl_edit.specs.declared.node.Node.{Node}
+use Rattle.acl_files.specs.Inner.{next_file_below}
+use Rattle.acl_files.proofs.Follows.{known_by_next}
+use Rattle.path_map.proofs.Places.{less, above}
+use Rattle.acl_files.specs.Files.{Files}
+use Rattle.path_map.specs.Entries.{IsInOrder}
+use Rattle.acl_files.specs.Found.{FoundFile, found_file, found_in}
+use Rattle.path_map.specs.Below.{holds_below}
+use Rattle.acl_tree.specs.State.{State}
+use Rattle.acl_verdicts.specs.Rows.{Verdict}
 use Rattle.facl.specs.Answers.{all_files, file_line, may_text}
 use Rattle.acl_rights.specs.Verdicts.{granted, paths_granted}
 use Rattle.facl.specs.Inner.{is_first, in_step}

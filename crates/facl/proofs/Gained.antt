@@ -2,8 +2,8 @@
 use Rattle.std.proofs.Common.{◌≡◌, ℕ, ◌+◌, ◌<◌, Bool, true, false, not, cond, List, [], ◌∷◌, ◌++◌, length, get_or, take, filter, append-nil, refl, ap, ◌∙◌}
 use Rattle.std.specs.Prelude.{◌&&◌}
 use Rattle.std.proofs.lemmas.List.Elements.{filter-append}
-use Rattle.acl_rights.specs.acl_entry.Check.{has}
-use Rattle.acl_rights.specs.acl_entry.Perms.{Perms, numbered}
+use Rattle.acl_entry.specs.Check.{has}
+use Rattle.acl_entry.specs.Perms.{Perms, numbered}
 use Rattle.facl.proofs.Spaced.{among, among-more}
 
 module _ (before after : ℕ) where

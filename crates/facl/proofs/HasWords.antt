@@ -1,8 +1,8 @@
 -- A line that is neither blank nor a comment has a word.
 use Rattle.std.proofs.Common.{◌≡◌, ℕ, Bool, true, false, List, [], ◌∷◌, Option, Some, None, if◌then◌else◌, option_map, true≢false}
 use Rattle.std.specs.Prelude.{◌==◌}
-use Rattle.facl_output.specs.facl_script.Words.{is_blank, is_quote, onto_word, words_at, words_of, has_no_words}
-use Rattle.facl_output.specs.facl_script.declared.words.Place.TheVariants.{Between, Within, Quoted}
+use Rattle.facl_script.specs.Words.{is_blank, is_quote, onto_word, words_at, words_of, has_no_words}
+use Rattle.facl_script.specs.declared.words.Place.TheVariants.{Between, Within, Quoted}
 
 none_is_not_some : {A : Type 0} (a : A) → None ≡ Some a → ⊥
 none_is_not_some a h = cc

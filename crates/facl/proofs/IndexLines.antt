@@ -2,16 +2,17 @@
 use Rattle.std.proofs.Common.{◌≡◌, ℕ, zero, suc, ◌+◌, ◌<◌, ◌++◌, append_assoc, arith, false, length, take, List, [], ◌∷◌, map, Some, None, refl, sym, ap, subst, ◌∙◌}
 use Rattle.std.specs.Prelude.{slice_get}
 use Rattle.std.specs.List.{flat_map}
-use Rattle.acl_rights.specs.acl_names.Names.{escaped}
-use Rattle.acl_rights.specs.acl_syntax.declared.rows.PasswdRow.{PasswdRow}
-use Rattle.acl_rights.specs.acl_edit.declared.node.Node.{Node}
-use Rattle.acl_rights.specs.acl_people.KnownPeople.{person, persons}
-use Rattle.acl_rights.specs.acl_tree.Files.{Files, IsInOrder}
-use Rattle.acl_rights.specs.acl_tree.Found.{FoundFile, found_file, found_in}
-use Rattle.acl_rights.specs.acl_tree.Sound.{holds_below}
-use Rattle.acl_rights.specs.acl_tree.State.{State}
-use Rattle.acl_rights.proofs.of_acl_files.Follows.{known_by_next}
-use Rattle.acl_rights.specs.Tables.{Verdict, cells_of, rows_of}
+use Rattle.acl_names.specs.Names.{escaped}
+use Rattle.acl_syntax.specs.declared.rows.PasswdRow.{PasswdRow}
+use Rattle.acl_edit.specs.declared.node.Node.{Node}
+use Rattle.acl_people.specs.KnownPeople.{person, persons}
+use Rattle.acl_files.specs.Files.{Files}
+use Rattle.path_map.specs.Entries.{IsInOrder}
+use Rattle.acl_files.specs.Found.{FoundFile, found_file, found_in}
+use Rattle.path_map.specs.Below.{holds_below}
+use Rattle.acl_tree.specs.State.{State}
+use Rattle.acl_files.proofs.Follows.{known_by_next}
+use Rattle.acl_verdicts.specs.Rows.{Verdict, cells_of, rows_of}
 use Rattle.facl_output.specs.Listings.{path_shown}
 use Rattle.facl.specs.Answers.{verdict_line, index_text}
 use Rattle.acl_rights.specs.Verdicts.{granted, rows_granted}

@@ -8,16 +8,17 @@ use Rattle.facl.proofs.Outcomes.{ok_is_not_err, ok_or_err, ok_eq, err_eq}
 use Rattle.facl.proofs.Parts as parts
 use Rattle.facl_output.specs.declared.fault.LineFault.{LineFault}
 use Rattle.facl_output.specs.declared.fault.LineFault.TheVariants as faults
-use Rattle.facl_output.specs.facl_script.Units.{ScriptUnit, UnitText, none, whole, too_long, unended}
-use Rattle.facl_output.specs.facl_script.Words.{words_of, words_or_open, has_no_words}
-use Rattle.facl_output.specs.facl_script.declared.words.SplitFault.TheVariants as splits
-use Rattle.facl_output.specs.facl_words.Forms.{Text}
+use Rattle.facl_script.specs.Units.{ScriptUnit, UnitText, none, whole, too_long, unended}
+use Rattle.facl_script.specs.Words.{words_of, words_or_open, has_no_words}
+use Rattle.facl_script.specs.declared.words.SplitFault.TheVariants as splits
+use Rattle.facl_words.specs.Forms.{Text}
 use Rattle.facl.specs.ToolParts as requests
 use Rattle.facl.specs.ToolParts.{Part, in_first_text, in_second_text, in_third_text, in_two_texts, in_operand, in_user, in_file, in_command}
 use Rattle.facl.specs.FirstPart.{IsNotAfter, IsFirst, IsRefusedForFirst}
 use Rattle.facl.specs.Replies.{Reply, after, or_fault}
 use Rattle.facl.specs.Tools as tools
-use Rattle.facl.specs.Tools.{Verdict, tool_named, tool_line}
+use Rattle.acl_verdicts.specs.Rows.{Verdict}
+use Rattle.facl.specs.Tools.{tool_named, tool_line}
 use Rattle.facl.specs.declared.tools.Tool.{Tool}
 use Rattle.facl.specs.declared.tools.ToolLine.{ToolLine}
 use Rattle.facl.specs.LineParts.{LinePart, in_length, in_bytes, in_quotes, in_tool, in_text_end, in_text_lines, in_words, in_request, rank, place, HasWords, IsOfTool, line_read, IsRequestAtFault, IsAtFault, outcome, name_in, IsAnsweredByFirst}

@@ -1,6 +1,6 @@
 -- The paths of operands, one after another.
 use Rattle.std.proofs.Common.{List, ◌++◌, Result, Ok}
-use Rattle.acl_rights.specs.acl_tree.Files.{PathOf}
+use Rattle.acl_names.specs.Paths.{PathOf}
 use Rattle.facl_output.specs.declared.fault.LineFault.{LineFault}
 use Rattle.facl.specs.Replies.{after}
 

@@ -3,7 +3,7 @@ use Rattle.std.proofs.Common.{◌≡◌, ℕ, ◌<◌, true, List, [], ◌∷◌
 use Rattle.std.specs.Prelude.{option_map}
 use Rattle.std.specs.List.{list_all}
 use Rattle.std.proofs.lemmas.Bool.{and_parts, eqb-true}
-use Rattle.acl_rights.specs.acl_files.path_map.Entries.{first}
+use Rattle.path_map.specs.Entries.{first}
 use Rattle.facl.specs.declared.answers.placed_users.PlacedUser.{PlacedUser}
 use Rattle.facl.specs.Requests.{requests_granted}
 use Rattle.facl.specs.Inner.{same_place, keeps_place, verdict_or_none, lines_between, Walked, gone_lines, new_lines, kept_lines, row_lines, lines_of_walk}

@@ -1,9 +1,8 @@
 -- The first operand that is no path.
 use Rattle.std.proofs.Common.{◌≡◌, ◌≤◌, ◌+◌, ℕ, zero, suc, List, [], ◌∷◌, Option, Some, None, Result, Ok, Err, refl, sym, ap, ◌∙◌, arith}
-use Rattle.acl_rights.specs.acl_names.Paths.{path_of}
-use Rattle.acl_rights.specs.acl_tree.Files.{PathOf}
+use Rattle.acl_names.specs.Paths.{path_of, PathOf}
 use Rattle.facl_output.specs.declared.fault.LineFault.{LineFault}
-use Rattle.facl_output.specs.facl_words.Forms.{Text}
+use Rattle.facl_words.specs.Forms.{Text}
 use Rattle.facl.specs.ToolParts.{IsNoPath}
 use Rattle.facl.specs.Operands.{bad_operand, path_at, paths_from}
 use Rattle.facl.specs.Replies.{after, or_fault}

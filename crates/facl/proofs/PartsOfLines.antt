@@ -1,18 +1,18 @@
 -- Lines of each form are refused for their first part at fault.
 use Rattle.std.proofs.Common.{◌≡◌, ◌≤◌, ℕ, List, Option, Some, None, Result, Ok, Err, refl, sym, ap, ◌∙◌, arith}
-use Rattle.acl_rights.specs.acl_syntax.declared.entries.Spec.{Spec}
-use Rattle.acl_rights.specs.acl_syntax.declared.entries.Want.TheVariants.{WithPerms, WithoutPerms}
-use Rattle.acl_rights.specs.acl_tree.Files.{PathOf}
-use Rattle.acl_rights.specs.acl_tree.State.{State}
+use Rattle.acl_syntax.specs.declared.entries.Spec.{Spec}
+use Rattle.acl_syntax.specs.declared.entries.Want.TheVariants.{WithPerms, WithoutPerms}
+use Rattle.acl_names.specs.Paths.{PathOf}
+use Rattle.acl_tree.specs.State.{State}
 use Rattle.facl_output.specs.declared.fault.LineFault.{LineFault}
 use Rattle.facl_output.specs.declared.fault.LineFault.TheVariants.{Both}
-use Rattle.facl_output.specs.facl_words.Forms.{Text}
+use Rattle.facl_words.specs.Forms.{Text}
 use Rattle.facl.specs.ToolParts.{Part, in_first_text, in_second_text, in_third_text, in_two_texts, in_operand, in_user, in_file, in_command, rank, OfCommand, OfPaths, OfText, OfTextAndFiles, OfTwoTextsAndFiles, OfChange, both_of, entries_put}
 use Rattle.facl.specs.Operands.{paths_from}
 use Rattle.facl.specs.Replies.{Reply, after}
 use Rattle.facl.specs.Setfacl.{entries_given, entries_of_line, both_at, unless_both, change_files, change_line, drops, with_warning_if}
 use Rattle.facl.specs.declared.tools.setfacl.ChangeLine.{ChangeLine}
-use Rattle.acl_rights.specs.acl_edit.declared.edit.ChangeEntries.{ChangeEntries}
+use Rattle.acl_edit.specs.declared.edit.ChangeEntries.{ChangeEntries}
 use Rattle.facl.proofs.NoPaths.{Reads, reads_files}
 use Rattle.facl.proofs.Outcomes.{ok_or_err, ok_eq, err_eq, err_before, some_or_none, same_two, same_three, same_found}
 use Rattle.facl.proofs.Parts.{Refused, from_zero, refused_in, step, operands, last}

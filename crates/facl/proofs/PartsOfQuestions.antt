@@ -2,19 +2,19 @@
 use Rattle.std.proofs.Common.{◌≡◌, ◌≤◌, ℕ, List, [], ◌∷◌, slice_get, Option, Some, None, option_map, option_and_then, Result, Ok, Err, refl, sym, subst, arith}
 use Rattle.std.specs.FinMap.{find}
 use Rattle.facl.specs.Requests.{requests_line}
-use Rattle.acl_rights.specs.acl_edit.declared.node.Node.{Node}
-use Rattle.acl_rights.specs.acl_entry.Person.{Person}
-use Rattle.acl_rights.specs.acl_files.declared.fault.TreeFault.TheVariants.{NoSuchFile, NoSuchUser}
-use Rattle.acl_rights.specs.acl_names.Paths.{path_cmp}
-use Rattle.acl_rights.specs.acl_people.KnownPeople.{KnownPeople, users_of}
-use Rattle.acl_rights.specs.acl_people.NameTables.{place_of_word}
-use Rattle.acl_rights.specs.acl_syntax.declared.rows.PasswdRow.{PasswdRow}
-use Rattle.acl_rights.specs.acl_tree.Files.{PathOf, Files}
-use Rattle.acl_rights.specs.acl_tree.Operands.{first_missing}
-use Rattle.acl_rights.specs.acl_tree.State.{State}
+use Rattle.acl_edit.specs.declared.node.Node.{Node}
+use Rattle.acl_entry.specs.Person.{Person}
+use Rattle.acl_files.specs.declared.fault.TreeFault.TheVariants.{NoSuchFile, NoSuchUser}
+use Rattle.acl_names.specs.Paths.{path_cmp, PathOf}
+use Rattle.acl_people.specs.KnownPeople.{KnownPeople, users_of}
+use Rattle.acl_people.specs.NameTables.{place_of_word}
+use Rattle.acl_syntax.specs.declared.rows.PasswdRow.{PasswdRow}
+use Rattle.acl_files.specs.Files.{Files}
+use Rattle.acl_files.specs.Operands.{first_missing}
+use Rattle.acl_tree.specs.State.{State}
 use Rattle.facl_output.specs.declared.fault.LineFault.{LineFault}
 use Rattle.facl_output.specs.declared.fault.LineFault.TheVariants.{Tree}
-use Rattle.facl_output.specs.facl_words.Forms.{Text}
+use Rattle.facl_words.specs.Forms.{Text}
 use Rattle.facl.specs.ToolParts.{Part, in_operand, in_user, in_file, rank, place, OfListing, OfUser, OfUserAndFiles, IsUnrecorded}
 use Rattle.facl.specs.Operands.{path_at, paths_from, name_meant, user_or_fault, recorded_or_fault}
 use Rattle.facl.specs.Replies.{Reply, after, or_fault, printed, printed_or_fault}

@@ -1,11 +1,11 @@
 -- Lines that are refused, and units that are not silent.
 use Rattle.std.proofs.Common.{◌≡◌, ◌≢◌, ◌+◌, ◌≤◌, ℕ, List, Bool, true, false, [], Err, ap, sym, subst, refl, arith, true≢false}
-use Rattle.acl_rights.specs.Tables.{Verdict}
+use Rattle.acl_verdicts.specs.Rows.{Verdict}
 use Rattle.acl_rights.specs.declared.indexed.States.{States}
-use Rattle.facl_output.specs.facl_script.Play.{Answer}
-use Rattle.facl_output.specs.facl_script.Run.{IsAnswer}
-use Rattle.facl_output.specs.facl_script.Units.{ScriptUnit}
-use Rattle.facl_output.specs.facl_words.Forms.{Text}
+use Rattle.facl_script.specs.Play.{Answer}
+use Rattle.facl_script.specs.Run.{IsAnswer}
+use Rattle.facl_script.specs.Units.{ScriptUnit}
+use Rattle.facl_words.specs.Forms.{Text}
 use Rattle.facl_output.specs.declared.fault.LineFault.{LineFault}
 use Rattle.facl_output.specs.declared.fault.LineFault.TheVariants.{NoMemory}
 use Rattle.facl.specs.Units.{is_silent, words_of_line, refused, answer_of_words, unless_out_of_memory, answered_line, answered}

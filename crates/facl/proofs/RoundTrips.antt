@@ -3,28 +3,29 @@ use Rattle.std.proofs.Common.{◌≡◌, ℕ, ◌+◌, List, [], ◌∷◌, ◌+
 use Rattle.std.specs.Prelude.{IfSome, codes}
 use Rattle.std.specs.List.{AllByRecursion}
 use Rattle.std.specs.Option.{option_map_or}
-use Rattle.acl_rights.proofs.of_acl_entry.Maps.{map_of-entries}
+use Rattle.acl_entry.proofs.Maps.{map_of-entries}
 use Rattle.facl_output.proofs.ListsPut.{access_put, default_put, both_put}
-use Rattle.facl_output.specs.acl_attr.Attr.{attr_bytes, attr_of}
-use Rattle.acl_rights.specs.acl_edit.Nodes.{IsSound}
-use Rattle.acl_rights.specs.acl_edit.declared.node.Node.{Node}
-use Rattle.acl_rights.specs.acl_entry.Lists.{KeyMap, entries, map_of}
-use Rattle.acl_rights.specs.acl_entry.declared.entry.Entry as entry
-use Rattle.acl_rights.specs.acl_people.KnownPeople.{KnownPeople, naming_of}
-use Rattle.acl_rights.specs.acl_syntax.InTurn.{of_list}
-use Rattle.acl_rights.specs.acl_syntax.Writing.{short, specs_from}
-use Rattle.acl_rights.specs.acl_syntax.declared.entries.Spec.{Spec}
-use Rattle.acl_rights.specs.acl_syntax.declared.fault.TextFault.{TextFault}
-use Rattle.acl_rights.specs.acl_syntax.declared.fault.Which.{Which}
-use Rattle.acl_rights.specs.acl_syntax.declared.fault.Which.TheVariants.{Access, Default}
-use Rattle.acl_rights.specs.acl_tree.Files.{PathOf, Files}
-use Rattle.acl_rights.specs.acl_tree.Sound.{ArePlaced}
+use Rattle.acl_attr.specs.Attr.{attr_bytes, attr_of}
+use Rattle.acl_edit.specs.Nodes.{IsSound}
+use Rattle.acl_edit.specs.declared.node.Node.{Node}
+use Rattle.acl_entry.specs.Lists.{KeyMap, entries, map_of}
+use Rattle.acl_entry.specs.declared.entry.Entry as entry
+use Rattle.acl_people.specs.KnownPeople.{KnownPeople, naming_of}
+use Rattle.acl_syntax.specs.InTurn.{of_list}
+use Rattle.acl_syntax.specs.Writing.{short, specs_from}
+use Rattle.acl_syntax.specs.declared.entries.Spec.{Spec}
+use Rattle.acl_syntax.specs.declared.fault.TextFault.{TextFault}
+use Rattle.acl_syntax.specs.declared.fault.Which.{Which}
+use Rattle.acl_syntax.specs.declared.fault.Which.TheVariants.{Access, Default}
+use Rattle.acl_names.specs.Paths.{PathOf}
+use Rattle.acl_files.specs.Files.{Files}
+use Rattle.acl_files.specs.Sound.{ArePlaced}
 use Rattle.facl_output.specs.RoundTrips.{IsAttributeAgain, AreAttributesAgain, IsShortAgain, AreListsAgain, all_entries, specs_of}
 use Rattle.facl_output.specs.ChaclListings.{default_part}
 use Rattle.facl_output.specs.Listings.{path_shown}
 use Rattle.facl_output.specs.TestListing.{lists_text}
 use Rattle.facl_output.specs.Faults.{line_fault_of_text}
-use Rattle.facl_output.specs.facl_words.Forms.{Text}
+use Rattle.facl_words.specs.Forms.{Text}
 use Rattle.facl_output.specs.declared.fault.LineFault.{LineFault}
 use Rattle.facl_output.specs.declared.fault.Source.{Source}
 use Rattle.facl_output.specs.declared.fault.Source.TheVariants.{Entry, DefaultEntry, AttributeEntry}
@@ -33,7 +34,7 @@ use Rattle.facl.specs.Replies.{after}
 use Rattle.facl.specs.RoundTrips.{file_listed, after_slash, IsReadByChacl, IsReadBySetattr, AreReadBySetattr, IsReadBySet}
 use Rattle.facl.specs.Setattr as setattr
 use Rattle.facl.specs.Setattr.{bytes_or_fault}
-use Rattle.acl_rights.specs.acl_edit.declared.edit.ChangeEntries.{ChangeEntries}
+use Rattle.acl_edit.specs.declared.edit.ChangeEntries.{ChangeEntries}
 use Rattle.hex.specs.Hex.{encode_lower}
 
 -- ---- chacl

@@ -4,12 +4,12 @@ use Rattle.std.specs.Prelude.{fold, is_some}
 use Rattle.std.specs.Bool.{beq}
 use Rattle.std.specs.FinMap as maps
 use Rattle.std.specs.List.{find, list_any}
-use Rattle.acl_rights.proofs.of_acl_entry.KeyLaws.{key_total}
-use Rattle.acl_rights.specs.acl_entry.Keys.{key_cmp, same_key}
-use Rattle.acl_rights.specs.acl_entry.Lists.{KeyMap}
-use Rattle.acl_rights.specs.acl_entry.Perms.{Perms, none}
-use Rattle.acl_rights.specs.acl_entry.declared.entry.Key.{Key}
-use Rattle.acl_rights.specs.acl_syntax.declared.entries.Spec.{Spec}
+use Rattle.acl_entry.proofs.KeyLaws.{key_total}
+use Rattle.acl_entry.specs.Keys.{key_cmp, same_key}
+use Rattle.acl_entry.specs.Lists.{KeyMap}
+use Rattle.acl_entry.specs.Perms.{Perms, none}
+use Rattle.acl_entry.specs.declared.entry.Key.{Key}
+use Rattle.acl_syntax.specs.declared.entries.Spec.{Spec}
 use Rattle.facl.specs.RemovedKeys.{keys_of, removes, with_key}
 use Rattle.facl.specs.Setfacl.{is_same_entry}
 use Rattle.facl.specs.declared.tools.setfacl_entries.RemovedKeys.{RemovedKeys}

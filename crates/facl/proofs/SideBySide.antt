@@ -7,13 +7,13 @@ use Rattle.std.specs.FinMap.{find, put, is_sorted}
 use Rattle.std.specs.FinMap.Entries.{by_order, below_all}
 use Rattle.std.proofs.lemmas.Bool.{and_parts}
 use Rattle.std.proofs.lemmas.Cmp.{tied_itself}
-use Rattle.acl_rights.specs.acl_files.path_map.Entries.{PathOf, IsInOrder}
-use Rattle.acl_rights.specs.acl_files.path_map.Inner.{After}
-use Rattle.acl_rights.specs.acl_files.path_map.Merged.{put_all}
-use Rattle.acl_rights.specs.acl_names.Paths.{path_cmp}
-use Rattle.acl_rights.proofs.of_acl_names.PathOrder.{path_total, exact_paths}
-use Rattle.acl_rights.proofs.of_path_map.Merges.{later_after, put_at_end, put_before, put_over, put_after}
-use Rattle.acl_rights.proofs.of_path_map.Places.{above, below}
+use Rattle.acl_names.specs.Paths.{PathOf, path_cmp}
+use Rattle.path_map.specs.Entries.{IsInOrder}
+use Rattle.path_map.specs.Inner.{After}
+use Rattle.path_map.specs.Merged.{put_all}
+use Rattle.acl_names.proofs.PathOrder.{path_total, exact_paths}
+use Rattle.path_map.proofs.Merges.{later_after, put_at_end, put_before, put_over, put_after}
+use Rattle.path_map.proofs.Places.{above, below}
 use Rattle.facl.specs.declared.answers.placed_users.PlacedUser.{PlacedUser}
 use Rattle.facl.specs.Inner.{Walked, lines_between, row_in, lines_of_both, next_order, next_lines, left_before, left_after}
 use Rattle.facl_output.proofs.Parts.{begins_itself, begins_more}

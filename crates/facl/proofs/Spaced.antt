@@ -5,8 +5,8 @@ use Rattle.std.specs.List.{flat_map, AllByRecursion}
 use Rattle.std.proofs.lemmas.List.{map-append, append-nil, take_more}
 use Rattle.std.proofs.lemmas.List.Concat.{flat_map-append}
 use Rattle.std.proofs.lemmas.List.Elements.{filter-append}
-use Rattle.acl_rights.specs.acl_entry.Perms.{Perms, numbered, text}
-use Rattle.acl_rights.specs.acl_entry.Check.{has}
+use Rattle.acl_entry.specs.Perms.{Perms, numbered, text}
+use Rattle.acl_entry.specs.Check.{has}
 use Rattle.facl.specs.Requests.{request_text, requests_text, after_space}
 
 -- the requests with a space between each two, and nothing where there is none

@@ -5,23 +5,24 @@ use Rattle.std.specs.List.{AllByRecursion}
 use Rattle.std.specs.Ordering.{is_eq}
 use Rattle.std.specs.FinMap.{find}
 use Rattle.std.proofs.lemmas.Cmp.{tied_itself}
-use Rattle.acl_rights.specs.acl_names.Paths.{path_cmp}
-use Rattle.acl_rights.proofs.of_acl_names.PathOrder.{path_total}
-use Rattle.acl_rights.specs.acl_dump.declared.record.DumpRecord.{DumpRecord}
-use Rattle.acl_rights.specs.acl_edit.declared.edit.Edit.{Edit}
-use Rattle.acl_rights.specs.acl_edit.declared.edit.EditFault.{EditFault}
-use Rattle.acl_rights.specs.acl_edit.declared.node.Node.{Node}
-use Rattle.acl_rights.proofs.of_acl_names.Below.{within_itself}
-use Rattle.acl_rights.specs.acl_tree.EditCommand.{edit_one, edited_tree}
-use Rattle.acl_rights.specs.acl_files.Edits.{edit_all, unless_missing}
-use Rattle.acl_rights.specs.acl_tree.Files.{PathOf, Recorded, IsInOrder}
-use Rattle.acl_rights.specs.acl_tree.Laws.{EditsEach, EachFileIsEdited, EachFileIsRestored}
-use Rattle.acl_rights.specs.acl_tree.Operands.{means, is_file, first_missing}
-use Rattle.acl_rights.specs.acl_tree.Restoring.{restore_one, paths_of, restored_tree}
-use Rattle.acl_rights.specs.acl_tree.State.{State, with_tree}
-use Rattle.acl_rights.specs.acl_tree.Step.{step}
-use Rattle.acl_rights.specs.acl_tree.declared.command.Command.TheVariants.{Edit as EditFiles, Restore}
-use Rattle.acl_rights.specs.acl_files.declared.fault.TreeFault.{TreeFault}
+use Rattle.acl_names.specs.Paths.{path_cmp, PathOf}
+use Rattle.acl_names.proofs.PathOrder.{path_total}
+use Rattle.acl_dump.specs.declared.record.DumpRecord.{DumpRecord}
+use Rattle.acl_edit.specs.declared.edit.Edit.{Edit}
+use Rattle.acl_edit.specs.declared.edit.EditFault.{EditFault}
+use Rattle.acl_edit.specs.declared.node.Node.{Node}
+use Rattle.acl_names.proofs.Below.{within_itself}
+use Rattle.acl_tree.specs.EditCommand.{edit_one, edited_tree}
+use Rattle.acl_files.specs.Edits.{edit_all, unless_missing}
+use Rattle.acl_files.specs.Files.{Recorded}
+use Rattle.path_map.specs.Entries.{IsInOrder}
+use Rattle.acl_tree.specs.Laws.{EditsEach, EachFileIsEdited, EachFileIsRestored}
+use Rattle.acl_files.specs.Operands.{means, is_file, first_missing}
+use Rattle.acl_files.specs.Restoring.{restore_one, paths_of, restored_tree}
+use Rattle.acl_tree.specs.State.{State, with_tree}
+use Rattle.acl_tree.specs.Step.{step}
+use Rattle.acl_tree.specs.declared.command.Command.TheVariants.{Edit as EditFiles, Restore}
+use Rattle.acl_files.specs.declared.fault.TreeFault.{TreeFault}
 use Rattle.facl_output.specs.declared.fault.LineFault.{LineFault}
 
 false_is_not_true : false ≡ true → ⊥

@@ -1,12 +1,13 @@
 -- What a tool does with its words: what they ask for, or usage.
 use Rattle.std.proofs.Common.{◌≡◌, ℕ, List, Option, Some, None, option_and_then, refl}
-use Rattle.acl_rights.specs.acl_tree.State.{State}
+use Rattle.acl_tree.specs.State.{State}
 use Rattle.facl_output.specs.declared.fault.LineFault.TheVariants.{Usage}
-use Rattle.facl_output.specs.facl_words.Forms.{Text}
-use Rattle.facl_output.specs.facl_words.Words.{words_by}
-use Rattle.facl_output.specs.facl_words.declared.words.Words.{Words}
+use Rattle.facl_words.specs.Forms.{Text}
+use Rattle.facl_words.specs.Words.{words_by}
+use Rattle.facl_words.specs.declared.words.Words.{Words}
 use Rattle.facl.specs.Replies.{after, or_fault}
-use Rattle.facl.specs.Tools.{Verdict, syntax_of, read_line, words_of, line_or_fault, answered, tool_line}
+use Rattle.acl_verdicts.specs.Rows.{Verdict}
+use Rattle.facl.specs.Tools.{syntax_of, read_line, words_of, line_or_fault, answered, tool_line}
 use Rattle.facl.specs.declared.tools.Tool.{Tool}
 use Rattle.facl.specs.LineParts.{line_read}
 

@@ -1,24 +1,24 @@
 -- Every line is refused for its first part at fault.
 use Rattle.std.proofs.Common.{ℕ, Bool, true, false, List, [], ◌∷◌, Some, None, Result, Ok, refl, subst}
-use Rattle.acl_rights.specs.acl_edit.declared.edit.Edit.{Edit}
-use Rattle.acl_rights.specs.acl_edit.declared.edit.Edit.TheVariants.{Put, Flatten}
-use Rattle.acl_rights.specs.acl_syntax.declared.fault.Which.TheVariants.{Access, Default}
-use Rattle.acl_rights.specs.acl_tree.declared.command.Command.TheVariants as commands
-use Rattle.acl_rights.specs.acl_tree.Files.{PathOf}
-use Rattle.acl_rights.specs.acl_tree.Found.{files_found}
-use Rattle.acl_rights.specs.acl_tree.State.{State}
+use Rattle.acl_edit.specs.declared.edit.Edit.{Edit}
+use Rattle.acl_edit.specs.declared.edit.Edit.TheVariants.{Put, Flatten}
+use Rattle.acl_syntax.specs.declared.fault.Which.TheVariants.{Access, Default}
+use Rattle.acl_tree.specs.declared.command.Command.TheVariants as commands
+use Rattle.acl_names.specs.Paths.{PathOf}
+use Rattle.acl_files.specs.Found.{files_found}
+use Rattle.acl_tree.specs.State.{State}
 use Rattle.facl.specs.Answers.{index_text, user_line, file_line, all_files}
 use Rattle.acl_rights.specs.Verdicts.{granted}
-use Rattle.acl_rights.specs.acl_entry.Check.{has}
-use Rattle.acl_rights.specs.acl_entry.Perms.{Perms}
-use Rattle.acl_rights.specs.acl_edit.declared.node.Node.{Node}
-use Rattle.acl_rights.specs.acl_syntax.declared.rows.PasswdRow.{PasswdRow}
+use Rattle.acl_entry.specs.Check.{has}
+use Rattle.acl_entry.specs.Perms.{Perms}
+use Rattle.acl_edit.specs.declared.node.Node.{Node}
+use Rattle.acl_syntax.specs.declared.rows.PasswdRow.{PasswdRow}
 use Rattle.std.specs.Prelude.{filter}
 use Rattle.std.specs.List.{flat_map}
 use Rattle.facl_output.specs.AttrListings.{attr_listing}
 use Rattle.facl.specs.ChangesText.{changes_text}
 use Rattle.facl.specs.WhyText.{files_asked}
-use Rattle.facl_output.specs.facl_words.Forms.{Text}
+use Rattle.facl_words.specs.Forms.{Text}
 use Rattle.facl_output.specs.declared.fault.LineFault.{LineFault}
 use Rattle.facl_output.specs.declared.fault.Source.TheVariants.{Entry, DefaultEntry}
 use Rattle.facl.specs.Chacl as chacl
@@ -35,7 +35,8 @@ use Rattle.facl.specs.Replies.{Reply, after, done, printed}
 use Rattle.facl.specs.Setattr as setattr
 use Rattle.facl.specs.Setfacl as setfacl_line
 use Rattle.facl.specs.Setfacl.{records_or_fault, done_or_tested}
-use Rattle.facl.specs.Tools.{Verdict, answered}
+use Rattle.acl_verdicts.specs.Rows.{Verdict}
+use Rattle.facl.specs.Tools.{answered}
 use Rattle.facl.specs.Useradd.{new_user}
 use Rattle.facl.specs.Who as who
 use Rattle.facl.specs.Who.{who_at}

@@ -9,23 +9,23 @@ use Rattle.std.specs.Str.{bytes_eq}
 use Rattle.std.proofs.lemmas.Bool.{ltb-true}
 use Rattle.std.proofs.lemmas.Grind.{flat_map-append}
 use Rattle.std.proofs.lemmas.Slice.Eq.{bytes_eq-Decides}
-use Rattle.acl_rights.specs.acl_entry.Check.{has}
-use Rattle.acl_rights.specs.acl_entry.Perms.{Perms, numbered, text}
-use Rattle.acl_rights.specs.acl_edit.declared.node.Node.{Node}
-use Rattle.acl_rights.specs.acl_files.path_map.Entries.{PathOf, IsInOrder}
-use Rattle.acl_rights.specs.acl_names.Names.{escaped}
-use Rattle.acl_rights.specs.acl_names.Paths.{path_cmp}
-use Rattle.acl_rights.specs.acl_people.Entries.{user_entry}
-use Rattle.acl_rights.specs.acl_people.KnownPeople.{users_of}
-use Rattle.acl_rights.specs.acl_people.NameTables.{Named, is_name, has_name}
-use Rattle.acl_rights.specs.acl_syntax.declared.rows.PasswdRow.{PasswdRow}
-use Rattle.acl_rights.specs.acl_tree.Files.{Files}
-use Rattle.acl_rights.specs.acl_tree.Found.{found_file, found_in}
-use Rattle.acl_rights.specs.acl_tree.Sound.{holds_below}
-use Rattle.acl_rights.specs.acl_tree.State.{State}
-use Rattle.acl_rights.specs.Tables.{Verdict}
-use Rattle.acl_rights.proofs.of_acl_names.PathOrder.{exact_paths}
-use Rattle.acl_rights.proofs.of_path_map.Rows.{find_put_all}
+use Rattle.acl_entry.specs.Check.{has}
+use Rattle.acl_entry.specs.Perms.{Perms, numbered, text}
+use Rattle.acl_edit.specs.declared.node.Node.{Node}
+use Rattle.acl_names.specs.Paths.{PathOf, path_cmp}
+use Rattle.path_map.specs.Entries.{IsInOrder}
+use Rattle.acl_names.specs.Names.{escaped}
+use Rattle.acl_people.specs.Entries.{user_entry}
+use Rattle.acl_people.specs.KnownPeople.{users_of}
+use Rattle.acl_people.specs.NameTables.{Named, is_name, has_name}
+use Rattle.acl_syntax.specs.declared.rows.PasswdRow.{PasswdRow}
+use Rattle.acl_files.specs.Files.{Files}
+use Rattle.acl_files.specs.Found.{found_file, found_in}
+use Rattle.path_map.specs.Below.{holds_below}
+use Rattle.acl_tree.specs.State.{State}
+use Rattle.acl_verdicts.specs.Rows.{Verdict}
+use Rattle.acl_names.proofs.PathOrder.{exact_paths}
+use Rattle.path_map.proofs.Rows.{find_put_all}
 use Rattle.facl_output.specs.Listings.{path_shown}
 use Rattle.facl.specs.Requests.{requests_granted}
 use Rattle.facl.specs.Answers.{line}

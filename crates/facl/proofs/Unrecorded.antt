@@ -4,19 +4,19 @@ use Rattle.std.specs.FinMap.{find}
 use Rattle.std.proofs.lemmas.List.{length-map}
 use Rattle.std.proofs.lemmas.List.Quantifiers.{position-Some}
 use Rattle.std.proofs.lemmas.Option.{slice_get-get_or}
-use Rattle.acl_rights.specs.acl_edit.declared.node.Node.{Node}
-use Rattle.acl_rights.specs.acl_files.declared.fault.TreeFault.TheVariants.{NoSuchFile, NoSuchUser}
-use Rattle.acl_rights.specs.acl_names.Paths.{path_of, path_cmp}
-use Rattle.acl_rights.specs.acl_people.Entries.{user_entry}
-use Rattle.acl_rights.specs.acl_people.KnownPeople.{KnownPeople, users_of, person, subject}
-use Rattle.acl_rights.specs.acl_people.NameTables.{Named, is_id, is_name, place_of_word}
-use Rattle.acl_rights.specs.acl_syntax.Ids.{is_number, id_of}
-use Rattle.acl_rights.specs.acl_syntax.declared.rows.PasswdRow.{PasswdRow}
-use Rattle.acl_rights.specs.acl_tree.Files.{PathOf, Files}
-use Rattle.acl_rights.specs.acl_tree.Operands.{first_missing}
+use Rattle.acl_edit.specs.declared.node.Node.{Node}
+use Rattle.acl_files.specs.declared.fault.TreeFault.TheVariants.{NoSuchFile, NoSuchUser}
+use Rattle.acl_names.specs.Paths.{path_of, path_cmp, PathOf}
+use Rattle.acl_people.specs.Entries.{user_entry}
+use Rattle.acl_people.specs.KnownPeople.{KnownPeople, users_of, person, subject}
+use Rattle.acl_people.specs.NameTables.{Named, is_id, is_name, place_of_word}
+use Rattle.acl_syntax.specs.Ids.{is_number, id_of}
+use Rattle.acl_syntax.specs.declared.rows.PasswdRow.{PasswdRow}
+use Rattle.acl_files.specs.Files.{Files}
+use Rattle.acl_files.specs.Operands.{first_missing}
 use Rattle.facl_output.specs.declared.fault.LineFault.{LineFault}
 use Rattle.facl_output.specs.declared.fault.LineFault.TheVariants.{Tree}
-use Rattle.facl_output.specs.facl_words.Forms.{Text}
+use Rattle.facl_words.specs.Forms.{Text}
 use Rattle.facl.specs.ToolParts.{IsUnrecorded, IsNoUser}
 use Rattle.facl.specs.Operands.{bad_operand, path_at, paths_from, name_meant, user_or_fault}
 use Rattle.facl.specs.Replies.{after, or_fault}

@@ -4,13 +4,12 @@ use Rattle.std.specs.Prelude.{option_map, slice_get}
 use Rattle.std.specs.List.{flat_map}
 use Rattle.std.specs.Option.{option_map_or}
 use Rattle.std.specs.FinMap.{find}
-use Rattle.acl_rights.specs.acl_entry.Check.{has}
-use Rattle.acl_rights.specs.acl_entry.Perms.{Perms}
-use Rattle.acl_rights.specs.acl_names.Paths.{path_cmp}
-use Rattle.acl_rights.specs.acl_edit.declared.node.Node.{Node}
-use Rattle.acl_rights.specs.acl_tree.Files.{PathOf}
-use Rattle.acl_rights.specs.acl_tree.State.{State}
-use Rattle.acl_rights.specs.Tables.{Verdict, places_from}
+use Rattle.acl_entry.specs.Check.{has}
+use Rattle.acl_entry.specs.Perms.{Perms}
+use Rattle.acl_names.specs.Paths.{path_cmp, PathOf}
+use Rattle.acl_edit.specs.declared.node.Node.{Node}
+use Rattle.acl_tree.specs.State.{State}
+use Rattle.acl_verdicts.specs.Rows.{Verdict, places_from}
 use Rattle.facl.specs.Answers.{user_line, who_text}
 use Rattle.acl_rights.specs.Verdicts.{granted, users_granted}
 use Rattle.facl.specs.Inner.{line_at}

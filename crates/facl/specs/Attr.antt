@@ -1,12 +1,12 @@
 -- attr: the lists of a file as the extended attributes of acl(5).
 use Rattle.std.specs.Prelude.{[], ◌∷◌, false, codes, refl, Option, Some, Result}
 use Rattle.facl_output.specs.AttrListings.{attr_listing}
-use Rattle.acl_rights.specs.acl_tree.Found.{files_found}
-use Rattle.acl_rights.specs.acl_tree.Operands.{first_missing}
-use Rattle.acl_rights.specs.acl_tree.State.{State}
-use Rattle.facl_output.specs.facl_words.Forms.{files_of}
-use Rattle.facl_output.specs.facl_words.Syntax.{Syntax, one}
-use Rattle.facl_output.specs.facl_words.declared.words.Words.{Words}
+use Rattle.acl_files.specs.Found.{files_found}
+use Rattle.acl_files.specs.Operands.{first_missing}
+use Rattle.acl_tree.specs.State.{State}
+use Rattle.facl_words.specs.Forms.{files_of}
+use Rattle.facl_words.specs.Syntax.{Syntax, one}
+use Rattle.facl_words.specs.declared.words.Words.{Words}
 use Rattle.facl_output.specs.declared.fault.LineFault.{LineFault}
 use Rattle.facl.specs.Asked.{operands_from}
 use Rattle.facl.specs.Operands.{paths_from, recorded_or_fault}

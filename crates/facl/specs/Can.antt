@@ -3,13 +3,13 @@ use Rattle.std.specs.Prelude.{ℕ, [], ◌∷◌, Bool, codes, refl, Option, Som
 use Rattle.acl_rights.specs.Verdicts.{can_requests}
 use Rattle.facl.specs.Asked.{has, operand}
 use Rattle.facl.specs.Requests.{requests_line}
-use Rattle.acl_rights.specs.acl_files.declared.fault.TreeFault.TheVariants.{NoSuchFile}
-use Rattle.acl_rights.specs.acl_tree.Files.{PathOf}
-use Rattle.acl_rights.specs.acl_tree.State.{State}
-use Rattle.acl_rights.specs.acl_verdicts.Rows.{Verdict}
-use Rattle.facl_output.specs.facl_words.Forms.{Text, file_of}
-use Rattle.facl_output.specs.facl_words.Syntax.{Syntax, by_name, one}
-use Rattle.facl_output.specs.facl_words.declared.words.Words.{Words}
+use Rattle.acl_files.specs.declared.fault.TreeFault.TheVariants.{NoSuchFile}
+use Rattle.acl_names.specs.Paths.{PathOf}
+use Rattle.acl_tree.specs.State.{State}
+use Rattle.acl_verdicts.specs.Rows.{Verdict}
+use Rattle.facl_words.specs.Forms.{Text, file_of}
+use Rattle.facl_words.specs.Syntax.{Syntax, by_name, one}
+use Rattle.facl_words.specs.declared.words.Words.{Words}
 use Rattle.facl_output.specs.declared.fault.LineFault.{LineFault}
 use Rattle.facl_output.specs.declared.fault.LineFault.TheVariants.{Tree}
 use Rattle.facl.specs.Operands.{path_at, name_meant, user_or_fault}

@@ -1,14 +1,14 @@
 -- chacl(1).
 use Rattle.std.specs.Prelude.{ℕ, ◌+◌, List, [], ◌∷◌, Bool, true, false, if◌then◌else◌, nat_le, codes, refl, Option, Some, None, Result}
-use Rattle.acl_rights.specs.acl_edit.declared.edit.Edit.TheVariants.{Put, Flatten}
-use Rattle.acl_rights.specs.acl_syntax.declared.fault.Which.TheVariants.{Access, Default}
-use Rattle.acl_rights.specs.acl_people.KnownPeople.{KnownPeople, naming_of}
-use Rattle.acl_rights.specs.acl_tree.Found.{FoundFile, files_found}
-use Rattle.acl_rights.specs.acl_tree.Operands.{first_missing}
-use Rattle.acl_rights.specs.acl_tree.State.{State}
-use Rattle.facl_output.specs.facl_words.Forms.{Text, files_of}
-use Rattle.facl_output.specs.facl_words.Syntax.{Syntax, by_letter, some}
-use Rattle.facl_output.specs.facl_words.declared.words.Words.{Words}
+use Rattle.acl_edit.specs.declared.edit.Edit.TheVariants.{Put, Flatten}
+use Rattle.acl_syntax.specs.declared.fault.Which.TheVariants.{Access, Default}
+use Rattle.acl_people.specs.KnownPeople.{KnownPeople, naming_of}
+use Rattle.acl_files.specs.Found.{FoundFile, files_found}
+use Rattle.acl_files.specs.Operands.{first_missing}
+use Rattle.acl_tree.specs.State.{State}
+use Rattle.facl_words.specs.Forms.{Text, files_of}
+use Rattle.facl_words.specs.Syntax.{Syntax, by_letter, some}
+use Rattle.facl_words.specs.declared.words.Words.{Words}
 use Rattle.facl_output.specs.declared.fault.LineFault.{LineFault}
 use Rattle.facl_output.specs.declared.fault.Source.TheVariants.{Entry, DefaultEntry}
 use Rattle.facl_output.specs.ChaclListings.{chacl_listing}

@@ -2,16 +2,16 @@
 -- the other way round.
 use Rattle.std.specs.Prelude.{◌≡◌, ℕ, Bool, not, List, [], ◌∷◌, ◌++◌, map, filter, codes, position, Option, option_and_then, unwrap_or}
 use Rattle.std.specs.List.{flat_map}
-use Rattle.acl_rights.specs.acl_entry.Check.{has}
-use Rattle.acl_rights.specs.acl_entry.Perms.{Perms, text}
-use Rattle.acl_rights.specs.acl_files.path_map.Merged.{put_all}
-use Rattle.acl_rights.specs.acl_names.Names.{escaped}
-use Rattle.acl_rights.specs.acl_people.KnownPeople.{users_of}
-use Rattle.acl_rights.specs.acl_people.NameTables.{is_name, has_name}
-use Rattle.acl_rights.specs.acl_syntax.declared.rows.PasswdRow.{PasswdRow}
-use Rattle.acl_rights.specs.acl_tree.Files.{PathOf}
-use Rattle.acl_rights.specs.acl_tree.State.{State}
-use Rattle.acl_rights.specs.acl_verdicts.Rows.{Verdict}
+use Rattle.acl_entry.specs.Check.{has}
+use Rattle.acl_entry.specs.Perms.{Perms, text}
+use Rattle.path_map.specs.Merged.{put_all}
+use Rattle.acl_names.specs.Names.{escaped}
+use Rattle.acl_people.specs.KnownPeople.{users_of}
+use Rattle.acl_people.specs.NameTables.{is_name, has_name}
+use Rattle.acl_syntax.specs.declared.rows.PasswdRow.{PasswdRow}
+use Rattle.acl_names.specs.Paths.{PathOf}
+use Rattle.acl_tree.specs.State.{State}
+use Rattle.acl_verdicts.specs.Rows.{Verdict}
 use Rattle.facl_output.specs.Listings.{path_shown}
 use Rattle.facl.specs.Requests.{requests_granted}
 use Rattle.facl.specs.Answers.{line, all_files}

@@ -1,11 +1,11 @@
 -- chmod(1), with an octal mode.
 use Rattle.std.specs.Prelude.{[], ◌∷◌, codes, refl, Option, Some, Result}
-use Rattle.acl_rights.specs.acl_tree.Chmod.{chmod}
-use Rattle.acl_rights.specs.acl_tree.State.{State}
-use Rattle.acl_rights.specs.acl_tree.declared.user_change.UserChange.TheVariants.{Unchanged}
-use Rattle.facl_output.specs.facl_words.Forms.{files_of}
-use Rattle.facl_output.specs.facl_words.Syntax.{Syntax, by_letter, one, some}
-use Rattle.facl_output.specs.facl_words.declared.words.Words.{Words}
+use Rattle.acl_tree.specs.Chmod.{chmod}
+use Rattle.acl_tree.specs.State.{State}
+use Rattle.acl_tree.specs.declared.user_change.UserChange.TheVariants.{Unchanged}
+use Rattle.facl_words.specs.Forms.{files_of}
+use Rattle.facl_words.specs.Syntax.{Syntax, by_letter, one, some}
+use Rattle.facl_words.specs.declared.words.Words.{Words}
 use Rattle.facl_output.specs.declared.fault.LineFault.{LineFault}
 use Rattle.facl.specs.Asked.{has, operand, operands_from}
 use Rattle.facl.specs.Modes.{mode_of}

@@ -1,6 +1,6 @@
 -- That the count of verdicts has room for each line.
 use Rattle.std.specs.Prelude.{ℕ, ◌+◌, ◌*◌, ◌<◌, ◌≤◌}
-use Rattle.facl_output.specs.facl_script.Limits.{script_limit}
+use Rattle.facl_script.specs.Limits.{script_limit}
 use Rattle.acl_rights.specs.Costs.{most_pairs}
 
 -- the count leaves room for the line with this number and those after it

@@ -1,13 +1,13 @@
 -- creat: a new file, with what it inherits from its directory.
 use Rattle.std.specs.Prelude.{ℕ, [], ◌∷◌, Bool, codes, refl, if◌then◌else◌, Option, Some, Result, Ok}
-use Rattle.acl_rights.specs.acl_edit.declared.node.Kind.{Kind}
-use Rattle.acl_rights.specs.acl_edit.declared.node.Kind.TheVariants.{Plain, Directory}
-use Rattle.acl_rights.specs.acl_tree.declared.command.NewFile.{NewFile}
-use Rattle.acl_rights.specs.acl_tree.Creat.{creat}
-use Rattle.acl_rights.specs.acl_tree.State.{State}
-use Rattle.facl_output.specs.facl_words.Forms.{Text, file_of}
-use Rattle.facl_output.specs.facl_words.Syntax.{Syntax, by_letter, by_name, by_name_or, one}
-use Rattle.facl_output.specs.facl_words.declared.words.Words.{Words}
+use Rattle.acl_edit.specs.declared.node.Kind.{Kind}
+use Rattle.acl_edit.specs.declared.node.Kind.TheVariants.{Plain, Directory}
+use Rattle.acl_tree.specs.declared.command.NewFile.{NewFile}
+use Rattle.acl_tree.specs.Creat.{creat}
+use Rattle.acl_tree.specs.State.{State}
+use Rattle.facl_words.specs.Forms.{Text, file_of}
+use Rattle.facl_words.specs.Syntax.{Syntax, by_letter, by_name, by_name_or, one}
+use Rattle.facl_words.specs.declared.words.Words.{Words}
 use Rattle.facl_output.specs.declared.fault.LineFault.{LineFault}
 use Rattle.facl.specs.Asked.{has, operand, value}
 use Rattle.facl.specs.Modes.{permission_mode_of}

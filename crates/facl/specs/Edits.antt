@@ -1,9 +1,9 @@
 -- Edits of the files that a line names.
 use Rattle.std.specs.Prelude.{List, Bool, Result}
-use Rattle.acl_rights.specs.acl_edit.declared.edit.Edit.{Edit}
-use Rattle.acl_rights.specs.acl_tree.EditCommand.{edited_tree}
-use Rattle.acl_rights.specs.acl_tree.State.{State}
-use Rattle.facl_output.specs.facl_words.Forms.{Text}
+use Rattle.acl_edit.specs.declared.edit.Edit.{Edit}
+use Rattle.acl_tree.specs.EditCommand.{edited_tree}
+use Rattle.acl_tree.specs.State.{State}
+use Rattle.facl_words.specs.Forms.{Text}
 use Rattle.facl_output.specs.declared.fault.LineFault.{LineFault}
 use Rattle.facl.specs.Replies.{Reply, after, replied_tree}
 use Rattle.facl.specs.Operands.{paths_from}

@@ -1,16 +1,16 @@
 -- getfacl(1).
 use Rattle.std.specs.Prelude.{ℕ, List, [], ◌∷◌, Bool, true, false, codes, refl, Option, None, Some, Result}
-use Rattle.acl_rights.specs.acl_dump.declared.effective.Effective.{Effective}
-use Rattle.acl_rights.specs.acl_dump.declared.effective.Effective.TheVariants.{WhereMasked, Always, Never}
-use Rattle.acl_rights.specs.acl_people.KnownPeople.{KnownPeople, naming_of}
-use Rattle.acl_rights.specs.acl_tree.Found.{FoundFile, files_found}
-use Rattle.acl_rights.specs.acl_tree.Operands.{first_missing}
-use Rattle.acl_rights.specs.acl_tree.State.{State}
+use Rattle.acl_dump.specs.declared.effective.Effective.{Effective}
+use Rattle.acl_dump.specs.declared.effective.Effective.TheVariants.{WhereMasked, Always, Never}
+use Rattle.acl_people.specs.KnownPeople.{KnownPeople, naming_of}
+use Rattle.acl_files.specs.Found.{FoundFile, files_found}
+use Rattle.acl_files.specs.Operands.{first_missing}
+use Rattle.acl_tree.specs.State.{State}
 use Rattle.facl_output.specs.Listings.{listing}
 use Rattle.facl_output.specs.declared.listing.Options.{Options}
-use Rattle.facl_output.specs.facl_words.Forms.{files_of}
-use Rattle.facl_output.specs.facl_words.Syntax.{Syntax, both, some}
-use Rattle.facl_output.specs.facl_words.declared.words.Words.{Words}
+use Rattle.facl_words.specs.Forms.{files_of}
+use Rattle.facl_words.specs.Syntax.{Syntax, both, some}
+use Rattle.facl_words.specs.declared.words.Words.{Words}
 use Rattle.facl_output.specs.declared.fault.LineFault.{LineFault}
 use Rattle.facl.specs.Asked.{has, operands_from}
 use Rattle.facl.specs.Operands.{paths_from, recorded_or_fault}

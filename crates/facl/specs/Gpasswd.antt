@@ -1,11 +1,11 @@
 -- gpasswd(1): a user is added to a group, or removed from it.
 use Rattle.std.specs.Prelude.{[], ◌∷◌, codes, refl, Option, None, Some, Result}
-use Rattle.acl_rights.specs.acl_tree.declared.command.Membership.TheVariants.{Add, Remove}
-use Rattle.acl_rights.specs.acl_tree.Memberships.{gpasswd}
-use Rattle.acl_rights.specs.acl_tree.State.{State}
-use Rattle.facl_output.specs.facl_words.Forms.{Text}
-use Rattle.facl_output.specs.facl_words.Syntax.{Syntax, by_letter, one}
-use Rattle.facl_output.specs.facl_words.declared.words.Words.{Words}
+use Rattle.acl_tree.specs.declared.command.Membership.TheVariants.{Add, Remove}
+use Rattle.acl_tree.specs.Memberships.{gpasswd}
+use Rattle.acl_tree.specs.State.{State}
+use Rattle.facl_words.specs.Forms.{Text}
+use Rattle.facl_words.specs.Syntax.{Syntax, by_letter, one}
+use Rattle.facl_words.specs.declared.words.Words.{Words}
 use Rattle.facl_output.specs.declared.fault.LineFault.{LineFault}
 use Rattle.facl.specs.Asked.{operand, value}
 use Rattle.facl.specs.Operands.{name_meant}

@@ -1,9 +1,9 @@
 -- index: what each user may do with each file. The state stays as it is.
 use Rattle.std.specs.Prelude.{[], Result, Ok}
 use Rattle.facl.specs.Answers.{index_text}
-use Rattle.acl_rights.specs.acl_tree.State.{State}
-use Rattle.acl_rights.specs.acl_verdicts.Rows.{Verdict}
-use Rattle.facl_output.specs.facl_words.Syntax.{Syntax}
+use Rattle.acl_tree.specs.State.{State}
+use Rattle.acl_verdicts.specs.Rows.{Verdict}
+use Rattle.facl_words.specs.Syntax.{Syntax}
 use Rattle.facl_output.specs.declared.fault.LineFault.{LineFault}
 use Rattle.facl.specs.Replies.{Reply, printed}
 

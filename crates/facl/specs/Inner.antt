@@ -7,26 +7,26 @@ use Rattle.std.specs.declared.cmp.Ordering.{Ordering}
 use Rattle.std.specs.declared.cmp.Ordering.TheVariants.{Less, Equal, Greater}
 use Rattle.std.specs.FinMap as maps
 use Rattle.std.specs.FinMap.{find}
-use Rattle.acl_rights.specs.acl_entry.Check.{is_for}
-use Rattle.acl_rights.specs.acl_entry.Keys.{same_key}
-use Rattle.acl_rights.specs.acl_entry.Lists.{IsValid, entries}
-use Rattle.acl_rights.specs.acl_entry.Person.{Person}
-use Rattle.acl_rights.specs.acl_entry.declared.entry.Entry.{Entry}
-use Rattle.acl_rights.specs.acl_entry.declared.entry.Key.{Key}
-use Rattle.acl_rights.specs.acl_entry.declared.entry.Key.TheVariants.{Owner, User, Other}
-use Rattle.acl_rights.specs.acl_entry.declared.label.Label.{Label}
-use Rattle.acl_rights.specs.acl_names.Paths.{path_cmp}
-use Rattle.acl_rights.specs.acl_edit.declared.node.Node.{Node}
-use Rattle.acl_rights.specs.acl_files.Walks.{ancestors}
-use Rattle.acl_rights.specs.acl_tree.Files.{PathOf, Files}
-use Rattle.acl_rights.specs.acl_names.Below.{is_above}
-use Rattle.acl_rights.specs.acl_files.path_map.Entries.{first}
-use Rattle.acl_rights.specs.acl_files.path_map.Merged.{put_all}
-use Rattle.acl_rights.specs.acl_names.Names.{escaped}
-use Rattle.acl_rights.specs.acl_people.KnownPeople.{KnownPeople, users_of}
-use Rattle.acl_rights.specs.acl_people.NameTables.{is_name}
-use Rattle.acl_rights.specs.acl_tree.Found.{FoundFile, found_file}
-use Rattle.acl_rights.specs.Tables.{Rows}
+use Rattle.acl_entry.specs.Check.{is_for}
+use Rattle.acl_entry.specs.Keys.{same_key}
+use Rattle.acl_entry.specs.Lists.{IsValid, entries}
+use Rattle.acl_entry.specs.Person.{Person}
+use Rattle.acl_entry.specs.declared.entry.Entry.{Entry}
+use Rattle.acl_entry.specs.declared.entry.Key.{Key}
+use Rattle.acl_entry.specs.declared.entry.Key.TheVariants.{Owner, User, Other}
+use Rattle.acl_entry.specs.declared.label.Label.{Label}
+use Rattle.acl_names.specs.Paths.{path_cmp, PathOf}
+use Rattle.acl_edit.specs.declared.node.Node.{Node}
+use Rattle.acl_files.specs.Walks.{ancestors}
+use Rattle.acl_files.specs.Files.{Files}
+use Rattle.acl_names.specs.Below.{is_above}
+use Rattle.path_map.specs.Entries.{first}
+use Rattle.path_map.specs.Merged.{put_all}
+use Rattle.acl_names.specs.Names.{escaped}
+use Rattle.acl_people.specs.KnownPeople.{KnownPeople, users_of}
+use Rattle.acl_people.specs.NameTables.{is_name}
+use Rattle.acl_files.specs.Found.{FoundFile, found_file}
+use Rattle.acl_verdicts.specs.Rows.{Rows}
 use Rattle.facl_output.specs.Listings.{path_shown}
 use Rattle.facl.specs.Answers.{user_line, verdict_line}
 use Rattle.facl.specs.ChangesText.{change_lines}

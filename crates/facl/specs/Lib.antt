@@ -41,7 +41,5 @@ pub mod Usermod
 pub mod Who
 pub mod Why
 pub mod WhyText
-pub use Rattle.acl_rights.specs.acl_entry
+-- the public surface: the program names these definitions by this crate
 pub use Rattle.facl_output.specs as facl_output
-pub use Rattle.facl_output.specs.facl_script
-pub use Rattle.facl_output.specs.facl_words

@@ -1,17 +1,18 @@
 -- Why a line of a script is refused: which parts of it are at fault, each by itself, and their order.
 use Rattle.std.specs.Prelude.{◌≡◌, ◌+◌, ℕ, false, List, [], ◌∷◌, Option, Some, None, option_and_then, Result, Ok, Err}
 use Rattle.std.specs.Str.{is_utf8}
-use Rattle.acl_rights.specs.acl_tree.State.{State}
+use Rattle.acl_tree.specs.State.{State}
 use Rattle.facl_output.specs.declared.fault.LineFault.{LineFault}
 use Rattle.facl_output.specs.declared.fault.LineFault.TheVariants as faults
-use Rattle.facl_output.specs.facl_script.Units.{ScriptUnit, too_long, unended}
-use Rattle.facl_output.specs.facl_script.Words.{words_of}
-use Rattle.facl_output.specs.facl_words.Forms.{Text}
-use Rattle.facl_output.specs.facl_words.Words.{words_by}
+use Rattle.facl_script.specs.Units.{ScriptUnit, too_long, unended}
+use Rattle.facl_script.specs.Words.{words_of}
+use Rattle.facl_words.specs.Forms.{Text}
+use Rattle.facl_words.specs.Words.{words_by}
 use Rattle.facl.specs.ToolParts as requests
 use Rattle.facl.specs.FirstPart.{IsRefusedForFirst}
 use Rattle.facl.specs.Replies.{Reply, after}
-use Rattle.facl.specs.Tools.{Verdict, syntax_of, read_line, tool_named}
+use Rattle.acl_verdicts.specs.Rows.{Verdict}
+use Rattle.facl.specs.Tools.{syntax_of, read_line, tool_named}
 use Rattle.facl.specs.declared.tools.Tool.{Tool}
 use Rattle.facl.specs.declared.tools.ToolLine.{ToolLine}
 use Rattle.acl_rights.specs.declared.indexed.States.{States}

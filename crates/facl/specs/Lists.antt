@@ -1,18 +1,18 @@
 -- Lists as chacl(1) reads them: the entries of a text, which have to be a valid list.
 use Rattle.std.specs.Prelude.{List, map, Result, Ok, Err}
 use Rattle.std.specs.Option.{option_map_or}
-use Rattle.acl_rights.specs.acl_entry.Lists.{KeyMap, fault, map_of}
-use Rattle.acl_rights.specs.acl_entry.Perms.{none}
-use Rattle.acl_rights.specs.acl_entry.declared.entry.Entry.{Entry}
-use Rattle.acl_rights.specs.acl_syntax.Entries.{entries_of}
-use Rattle.acl_rights.specs.acl_syntax.InTurn.{of_list}
-use Rattle.acl_rights.specs.acl_syntax.declared.entries.Sep.TheVariants.{Comma}
-use Rattle.acl_rights.specs.acl_syntax.declared.entries.Spec.{Spec}
-use Rattle.acl_rights.specs.acl_syntax.declared.entries.Want.TheVariants.{Plain}
-use Rattle.acl_rights.specs.acl_syntax.declared.fault.TextFault.{TextFault}
-use Rattle.acl_rights.specs.acl_syntax.declared.fault.Which.{Which}
-use Rattle.acl_rights.specs.acl_people.KnownPeople.{KnownPeople, naming_of}
-use Rattle.facl_output.specs.facl_words.Forms.{Text}
+use Rattle.acl_entry.specs.Lists.{KeyMap, fault, map_of}
+use Rattle.acl_entry.specs.Perms.{none}
+use Rattle.acl_entry.specs.declared.entry.Entry.{Entry}
+use Rattle.acl_syntax.specs.Entries.{entries_of}
+use Rattle.acl_syntax.specs.InTurn.{of_list}
+use Rattle.acl_syntax.specs.declared.entries.Sep.TheVariants.{Comma}
+use Rattle.acl_syntax.specs.declared.entries.Spec.{Spec}
+use Rattle.acl_syntax.specs.declared.entries.Want.TheVariants.{Plain}
+use Rattle.acl_syntax.specs.declared.fault.TextFault.{TextFault}
+use Rattle.acl_syntax.specs.declared.fault.Which.{Which}
+use Rattle.acl_people.specs.KnownPeople.{KnownPeople, naming_of}
+use Rattle.facl_words.specs.Forms.{Text}
 use Rattle.facl_output.specs.Faults.{line_fault_of_text}
 use Rattle.facl_output.specs.declared.fault.LineFault.{LineFault}
 use Rattle.facl_output.specs.declared.fault.Source.{Source}

@@ -1,14 +1,14 @@
 -- load: a text is read as users, groups or files.
 use Rattle.std.specs.Prelude.{ℕ, List, [], ◌∷◌, codes, refl, if◌then◌else◌, Option, None, Some, Result}
 use Rattle.std.specs.Str.{bytes_eq}
-use Rattle.acl_rights.specs.acl_tree.declared.command.Table.{Table}
-use Rattle.acl_rights.specs.acl_tree.declared.command.Table.TheVariants.{Passwd, Group, Dump}
-use Rattle.acl_rights.specs.acl_tree.UserMoves.{load_moves}
-use Rattle.acl_rights.specs.acl_tree.State.{State}
-use Rattle.acl_rights.specs.acl_tree.Loads.{load}
-use Rattle.facl_output.specs.facl_words.Forms.{Text}
-use Rattle.facl_output.specs.facl_words.Syntax.{Syntax, one}
-use Rattle.facl_output.specs.facl_words.declared.words.Words.{Words}
+use Rattle.acl_tree.specs.declared.command.Table.{Table}
+use Rattle.acl_tree.specs.declared.command.Table.TheVariants.{Passwd, Group, Dump}
+use Rattle.acl_tree.specs.UserMoves.{load_moves}
+use Rattle.acl_tree.specs.State.{State}
+use Rattle.acl_tree.specs.Loads.{load}
+use Rattle.facl_words.specs.Forms.{Text}
+use Rattle.facl_words.specs.Syntax.{Syntax, one}
+use Rattle.facl_words.specs.declared.words.Words.{Words}
 use Rattle.facl_output.specs.declared.fault.LineFault.{LineFault}
 use Rattle.facl.specs.Asked.{operand}
 use Rattle.facl.specs.Readers.{and_then}

@@ -2,15 +2,15 @@
 use Rattle.std.specs.Prelude.{[], ◌∷◌, Bool, codes, refl, Option, Some, option_and_then, Result}
 use Rattle.facl.specs.Asked.{has, operand}
 use Rattle.facl.specs.Answers.{may_text}
-use Rattle.acl_rights.specs.acl_entry.Perms.{Perms}
-use Rattle.acl_rights.specs.acl_files.declared.fault.TreeFault.TheVariants.{NoSuchUser}
-use Rattle.acl_rights.specs.acl_people.KnownPeople.{users_of}
-use Rattle.acl_rights.specs.acl_people.NameTables.{place_of_word}
-use Rattle.acl_rights.specs.acl_tree.State.{State}
-use Rattle.acl_rights.specs.acl_verdicts.Rows.{Verdict}
-use Rattle.facl_output.specs.facl_words.Forms.{Text}
-use Rattle.facl_output.specs.facl_words.Syntax.{Syntax, by_name, one}
-use Rattle.facl_output.specs.facl_words.declared.words.Words.{Words}
+use Rattle.acl_entry.specs.Perms.{Perms}
+use Rattle.acl_files.specs.declared.fault.TreeFault.TheVariants.{NoSuchUser}
+use Rattle.acl_people.specs.KnownPeople.{users_of}
+use Rattle.acl_people.specs.NameTables.{place_of_word}
+use Rattle.acl_tree.specs.State.{State}
+use Rattle.acl_verdicts.specs.Rows.{Verdict}
+use Rattle.facl_words.specs.Forms.{Text}
+use Rattle.facl_words.specs.Syntax.{Syntax, by_name, one}
+use Rattle.facl_words.specs.declared.words.Words.{Words}
 use Rattle.facl_output.specs.declared.fault.LineFault.{LineFault}
 use Rattle.facl_output.specs.declared.fault.LineFault.TheVariants.{Tree}
 use Rattle.facl.specs.Operands.{name_meant}

@@ -1,14 +1,13 @@
 -- The operands of a line: files and users.
 use Rattle.std.specs.Prelude.{ℕ, ◌+◌, List, [], ◌∷◌, Option, Some, None, Result, Ok, Err}
-use Rattle.acl_rights.specs.acl_names.Names.{decoded}
-use Rattle.acl_rights.specs.acl_names.Paths.{path_of}
-use Rattle.acl_rights.specs.acl_syntax.Blanks.{trimmed}
-use Rattle.acl_rights.specs.acl_syntax.declared.fault.FaultKind.TheVariants.{BadPath}
-use Rattle.acl_rights.specs.acl_people.KnownPeople.{KnownPeople, users_of}
-use Rattle.acl_rights.specs.acl_people.NameTables.{place_of_word}
-use Rattle.acl_rights.specs.acl_files.declared.fault.TreeFault.TheVariants.{NoSuchFile, NoSuchUser}
-use Rattle.acl_rights.specs.acl_tree.Files.{PathOf}
-use Rattle.facl_output.specs.facl_words.Forms.{Text}
+use Rattle.acl_names.specs.Names.{decoded}
+use Rattle.acl_names.specs.Paths.{path_of, PathOf}
+use Rattle.acl_syntax.specs.Blanks.{trimmed}
+use Rattle.acl_syntax.specs.declared.fault.FaultKind.TheVariants.{BadPath}
+use Rattle.acl_people.specs.KnownPeople.{KnownPeople, users_of}
+use Rattle.acl_people.specs.NameTables.{place_of_word}
+use Rattle.acl_files.specs.declared.fault.TreeFault.TheVariants.{NoSuchFile, NoSuchUser}
+use Rattle.facl_words.specs.Forms.{Text}
 use Rattle.facl_output.specs.declared.fault.LineFault.{LineFault}
 use Rattle.facl_output.specs.declared.fault.LineFault.TheVariants as faults
 use Rattle.facl_output.specs.declared.fault.Source.TheVariants.{Operand}

@@ -1,8 +1,8 @@
 -- What the readers of the tools have in common.
 use Rattle.std.specs.Prelude.{Option, option_and_then, option_map, false}
-use Rattle.acl_rights.specs.acl_entry.Perms.{Perms}
-use Rattle.acl_rights.specs.acl_syntax.Letters.{perms_of}
-use Rattle.facl_output.specs.facl_words.Forms.{Text}
+use Rattle.acl_entry.specs.Perms.{Perms}
+use Rattle.acl_syntax.specs.Letters.{perms_of}
+use Rattle.facl_words.specs.Forms.{Text}
 
 -- what is read next, where this could be read
 abbrev pub and_then : {A B : Type 0} → Option A → (A → Option B) → Option B

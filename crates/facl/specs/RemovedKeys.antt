@@ -2,9 +2,9 @@
 use Rattle.std.specs.Prelude.{List, Bool, not, ◌&&◌, if◌then◌else◌, fold, is_some}
 use Rattle.std.specs.Bool.{beq}
 use Rattle.std.specs.FinMap as maps
-use Rattle.acl_rights.specs.acl_entry.Lists.{KeyMap}
-use Rattle.acl_rights.specs.acl_entry.Perms.{none}
-use Rattle.acl_rights.specs.acl_syntax.declared.entries.Spec.{Spec}
+use Rattle.acl_entry.specs.Lists.{KeyMap}
+use Rattle.acl_entry.specs.Perms.{none}
+use Rattle.acl_syntax.specs.declared.entries.Spec.{Spec}
 use Rattle.facl.specs.declared.tools.setfacl_entries.RemovedKeys.{RemovedKeys}
 
 -- the keys of one list, once an entry is added

@@ -1,8 +1,8 @@
 -- Requests as they are listed.
 use Rattle.std.specs.Prelude.{ℕ, Bool, if◌then◌else◌, List, [], ◌∷◌, ◌++◌, map, filter, codes}
 use Rattle.std.specs.List.{flat_map}
-use Rattle.acl_rights.specs.acl_entry.Perms.{Perms, numbered, text}
-use Rattle.acl_rights.specs.acl_entry.Check.{has}
+use Rattle.acl_entry.specs.Perms.{Perms, numbered, text}
+use Rattle.acl_entry.specs.Check.{has}
 
 -- the requests other than none that are granted, in rising number
 abbrev pub requests_granted : ℕ → List Perms

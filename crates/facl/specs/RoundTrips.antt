@@ -1,26 +1,26 @@
 -- Where what tools print of the lists of files is read by tools as these lists.
 use Rattle.std.specs.Prelude.{◌≡◌, ℕ, List, [], ◌∷◌, ◌++◌, Bool, false, Option, Some, None, IfSome, Ok, codes, option_map}
-use Rattle.acl_rights.specs.acl_edit.Edits.{edit}
-use Rattle.acl_rights.specs.acl_edit.Nodes.{with_lists}
-use Rattle.acl_rights.specs.acl_edit.declared.edit.Edit.TheVariants.{Put}
-use Rattle.acl_rights.specs.acl_edit.declared.node.Node.{Node}
-use Rattle.acl_rights.specs.acl_entry.Lists.{KeyMap}
-use Rattle.acl_rights.specs.acl_people.KnownPeople.{KnownPeople, naming_of}
-use Rattle.acl_rights.specs.acl_syntax.declared.fault.Which.{Which}
-use Rattle.acl_rights.specs.acl_syntax.declared.fault.Which.TheVariants.{Access, Default}
-use Rattle.acl_rights.specs.acl_tree.Files.{PathOf}
-use Rattle.acl_rights.specs.acl_tree.Found.{FoundFile}
+use Rattle.acl_edit.specs.Edits.{edit}
+use Rattle.acl_edit.specs.Nodes.{with_lists}
+use Rattle.acl_edit.specs.declared.edit.Edit.TheVariants.{Put}
+use Rattle.acl_edit.specs.declared.node.Node.{Node}
+use Rattle.acl_entry.specs.Lists.{KeyMap}
+use Rattle.acl_people.specs.KnownPeople.{KnownPeople, naming_of}
+use Rattle.acl_syntax.specs.declared.fault.Which.{Which}
+use Rattle.acl_syntax.specs.declared.fault.Which.TheVariants.{Access, Default}
+use Rattle.acl_names.specs.Paths.{PathOf}
+use Rattle.acl_files.specs.Found.{FoundFile}
 use Rattle.facl_output.specs.AttrListings.{attr_line}
 use Rattle.facl_output.specs.ChaclListings.{chacl_line}
 use Rattle.facl_output.specs.Listings.{path_shown}
 use Rattle.facl_output.specs.TestListing.{file_line}
-use Rattle.facl_output.specs.facl_words.Forms.{Text}
+use Rattle.facl_words.specs.Forms.{Text}
 use Rattle.facl_output.specs.declared.fault.Source.TheVariants.{Entry, DefaultEntry}
 use Rattle.facl.specs.Lists.{list_of_text}
 use Rattle.facl.specs.Setattr as setattr
 use Rattle.facl.specs.Setattr.{attribute_of, attribute_with, put_of}
 use Rattle.facl.specs.Setfacl.{edit_of, entries_of_line}
-use Rattle.acl_rights.specs.acl_edit.declared.edit.ChangeEntries.{ChangeEntries}
+use Rattle.acl_edit.specs.declared.edit.ChangeEntries.{ChangeEntries}
 use Rattle.facl.specs.declared.tools.setfacl.ChangeLine.{ChangeLine}
 use Rattle.facl.specs.declared.tools.setfacl.EntrySource.TheVariants.{InWord}
 

@@ -1,19 +1,19 @@
 -- What a run writes.
 use Rattle.std.specs.Prelude.{◌≡◌, ◌+◌, ◌≤◌, ℕ, Bool, true, false, List, Option, Result, Ok, Err, ◌⊎◌, length, IfSome}
-use Rattle.acl_rights.specs.acl_tree.State.{State}
-use Rattle.facl_output.specs.facl_script.Limits.{script_limit}
-use Rattle.facl_output.specs.facl_script.Play.{session}
-use Rattle.facl_output.specs.facl_script.Run.{StopsWith}
-use Rattle.facl_output.specs.facl_script.Streams.{Streams, streams, moment}
-use Rattle.facl_output.specs.facl_script.Write.{Writes}
-use Rattle.facl_output.specs.facl_script.declared.fault.ScriptFault.{ScriptFault}
-use Rattle.facl_output.specs.facl_script.declared.fault.ScriptFault.TheVariants as scripts
-use Rattle.facl_output.specs.facl_words.TextWords.{line_asks}
+use Rattle.acl_tree.specs.State.{State}
+use Rattle.facl_script.specs.Limits.{script_limit}
+use Rattle.facl_script.specs.Play.{session}
+use Rattle.facl_script.specs.Run.{StopsWith}
+use Rattle.facl_script.specs.Streams.{Streams, streams, moment}
+use Rattle.facl_script.specs.Write.{Writes}
+use Rattle.facl_script.specs.declared.fault.ScriptFault.{ScriptFault}
+use Rattle.facl_script.specs.declared.fault.ScriptFault.TheVariants as scripts
+use Rattle.facl_words.specs.TextWords.{line_asks}
 use Rattle.facl_output.specs.declared.fault.RunFault.{RunFault}
 use Rattle.facl_output.specs.declared.fault.RunFault.TheVariants.{Read, Write, Setup, ScriptTooLong, NoMemory}
 use Rattle.facl.specs.declared.status.Status.{Status}
 use Rattle.facl.specs.declared.status.Status.TheVariants.{Accepted, Refused}
-use Rattle.facl.specs.Tools.{Verdict}
+use Rattle.acl_verdicts.specs.Rows.{Verdict}
 use Rattle.acl_rights.specs.Costs.{all_pairs}
 use Rattle.acl_rights.specs.declared.indexed.States.{States}
 use Rattle.acl_rights.specs.States.{from_start}

@@ -1,7 +1,7 @@
 -- What a contract sees of a session: its states, and the output and the message of the last line.
 use Rattle.std.specs.Prelude.{◌≡◌, ℕ, Bool, false, if◌then◌else◌, List, []}
-use Rattle.facl_output.specs.facl_script.Play.{Answer}
-use Rattle.facl_output.specs.facl_script.Run.{IsAnswer}
+use Rattle.facl_script.specs.Play.{Answer}
+use Rattle.facl_script.specs.Run.{IsAnswer}
 use Rattle.facl.specs.declared.session.FaclSession.{FaclSession}
 use Rattle.acl_rights.specs.declared.indexed.States.{States}
 use Rattle.acl_rights.specs.States.{states_in}

@@ -4,16 +4,16 @@ use Rattle.std.specs.List.{starts_with}
 use Rattle.std.specs.Option.{option_or}
 use Rattle.hex.specs.Hex.{decode_of}
 use Rattle.hex.specs.declared.error.FromHexError.{FromHexError}
-use Rattle.facl_output.specs.acl_attr.Attr.{attr_of, bad_attr}
-use Rattle.acl_rights.specs.acl_edit.declared.edit.Edit.{Edit}
-use Rattle.acl_rights.specs.acl_edit.declared.edit.Edit.TheVariants.{Put}
-use Rattle.acl_rights.specs.acl_entry.Lists.{KeyMap}
-use Rattle.acl_rights.specs.acl_syntax.declared.fault.Which.{Which}
-use Rattle.acl_rights.specs.acl_syntax.declared.fault.Which.TheVariants.{Access, Default}
-use Rattle.acl_rights.specs.acl_tree.State.{State}
-use Rattle.facl_output.specs.facl_words.Forms.{Text, files_of}
-use Rattle.facl_output.specs.facl_words.Syntax.{Syntax, one}
-use Rattle.facl_output.specs.facl_words.declared.words.Words.{Words}
+use Rattle.acl_attr.specs.Attr.{attr_of, bad_attr}
+use Rattle.acl_edit.specs.declared.edit.Edit.{Edit}
+use Rattle.acl_edit.specs.declared.edit.Edit.TheVariants.{Put}
+use Rattle.acl_entry.specs.Lists.{KeyMap}
+use Rattle.acl_syntax.specs.declared.fault.Which.{Which}
+use Rattle.acl_syntax.specs.declared.fault.Which.TheVariants.{Access, Default}
+use Rattle.acl_tree.specs.State.{State}
+use Rattle.facl_words.specs.Forms.{Text, files_of}
+use Rattle.facl_words.specs.Syntax.{Syntax, one}
+use Rattle.facl_words.specs.declared.words.Words.{Words}
 use Rattle.facl_output.specs.declared.fault.LineFault.{LineFault}
 use Rattle.facl_output.specs.declared.fault.LineFault.TheVariants as faults
 use Rattle.facl_output.specs.declared.fault.Source.TheVariants.{AttributeEntry}

@@ -2,27 +2,27 @@
 use Rattle.std.specs.Prelude.{ℕ, List, Bool, false, not, ◌&&◌, ◌||◌, [], Option, Some, None, Result, Ok, Err, option_map, if◌then◌else◌}
 use Rattle.std.specs.Bool.{beq}
 use Rattle.std.specs.List.{find, list_any}
-use Rattle.acl_rights.specs.acl_entry.Keys.{same_key}
-use Rattle.acl_rights.specs.acl_syntax.Entries.{entries_of}
-use Rattle.acl_rights.specs.acl_syntax.declared.entries.Sep.{Sep}
-use Rattle.acl_rights.specs.acl_syntax.declared.entries.Sep.TheVariants.{Comma, Line}
-use Rattle.acl_rights.specs.acl_syntax.declared.entries.Spec.{Spec}
-use Rattle.acl_rights.specs.acl_syntax.declared.entries.Want.{Want}
-use Rattle.acl_rights.specs.acl_syntax.declared.entries.Want.TheVariants.{WithPerms, WithoutPerms}
-use Rattle.acl_rights.specs.acl_dump.Records.{dump_of}
-use Rattle.acl_rights.specs.acl_dump.declared.record.DumpRecord.{DumpRecord}
-use Rattle.acl_rights.specs.acl_dump.declared.record.DumpUse.TheVariants as uses
-use Rattle.acl_rights.specs.acl_edit.declared.edit.Edit.{Edit as FileEdit}
-use Rattle.acl_rights.specs.acl_edit.declared.edit.Edit.TheVariants as edits
-use Rattle.acl_rights.specs.acl_people.KnownPeople.{KnownPeople, naming_of}
-use Rattle.acl_rights.specs.acl_tree.Files.{Files}
-use Rattle.acl_rights.specs.acl_tree.Found.{FoundFile, files_found}
-use Rattle.acl_rights.specs.acl_tree.Restoring.{paths_of}
-use Rattle.acl_rights.specs.acl_tree.State.{State}
-use Rattle.acl_rights.specs.acl_tree.Step.{step}
-use Rattle.acl_rights.specs.acl_tree.declared.command.Command.{Command}
-use Rattle.acl_rights.specs.acl_tree.declared.command.Command.TheVariants.{Chmod, Creat, Edit, Gpasswd, Load, Restore, Rm, Useradd, Userdel, Usermod}
-use Rattle.acl_rights.specs.acl_files.declared.fault.TreeFault.{TreeFault}
+use Rattle.acl_entry.specs.Keys.{same_key}
+use Rattle.acl_syntax.specs.Entries.{entries_of}
+use Rattle.acl_syntax.specs.declared.entries.Sep.{Sep}
+use Rattle.acl_syntax.specs.declared.entries.Sep.TheVariants.{Comma, Line}
+use Rattle.acl_syntax.specs.declared.entries.Spec.{Spec}
+use Rattle.acl_syntax.specs.declared.entries.Want.{Want}
+use Rattle.acl_syntax.specs.declared.entries.Want.TheVariants.{WithPerms, WithoutPerms}
+use Rattle.acl_dump.specs.Records.{dump_of}
+use Rattle.acl_dump.specs.declared.record.DumpRecord.{DumpRecord}
+use Rattle.acl_dump.specs.declared.record.DumpUse.TheVariants as uses
+use Rattle.acl_edit.specs.declared.edit.Edit.{Edit as FileEdit}
+use Rattle.acl_edit.specs.declared.edit.Edit.TheVariants as edits
+use Rattle.acl_people.specs.KnownPeople.{KnownPeople, naming_of}
+use Rattle.acl_files.specs.Files.{Files}
+use Rattle.acl_files.specs.Found.{FoundFile, files_found}
+use Rattle.acl_files.specs.Restoring.{paths_of}
+use Rattle.acl_tree.specs.State.{State}
+use Rattle.acl_tree.specs.Step.{step}
+use Rattle.acl_tree.specs.declared.command.Command.{Command}
+use Rattle.acl_tree.specs.declared.command.Command.TheVariants.{Chmod, Creat, Edit, Gpasswd, Load, Restore, Rm, Useradd, Userdel, Usermod}
+use Rattle.acl_files.specs.declared.fault.TreeFault.{TreeFault}
 use Rattle.facl_output.specs.Faults.{line_fault_of_tree}
 use Rattle.facl_output.specs.declared.fault.LineFault.{LineFault}
 use Rattle.facl_output.specs.declared.fault.LineFault.TheVariants as faults
@@ -36,7 +36,7 @@ use Rattle.facl.specs.declared.tools.setfacl.EntrySource.{EntrySource}
 use Rattle.facl.specs.declared.tools.setfacl.EntrySource.TheVariants.{InText, InWord}
 use Rattle.facl.specs.declared.tools.setfacl.SetfaclLine.{SetfaclLine}
 use Rattle.facl.specs.declared.tools.setfacl.SetfaclLine.TheVariants as lines
-use Rattle.acl_rights.specs.acl_edit.declared.edit.ChangeEntries.{ChangeEntries}
+use Rattle.acl_edit.specs.declared.edit.ChangeEntries.{ChangeEntries}
 
 -- ---- entry texts
 

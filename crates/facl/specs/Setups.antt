@@ -1,10 +1,10 @@
 -- The state before the first line of a script.
 use Rattle.std.specs.Prelude.{ℕ, List, Option, None, Some, option_map, Result, Ok, Err}
-use Rattle.acl_rights.specs.acl_tree.declared.command.Table.{Table}
-use Rattle.acl_rights.specs.acl_tree.declared.command.Table.TheVariants.{Passwd, Group, Dump}
-use Rattle.acl_rights.specs.acl_files.declared.fault.TreeFault.{TreeFault}
-use Rattle.acl_rights.specs.acl_tree.State.{State, nothing}
-use Rattle.acl_rights.specs.acl_tree.Loads.{load}
+use Rattle.acl_tree.specs.declared.command.Table.{Table}
+use Rattle.acl_tree.specs.declared.command.Table.TheVariants.{Passwd, Group, Dump}
+use Rattle.acl_files.specs.declared.fault.TreeFault.{TreeFault}
+use Rattle.acl_tree.specs.State.{State, nothing}
+use Rattle.acl_tree.specs.Loads.{load}
 use Rattle.facl_output.specs.declared.fault.RunFault.{RunFault}
 use Rattle.facl_output.specs.declared.fault.RunFault.TheVariants as runs
 use Rattle.facl.specs.declared.setup.Setup.{Setup}

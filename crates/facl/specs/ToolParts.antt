@@ -1,20 +1,20 @@
 -- Why a line is refused once its words are read: which parts of it are at fault, each by itself, and their order.
 use Rattle.std.specs.Prelude.{◌≡◌, ◌+◌, ℕ, Bool, true, false, List, [], ◌∷◌, slice_get, Option, Some, None, Result, Ok, Err}
 use Rattle.std.specs.FinMap.{find}
-use Rattle.acl_rights.specs.acl_edit.declared.edit.Edit.{Edit}
-use Rattle.acl_rights.specs.acl_edit.declared.edit.Edit.TheVariants.{Put, Flatten}
-use Rattle.acl_rights.specs.acl_files.declared.fault.TreeFault.TheVariants.{NoSuchFile, NoSuchUser}
-use Rattle.acl_rights.specs.acl_names.Paths.{path_of, path_cmp}
-use Rattle.acl_rights.specs.acl_people.KnownPeople.{KnownPeople, users_of}
-use Rattle.acl_rights.specs.acl_people.NameTables.{place_of_word}
-use Rattle.acl_rights.specs.acl_syntax.declared.entries.Spec.{Spec}
-use Rattle.acl_rights.specs.acl_syntax.declared.entries.Want.TheVariants.{WithPerms, WithoutPerms}
-use Rattle.acl_rights.specs.acl_syntax.declared.fault.Which.TheVariants.{Access, Default}
-use Rattle.acl_rights.specs.acl_tree.declared.command.Command.TheVariants as commands
-use Rattle.acl_rights.specs.acl_tree.declared.command.NewFile.{NewFile}
-use Rattle.acl_rights.specs.acl_tree.Files.{PathOf, Files}
-use Rattle.acl_rights.specs.acl_tree.State.{State}
-use Rattle.facl_output.specs.facl_words.Forms.{Text}
+use Rattle.acl_edit.specs.declared.edit.Edit.{Edit}
+use Rattle.acl_edit.specs.declared.edit.Edit.TheVariants.{Put, Flatten}
+use Rattle.acl_files.specs.declared.fault.TreeFault.TheVariants.{NoSuchFile, NoSuchUser}
+use Rattle.acl_names.specs.Paths.{path_of, path_cmp, PathOf}
+use Rattle.acl_people.specs.KnownPeople.{KnownPeople, users_of}
+use Rattle.acl_people.specs.NameTables.{place_of_word}
+use Rattle.acl_syntax.specs.declared.entries.Spec.{Spec}
+use Rattle.acl_syntax.specs.declared.entries.Want.TheVariants.{WithPerms, WithoutPerms}
+use Rattle.acl_syntax.specs.declared.fault.Which.TheVariants.{Access, Default}
+use Rattle.acl_tree.specs.declared.command.Command.TheVariants as commands
+use Rattle.acl_tree.specs.declared.command.NewFile.{NewFile}
+use Rattle.acl_files.specs.Files.{Files}
+use Rattle.acl_tree.specs.State.{State}
+use Rattle.facl_words.specs.Forms.{Text}
 use Rattle.facl_output.specs.declared.fault.LineFault.{LineFault}
 use Rattle.facl_output.specs.declared.fault.LineFault.TheVariants as faults
 use Rattle.facl_output.specs.declared.fault.Source.TheVariants.{Entry, DefaultEntry}
@@ -31,7 +31,7 @@ use Rattle.facl.specs.declared.tools.creat.CreatLine.{CreatLine}
 use Rattle.facl.specs.declared.tools.setfacl.ChangeLine.{ChangeLine}
 use Rattle.facl.specs.declared.tools.setfacl.SetfaclLine.{SetfaclLine}
 use Rattle.facl.specs.declared.tools.setfacl.SetfaclLine.TheVariants as setfacl
-use Rattle.acl_rights.specs.acl_edit.declared.edit.ChangeEntries.{ChangeEntries}
+use Rattle.acl_edit.specs.declared.edit.ChangeEntries.{ChangeEntries}
 use Rattle.facl.specs.declared.tools.ToolLine.{ToolLine}
 use Rattle.facl.specs.declared.tools.ToolLine.TheVariants as lines
 

@@ -2,13 +2,13 @@
 use Rattle.std.specs.Prelude.{ℕ, Bool, true, false, List, [], ◌∷◌, Option, Some, option_map, unwrap_or, codes, Result, Ok}
 use Rattle.std.specs.List.{find}
 use Rattle.std.specs.Str.{bytes_eq}
-pub use Rattle.acl_rights.specs.Tables.{Verdict}
-use Rattle.acl_rights.specs.acl_tree.State.{State}
-use Rattle.facl_output.specs.facl_words.Forms.{Text}
-use Rattle.facl_output.specs.facl_words.Rows.{syntax_view}
-use Rattle.facl_output.specs.facl_words.Syntax.{Syntax}
-use Rattle.facl_output.specs.facl_words.Words.{words_by}
-use Rattle.facl_output.specs.facl_words.declared.words.Words.{Words}
+use Rattle.acl_verdicts.specs.Rows.{Verdict}
+use Rattle.acl_tree.specs.State.{State}
+use Rattle.facl_words.specs.Forms.{Text}
+use Rattle.facl_words.specs.Rows.{syntax_view}
+use Rattle.facl_words.specs.Syntax.{Syntax}
+use Rattle.facl_words.specs.Words.{words_by}
+use Rattle.facl_words.specs.declared.words.Words.{Words}
 use Rattle.facl_output.specs.declared.fault.LineFault.{LineFault}
 use Rattle.facl_output.specs.declared.fault.LineFault.TheVariants.{Usage}
 use Rattle.facl.specs.Replies.{Reply, after, or_fault}

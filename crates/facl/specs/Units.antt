@@ -1,18 +1,19 @@
 -- What a unit of a script does: a line, with its text if it takes one.
 use Rattle.std.specs.Prelude.{ℕ, Bool, true, false, if◌then◌else◌, List, [], ◌∷◌, Option, None, Some, Result, Ok, Err}
 use Rattle.std.specs.Option.{option_map_or}
-use Rattle.facl_output.specs.facl_script.Play.{Answer, quiet}
-use Rattle.facl_output.specs.facl_script.Units.{ScriptUnit, UnitText, none, whole, too_long, unended}
-use Rattle.facl_output.specs.facl_script.Words.{has_no_words, line_words}
-use Rattle.facl_output.specs.facl_script.declared.words.SplitFault.{SplitFault}
-use Rattle.facl_output.specs.facl_words.Args.{files_for}
-use Rattle.facl_output.specs.facl_words.Forms.{Text}
+use Rattle.facl_script.specs.Play.{Answer, quiet}
+use Rattle.facl_script.specs.Units.{ScriptUnit, UnitText, none, whole, too_long, unended}
+use Rattle.facl_script.specs.Words.{has_no_words, line_words}
+use Rattle.facl_script.specs.declared.words.SplitFault.{SplitFault}
+use Rattle.facl_words.specs.Args.{files_for}
+use Rattle.facl_words.specs.Forms.{Text}
 use Rattle.facl_output.specs.Faults.{line_fault_of_split}
 use Rattle.facl_output.specs.Messages.{message, warning}
 use Rattle.facl_output.specs.declared.fault.LineFault.{LineFault}
 use Rattle.facl_output.specs.declared.fault.LineFault.TheVariants.{LineTooLong, UnknownTool, UnendedText, TextLineTooLong, Usage, NoMemory}
 use Rattle.facl.specs.Replies.{Reply, after, or_fault, printed}
-use Rattle.facl.specs.Tools.{Verdict, loads, tool_line, tool_named}
+use Rattle.acl_verdicts.specs.Rows.{Verdict}
+use Rattle.facl.specs.Tools.{loads, tool_line, tool_named}
 use Rattle.facl.specs.declared.tools.Tool.{Tool}
 use Rattle.acl_rights.specs.declared.indexed.States.{States}
 use Rattle.acl_rights.specs.Costs.{most_between}

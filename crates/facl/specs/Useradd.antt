@@ -1,15 +1,15 @@
 -- useradd(8): a new user.
 use Rattle.std.specs.Prelude.{ℕ, [], ◌∷◌, codes, refl, if◌then◌else◌, Option, None, Some, Result}
-use Rattle.acl_rights.specs.acl_names.Names.{decoded}
-use Rattle.acl_rights.specs.acl_people.UserNames.{is_user_name}
-use Rattle.acl_rights.specs.acl_syntax.Ids.{id_of}
-use Rattle.acl_rights.specs.acl_tree.declared.command.NewUser.{NewUser}
-use Rattle.acl_rights.specs.acl_tree.Accounts.{useradd}
-use Rattle.acl_rights.specs.acl_tree.State.{State, with_change}
-use Rattle.acl_rights.specs.acl_tree.declared.user_change.UserChange.TheVariants.{Added}
-use Rattle.facl_output.specs.facl_words.Forms.{Text}
-use Rattle.facl_output.specs.facl_words.Syntax.{Syntax, by_letter, one}
-use Rattle.facl_output.specs.facl_words.declared.words.Words.{Words}
+use Rattle.acl_names.specs.Names.{decoded}
+use Rattle.acl_syntax.specs.UserNames.{is_user_name}
+use Rattle.acl_syntax.specs.Ids.{id_of}
+use Rattle.acl_tree.specs.declared.command.NewUser.{NewUser}
+use Rattle.acl_tree.specs.Accounts.{useradd}
+use Rattle.acl_tree.specs.State.{State, with_change}
+use Rattle.acl_tree.specs.declared.user_change.UserChange.TheVariants.{Added}
+use Rattle.facl_words.specs.Forms.{Text}
+use Rattle.facl_words.specs.Syntax.{Syntax, by_letter, one}
+use Rattle.facl_words.specs.declared.words.Words.{Words}
 use Rattle.facl_output.specs.declared.fault.LineFault.{LineFault}
 use Rattle.facl.specs.Asked.{operand, value}
 use Rattle.facl.specs.Operands.{name_meant}

@@ -1,9 +1,9 @@
 -- userdel(8): a user is removed.
 use Rattle.std.specs.Prelude.{[], ◌∷◌, codes, refl, Result}
-use Rattle.acl_rights.specs.acl_tree.Accounts.{userdel}
-use Rattle.acl_rights.specs.acl_tree.State.{State}
-use Rattle.facl_output.specs.facl_words.Syntax.{Syntax, one}
-use Rattle.facl_output.specs.facl_words.declared.words.Words.{Words}
+use Rattle.acl_tree.specs.Accounts.{userdel}
+use Rattle.acl_tree.specs.State.{State}
+use Rattle.facl_words.specs.Syntax.{Syntax, one}
+use Rattle.facl_words.specs.declared.words.Words.{Words}
 use Rattle.facl_output.specs.declared.fault.LineFault.{LineFault}
 use Rattle.facl.specs.Asked.{operand}
 use Rattle.facl.specs.Operands.{name_meant}

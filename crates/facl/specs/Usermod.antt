@@ -1,9 +1,9 @@
 -- usermod(8): a user gets another primary group.
 use Rattle.std.specs.Prelude.{[], ◌∷◌, codes, refl, Option, Some, Result}
-use Rattle.acl_rights.specs.acl_tree.Memberships.{usermod}
-use Rattle.acl_rights.specs.acl_tree.State.{State}
-use Rattle.facl_output.specs.facl_words.Syntax.{Syntax, by_letter, one}
-use Rattle.facl_output.specs.facl_words.declared.words.Words.{Words}
+use Rattle.acl_tree.specs.Memberships.{usermod}
+use Rattle.acl_tree.specs.State.{State}
+use Rattle.facl_words.specs.Syntax.{Syntax, by_letter, one}
+use Rattle.facl_words.specs.declared.words.Words.{Words}
 use Rattle.facl_output.specs.declared.fault.LineFault.{LineFault}
 use Rattle.facl.specs.Asked.{operand, value}
 use Rattle.facl.specs.Operands.{name_meant}

@@ -2,17 +2,17 @@
 use Rattle.std.specs.Prelude.{List, [], ◌∷◌, Bool, codes, refl, Option, Some, option_and_then, Result}
 use Rattle.facl.specs.Asked.{has, operand, operands_from}
 use Rattle.facl.specs.WhyText.{files_asked, why_text}
-use Rattle.acl_rights.specs.acl_entry.Person.{Person}
-use Rattle.acl_rights.specs.acl_files.declared.fault.TreeFault.TheVariants.{NoSuchUser}
-use Rattle.acl_rights.specs.acl_people.KnownPeople.{KnownPeople, users_of, subject, naming_of}
-use Rattle.acl_rights.specs.acl_people.NameTables.{place_of_word}
-use Rattle.acl_rights.specs.acl_tree.Files.{PathOf}
-use Rattle.acl_rights.specs.acl_tree.Found.{FoundFile}
-use Rattle.acl_rights.specs.acl_tree.Operands.{first_missing}
-use Rattle.acl_rights.specs.acl_tree.State.{State}
-use Rattle.facl_output.specs.facl_words.Forms.{Text, files_of}
-use Rattle.facl_output.specs.facl_words.Syntax.{Syntax, by_name, one, some}
-use Rattle.facl_output.specs.facl_words.declared.words.Words.{Words}
+use Rattle.acl_entry.specs.Person.{Person}
+use Rattle.acl_files.specs.declared.fault.TreeFault.TheVariants.{NoSuchUser}
+use Rattle.acl_people.specs.KnownPeople.{KnownPeople, users_of, subject, naming_of}
+use Rattle.acl_people.specs.NameTables.{place_of_word}
+use Rattle.acl_names.specs.Paths.{PathOf}
+use Rattle.acl_files.specs.Found.{FoundFile}
+use Rattle.acl_files.specs.Operands.{first_missing}
+use Rattle.acl_tree.specs.State.{State}
+use Rattle.facl_words.specs.Forms.{Text, files_of}
+use Rattle.facl_words.specs.Syntax.{Syntax, by_name, one, some}
+use Rattle.facl_words.specs.declared.words.Words.{Words}
 use Rattle.facl_output.specs.declared.fault.LineFault.{LineFault}
 use Rattle.facl_output.specs.declared.fault.LineFault.TheVariants.{Tree}
 use Rattle.facl.specs.Operands.{paths_from, name_meant, recorded_or_fault}

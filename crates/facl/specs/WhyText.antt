@@ -3,24 +3,25 @@ use Rattle.std.specs.Prelude.{◌≡◌, ℕ, ◌==◌, Bool, true, if◌then◌
 use Rattle.std.specs.List.{list_any, list_all, flat_map}
 use Rattle.std.specs.Ordering.{eq_by_cmp}
 use Rattle.std.specs.FinMap as maps
-use Rattle.acl_rights.specs.acl_entry.Check.{has, is_for, rights}
-use Rattle.acl_rights.specs.acl_entry.Keys.{same_key, is_class}
-use Rattle.acl_rights.specs.acl_entry.Lists.{KeyMap, entries, masked}
-use Rattle.acl_rights.specs.acl_entry.Perms.{Perms, contains}
-use Rattle.acl_rights.specs.acl_entry.Person.{Person}
-use Rattle.acl_rights.specs.acl_entry.declared.entry.Entry.{Entry}
-use Rattle.acl_rights.specs.acl_entry.declared.entry.Key.TheVariants.{Owner, User, Mask, Other}
-use Rattle.acl_rights.specs.acl_entry.declared.label.Label.{Label}
-use Rattle.acl_rights.specs.acl_names.Paths.{path_cmp}
-use Rattle.acl_rights.specs.acl_syntax.Naming.{Naming}
-use Rattle.acl_rights.specs.acl_syntax.declared.fault.Which.TheVariants.{Access}
-use Rattle.acl_rights.specs.acl_dump.Writing.{file_text, entry_line}
-use Rattle.acl_rights.specs.acl_dump.declared.effective.Effective.TheVariants.{WhereMasked}
-use Rattle.acl_rights.specs.acl_edit.declared.node.Node.{Node}
-use Rattle.acl_rights.specs.acl_names.Below.{encloses}
-use Rattle.acl_rights.specs.acl_tree.Files.{PathOf, Files}
-use Rattle.acl_rights.specs.acl_tree.Found.{FoundFile, found_in}
-use Rattle.acl_rights.specs.Reach.{reach, execute}
+use Rattle.acl_entry.specs.Check.{has, is_for, rights}
+use Rattle.acl_entry.specs.Keys.{same_key, is_class}
+use Rattle.acl_entry.specs.Lists.{KeyMap, entries, masked}
+use Rattle.acl_entry.specs.Perms.{Perms, contains}
+use Rattle.acl_entry.specs.Person.{Person}
+use Rattle.acl_entry.specs.declared.entry.Entry.{Entry}
+use Rattle.acl_entry.specs.declared.entry.Key.TheVariants.{Owner, User, Mask, Other}
+use Rattle.acl_entry.specs.declared.label.Label.{Label}
+use Rattle.acl_names.specs.Paths.{path_cmp, PathOf}
+use Rattle.acl_syntax.specs.Naming.{Naming}
+use Rattle.acl_syntax.specs.declared.fault.Which.TheVariants.{Access}
+use Rattle.acl_dump.specs.Writing.{file_text, entry_line}
+use Rattle.acl_dump.specs.declared.effective.Effective.TheVariants.{WhereMasked}
+use Rattle.acl_edit.specs.declared.node.Node.{Node}
+use Rattle.acl_names.specs.Below.{encloses}
+use Rattle.acl_files.specs.Files.{Files}
+use Rattle.acl_files.specs.Found.{FoundFile, found_in}
+use Rattle.acl_rights.specs.Reach.{reach}
+use Rattle.acl_verdicts.specs.Reach.{execute}
 use Rattle.facl_output.specs.Listings.{has_slash}
 
 -- whether an entry is one of the first case of the check that applies: the owner's entry for the owner; else the user's

@@ -1,8 +1,8 @@
 //! Why lines are refused: a law of the definitions, proved as the contract of a function that does nothing.
 
 ghost use Rattle.std.specs.Prelude.{◌≡◌, false};
-ghost use Rattle.facl_output.specs.facl_script.Units.{ScriptUnit};
-ghost use Rattle.facl.specs.Tools.{Verdict};
+ghost use Rattle.facl_script.specs.Units.{ScriptUnit};
+ghost use Rattle.acl_verdicts.specs.Rows.{Verdict};
 ghost use Rattle.facl.specs.LineParts.{IsAnsweredByFirst};
 ghost use Rattle.acl_rights.specs.declared.indexed.States.{States};
 ghost use Rattle.facl.specs.Units.{is_silent};

@@ -22,9 +22,6 @@ mod status;
 mod tools;
 mod words;
 
-pub use acl_rights::{
-    IndexedState, Judge, Key, Label, Perm, Posix, Requests, Staged, State, Subject, Verdicts,
-};
 pub use answers::changes::write_changes;
 pub use answers::index::write_index;
 pub use answers::laws::{
@@ -34,11 +31,6 @@ pub use answers::may::write_may;
 pub use answers::requests::append_requests;
 pub use answers::who::write_who;
 pub use answers::why::{files_asked, write_why};
-pub use facl_output::{
-    Feed, Flags, LineFault, OperandRow, Operands, OptionRow, RunFault, ScriptFault, Sink, Source,
-    StdFeed, StdSink, Syntax, Values, Word, WordRef, Words, push_message, push_run_fault,
-    write_whole,
-};
 pub use laws::lines_are_refused_for_their_first_fault;
 pub use program::{run, run_judged};
 pub use setup::Setup;
@@ -49,3 +41,12 @@ pub use tools::round_trips::{
 };
 pub use tools::{Tool, read_words, syntax_of};
 pub use words::read_args;
+
+// The public calls take and give these values of the crates below.
+pub use acl_entry::{Label, Perm, Requests, Subject};
+pub use acl_rights::{IndexedState, Verdicts};
+pub use acl_tree::State;
+pub use acl_verdicts::Judge;
+pub use facl_output::{LineFault, RunFault, Source, push_run_fault};
+pub use facl_script::{Feed, Sink, StdFeed, StdSink};
+pub use facl_words::{Flags, OperandRow, Operands, OptionRow, Syntax, Values, Words};

@@ -1,8 +1,8 @@
 //! A line of a script: its words, its tool, its text, and what they do.
 
 ghost use Rattle.std.specs.Prelude.{◌≡◌, ℕ, List, Option, Err, IfOk, map, string_bytes};
-ghost use Rattle.facl_output.specs.facl_script.Units.{UnitText};
-ghost use Rattle.facl_output.specs.facl_script.Held.{IsLineHeld, IsTextHeld};
+ghost use Rattle.facl_script.specs.Units.{UnitText};
+ghost use Rattle.facl_script.specs.Held.{IsLineHeld, IsTextHeld};
 ghost use Rattle.acl_rights.specs.States.{IsPrepared, loaded_state, states_in};
 ghost use Rattle.facl.specs.Replies.{Gives, Replies};
 ghost use Rattle.facl.specs.Tools.{tool_line};
@@ -10,8 +10,10 @@ ghost use Rattle.facl.specs.Units.{is_silent, words_of_line, text_or_fault, tool
 
 use crate::tools::effect::Effect;
 use crate::tools::{Tool, tool_line};
-use acl_rights::{IndexedStates, Judge};
-use facl_output::{HeldLine, HeldText, LineFault, split_words};
+use acl_rights::IndexedStates;
+use acl_verdicts::Judge;
+use facl_output::LineFault;
+use facl_script::{HeldLine, HeldText, split_words};
 use std::alloc::Global;
 
 /// Whether a line within the limit is blank or a comment.

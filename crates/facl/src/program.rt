@@ -2,16 +2,17 @@
 
 ghost use Rattle.std.specs.Prelude.{◌≡◌, ◌⊎◌, ℕ, true, false, IfOk, IfErr, IfSome, OnOk, Err};
 ghost use Rattle.std.specs.Io.KnownBytes.{IsAtEnd};
-ghost use Rattle.acl_rights.specs.acl_entry.Check.{rights};
-ghost use Rattle.facl_output.specs.facl_script.Streams.{streams};
+ghost use Rattle.acl_entry.specs.Check.{rights};
+ghost use Rattle.facl_script.specs.Streams.{streams};
 ghost use Rattle.facl.specs.Setups.{initial_state};
 ghost use Rattle.facl.specs.Runs.{RunsTo, EndsBy, devices};
 
 use crate::session::{FaclSession, JudgedSession};
 use crate::setup::{Setup, start};
 use crate::status::Status;
-use acl_rights::{Judge, Posix};
-use facl_output::{Feed, RunFault, Sink, run_session};
+use acl_verdicts::{Judge, Posix};
+use facl_output::RunFault;
+use facl_script::{Feed, Sink, run_session};
 use std::alloc::Global;
 
 /// [`run`] with a judge of who may do what in the place of acl(5)'s check. The index asks the judge about every user

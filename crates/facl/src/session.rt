@@ -2,26 +2,27 @@
 //! answered one by one.
 
 ghost use Rattle.std.specs.Prelude.{◌≡◌, ℕ, ◌+◌, ◌≤◌, [], ◌∷◌, true, false, Some, map, string_bytes, IfOk, OnOk, OnErr};
-ghost use Rattle.facl_output.specs.facl_script.Units.{ScriptUnit, UnitText};
-ghost use Rattle.facl_output.specs.facl_script.Held.{IsTextHeld, IsUnitHeld};
-ghost use Rattle.facl_output.specs.facl_words.TextWords.{line_asks};
+ghost use Rattle.facl_script.specs.Units.{ScriptUnit, UnitText};
+ghost use Rattle.facl_script.specs.Held.{IsTextHeld, IsUnitHeld};
+ghost use Rattle.facl_words.specs.TextWords.{line_asks};
 ghost use Rattle.acl_rights.specs.Costs.{all_pairs};
 ghost use Rattle.acl_rights.specs.States.{IsPrepared, from_start};
 ghost use Rattle.facl.specs.Replies.{reply_of};
 ghost use Rattle.facl.specs.Costs.{IsReady, IsReadyAfter};
 ghost use Rattle.facl.specs.Tools.{tool_named};
 ghost use Rattle.facl.specs.Units.{accepted, refused, words_of_line, answer_of, answer_of_words, reply, tool_reply, tool_word, warning_if, answered};
-ghost use Rattle.facl_output.specs.facl_script.Run.{IsAnswer};
+ghost use Rattle.facl_script.specs.Run.{IsAnswer};
 ghost use Rattle.facl.specs.Sessions.{states_of, out_of, err_of, ran_out_of_memory, IsQuiet, Answers};
 
 use crate::line::{is_silent, tool_reply, words_of_line};
 use crate::tools::Tool;
 use crate::tools::effect::Effect;
-use acl_rights::{IndexedStates, Judge, State, States};
-use facl_output::{
-    HeldLine, HeldUnit, LineFault, ReservedMessage, Session, asks_for_text, push_message,
-    push_warning,
-};
+use acl_rights::{IndexedStates, States};
+use acl_tree::State;
+use acl_verdicts::Judge;
+use facl_output::{LineFault, ReservedMessage, push_message, push_warning};
+use facl_script::{HeldLine, HeldUnit, Session};
+use facl_words::asks_for_text;
 use std::alloc::{AllocError, Global};
 
 /// The states of a script with their indexes, and the output and the message of its last line.

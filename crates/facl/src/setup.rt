@@ -1,10 +1,11 @@
 //! The texts that are loaded before a script.
 
 ghost use Rattle.std.specs.Prelude.{◌≡◌, ◌≢◌, Ok, Err, MatchResult, option_map};
-ghost use Rattle.acl_rights.specs.acl_tree.Loads.{load};
+ghost use Rattle.acl_tree.specs.Loads.{load};
 ghost use Rattle.facl.specs.Setups.{set_up, with_text, initial_state};
 
-use acl_rights::{Command, Staged, State, Table, TreeFault};
+use acl_files::TreeFault;
+use acl_tree::{Command, Staged, State, Table};
 use facl_output::RunFault;
 use std::alloc::Global;
 

@@ -4,7 +4,7 @@ ghost use Rattle.std.specs.Prelude.{map, option_map, string_bytes};
 ghost use Rattle.facl.specs.Replies.{Gives};
 ghost use Rattle.facl.specs.Units.{args_or_fault};
 
-use facl_output::{self, LineFault};
+use facl_output::LineFault;
 use std::alloc::Global;
 
 /// The FILEs of `--passwd`, `--group` and `--dump`, in this order, from the words after the program's name; `None` for
@@ -17,5 +17,5 @@ use std::alloc::Global;
 pub fn read_args(alloc: Global, words: &[String]) -> Result<[Option<String>; 3], LineFault>
     ensures { Gives (map (option_map string_bytes)) result (args_or_fault (map string_bytes words.now)) }
 {
-    Ok(facl_output::read_args(alloc, words)?)
+    Ok(facl_words::read_args(alloc, words)?)
 }

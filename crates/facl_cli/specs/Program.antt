@@ -1,8 +1,8 @@
 -- What the program does, from its words to its last byte.
 use Rattle.std.specs.Prelude.{◌≡◌, ℕ, List, Option, None, Some, ⊤}
-use Rattle.facl.specs.acl_entry.Check.{rights}
+use Rattle.acl_entry.specs.Check.{rights}
 use Rattle.facl.specs.facl_output.declared.fault.RunFault.{RunFault}
-use Rattle.facl.specs.facl_script.Streams.{Streams}
+use Rattle.facl_script.specs.Streams.{Streams}
 use Rattle.facl.specs.Runs.{Devices, EndsBy, IsUntouched, RunsTo}
 use Rattle.facl.specs.Setups.{initial_state}
 use Rattle.facl.specs.declared.setup.Setup.{Setup}

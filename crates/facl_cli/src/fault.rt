@@ -5,7 +5,8 @@ ghost use Rattle.std.specs.Io.KnownBytes.{Appends};
 ghost use Rattle.facl_cli.specs.Lines.{IsLineReported, fault_by_words, fault_line, unread_line};
 ghost use Rattle.facl_cli.specs.declared.fault.ProgramFault.{ProgramFault};
 
-use facl::{RunFault, ScriptFault, Sink, push_run_fault, write_whole};
+use facl::{RunFault, push_run_fault};
+use facl_script::{ScriptFault, Sink, write_whole};
 use facl_words::WordsFault;
 use std::alloc::{AllocError, Global};
 

@@ -14,7 +14,8 @@ use crate::args::words_given;
 use crate::fault::ProgramFault;
 use crate::file_store::SystemFiles;
 use crate::program::{answer_words, end};
-use facl::{Status, StdFeed, StdSink};
+use facl::Status;
+use facl_script::{StdFeed, StdSink};
 use std::process::ExitCode;
 
 /// Answers the script on standard input.

@@ -7,13 +7,14 @@ ghost use Rattle.facl_cli.specs.Lines.{IsReported, status_of};
 ghost use Rattle.facl_cli.specs.Program.{FailsBy, Ran};
 ghost use Rattle.facl.specs.Runs.{devices};
 ghost use Rattle.facl.specs.facl_output.declared.fault.RunFault.TheVariants as runs;
-ghost use Rattle.facl.specs.facl_script.Streams.{streams};
+ghost use Rattle.facl_script.specs.Streams.{streams};
 
 use crate::args::files_named;
 use crate::fault::{ProgramFault, write_fault};
 use crate::file_store::FileStore;
 use crate::files::read_texts;
-use facl::{Feed, Sink, Status, run};
+use facl::{Status, run};
+use facl_script::{Feed, Sink};
 use std::alloc::Global;
 use std::process::ExitCode;
 

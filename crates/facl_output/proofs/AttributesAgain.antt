@@ -5,13 +5,14 @@ use Rattle.std.specs.List.{flat_map, AllByRecursion}
 use Rattle.acl_attr.proofs.ReadAgain.{attr_again}
 use Rattle.acl_attr.specs.Attr.{tag_of, written_id, entry_bytes, attr_bytes}
 use Rattle.std.specs.Prelude.{IfSome}
-use Rattle.acl_tree.specs.acl_dump.Again.{IsListIf}
-use Rattle.acl_tree.specs.acl_edit.declared.node.Node.{Node}
-use Rattle.acl_tree.specs.acl_entry.Lists.{KeyMap, entries}
-use Rattle.acl_tree.specs.acl_entry.Perms.{number}
-use Rattle.acl_tree.specs.acl_entry.declared.entry.Entry.{Entry}
-use Rattle.acl_tree.specs.acl_people.KnownPeople.{KnownPeople, naming_of}
-use Rattle.acl_tree.specs.Files.{PathOf, Files}
+use Rattle.acl_dump.specs.Again.{IsListIf}
+use Rattle.acl_edit.specs.declared.node.Node.{Node}
+use Rattle.acl_entry.specs.Lists.{KeyMap, entries}
+use Rattle.acl_entry.specs.Perms.{number}
+use Rattle.acl_entry.specs.declared.entry.Entry.{Entry}
+use Rattle.acl_people.specs.KnownPeople.{KnownPeople, naming_of}
+use Rattle.acl_names.specs.Paths.{PathOf}
+use Rattle.acl_files.specs.Files.{Files}
 use Rattle.hex.proofs.HexLemmas.{decode_of-encode_lower}
 use Rattle.hex.specs.Hex.{IsBytes}
 use Rattle.facl_output.specs.RoundTrips.{IsListAgain, IsReadAgain, IsAttributeAgain, AreAttributesAgain}

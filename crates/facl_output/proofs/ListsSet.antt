@@ -6,37 +6,38 @@ use Rattle.std.specs.List.{list_any, position_from, AllByRecursion}
 use Rattle.std.specs.Option.{option_map_or}
 use Rattle.std.proofs.lemmas.List.{append-nil, length-map}
 use Rattle.acl_attr.proofs.ReadAgain.{few, new_key, one_more}
-use Rattle.acl_tree.proofs.of_acl_entry.Faults.{fault_short}
-use Rattle.acl_tree.proofs.of_acl_entry.Maps.{map_of-entries, in_order-entries}
-use Rattle.acl_tree.proofs.of_acl_files.of_acl_edit.Kept.{checked_valid, default_unnamed}
-use Rattle.acl_tree.specs.acl_dump.Again.{IsListIf}
-use Rattle.acl_tree.specs.acl_edit.declared.edit.Change.{Change}
-use Rattle.acl_tree.specs.acl_edit.Changes.{options}
-use Rattle.acl_tree.specs.acl_syntax.InTurn.{◌>>=◌}
-use Rattle.acl_tree.specs.acl_edit.Edits.{worked, access_after, default_after, checked, checked_default, changed_access, changed_default, change}
-use Rattle.acl_tree.specs.acl_edit.Masks.{has_mask, has_named, add_mask, recalculate, is_recalculated, takes_mask, with_mask}
-use Rattle.acl_tree.specs.acl_edit.Nodes.{IsSound, is_directory, with_lists}
-use Rattle.acl_tree.specs.acl_edit.Parts.{Part, part, is_for, is_mask, is_of_mask, names, puts}
-use Rattle.acl_tree.specs.acl_edit.Steps.{gives_execute, perms_of, put_some, modify, replace, fill_one, fill_from}
-use Rattle.acl_tree.specs.acl_edit.declared.edit.EditFault.TheVariants.{DefaultOnFile, List as ListIs}
-use Rattle.acl_tree.specs.acl_edit.declared.node.Kind.{Kind}
-use Rattle.acl_tree.specs.acl_edit.declared.node.Kind.TheVariants as kinds
-use Rattle.acl_tree.specs.acl_edit.declared.node.Node.{Node}
-use Rattle.acl_tree.specs.acl_entry.Keys.{key_cmp, same_key, is_named}
-use Rattle.acl_tree.specs.acl_entry.Lists.{KeyMap, IsInOrder, IsValid, class_union, entries, fault, is_among, keys, map_of, missing_base, or_else, repeated, unmasked}
-use Rattle.acl_tree.specs.acl_entry.Perms.{Perms}
-use Rattle.acl_tree.specs.acl_entry.declared.entry.Entry.{Entry}
-use Rattle.acl_tree.specs.acl_entry.declared.entry.ListFault.{ListFault}
-use Rattle.acl_tree.specs.acl_entry.declared.entry.ListFault.TheVariants.{Repeated, MissingBase, MissingMask}
-use Rattle.acl_tree.specs.acl_entry.declared.entry.Key.{Key}
-use Rattle.acl_tree.specs.acl_entry.declared.entry.Key.TheVariants.{Owner, User, OwningGroup, Group, Mask, Other}
-use Rattle.acl_tree.specs.acl_people.KnownPeople.{KnownPeople, naming_of}
-use Rattle.acl_tree.specs.acl_syntax.declared.entries.Spec.{Spec}
-use Rattle.acl_tree.specs.acl_syntax.declared.fault.Which.{Which}
-use Rattle.acl_tree.specs.acl_syntax.declared.fault.Which.TheVariants.{Access, Default}
-use Rattle.acl_tree.specs.acl_syntax.Writing.{spec_of}
-use Rattle.acl_tree.specs.Files.{PathOf, Files}
-use Rattle.acl_tree.specs.Sound.{ArePlaced}
+use Rattle.acl_entry.proofs.Faults.{fault_short}
+use Rattle.acl_entry.proofs.Maps.{map_of-entries, in_order-entries}
+use Rattle.acl_edit.proofs.Kept.{checked_valid, default_unnamed}
+use Rattle.acl_dump.specs.Again.{IsListIf}
+use Rattle.acl_edit.specs.declared.edit.Change.{Change}
+use Rattle.acl_edit.specs.Changes.{options}
+use Rattle.acl_syntax.specs.InTurn.{◌>>=◌}
+use Rattle.acl_edit.specs.Edits.{worked, access_after, default_after, checked, checked_default, changed_access, changed_default, change}
+use Rattle.acl_edit.specs.Masks.{has_mask, has_named, add_mask, recalculate, is_recalculated, takes_mask, with_mask}
+use Rattle.acl_edit.specs.Nodes.{IsSound, is_directory, with_lists}
+use Rattle.acl_edit.specs.Parts.{Part, part, is_for, is_mask, is_of_mask, names, puts}
+use Rattle.acl_edit.specs.Steps.{gives_execute, perms_of, put_some, modify, replace, fill_one, fill_from}
+use Rattle.acl_edit.specs.declared.edit.EditFault.TheVariants.{DefaultOnFile, List as ListIs}
+use Rattle.acl_edit.specs.declared.node.Kind.{Kind}
+use Rattle.acl_edit.specs.declared.node.Kind.TheVariants as kinds
+use Rattle.acl_edit.specs.declared.node.Node.{Node}
+use Rattle.acl_entry.specs.Keys.{key_cmp, same_key, is_named}
+use Rattle.acl_entry.specs.Lists.{KeyMap, IsInOrder, IsValid, class_union, entries, fault, is_among, keys, map_of, missing_base, or_else, repeated, unmasked}
+use Rattle.acl_entry.specs.Perms.{Perms}
+use Rattle.acl_entry.specs.declared.entry.Entry.{Entry}
+use Rattle.acl_entry.specs.declared.entry.ListFault.{ListFault}
+use Rattle.acl_entry.specs.declared.entry.ListFault.TheVariants.{Repeated, MissingBase, MissingMask}
+use Rattle.acl_entry.specs.declared.entry.Key.{Key}
+use Rattle.acl_entry.specs.declared.entry.Key.TheVariants.{Owner, User, OwningGroup, Group, Mask, Other}
+use Rattle.acl_people.specs.KnownPeople.{KnownPeople, naming_of}
+use Rattle.acl_syntax.specs.declared.entries.Spec.{Spec}
+use Rattle.acl_syntax.specs.declared.fault.Which.{Which}
+use Rattle.acl_syntax.specs.declared.fault.Which.TheVariants.{Access, Default}
+use Rattle.acl_syntax.specs.Writing.{spec_of}
+use Rattle.acl_names.specs.Paths.{PathOf}
+use Rattle.acl_files.specs.Files.{Files}
+use Rattle.acl_files.specs.Sound.{ArePlaced}
 use Rattle.facl_output.specs.RoundTrips.{IsReadAgain, IsShortAgain, entries_for, dacl_entries, all_entries, specs_of, AreSetAs, AreListsAgain}
 use Rattle.facl_output.proofs.ListsAgain.{both_again, short_is_again}
 

@@ -3,8 +3,8 @@ use Rattle.std.proofs.Common.{◌≡◌, ◌++◌, ℕ, List, Result, Ok, Err, l
 use Rattle.std.specs.Prelude.{OnOk, Vec}
 use Rattle.std.proofs.lemmas.List.{take_all}
 use Rattle.std.proofs.Math.Seq.{take-append_seam}
-use Rattle.acl_tree.proofs.of_acl_names.Appended.{still_begins}
-use Rattle.acl_tree.specs.acl_names.Appends.{Appends, AppendsWhole}
+use Rattle.acl_names.proofs.Appended.{still_begins}
+use Rattle.acl_names.specs.Appends.{Appends, AppendsWhole}
 
 pub two_parts : (a b c s t : List ℕ) → s ≡ a ++ b → t ≡ s ++ c → t ≡ a ++ (b ++ c)
 two_parts a b c s t first second = second ∙ (ap (λ (l : List ℕ). l ++ c) first ∙ append_assoc a b c)

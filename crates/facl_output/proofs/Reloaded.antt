@@ -4,29 +4,31 @@ use Rattle.std.specs.Prelude.{filter, is_some, unwrap_or, ◌==◌}
 use Rattle.std.specs.List.{list_any, AllByRecursion}
 use Rattle.std.specs.Ordering.{is_eq}
 use Rattle.std.proofs.lemmas.Cmp.{tied_itself}
-use Rattle.acl_tree.specs.acl_entry.Lists.{KeyMap}
-use Rattle.acl_tree.specs.acl_names.Paths.{path_cmp}
-use Rattle.acl_tree.proofs.of_acl_names.PathOrder.{path_total}
-use Rattle.acl_tree.specs.acl_edit.Nodes as nodes
-use Rattle.acl_tree.specs.acl_edit.declared.node.Kind.{Kind}
-use Rattle.acl_tree.specs.acl_edit.declared.node.Kind.TheVariants.{Plain, Directory}
-use Rattle.acl_tree.specs.acl_edit.declared.node.Node.{Node}
-use Rattle.acl_tree.specs.acl_people.KnownPeople.{KnownPeople, naming_of}
-use Rattle.acl_tree.specs.acl_dump.declared.record.DumpRecord.{DumpRecord}
-use Rattle.acl_tree.specs.acl_dump.declared.record.DumpUse.{DumpUse}
-use Rattle.acl_tree.specs.acl_dump.declared.record.DumpUse.TheVariants.{Load, Restore}
-use Rattle.acl_tree.specs.acl_dump.Writing.{record_text}
-use Rattle.acl_tree.specs.acl_dump.Again.{AreApart, AreFlags, IsReadable, HasHeaders, paths, placed, dump_text, line_count}
-use Rattle.acl_tree.proofs.of_acl_dump.WrittenRecords.{dump_again}
-use Rattle.acl_tree.specs.acl_files.declared.fault.TreeFault.{TreeFault}
-use Rattle.acl_tree.specs.acl_files.declared.fault.TreeFault.TheVariants.{TooMany}
-use Rattle.acl_tree.specs.acl_syntax.Naming.{Naming}
-use Rattle.acl_tree.specs.Files.{PathOf, Files, IsInOrder, no_files}
-use Rattle.acl_tree.specs.acl_names.Below.{is_above}
-use Rattle.acl_tree.specs.acl_files.Loading.{node_of, has_below, as_files, files_of}
-use Rattle.acl_tree.specs.Operands.{is_file}
-use Rattle.acl_tree.specs.Sound.{holds_below, IsPlaced, ArePlaced}
-use Rattle.acl_tree.specs.Found.{FoundFile, found_in, files_found}
+use Rattle.acl_entry.specs.Lists.{KeyMap}
+use Rattle.acl_names.specs.Paths.{path_cmp, PathOf}
+use Rattle.acl_names.proofs.PathOrder.{path_total}
+use Rattle.acl_edit.specs.Nodes as nodes
+use Rattle.acl_edit.specs.declared.node.Kind.{Kind}
+use Rattle.acl_edit.specs.declared.node.Kind.TheVariants.{Plain, Directory}
+use Rattle.acl_edit.specs.declared.node.Node.{Node}
+use Rattle.acl_people.specs.KnownPeople.{KnownPeople, naming_of}
+use Rattle.acl_dump.specs.declared.record.DumpRecord.{DumpRecord}
+use Rattle.acl_dump.specs.declared.record.DumpUse.{DumpUse}
+use Rattle.acl_dump.specs.declared.record.DumpUse.TheVariants.{Load, Restore}
+use Rattle.acl_dump.specs.Writing.{record_text}
+use Rattle.acl_dump.specs.Again.{AreApart, AreFlags, IsReadable, HasHeaders, paths, placed, dump_text, line_count}
+use Rattle.acl_dump.proofs.WrittenRecords.{dump_again}
+use Rattle.acl_files.specs.declared.fault.TreeFault.{TreeFault}
+use Rattle.acl_files.specs.declared.fault.TreeFault.TheVariants.{TooMany}
+use Rattle.acl_syntax.specs.Naming.{Naming}
+use Rattle.acl_files.specs.Files.{Files, no_files}
+use Rattle.path_map.specs.Entries.{IsInOrder}
+use Rattle.acl_names.specs.Below.{is_above}
+use Rattle.acl_files.specs.Loading.{node_of, has_below, as_files, files_of}
+use Rattle.acl_files.specs.Operands.{is_file}
+use Rattle.path_map.specs.Below.{holds_below}
+use Rattle.acl_files.specs.Sound.{IsPlaced, ArePlaced}
+use Rattle.acl_files.specs.Found.{FoundFile, found_in, files_found}
 use Rattle.acl_tree.specs.State.{State}
 use Rattle.acl_tree.specs.Loads.{with_records}
 use Rattle.facl_output.specs.Listings.{listing, plain, has_slash, flags_shown}

@@ -1,19 +1,21 @@
 -- What is printed of files is restored as these files.
 use Rattle.std.proofs.Common.{◌≡◌, ℕ, ◌+◌, Bool, true, false, cond, List, [], ◌∷◌, filter, Ok, refl, sym, ap, subst, ◌∙◌}
 use Rattle.std.specs.List.{AllByRecursion}
-use Rattle.acl_tree.specs.acl_dump.declared.record.DumpRecord.{DumpRecord}
-use Rattle.acl_tree.specs.acl_dump.declared.record.DumpUse.TheVariants.{Restore}
-use Rattle.acl_tree.specs.acl_dump.Again.{AreApart, IsReadable, paths, placed, dump_text, line_count}
-use Rattle.acl_tree.specs.acl_dump.Records.{dump_of}
-use Rattle.acl_tree.specs.acl_edit.declared.node.Node.{Node}
-use Rattle.acl_tree.specs.acl_people.KnownPeople.{KnownPeople, naming_of}
-use Rattle.acl_tree.proofs.AsItIs.{Leads, leads_all}
-use Rattle.acl_tree.proofs.Removals.{in_order-filter}
+use Rattle.acl_dump.specs.declared.record.DumpRecord.{DumpRecord}
+use Rattle.acl_dump.specs.declared.record.DumpUse.TheVariants.{Restore}
+use Rattle.acl_dump.specs.Again.{AreApart, IsReadable, paths, placed, dump_text, line_count}
+use Rattle.acl_dump.specs.Records.{dump_of}
+use Rattle.acl_edit.specs.declared.node.Node.{Node}
+use Rattle.acl_people.specs.KnownPeople.{KnownPeople, naming_of}
+use Rattle.path_map.proofs.Differences.{Leads, leads_all}
+use Rattle.path_map.proofs.Rows.{in_order-filter}
 use Rattle.acl_tree.specs.declared.command.Command.TheVariants as commands
-use Rattle.acl_tree.specs.Files.{PathOf, Files, IsInOrder}
-use Rattle.acl_tree.specs.Found.{found_in, files_found}
+use Rattle.acl_names.specs.Paths.{PathOf}
+use Rattle.acl_files.specs.Files.{Files}
+use Rattle.path_map.specs.Entries.{IsInOrder}
+use Rattle.acl_files.specs.Found.{found_in, files_found}
 use Rattle.acl_tree.specs.Laws.{IsAsRecorded}
-use Rattle.acl_tree.specs.Operands.{is_file, files_meant}
+use Rattle.acl_files.specs.Operands.{is_file, files_meant}
 use Rattle.acl_tree.specs.State.{State}
 use Rattle.acl_tree.specs.Step.{step}
 use Rattle.facl_output.specs.RoundTrips.{IsReadAgain, listing_of, IsRestoredAsItIs}

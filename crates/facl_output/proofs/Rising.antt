@@ -7,14 +7,15 @@ use Rattle.std.specs.FinMap.{is_sorted}
 use Rattle.std.specs.FinMap.Entries.{below_all, by_order}
 use Rattle.std.proofs.lemmas.Bool.{and_parts}
 use Rattle.std.proofs.lemmas.List.{map-append, append-nil}
-use Rattle.acl_tree.specs.acl_names.Paths.{path_cmp}
-use Rattle.acl_tree.specs.acl_edit.declared.node.Node.{Node}
-use Rattle.acl_tree.specs.acl_dump.declared.record.DumpRecord.{DumpRecord}
-use Rattle.acl_tree.specs.acl_dump.Records.{same_path}
-use Rattle.acl_tree.specs.acl_dump.Again.{AreApart, paths}
-use Rattle.acl_tree.specs.Files.{PathOf, Files, IsInOrder}
-use Rattle.acl_tree.specs.acl_files.Loading.{insert_record, in_path_order}
-use Rattle.acl_tree.proofs.of_acl_files.Follows.{above}
+use Rattle.acl_names.specs.Paths.{path_cmp, PathOf}
+use Rattle.acl_edit.specs.declared.node.Node.{Node}
+use Rattle.acl_dump.specs.declared.record.DumpRecord.{DumpRecord}
+use Rattle.acl_dump.specs.Records.{same_path}
+use Rattle.acl_dump.specs.Again.{AreApart, paths}
+use Rattle.acl_files.specs.Files.{Files}
+use Rattle.path_map.specs.Entries.{IsInOrder}
+use Rattle.acl_files.specs.Loading.{insert_record, in_path_order}
+use Rattle.path_map.proofs.Places.{above}
 
 -- each of them comes before the path
 abbrev pub Before : List PathOf → PathOf → Type 0

@@ -2,11 +2,11 @@
 use Rattle.std.specs.Prelude.{ℕ, List, [], ◌∷◌, ◌++◌, Option, Some, None, codes}
 use Rattle.std.specs.List.{flat_map}
 use Rattle.hex.specs.Hex.{encode_lower}
-use Rattle.acl_tree.specs.acl_entry.Lists.{KeyMap}
+use Rattle.acl_entry.specs.Lists.{KeyMap}
 use Rattle.acl_attr.specs.Attr.{attr_bytes}
-use Rattle.acl_tree.specs.acl_dump.Writing.{file_text}
-use Rattle.acl_tree.specs.acl_edit.declared.node.Node.{Node}
-use Rattle.acl_tree.specs.Found.{FoundFile}
+use Rattle.acl_dump.specs.Writing.{file_text}
+use Rattle.acl_edit.specs.declared.node.Node.{Node}
+use Rattle.acl_files.specs.Found.{FoundFile}
 use Rattle.facl_output.specs.Listings.{has_slash}
 
 -- an attribute of this name: the bytes of a list as hex digits

@@ -1,10 +1,10 @@
 -- What chacl(1) `-l` prints of files.
 use Rattle.std.specs.Prelude.{ℕ, List, [], ◌∷◌, ◌++◌, Option, Some, None, codes}
 use Rattle.std.specs.List.{flat_map}
-use Rattle.acl_tree.specs.acl_entry.Lists.{KeyMap, entries}
-use Rattle.acl_tree.specs.acl_syntax.Naming.{Naming}
-use Rattle.acl_tree.specs.acl_syntax.Writing.{short}
-use Rattle.acl_tree.specs.Found.{FoundFile}
+use Rattle.acl_entry.specs.Lists.{KeyMap, entries}
+use Rattle.acl_syntax.specs.Naming.{Naming}
+use Rattle.acl_syntax.specs.Writing.{short}
+use Rattle.acl_files.specs.Found.{FoundFile}
 use Rattle.facl_output.specs.Listings.{path_shown}
 
 module _ (naming : Naming) where

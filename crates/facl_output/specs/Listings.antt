@@ -1,15 +1,15 @@
 -- What getfacl(1) prints of files.
 use Rattle.std.specs.Prelude.{ℕ, List, [], ◌∷◌, ◌++◌, length, filter, Bool, false, not, ◌&&◌, ◌||◌, ◌==◌, if◌then◌else◌, Option, Some, None, is_some, is_none}
 use Rattle.std.specs.List.{list_any, flat_map}
-use Rattle.acl_tree.specs.acl_entry.Lists.{is_minimal}
-use Rattle.acl_tree.specs.acl_edit.Nodes.{is_directory}
-use Rattle.acl_tree.specs.acl_edit.declared.node.Node.{Node}
-use Rattle.acl_tree.specs.acl_syntax.Naming.{Naming, no_names}
-use Rattle.acl_tree.specs.acl_syntax.declared.fault.Which.TheVariants.{Access}
-use Rattle.acl_tree.specs.acl_dump.declared.effective.Effective.TheVariants.{WhereMasked}
-use Rattle.acl_tree.specs.acl_names.Paths.{path_text}
-use Rattle.acl_tree.specs.acl_dump.Writing.{header_text, list_text, default_text, slash_text}
-use Rattle.acl_tree.specs.Found.{FoundFile}
+use Rattle.acl_entry.specs.Lists.{is_minimal}
+use Rattle.acl_edit.specs.Nodes.{is_directory}
+use Rattle.acl_edit.specs.declared.node.Node.{Node}
+use Rattle.acl_syntax.specs.Naming.{Naming, no_names}
+use Rattle.acl_syntax.specs.declared.fault.Which.TheVariants.{Access}
+use Rattle.acl_dump.specs.declared.effective.Effective.TheVariants.{WhereMasked}
+use Rattle.acl_names.specs.Paths.{path_text}
+use Rattle.acl_dump.specs.Writing.{header_text, list_text, default_text, slash_text}
+use Rattle.acl_files.specs.Found.{FoundFile}
 use Rattle.facl_output.specs.declared.listing.Options.{Options}
 
 -- a file has no more than its mode shows: a minimal access list and no default list

@@ -1,13 +1,13 @@
 -- What setfacl(1) prints with `--test`: files with the lists that they would have.
 use Rattle.std.specs.Prelude.{ℕ, List, [], ◌∷◌, ◌++◌, Option, Some, None, codes}
 use Rattle.std.specs.List.{flat_map}
-use Rattle.acl_tree.specs.acl_entry.declared.entry.Entry.{Entry}
-use Rattle.acl_tree.specs.acl_entry.Lists.{KeyMap, entries}
-use Rattle.acl_tree.specs.acl_edit.declared.node.Node.{Node}
-use Rattle.acl_tree.specs.acl_syntax.Naming.{Naming}
-use Rattle.acl_tree.specs.acl_syntax.declared.entries.Form.TheVariants.{Short}
-use Rattle.acl_tree.specs.acl_syntax.Writing.{entry_text, short}
-use Rattle.acl_tree.specs.Found.{FoundFile}
+use Rattle.acl_entry.specs.declared.entry.Entry.{Entry}
+use Rattle.acl_entry.specs.Lists.{KeyMap, entries}
+use Rattle.acl_edit.specs.declared.node.Node.{Node}
+use Rattle.acl_syntax.specs.Naming.{Naming}
+use Rattle.acl_syntax.specs.declared.entries.Form.TheVariants.{Short}
+use Rattle.acl_syntax.specs.Writing.{entry_text, short}
+use Rattle.acl_files.specs.Found.{FoundFile}
 use Rattle.facl_output.specs.Listings.{path_shown}
 
 module _ (naming : Naming) where

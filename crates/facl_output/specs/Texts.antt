@@ -1,21 +1,21 @@
 -- The messages of the faults of lists, texts and commands. That memory ran out is none of them: it is
 -- lifted to the line or the run before, and has a text here since each fault has one.
 use Rattle.std.specs.Prelude.{ℕ, Bool, true, false, ◌&&◌, ◌==◌, List, ◌++◌, codes, decimal, if◌then◌else◌}
-use Rattle.acl_tree.specs.acl_entry.declared.entry.ListFault.{ListFault}
-use Rattle.acl_tree.specs.acl_entry.declared.entry.ListFault.TheVariants as lists
-use Rattle.acl_tree.specs.acl_edit.declared.edit.EditFault.{EditFault}
-use Rattle.acl_tree.specs.acl_edit.declared.edit.EditFault.TheVariants as edits
-use Rattle.acl_tree.specs.acl_names.Names.{escaped}
-use Rattle.acl_tree.specs.acl_names.Paths.{path_text}
-use Rattle.acl_tree.specs.acl_syntax.declared.entries.Form.TheVariants.{Long}
-use Rattle.acl_tree.specs.acl_syntax.declared.fault.FaultKind.{FaultKind}
-use Rattle.acl_tree.specs.acl_syntax.declared.fault.FaultKind.TheVariants as kinds
-use Rattle.acl_tree.specs.acl_syntax.declared.fault.TextFault.{TextFault}
-use Rattle.acl_tree.specs.acl_syntax.declared.fault.Which.{Which}
-use Rattle.acl_tree.specs.acl_syntax.declared.fault.Which.TheVariants.{Access, Default}
-use Rattle.acl_tree.specs.acl_syntax.Writing.{tag_text}
-use Rattle.acl_tree.specs.acl_files.declared.fault.TreeFault.{TreeFault}
-use Rattle.acl_tree.specs.acl_files.declared.fault.TreeFault.TheVariants as trees
+use Rattle.acl_entry.specs.declared.entry.ListFault.{ListFault}
+use Rattle.acl_entry.specs.declared.entry.ListFault.TheVariants as lists
+use Rattle.acl_edit.specs.declared.edit.EditFault.{EditFault}
+use Rattle.acl_edit.specs.declared.edit.EditFault.TheVariants as edits
+use Rattle.acl_names.specs.Names.{escaped}
+use Rattle.acl_names.specs.Paths.{path_text}
+use Rattle.acl_syntax.specs.declared.entries.Form.TheVariants.{Long}
+use Rattle.acl_syntax.specs.declared.fault.FaultKind.{FaultKind}
+use Rattle.acl_syntax.specs.declared.fault.FaultKind.TheVariants as kinds
+use Rattle.acl_syntax.specs.declared.fault.TextFault.{TextFault}
+use Rattle.acl_syntax.specs.declared.fault.Which.{Which}
+use Rattle.acl_syntax.specs.declared.fault.Which.TheVariants.{Access, Default}
+use Rattle.acl_syntax.specs.Writing.{tag_text}
+use Rattle.acl_files.specs.declared.fault.TreeFault.{TreeFault}
+use Rattle.acl_files.specs.declared.fault.TreeFault.TheVariants as trees
 use Rattle.facl_output.specs.declared.fault.Source.{Source}
 use Rattle.facl_output.specs.declared.fault.Source.TheVariants.{Entry, DefaultEntry, TextLine, AttributeEntry, Operand}
 

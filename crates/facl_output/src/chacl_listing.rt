@@ -1,11 +1,13 @@
 //! The listing of chacl(1) `-l`.
 
 ghost use Rattle.std.specs.Prelude.{◌≡◌, IfOk};
-ghost use Rattle.acl_tree.specs.acl_names.Appends.{Appends};
+ghost use Rattle.acl_names.specs.Appends.{Appends};
 ghost use Rattle.facl_output.specs.ChaclListings.{default_part, chacl_line, chacl_listing};
 
 use crate::listing::push_path_shown;
-use acl_tree::{Acl, Found, Names, append_short};
+use acl_entry::Acl;
+use acl_files::Found;
+use acl_syntax::{Names, append_short};
 use std::alloc::{AllocError, Global};
 
 /// Adds a slash and the default list, if there is one.

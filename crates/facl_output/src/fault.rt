@@ -6,8 +6,11 @@ ghost use Rattle.facl_output.specs.Faults.{line_fault_of_split, line_fault_of_te
 ghost use Rattle.facl_output.specs.declared.fault.LineFault.{LineFault};
 ghost use Rattle.facl_output.specs.declared.fault.RunFault.{RunFault};
 
-use acl_tree::{FaultKind, Table, TextFault, TreeFault};
-use facl_words::{ScriptFault, SplitFault, WordsFault};
+use acl_files::TreeFault;
+use acl_syntax::{FaultKind, TextFault};
+use acl_tree::Table;
+use facl_script::{ScriptFault, SplitFault};
+use facl_words::WordsFault;
 use std::alloc::{AllocError, AllocFailed};
 use thiserror::Error;
 

@@ -2,13 +2,15 @@
 
 ghost use Rattle.std.specs.Prelude.{List, Bool};
 ghost use Rattle.std.specs.List.{AllByRecursion};
-ghost use Rattle.acl_tree.specs.Files.{PathOf};
-ghost use Rattle.acl_tree.specs.Found.{files_found};
+ghost use Rattle.acl_names.specs.Paths.{PathOf};
+ghost use Rattle.acl_files.specs.Found.{files_found};
 ghost use Rattle.acl_tree.specs.State.{state_from};
 ghost use Rattle.facl_output.specs.RoundTrips.{listing_of, all_paths_listing, root_listing, IsLoadedAs, IsRestoredAsItIs, AreAttributesAgain, AreListsAgain};
 
 use crate::round_trips::files_are_read_again;
-use acl_tree::{People, Tree, records_are_read_again, restore_of_what_is_changes_nothing};
+use acl_dump::records_are_read_again;
+use acl_people::People;
+use acl_tree::{Tree, restore_of_what_is_changes_nothing};
 
 /// Proof only: what getfacl(1) prints without options of all files of a tree, loaded as a dump by the
 /// same people where no dump is loaded, gives these files back: every path, kind, owner, group, flag and

@@ -13,18 +13,8 @@ mod round_trips;
 mod run_fault;
 mod test_listing;
 
-pub use acl_attr::decode_attr;
-pub use acl_tree::{
-    EditFault, FaultKind, Id, Key, ListFault, Name, Path, Table, TextFault, TreeFault, Which,
-    read_path,
-};
 pub use attr_listing::{push_path, write_attributes};
 pub use chacl_listing::write_chacl_listing;
-pub use facl_words::{
-    Feed, Flags, HeldLine, HeldText, HeldUnit, LineFiles, OperandRow, Operands, OptionRow,
-    ScriptFault, Session, Sink, StdFeed, StdSink, Syntax, Values, Word, WordRef, Words, WordsFault,
-    asks_for_text, is_text_word, read_args, read_by, run_session, split_words, write_whole,
-};
 pub use fault::{LineFault, RunFault, Source};
 pub use laws::{
     attributes_are_read_again, listing_is_loaded_again, listing_is_restored_as_it_is,
@@ -35,3 +25,13 @@ pub use message::{push_message, push_warning};
 pub use reserved_message::ReservedMessage;
 pub use run_fault::push_run_fault;
 pub use test_listing::append_test_listing;
+
+// The public calls take and give these values of the crates below.
+pub use acl_edit::EditFault;
+pub use acl_entry::{Id, Key, ListFault};
+pub use acl_files::TreeFault;
+pub use acl_names::{Name, Path};
+pub use acl_syntax::{FaultKind, TextFault, Which};
+pub use acl_tree::Table;
+pub use facl_script::ScriptFault;
+pub use facl_words::WordsFault;

@@ -1,19 +1,20 @@
 //! The message of a refused line, by its fault: of a text, of a list, of a command; and the warning of an accepted one.
 
 ghost use Rattle.std.specs.Prelude.{◌≡◌, ◌++◌, codes, decimal};
-ghost use Rattle.acl_tree.specs.acl_names.Appends.{Appends};
+ghost use Rattle.acl_names.specs.Appends.{Appends};
 ghost use Rattle.facl_output.specs.Messages.{head, line_text, message, numbered, reporter, warning};
 ghost use Rattle.facl_output.specs.Texts.{is_of_whole_list, kind_text, list_name, list_text, source_name, text_fault_text, placed, edit_text, tree_text};
-ghost use Rattle.acl_tree.specs.acl_syntax.declared.entries.Form.TheVariants.{Long};
-ghost use Rattle.acl_tree.specs.acl_syntax.Writing.{tag_text};
-ghost use Rattle.acl_tree.specs.acl_names.Names.{escaped};
-ghost use Rattle.acl_tree.specs.acl_names.Paths.{path_text};
+ghost use Rattle.acl_syntax.specs.declared.entries.Form.TheVariants.{Long};
+ghost use Rattle.acl_syntax.specs.Writing.{tag_text};
+ghost use Rattle.acl_names.specs.Names.{escaped};
+ghost use Rattle.acl_names.specs.Paths.{path_text};
 
 use crate::fault::{LineFault, Source};
-use acl_tree::{
-    EditFault, FaultKind, Id, Key, ListFault, Name, Path, TextFault, TreeFault, Which, append_name,
-    append_path,
-};
+use acl_edit::EditFault;
+use acl_entry::{Id, Key, ListFault};
+use acl_files::TreeFault;
+use acl_names::{Name, Path, append_name, append_path};
+use acl_syntax::{FaultKind, TextFault, Which};
 use itoa::Buffer;
 use std::alloc::AllocError;
 

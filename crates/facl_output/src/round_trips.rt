@@ -2,12 +2,16 @@
 
 ghost use Rattle.std.specs.Prelude.{◌≡◌, length};
 ghost use Rattle.std.specs.List.{AllByRecursion};
-ghost use Rattle.acl_tree.specs.acl_people.KnownPeople.{naming_of};
-ghost use Rattle.acl_tree.specs.acl_syntax.Writing.{IsKeyNamed};
-ghost use Rattle.acl_tree.specs.acl_dump.Again.{IsFound};
+ghost use Rattle.acl_people.specs.KnownPeople.{naming_of};
+ghost use Rattle.acl_syntax.specs.Writing.{IsKeyNamed};
+ghost use Rattle.acl_dump.specs.Again.{IsFound};
 ghost use Rattle.facl_output.specs.RoundTrips.{IsListAgain, IsReadAgain};
 
-use acl_tree::{Acl, Id, Key, Node, Path, People, Tree};
+use acl_edit::Node;
+use acl_entry::{Acl, Id, Key};
+use acl_names::Path;
+use acl_people::People;
+use acl_tree::Tree;
 
 /// Proof only: a file has three flags.
 fn flags_are_three(flags: [bool; 3])

@@ -1,12 +1,13 @@
 //! What the program prints of a run that ended early.
 
 ghost use Rattle.std.specs.Prelude.{◌≡◌};
-ghost use Rattle.acl_tree.specs.acl_names.Appends.{Appends};
+ghost use Rattle.acl_names.specs.Appends.{Appends};
 ghost use Rattle.facl_output.specs.Messages.{run_fault_text, setup_text, table_name};
 
 use crate::fault::RunFault;
 use crate::message::push_tree_fault;
-use acl_tree::{Table, TreeFault};
+use acl_files::TreeFault;
+use acl_tree::Table;
 use std::alloc::AllocError;
 
 /// The name of a text of the setup.

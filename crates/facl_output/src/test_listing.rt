@@ -2,11 +2,14 @@
 
 ghost use Rattle.std.specs.Prelude.{◌++◌, ◌∷◌, [], codes};
 ghost use Rattle.std.specs.List.{flat_map};
-ghost use Rattle.acl_tree.specs.acl_names.Appends.{Appends, AppendsWhole};
+ghost use Rattle.acl_names.specs.Appends.{Appends, AppendsWhole};
 ghost use Rattle.facl_output.specs.TestListing.{default_entry, default_entries, lists_text, file_line, test_listing};
 
 use crate::listing::{end_line, push_path_shown};
-use acl_tree::{Acl, Entry, Form, Found, Names, Node, append_entry, append_short};
+use acl_edit::Node;
+use acl_entry::{Acl, Entry};
+use acl_files::Found;
+use acl_syntax::{Form, Names, append_entry, append_short};
 use std::alloc::AllocError;
 
 /// Adds an entry of the default list, a comma before it.

@@ -3,13 +3,13 @@ use Rattle.std.specs.Prelude.{◌≡◌, ℕ, ◌==◌, ◌^◌, ◌||◌, if◌
 use Rattle.std.specs.FinSet as sets
 use Rattle.std.proofs.Common.{ap}
 use Rattle.std.proofs.lemmas.Bool.{eq-eqb}
-use Rattle.facl.specs.acl_entry.Perms.{Perms, contains, number}
-use Rattle.facl.specs.acl_entry.Lists.{entries, perm_at}
-use Rattle.facl.specs.acl_entry.Check.{byte_of}
-use Rattle.facl.specs.acl_entry.Mentions.{AgreeOnMentions, is_one_of, named_groups}
-use Rattle.facl.specs.acl_entry.Person.{Person}
-use Rattle.facl.specs.acl_entry.declared.entry.Key.TheVariants.{Owner, OwningGroup, Other}
-use Rattle.facl.specs.acl_entry.declared.label.Label.{Label}
+use Rattle.acl_entry.specs.Perms.{Perms, contains, number}
+use Rattle.acl_entry.specs.Lists.{entries, perm_at}
+use Rattle.acl_entry.specs.Check.{byte_of}
+use Rattle.acl_entry.specs.Mentions.{AgreeOnMentions, is_one_of, named_groups}
+use Rattle.acl_entry.specs.Person.{Person}
+use Rattle.acl_entry.specs.declared.entry.Key.TheVariants.{Owner, OwningGroup, Other}
+use Rattle.acl_entry.specs.declared.label.Label.{Label}
 
 -- the owner is granted what the owner's entry contains, and nobody else is granted anything
 abbrev pub owner_alone : Person → Label → ℕ

@@ -2,7 +2,8 @@
 //! a time.
 
 use crate::played::play;
-use facl::{Posix, Setup};
+use acl_verdicts::Posix;
+use facl::Setup;
 use std::process::Abort;
 
 /// A line with its text, and the verdicts that it asks for, at least and at most.

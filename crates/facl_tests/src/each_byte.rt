@@ -2,7 +2,9 @@
 
 use crate::devices::{RecoveringReader, RecoveringWriter};
 use crate::texts::WHOLE;
-use facl::{RunFault, Status, StdFeed, StdSink, run};
+use facl::{Status, run};
+use facl_output::RunFault;
+use facl_script::{StdFeed, StdSink};
 use std::alloc::Global;
 use std::process::Abort;
 

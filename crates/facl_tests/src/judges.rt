@@ -1,12 +1,13 @@
 //! Judges whose verdicts are not those of acl(5)'s check.
 
 ghost use Rattle.std.specs.Prelude.{◌≡◌, ◌^◌, length, map};
-ghost use Rattle.facl.specs.acl_entry.Lists.{perm_at};
-ghost use Rattle.facl.specs.acl_entry.Perms.{number};
+ghost use Rattle.acl_entry.specs.Lists.{perm_at};
+ghost use Rattle.acl_entry.specs.Perms.{number};
 ghost use Rattle.facl_tests.specs.Verdicts.{class_set, owner_alone, owner_alone_local, whole_class, whole_class_local};
 
-use acl_rights::Subjects;
-use facl::{Judge, Key, Label, Perm, Requests, Subject};
+use acl_entry::{Key, Label, Perm, Requests, Subject};
+use acl_subjects::Subjects;
+use acl_verdicts::Judge;
 
 fn set_of(label: &Label, key: Key) -> Perm
     ensures { result ≡ perm_at label.now.acl key }

@@ -1,7 +1,8 @@
 //! Lines, and lines of texts, of the most bytes and of one more.
 
 use crate::texts::NOTHING;
-use facl::{Status, StdFeed, StdSink, run};
+use facl::{Status, run};
+use facl_script::{StdFeed, StdSink};
 use std::test::Fail;
 
 /// The most bytes of a line.

@@ -2,7 +2,9 @@
 
 ghost use Rattle.std.specs.Prelude.{◌≡◌};
 
-use facl::{Judge, Setup, Status, StdFeed, StdSink, run_judged};
+use acl_verdicts::Judge;
+use facl::{Setup, Status, run_judged};
+use facl_script::{StdFeed, StdSink};
 use std::alloc::Global;
 
 /// What a script prints, how it ends, and how many verdicts its setup and its lines ask for.

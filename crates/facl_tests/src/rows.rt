@@ -1,6 +1,7 @@
 //! A script with what it prints.
 
-use facl::{Setup, Status, StdFeed, StdSink, run};
+use facl::{Setup, Status, run};
+use facl_script::{StdFeed, StdSink};
 use std::process::Abort;
 use std::test::Fail;
 

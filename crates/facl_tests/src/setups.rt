@@ -1,7 +1,9 @@
 //! Texts that cannot be loaded before a script.
 
 use crate::texts::PASSWD;
-use facl::{Setup, StdFeed, StdSink, push_run_fault, run};
+use facl::{Setup, run};
+use facl_output::push_run_fault;
+use facl_script::{StdFeed, StdSink};
 use std::test::Fail;
 
 /// A setup, and the message of its fault.

@@ -1,6 +1,5 @@
 -- The clap command of a tool's syntax, and what clap finds in the words: both by clap's own definitions.
-use Rattle.std.specs.Prelude.{Bool, true, false, List, [], ◌++◌, map, Option, Some, None}
-use Rattle.std.specs.Prelude.{codes, unwrap_or, if◌then◌else◌}
+use Rattle.std.specs.Prelude.{Bool, true, false, List, [], ◌++◌, map, Option, Some, None, codes, unwrap_or, if◌then◌else◌}
 use Rattle.std.specs.List.{flat_map}
 use Rattle.std.specs.Option.{option_map_or}
 use Rattle.std.specs.Str.{bytes_eq}

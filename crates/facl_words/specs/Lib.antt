@@ -9,4 +9,3 @@ pub mod Naming
 pub mod TextWords
 pub mod Beginning
 pub mod Rules
-pub use Rattle.facl_script.specs as facl_script

@@ -1,6 +1,5 @@
 //! A line's `clap` command, built for each line, and what it finds in the words.
-ghost use Rattle.std.specs.Prelude.{◌≡◌, false, true, IfOk, MatchResult, Some, map, option_map};
-ghost use Rattle.std.specs.Prelude.{string_bytes};
+ghost use Rattle.std.specs.Prelude.{◌≡◌, false, true, IfOk, MatchResult, Some, map, option_map, string_bytes};
 ghost use Rattle.clap.specs.Words.{app_of, first_of, found_of, is_simple_and_free, rows_of, rule_of};
 ghost use Rattle.facl_words.specs.Rows.{syntax_view, operand_view, option_view};
 ghost use Rattle.facl_words.specs.Commands.{app_for, operand_rule, option_rule, taken};

@@ -15,10 +15,6 @@ mod text_words;
 mod words;
 
 pub use args::read_args;
-pub use facl_script::{
-    Feed, HeldLine, HeldText, HeldUnit, ScriptFault, Session, Sink, SplitFault, StdFeed, StdSink,
-    run_session, split_words, write_whole,
-};
 pub use fault::WordsFault;
 pub use reading::{LineFiles, WordRef, read_by};
 pub use syntax::{OperandRow, OptionRow, Syntax};

@@ -4,8 +4,7 @@ ghost use Rattle.std.specs.Option.{option_map_or};
 ghost use Rattle.facl_script.specs.Held.{IsLineHeld};
 ghost use Rattle.facl_script.specs.Units.{line_takes};
 ghost use Rattle.facl_script.specs.Words.{words_of};
-ghost use Rattle.facl_words.specs.TextWords.{is_text_word as is_text_spelling};
-ghost use Rattle.facl_words.specs.TextWords.{word_asks, words_ask, line_asks};
+ghost use Rattle.facl_words.specs.TextWords.{is_text_word as is_text_spelling, word_asks, words_ask, line_asks};
 ghost use Rattle.facl_words.specs.declared.text_words.TheConstants.{BEGINNING};
 
 use facl_script::{CharAction, HeldLine, Place};

@@ -1,8 +1,10 @@
 //! The messages of refused commands.
-use facl_output::{
-    EditFault, FaultKind, Id, Key, LineFault, ListFault, Name, Path, TextFault, TreeFault, Which,
-    push_message, read_path,
-};
+use acl_edit::EditFault;
+use acl_entry::{Id, Key, ListFault};
+use acl_files::TreeFault;
+use acl_names::{Name, Path, read_path};
+use acl_syntax::{FaultKind, TextFault, Which};
+use facl_output::{LineFault, push_message};
 use std::alloc::Global;
 use std::process::Abort;
 

@@ -1,6 +1,8 @@
 //! What is read of a line, as text: the flags and options that were given, in the order of the
 //! table, a colon, and the operands. An empty operand is `''`, and a refused line is `usage`.
-use facl::{LineFault, OptionRow, Tool, Word, Words, read_words, syntax_of};
+use facl::{Tool, read_words, syntax_of};
+use facl_output::LineFault;
+use facl_words::{OptionRow, Word, Words};
 use std::alloc::Global;
 use std::process::Abort;
 

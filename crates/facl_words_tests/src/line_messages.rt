@@ -1,7 +1,7 @@
 //! The messages of lines and of runs, but for those of texts and commands.
-use facl_output::{
-    LineFault, ReservedMessage, RunFault, Table, TreeFault, push_message, push_run_fault,
-};
+use acl_files::TreeFault;
+use acl_tree::Table;
+use facl_output::{LineFault, ReservedMessage, RunFault, push_message, push_run_fault};
 use std::alloc::Global;
 use std::process::Abort;
 

@@ -1,5 +1,7 @@
 //! The messages of faulty texts: each kind of fault and each source.
-use facl_output::{FaultKind, Key, LineFault, ListFault, Source, TextFault, Which, push_message};
+use acl_entry::{Key, ListFault};
+use acl_syntax::{FaultKind, TextFault, Which};
+use facl_output::{LineFault, Source, push_message};
 use std::alloc::Global;
 use std::process::Abort;
 

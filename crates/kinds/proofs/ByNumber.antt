@@ -4,7 +4,7 @@ use Rattle.std.proofs.Common.{◌≡◌, ℕ, Bool, true, false, ◌+◌, ◌-�
 use Rattle.std.specs.Prelude.{◌==◌, nat_lt}
 use Rattle.std.specs.List.{AllByRecursion}
 use Rattle.std.proofs.lemmas.List.{get_or_past}
-use Rattle.path_map.specs.Entries.{PathOf}
+use Rattle.acl_names.specs.Paths.{PathOf}
 use Rattle.kinds.specs.Kinds.{KindsOf, count_at, IsNode, Grants, Releases}
 use Rattle.kinds.specs.Numbered.{Numbers, entries_by, one_if, paths_with, AreUsed}
 use Rattle.kinds.specs.Inner.{Extends, HasNumber, CountsRun, AddsAll}

@@ -4,7 +4,7 @@ use Rattle.std.specs.Prelude.{◌==◌, ◌||◌}
 use Rattle.std.specs.List.{AllByRecursion}
 use Rattle.std.proofs.Math.ListN.{length-set}
 use Rattle.std.proofs.lemmas.List.{map-append}
-use Rattle.path_map.specs.Entries.{PathOf}
+use Rattle.acl_names.specs.Paths.{PathOf}
 use Rattle.kinds.specs.declared.memo.Met.{Met}
 use Rattle.kinds.specs.Kinds.{KindsOf, node_at, count_at, IsNode, Adds, Grants, Releases}
 use Rattle.kinds.specs.Numbered.{Numbers, entries_by, one_if, paths_with}

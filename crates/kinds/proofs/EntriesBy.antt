@@ -3,7 +3,7 @@ use Rattle.std.proofs.Common.{◌≡◌, ℕ, zero, suc, ◌+◌, ◌<◌, Bool,
 use Rattle.std.specs.Prelude.{◌==◌}
 use Rattle.std.specs.List.{AllByRecursion}
 use Rattle.std.proofs.lemmas.List.{take_more, map-append}
-use Rattle.path_map.specs.Entries.{PathOf}
+use Rattle.acl_names.specs.Paths.{PathOf}
 use Rattle.kinds.specs.Kinds.{KindsOf, node_at, IsNode, Adds}
 use Rattle.kinds.specs.Numbered.{Numbers, with_node, entries_by, paths_with, AreUsed}
 use Rattle.kinds.specs.Inner.{Extends}

@@ -4,9 +4,9 @@ use Rattle.std.specs.Ordering.{is_eq, eq_by_cmp, ordering_reverse}
 use Rattle.std.specs.FinMap.{find, is_sorted}
 use Rattle.std.specs.FinMap.Entries.{below_all, find-where_key}
 use Rattle.std.proofs.lemmas.Bool.{and_parts}
-use Rattle.acl_names.specs.Paths.{path_cmp}
+use Rattle.acl_names.specs.Paths.{path_cmp, PathOf}
 use Rattle.acl_names.proofs.PathOrder.{path_total, exact_paths}
-use Rattle.path_map.specs.Entries.{PathOf, IsInOrder, found}
+use Rattle.path_map.specs.Entries.{IsInOrder, found}
 use Rattle.path_map.specs.Merged.{has, without_all}
 use Rattle.path_map.specs.Inner.{After}
 use Rattle.path_map.proofs.Places.{above}

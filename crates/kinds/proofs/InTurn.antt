@@ -3,8 +3,8 @@ use Rattle.std.proofs.Common.{◌≡◌, ℕ, Bool, true, false, ◌+◌, ◌<�
 use Rattle.std.specs.Prelude.{◌==◌}
 use Rattle.std.specs.FinMap.{is_sorted}
 use Rattle.std.proofs.lemmas.List.{map-append}
-use Rattle.acl_names.specs.Paths.{path_cmp}
-use Rattle.path_map.specs.Entries.{PathOf, IsInOrder}
+use Rattle.acl_names.specs.Paths.{path_cmp, PathOf}
+use Rattle.path_map.specs.Entries.{IsInOrder}
 use Rattle.kinds.specs.Kinds.{KindsOf, node_at, count_at, IsNode, Adds, Grants}
 use Rattle.kinds.specs.Numbered.{Numbers, entries_by, one_if, AreUsed, AreSound}
 use Rattle.kinds.specs.Inner.{Extends, HasNumber, CountsRun, GivesNumber, AddsBut, pending_at, AddsAll}

@@ -2,7 +2,7 @@
 use Rattle.std.proofs.Common.{◌≡◌, ℕ, Bool, true, false, cond, List, [], ◌∷◌, Option, Some, None, refl, sym, ap, subst, ◌∙◌}
 use Rattle.std.specs.Option.{option_or}
 use Rattle.acl_names.specs.Below.{is_above}
-use Rattle.path_map.specs.Entries.{PathOf}
+use Rattle.acl_names.specs.Paths.{PathOf}
 use Rattle.path_map.specs.Below.{nearest_above}
 use Rattle.kinds.specs.Kinds.{KindsOf, node_at, IsNode}
 use Rattle.kinds.specs.Numbered.{Numbers, entries_by, AreUsed}

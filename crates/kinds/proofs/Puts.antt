@@ -1,7 +1,8 @@
 -- Entries put among those of a map, and others removed: their numbers have nodes, and the counts of their paths.
 use Rattle.std.proofs.Common.{◌≡◌, ℕ, Bool, true, false, ◌+◌, ◌-◌, ◌<◌, not, cond, List, [], ◌∷◌, ◌++◌, Option, Some, None, refl, sym, subst, ◌∙◌, arith}
 use Rattle.std.specs.Prelude.{◌==◌}
-use Rattle.path_map.specs.Entries.{PathOf, IsInOrder, found}
+use Rattle.acl_names.specs.Paths.{PathOf}
+use Rattle.path_map.specs.Entries.{IsInOrder, found}
 use Rattle.path_map.specs.Merged.{has, put_all, without_all}
 use Rattle.path_map.proofs.Merges.{in_order-put_all}
 use Rattle.kinds.specs.Kinds.{KindsOf, count_at, Releases}

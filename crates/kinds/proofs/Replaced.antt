@@ -7,9 +7,9 @@ use Rattle.std.specs.FinMap.{find, put, is_sorted}
 use Rattle.std.specs.FinMap.Entries.{by_order, below_all}
 use Rattle.std.proofs.lemmas.Bool.{and_parts}
 use Rattle.std.proofs.lemmas.Cmp.{tied_itself}
-use Rattle.acl_names.specs.Paths.{path_cmp}
+use Rattle.acl_names.specs.Paths.{path_cmp, PathOf}
 use Rattle.acl_names.proofs.PathOrder.{path_total, exact_paths}
-use Rattle.path_map.specs.Entries.{PathOf, IsInOrder, found}
+use Rattle.path_map.specs.Entries.{IsInOrder, found}
 use Rattle.path_map.specs.Changed.{each, with_values}
 use Rattle.path_map.specs.Inner.{After}
 use Rattle.path_map.specs.Merged.{put_all}

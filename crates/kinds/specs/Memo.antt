@@ -2,7 +2,7 @@
 -- names these definitions.
 use Rattle.std.specs.Prelude.{◌≡◌, ℕ, ◌+◌, ◌-◌, ◌<◌, ◌≤◌, ◌==◌, ◌||◌, Bool, false, if◌then◌else◌, List, [], ◌∷◌, ◌++◌, length, get_or, slice_set, Some, Result, Ok, Err}
 use Rattle.std.specs.List.{AllByRecursion}
-use Rattle.path_map.specs.Entries.{PathOf}
+use Rattle.acl_names.specs.Paths.{PathOf}
 use Rattle.path_map.specs.Merged.{put_all}
 use Rattle.kinds.specs.declared.memo.Met.{Met}
 use Rattle.kinds.specs.Kinds.{KindsOf, node_at, count_at, IsNode}

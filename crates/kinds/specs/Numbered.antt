@@ -1,7 +1,8 @@
 -- Entries by numbers: paths with the nodes of their numbers, in path order.
 use Rattle.std.specs.Prelude.{◌≡◌, ℕ, ◌+◌, ◌==◌, List, [], ◌∷◌, Option, Some, None, if◌then◌else◌}
 use Rattle.std.specs.List.{AllByRecursion}
-use Rattle.path_map.specs.Entries.{PathOf, IsInOrder}
+use Rattle.acl_names.specs.Paths.{PathOf}
+use Rattle.path_map.specs.Entries.{IsInOrder}
 use Rattle.kinds.specs.Kinds.{KindsOf, node_at, count_at, IsNode}
 
 -- for each path a number

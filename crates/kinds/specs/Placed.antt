@@ -1,7 +1,7 @@
 -- Entries whose nodes are at places of a list.
 use Rattle.std.specs.Prelude.{◌≡◌, ◌<◌, ℕ, List, [], map, slice_get, Option, Some, None, length, get_or}
 use Rattle.std.specs.List.{AllByRecursion}
-use Rattle.path_map.specs.Entries.{PathOf}
+use Rattle.acl_names.specs.Paths.{PathOf}
 use Rattle.kinds.specs.Kinds.{KindsOf, node_at, count_at}
 use Rattle.kinds.specs.Numbered.{Numbers, entries_by}
 use Rattle.kinds.specs.Inner.{Extends}

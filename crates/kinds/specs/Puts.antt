@@ -1,6 +1,6 @@
 -- What a walk over a map gives.
 use Rattle.std.specs.Borrow.{Bor}
-use Rattle.path_map.specs.Entries.{PathOf}
+use Rattle.acl_names.specs.Paths.{PathOf}
 
 -- a borrowed path with a borrowed node
 abbrev pub borrowed : {N : Type 0} → Bor PathOf × Bor N → PathOf × N

@@ -2,7 +2,7 @@
 use Rattle.std.specs.Prelude.{◌≡◌, ◌<◌, ◌≤◌, ◌+◌, ◌*◌, ◌++◌, ℕ, zero, suc, nat_lt, Bool, List, [], ◌∷◌, map, Option, Some, None, option_map, if◌then◌else◌}
 use Rattle.std.specs.List.{sum_by}
 use Rattle.std.specs.Option.{option_map_or}
-use Rattle.path_map.specs.Entries.{PathOf}
+use Rattle.acl_names.specs.Paths.{PathOf}
 use Rattle.kinds.specs.Kinds.{KindsOf, node_at, count_at}
 
 -- entries with what their nodes become

@@ -1,13 +1,12 @@
 -- What a call that may stop returns.
-use Rattle.std.specs.Prelude.{◌≡◌, ⊤, [], ◌∷◌, Result, Ok, Err}
+use Rattle.std.specs.Prelude.{◌≡◌, ⊤, [], ◌∷◌, Result, Ok, Err, ℕ}
 use Rattle.std.specs.declared.rc.Rc.{Rc}
-use Rattle.path_map.specs.Entries.{PathOf}
+use Rattle.acl_names.specs.Paths.{PathOf}
 use Rattle.kinds.specs.declared.edit.Stop.{Stop}
 use Rattle.kinds.specs.declared.edit.Stop.TheVariants as stops
 use Rattle.kinds.specs.Kinds.{KindsOf}
 use Rattle.kinds.specs.Numbered.{entries_by}
 use Rattle.kinds.specs.Memo.{NodeEdit, edit_each, EditsOne}
-use Rattle.std.specs.Prelude.{ℕ}
 
 -- what stopped a call is this fault, unless memory ran out
 abbrev pub IsFaultOf : {Y F : Type 0} → Stop F → Result Y F → Type 0

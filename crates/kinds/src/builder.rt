@@ -23,7 +23,7 @@ pub struct KindMapBuilder<N> {
 
 impl<N> Model for KindMapBuilder<N> {
     ghost use Rattle.std.specs.Prelude.{List, []};
-    ghost use Rattle.path_map.specs.Entries.{PathOf};
+    ghost use Rattle.acl_names.specs.Paths.{PathOf};
     ghost use Rattle.kinds.specs.Numbered.{entries_by};
     ghost use Rattle.kinds.specs.Inner.{AddsBut};
 

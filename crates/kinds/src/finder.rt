@@ -32,7 +32,7 @@ pub struct KindsFinder<'a, N> {
 
 impl<'a, N> Model for KindsFinder<'a, N> {
     ghost use Rattle.std.specs.Prelude.{List};
-    ghost use Rattle.path_map.specs.Entries.{PathOf};
+    ghost use Rattle.acl_names.specs.Paths.{PathOf};
     ghost use Rattle.kinds.specs.Numbered.{AreUsed, entries_by};
 
     ghost Value = { List (PathOf × N) };

@@ -2,7 +2,8 @@
 
 ghost use Rattle.std.specs.Prelude.{◌≡◌, List, option_map};
 ghost use Rattle.std.specs.Iterator.{YieldsFirstBy, item_count};
-ghost use Rattle.path_map.specs.Entries.{PathOf, first};
+ghost use Rattle.acl_names.specs.Paths.{PathOf};
+ghost use Rattle.path_map.specs.Entries.{first};
 ghost use Rattle.kinds.specs.Numbered.{entries_by, AreUsed};
 ghost use Rattle.kinds.specs.Puts.{borrowed};
 

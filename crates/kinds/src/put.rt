@@ -27,7 +27,8 @@ pub struct KindPuts<'a, N> {
 
 impl<'a, N> Model for KindPuts<'a, N> {
     ghost use Rattle.std.specs.Prelude.{List, map};
-    ghost use Rattle.path_map.specs.Entries.{PathOf, seen};
+    ghost use Rattle.acl_names.specs.Paths.{PathOf};
+    ghost use Rattle.path_map.specs.Entries.{seen};
     ghost use Rattle.kinds.specs.Numbered.{entries_by, entries_in};
     ghost use Rattle.kinds.specs.Counted.{AddsUncounted};
 

@@ -6,10 +6,10 @@ use Rattle.std.specs.Ordering.{is_lt}
 use Rattle.std.specs.FinMap.{is_sorted}
 use Rattle.std.specs.FinMap.Entries.{below_all}
 use Rattle.std.proofs.lemmas.Bool.{and_parts}
-use Rattle.acl_names.specs.Paths.{path_cmp}
+use Rattle.acl_names.specs.Paths.{path_cmp, PathOf}
 use Rattle.acl_names.specs.Below.{is_above}
 use Rattle.acl_names.proofs.Below.{below_less, below_trans, convex_below, not_below_itself}
-use Rattle.path_map.specs.Entries.{PathOf, IsInOrder}
+use Rattle.path_map.specs.Entries.{IsInOrder}
 use Rattle.path_map.specs.Below.{nearest_above}
 use Rattle.path_map.proofs.Places.{less, above}
 use Rattle.path_map.proofs.Nearest.{clash, false_from}

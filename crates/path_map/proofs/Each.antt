@@ -7,9 +7,9 @@ use Rattle.std.specs.FinMap.{find, is_sorted}
 use Rattle.std.specs.FinMap.Entries.{below_all}
 use Rattle.std.proofs.lemmas.Cmp.{tied_itself}
 use Rattle.std.proofs.lemmas.List.{map-append, drop-drop, drop_more, take-append-drop}
-use Rattle.acl_names.specs.Paths.{path_cmp}
+use Rattle.acl_names.specs.Paths.{path_cmp, PathOf}
 use Rattle.acl_names.proofs.PathOrder.{path_total, exact_paths}
-use Rattle.path_map.specs.Entries.{PathOf, IsInOrder}
+use Rattle.path_map.specs.Entries.{IsInOrder}
 use Rattle.path_map.specs.Changed.{each, with_values}
 use Rattle.path_map.specs.Inner.{IsStart, IsPassed, Before, From, After, same_first}
 use Rattle.path_map.proofs.Places.{above, below, found_later}

@@ -7,9 +7,9 @@ use Rattle.std.specs.FinMap.{find, is_sorted}
 use Rattle.std.specs.FinMap.Entries.{below_all}
 use Rattle.std.proofs.lemmas.Bool.{and_parts}
 use Rattle.std.proofs.lemmas.List.{map-append, drop-drop, drop_more, take-append-drop}
-use Rattle.acl_names.specs.Paths.{path_cmp}
+use Rattle.acl_names.specs.Paths.{path_cmp, PathOf}
 use Rattle.acl_names.proofs.PathOrder.{exact_paths}
-use Rattle.path_map.specs.Entries.{PathOf, IsInOrder, found}
+use Rattle.path_map.specs.Entries.{IsInOrder, found}
 use Rattle.path_map.specs.Inner.{IsStart, IsPassed, Before, From, same_first}
 use Rattle.path_map.proofs.Places.{above, less, found_later}
 use Rattle.path_map.proofs.Chunks.{find-append, or_none, in_order-right}

@@ -1,7 +1,8 @@
 -- Paths and values that a builder has gathered, after the entries of its chunks.
 use Rattle.std.proofs.Common.{◌≡◌, List, [], ◌∷◌, ◌++◌, length, refl, sym, ap, subst, ◌∙◌, arith, append_assoc, append-nil}
 use Rattle.std.specs.List.{zip}
-use Rattle.path_map.specs.Entries.{PathOf, IsInOrder}
+use Rattle.acl_names.specs.Paths.{PathOf}
+use Rattle.path_map.specs.Entries.{IsInOrder}
 use Rattle.path_map.specs.Inner.{AreGathered}
 use Rattle.path_map.proofs.Chunks.{in_order-left}
 

@@ -6,11 +6,11 @@ use Rattle.std.specs.FinMap.{is_sorted}
 use Rattle.std.specs.FinMap.Entries.{below_all}
 use Rattle.std.proofs.lemmas.Bool.{and_parts}
 use Rattle.std.proofs.lemmas.List.{get_or-drop, drop-drop}
-use Rattle.acl_names.specs.Paths.{path_cmp}
+use Rattle.acl_names.specs.Paths.{path_cmp, PathOf}
 use Rattle.acl_names.specs.Below.{encloses}
 use Rattle.acl_names.proofs.PathOrder.{path_total}
 use Rattle.acl_names.proofs.Below.{convex}
-use Rattle.path_map.specs.Entries.{PathOf, IsInOrder}
+use Rattle.path_map.specs.Entries.{IsInOrder}
 use Rattle.path_map.specs.Below.{is_passed, after}
 use Rattle.path_map.specs.Inner.{IsStart, IsWithinFirst, BeginsPassed, ArePassed, Before, From, After, Are}
 use Rattle.path_map.proofs.Places.{above, below}

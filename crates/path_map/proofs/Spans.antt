@@ -4,10 +4,10 @@ use Rattle.std.specs.List.{zip, flat_map}
 use Rattle.std.specs.List.Sorted.{IsPartitionPoint, IsPartitionedBy}
 use Rattle.std.specs.Ordering.{is_gt}
 use Rattle.std.proofs.lemmas.List.{get_or_append_left, get_or-map, length-map, get_or-drop, drop-drop, map-append}
-use Rattle.acl_names.specs.Paths.{path_cmp}
+use Rattle.acl_names.specs.Paths.{path_cmp, PathOf}
 use Rattle.acl_names.specs.Below.{encloses}
 use Rattle.acl_names.proofs.Below.{convex, not_before}
-use Rattle.path_map.specs.Entries.{PathOf, IsInOrder}
+use Rattle.path_map.specs.Entries.{IsInOrder}
 use Rattle.path_map.specs.Below.{within}
 use Rattle.path_map.specs.Changed.{each, changed_within}
 use Rattle.path_map.specs.Inner.{IsStart, IsCountUpTo, AreFirstWithin, IsWithinFirst, BeginsBy, BeginsIn, Before, From, After, Are}

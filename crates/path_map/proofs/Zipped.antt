@@ -5,9 +5,9 @@ use Rattle.std.specs.FinMap.{find, is_sorted}
 use Rattle.std.specs.List.Sorted.{IsPartitionPoint, IsPartitionedBy}
 use Rattle.std.specs.Ordering.{is_gt, is_lt}
 use Rattle.std.proofs.lemmas.List.{get_or-map, length-map}
-use Rattle.acl_names.specs.Paths.{path_cmp}
+use Rattle.acl_names.specs.Paths.{path_cmp, PathOf}
 use Rattle.acl_names.proofs.PathOrder.{exact_paths}
-use Rattle.path_map.specs.Entries.{PathOf, IsInOrder}
+use Rattle.path_map.specs.Entries.{IsInOrder}
 use Rattle.path_map.specs.Below.{up_to}
 use Rattle.path_map.specs.Inner.{IsStart, IsCountUpTo, BeginsBy, BeginsAfter}
 use Rattle.path_map.proofs.Places.{find_at, find_gap, find_after, above, rises, above_earlier, not_above_later}

@@ -3,8 +3,8 @@
 ghost use Rattle.std.specs.Prelude.{◌≡◌, ◌++◌, ◌<◌, [], ◌∷◌, length, List, IfOk, OnOk, OnErr, MatchOption, is_ok, if◌then◌else◌};
 ghost use Rattle.std.specs.List.{zip};
 ghost use Rattle.std.specs.FinMap.{is_sorted};
-ghost use Rattle.acl_names.specs.Paths.{path_cmp};
-ghost use Rattle.path_map.specs.Entries.{IsInOrder, PathOf, all_in};
+ghost use Rattle.acl_names.specs.Paths.{path_cmp, PathOf};
+ghost use Rattle.path_map.specs.Entries.{IsInOrder, all_in};
 ghost use Rattle.path_map.specs.Inner.{AreGathered, IsLast};
 
 use crate::chunk::{Chunk, MAX_ENTRIES};

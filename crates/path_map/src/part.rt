@@ -2,8 +2,8 @@
 
 ghost use Rattle.std.specs.Prelude.{◌≡◌, ◌<◌, ◌++◌, None, length, List, OnOk, slice_index_or, option_map, map};
 ghost use Rattle.std.specs.FinMap.{find, is_sorted};
-ghost use Rattle.acl_names.specs.Paths.{path_cmp};
-ghost use Rattle.path_map.specs.Entries.{IsInOrder, IsCount, PathOf, entries_of_parts, seen, found};
+ghost use Rattle.acl_names.specs.Paths.{path_cmp, PathOf};
+ghost use Rattle.path_map.specs.Entries.{IsInOrder, IsCount, entries_of_parts, seen, found};
 ghost use Rattle.path_map.specs.Below.{up_to, within, is_passed};
 ghost use Rattle.path_map.specs.Inner.{IsCountUpTo, AreFirstWithin, ArePassed, IsStart};
 

@@ -3,8 +3,8 @@
 ghost use Rattle.std.specs.Prelude.{◌≡◌, ◌++◌, ◌+◌, ◌<◌, ◌≤◌, [], ◌∷◌, length, IfOk, OnOk, List, ℕ, map, take, drop, slice_index_or};
 ghost use Rattle.std.specs.List.{zip};
 ghost use Rattle.std.specs.FinMap.{find};
-ghost use Rattle.acl_names.specs.Paths.{path_cmp};
-ghost use Rattle.path_map.specs.Entries.{IsInOrder, PathOf, entries_of_parts, found, seen};
+ghost use Rattle.acl_names.specs.Paths.{path_cmp, PathOf};
+ghost use Rattle.path_map.specs.Entries.{IsInOrder, entries_of_parts, found, seen};
 ghost use Rattle.path_map.specs.Below.{within};
 ghost use Rattle.path_map.specs.Changed.{each, with_values, changed_within};
 ghost use Rattle.path_map.specs.Inner.{IsPassed};

@@ -1,18 +1,20 @@
 //! What `changes` prints: what each user may do with each file, beside what the user might do before; and its lines.
 
 ghost use Rattle.std.specs.Prelude.{◌≡◌, ◌&&◌, true, drop, IfOk, OnOk, ◌∷◌, not};
-ghost use Rattle.acl_rights.specs.acl_names.Appends.{Appends};
+ghost use Rattle.acl_names.specs.Appends.{Appends};
 ghost use Rattle.std.specs.List.{list_all, flat_map};
-ghost use Rattle.acl_rights.specs.acl_files.path_map.Entries.{first, IsInOrder};
+ghost use Rattle.path_map.specs.Entries.{first, IsInOrder};
 ghost use Rattle.facl.specs.ChangesText.{changes_text, requests_gained, after_comma, change_line, change_lines};
 ghost use Rattle.facl.specs.Inner.{keeps_place, shown_row, lines_between, lines_of_both, next_order, gone_lines, new_lines, kept_lines, next_lines, left_before, left_after, verdict_or_none};
-ghost use Rattle.acl_rights.specs.acl_entry.Check.{has};
+ghost use Rattle.acl_entry.specs.Check.{has};
 
 use crate::answers::index::shown;
 use crate::answers::placed_users::{PlacedUser, keep_places, users_of_both};
 use crate::answers::requests::NUMBERS;
 use crate::answers::row_walk::{FileWithRow, Walk};
-use acl_rights::{IndexedState, Judge, Perm, Requests, Verdicts, same_row};
+use acl_entry::{Perm, Requests};
+use acl_rights::{IndexedState, Verdicts};
+use acl_verdicts::{Judge, same_row};
 use std::alloc::{AllocError, Global};
 use std::cmp::Ordering;
 

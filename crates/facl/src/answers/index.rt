@@ -1,14 +1,19 @@
 //! What `index` prints: what each user may do with each file.
 
 ghost use Rattle.std.specs.Prelude.{◌≡◌, map, IfOk};
-ghost use Rattle.acl_rights.specs.acl_names.Appends.{Appends};
-ghost use Rattle.acl_rights.specs.acl_names.Names.{escaped};
+ghost use Rattle.acl_names.specs.Appends.{Appends};
+ghost use Rattle.acl_names.specs.Names.{escaped};
 ghost use Rattle.facl_output.specs.Listings.{path_shown};
 ghost use Rattle.facl.specs.Answers.{hex_digits, verdict_line, index_text};
 ghost use Rattle.facl.specs.Inner.{row_lines, lines_of_walk, shown_row};
 
 use crate::answers::row_walk::{FileWithRow, Walk};
-use acl_rights::{Found, IndexedState, Judge, People, Requests, write_name};
+use acl_entry::Requests;
+use acl_files::Found;
+use acl_names::write_name;
+use acl_people::People;
+use acl_rights::IndexedState;
+use acl_verdicts::Judge;
 use facl_output::push_path_shown;
 use std::alloc::{AllocError, Global};
 

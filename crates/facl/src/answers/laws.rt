@@ -3,17 +3,19 @@
 ghost use Rattle.std.specs.Prelude.{◌≡◌, [], Bool, Some};
 ghost use Rattle.std.specs.FinMap.{find};
 ghost use Rattle.std.specs.List.{AllByRecursion};
-ghost use Rattle.acl_rights.specs.acl_edit.declared.node.Node.{Node};
-ghost use Rattle.acl_rights.specs.acl_entry.Check.{check};
-ghost use Rattle.acl_rights.specs.acl_entry.Perms.{Perms};
-ghost use Rattle.acl_rights.specs.acl_names.Paths.{path_cmp};
-ghost use Rattle.acl_rights.specs.acl_tree.Files.{PathOf};
-ghost use Rattle.acl_rights.specs.acl_verdicts.Rows.{Verdict};
+ghost use Rattle.acl_edit.specs.declared.node.Node.{Node};
+ghost use Rattle.acl_entry.specs.Check.{check};
+ghost use Rattle.acl_entry.specs.Perms.{Perms};
+ghost use Rattle.acl_names.specs.Paths.{path_cmp, PathOf};
+ghost use Rattle.acl_verdicts.specs.Rows.{Verdict};
 ghost use Rattle.facl.specs.ChangesText.{changes_text, IsUnchanged};
 ghost use Rattle.facl.specs.Inner.{HasValidList};
 ghost use Rattle.facl.specs.WhyText.{some_decides, IsDecidedAlong};
 
-use acl_rights::{Label, Node, Path, State, Subject, Tree};
+use acl_edit::Node;
+use acl_entry::{Label, Subject};
+use acl_names::Path;
+use acl_tree::{State, Tree};
 
 /// Proof only: the check of acl(5) grants a user a request on a file exactly if one of the entries that `why` prints
 /// contains it: of an entry of the group class what the mask leaves.

@@ -2,11 +2,12 @@
 
 ghost use Rattle.std.specs.Prelude.{◌≡◌, ◌++◌, ◌∷◌, not, map, filter, IfOk, OnOk, if◌then◌else◌, []};
 ghost use Rattle.std.specs.List.{list_all};
-ghost use Rattle.acl_rights.specs.acl_people.KnownPeople.{users_of};
-ghost use Rattle.acl_rights.specs.acl_people.NameTables.{has_name};
+ghost use Rattle.acl_people.specs.KnownPeople.{users_of};
+ghost use Rattle.acl_people.specs.NameTables.{has_name};
 ghost use Rattle.facl.specs.Inner.{placed_of, placed_in, same_place, keeps_place};
 
-use acl_rights::{People, write_name};
+use acl_names::write_name;
+use acl_people::People;
 use std::alloc::{AllocError, Global};
 
 /// A user of either state: the name as it is printed, and the places of the user's rows in both.

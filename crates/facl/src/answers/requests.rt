@@ -1,9 +1,9 @@
 //! The requests that a user is granted, as a line.
 
-ghost use Rattle.acl_rights.specs.acl_names.Appends.{Appends, AppendsWhole};
+ghost use Rattle.acl_names.specs.Appends.{Appends, AppendsWhole};
 ghost use Rattle.facl.specs.Requests.{request_text, requests_granted, requests_text, requests_line};
 
-use acl_rights::{Perm, Requests};
+use acl_entry::{Perm, Requests};
 use facl_output::end_line;
 use std::alloc::AllocError;
 

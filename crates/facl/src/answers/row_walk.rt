@@ -1,12 +1,17 @@
 //! A walk over all files of a state, each with its row of verdicts.
 
 ghost use Rattle.std.specs.Prelude.{◌≡◌, drop, option_map, IfOk, OnOk};
-ghost use Rattle.acl_rights.specs.acl_files.path_map.Entries.{first, IsInOrder};
-ghost use Rattle.acl_rights.specs.acl_tree.Found.{found_file};
+ghost use Rattle.path_map.specs.Entries.{first, IsInOrder};
+ghost use Rattle.acl_files.specs.Found.{found_file};
 ghost use Rattle.facl.specs.Inner.{has_next_below, walk_of, shown_row};
 ghost use Rattle.acl_rights.specs.Verdicts.{rows_granted};
 
-use acl_rights::{Cells, FileRows, FilesIter, Found, Judge, Node, Path, Tree, Verdicts};
+use acl_edit::Node;
+use acl_files::{FilesIter, Found};
+use acl_names::Path;
+use acl_rights::Verdicts;
+use acl_tree::Tree;
+use acl_verdicts::{Cells, FileRows, Judge};
 use std::alloc::{AllocError, Global};
 use std::marker::Model;
 

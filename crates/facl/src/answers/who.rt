@@ -1,12 +1,16 @@
 //! What `who` prints: the users who are granted a request on a file.
 
 ghost use Rattle.std.specs.Prelude.{◌≡◌, IfOk, option_map};
-ghost use Rattle.acl_rights.specs.acl_names.Appends.{Appends};
+ghost use Rattle.acl_names.specs.Appends.{Appends};
 ghost use Rattle.std.specs.List.{flat_map};
 ghost use Rattle.facl.specs.Answers.{who_text};
 ghost use Rattle.facl.specs.Inner.{line_at};
 
-use acl_rights::{Judge, Path, People, Perm, Verdicts, append_name};
+use acl_entry::Perm;
+use acl_names::{Path, append_name};
+use acl_people::People;
+use acl_rights::Verdicts;
+use acl_verdicts::Judge;
 use std::alloc::{AllocError, Global};
 
 /// Adds the line of a user.

@@ -1,19 +1,21 @@
 //! What `why` prints: the entries that decide on a user.
 
 ghost use Rattle.std.specs.Prelude.{◌≡◌, ◌≢◌, ◌++◌, ◌∷◌, [], None, IfOk, IfErr, OnOk, false};
-ghost use Rattle.acl_rights.specs.acl_names.Appends.{Appends};
+ghost use Rattle.acl_names.specs.Appends.{Appends};
 ghost use Rattle.std.specs.List.{list_any};
-ghost use Rattle.acl_rights.specs.acl_entry.Check.{is_for};
-ghost use Rattle.acl_rights.specs.acl_entry.Lists.{entries};
-ghost use Rattle.acl_rights.specs.acl_files.Walks.{ancestors};
-ghost use Rattle.acl_rights.specs.acl_tree.Operands.{first_missing, IsMissing};
+ghost use Rattle.acl_entry.specs.Check.{is_for};
+ghost use Rattle.acl_entry.specs.Lists.{entries};
+ghost use Rattle.acl_files.specs.Walks.{ancestors};
+ghost use Rattle.acl_files.specs.Operands.{first_missing, IsMissing};
 ghost use Rattle.facl.specs.Inner.{sole_key, is_chosen, ways, asked_paths};
 ghost use Rattle.facl.specs.WhyText.{deciding_text, files_asked, why_record, why_text};
 
-use acl_rights::{
-    Effective, Entry, Found, Id, Key, Label, Names, Path, Paths, Selection, Subject, Tree,
-    TreeFault, Which, append_line,
-};
+use acl_dump::{Effective, append_line};
+use acl_entry::{Entry, Id, Key, Label, Subject};
+use acl_files::{Found, Paths, Selection, TreeFault};
+use acl_names::Path;
+use acl_syntax::{Names, Which};
+use acl_tree::Tree;
 use facl_output::push_path;
 use std::alloc::{AllocError, Global};
 use std::cmp::Ordering;

@@ -7,8 +7,10 @@ ghost use Rattle.facl.specs.Replies.{Replies};
 use crate::tools::effect::Effect;
 use crate::tools::operands::paths_of;
 use crate::tools::syntax::one;
-use acl_rights::{Selection, State};
-use facl_output::{LineFault, LineFiles, OperandRow, Syntax, Words, write_attributes};
+use acl_files::Selection;
+use acl_tree::State;
+use facl_output::{LineFault, write_attributes};
+use facl_words::{LineFiles, OperandRow, Syntax, Words};
 use std::alloc::Global;
 
 /// The words of the tool.

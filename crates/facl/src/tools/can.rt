@@ -8,8 +8,12 @@ use crate::answers::requests::append_requests;
 use crate::tools::effect::Effect;
 use crate::tools::operands::{path_at, user_at};
 use crate::tools::syntax::{by_name, one};
-use acl_rights::{IndexedState, Judge, Path, TreeFault, Verdicts};
-use facl_output::{LineFault, OperandRow, OptionRow, Syntax, WordRef, Words};
+use acl_files::TreeFault;
+use acl_names::Path;
+use acl_rights::{IndexedState, Verdicts};
+use acl_verdicts::Judge;
+use facl_output::LineFault;
+use facl_words::{OperandRow, OptionRow, Syntax, WordRef, Words};
 use std::alloc::Global;
 
 /// The words of the tool.

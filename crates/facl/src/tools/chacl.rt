@@ -9,11 +9,12 @@ use crate::tools::effect::Effect;
 use crate::tools::lists::list_of_text;
 use crate::tools::operands::paths_of;
 use crate::tools::syntax::{by_letter, some};
-use acl_rights::{Edit, Selection, State, Which};
-use facl_output::{
-    LineFault, LineFiles, OperandRow, OptionRow, Source, Syntax, Word, WordRef, Words,
-    write_chacl_listing,
-};
+use acl_edit::Edit;
+use acl_files::Selection;
+use acl_syntax::Which;
+use acl_tree::State;
+use facl_output::{LineFault, Source, write_chacl_listing};
+use facl_words::{LineFiles, OperandRow, OptionRow, Syntax, Word, WordRef, Words};
 use std::alloc::Global;
 
 /// The words of the tool: lists, where the flags require them, and then files.

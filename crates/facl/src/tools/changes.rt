@@ -7,8 +7,10 @@ ghost use Rattle.facl.specs.Replies.{Replies};
 use crate::answers::changes::write_changes;
 use crate::tools::effect::Effect;
 use crate::tools::syntax::by_name;
-use acl_rights::{IndexedState, Judge};
-use facl_output::{LineFault, OptionRow, Syntax, Words};
+use acl_rights::IndexedState;
+use acl_verdicts::Judge;
+use facl_output::LineFault;
+use facl_words::{OptionRow, Syntax, Words};
 use std::alloc::Global;
 
 /// The words of the tool.

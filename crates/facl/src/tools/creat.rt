@@ -8,8 +8,10 @@ use crate::tools::effect::{Effect, effect_of};
 use crate::tools::mode::permission_mode_of;
 use crate::tools::operands::{name_meant, path_at};
 use crate::tools::syntax::{by_letter, by_name, one};
-use acl_rights::{Command, Kind, NewFile, State};
-use facl_output::{LineFault, OperandRow, OptionRow, Syntax, WordRef, Words};
+use acl_edit::Kind;
+use acl_tree::{Command, NewFile, State};
+use facl_output::LineFault;
+use facl_words::{OperandRow, OptionRow, Syntax, WordRef, Words};
 use std::alloc::Global;
 
 /// The words of the tool.

@@ -5,8 +5,10 @@ ghost use Rattle.facl.specs.Edits.{edited};
 
 use crate::tools::effect::{Effect, effect_of};
 use crate::tools::operands::paths_of;
-use acl_rights::{Command, Edit, State};
-use facl_output::{LineFault, Word};
+use acl_edit::Edit;
+use acl_tree::{Command, State};
+use facl_output::LineFault;
+use facl_words::Word;
 use std::alloc::Global;
 
 /// The FILEs of a line, with `recursive` also all files below them.

@@ -1,10 +1,10 @@
 //! What an accepted line does, and commands on the state.
 
 ghost use Rattle.std.specs.Prelude.{◌≡◌, [], false, Some, None};
-ghost use Rattle.acl_rights.specs.acl_tree.State.{State};
+ghost use Rattle.acl_tree.specs.State.{State};
 ghost use Rattle.facl.specs.Replies.{reply_of, printed, Replies, done};
 
-use acl_rights::{Command, Staged, State};
+use acl_tree::{Command, Staged, State};
 use facl_output::LineFault;
 use std::alloc::Global;
 

@@ -7,10 +7,11 @@ ghost use Rattle.facl.specs.Replies.{Replies};
 use crate::tools::effect::Effect;
 use crate::tools::operands::paths_of;
 use crate::tools::syntax::{both, some};
-use acl_rights::{Effective, Selection, State};
-use facl_output::{
-    LineFault, LineFiles, OperandRow, OptionRow, Options, Syntax, Words, append_listing,
-};
+use acl_dump::Effective;
+use acl_files::Selection;
+use acl_tree::State;
+use facl_output::{LineFault, Options, append_listing};
+use facl_words::{LineFiles, OperandRow, OptionRow, Syntax, Words};
 use std::alloc::Global;
 
 /// The words of the tool.

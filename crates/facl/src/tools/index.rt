@@ -5,8 +5,10 @@ ghost use Rattle.facl.specs.Replies.{Replies};
 
 use crate::answers::index::write_index;
 use crate::tools::effect::Effect;
-use acl_rights::{IndexedState, Judge};
-use facl_output::{LineFault, Syntax};
+use acl_rights::IndexedState;
+use acl_verdicts::Judge;
+use facl_output::LineFault;
+use facl_words::Syntax;
 use std::alloc::Global;
 
 /// The tool takes no words.

@@ -6,8 +6,9 @@ ghost use Rattle.facl.specs.Replies.{Replies};
 
 use crate::tools::effect::{Effect, effect_of};
 use crate::tools::syntax::one;
-use acl_rights::{Command, State, Table};
-use facl_output::{LineFault, OperandRow, Syntax, Words};
+use acl_tree::{Command, State, Table};
+use facl_output::LineFault;
+use facl_words::{OperandRow, Syntax, Words};
 use std::alloc::Global;
 
 /// The words of the tool.

@@ -8,8 +8,14 @@ use crate::answers::may::write_may;
 use crate::tools::effect::Effect;
 use crate::tools::operands::name_meant;
 use crate::tools::syntax::{by_name, one};
-use acl_rights::{IndexedState, Judge, Name, Perm, TreeFault, Verdicts, read_perms};
-use facl_output::{LineFault, OperandRow, OptionRow, Syntax, WordRef, Words};
+use acl_entry::Perm;
+use acl_files::TreeFault;
+use acl_names::Name;
+use acl_rights::{IndexedState, Verdicts};
+use acl_syntax::read_perms;
+use acl_verdicts::Judge;
+use facl_output::LineFault;
+use facl_words::{OperandRow, OptionRow, Syntax, WordRef, Words};
 use std::alloc::{AllocError, Global};
 
 /// The words of the tool.

@@ -4,10 +4,12 @@ ghost use Rattle.std.specs.Prelude.{◌≡◌, IfOk};
 ghost use Rattle.facl.specs.Replies.{Gives};
 ghost use Rattle.facl.specs.Operands.{path_at, paths_from, name_meant, user_or_fault};
 
-use acl_rights::{
-    FaultKind, Name, Path, Paths, People, TextFault, TreeFault, read_name, read_path, trim,
-};
-use facl_output::{LineFault, Source, Word, WordRef};
+use acl_files::{Paths, TreeFault};
+use acl_names::{Name, Path, read_name, read_path};
+use acl_people::People;
+use acl_syntax::{FaultKind, TextFault, trim};
+use facl_output::{LineFault, Source};
+use facl_words::{Word, WordRef};
 use std::alloc::{AllocError, Global};
 
 /// The path of the operand at a place, counted from 1.

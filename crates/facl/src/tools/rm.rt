@@ -7,8 +7,9 @@ ghost use Rattle.facl.specs.Rm.{answered, read};
 use crate::tools::effect::{Effect, effect_of};
 use crate::tools::operands::paths_of;
 use crate::tools::syntax::{by_letter, some};
-use acl_rights::{Command, State};
-use facl_output::{LineFault, LineFiles, OperandRow, OptionRow, Syntax, Words};
+use acl_tree::{Command, State};
+use facl_output::LineFault;
+use facl_words::{LineFiles, OperandRow, OptionRow, Syntax, Words};
 use std::alloc::Global;
 
 /// The words of the tool.

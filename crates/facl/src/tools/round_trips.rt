@@ -4,7 +4,8 @@
 ghost use Rattle.std.specs.List.{AllByRecursion};
 ghost use Rattle.facl.specs.RoundTrips.{AreReadBySetattr, IsReadByChacl, IsReadBySet};
 
-use acl_rights::{People, Tree};
+use acl_people::People;
+use acl_tree::Tree;
 use facl_output::{attributes_are_read_again, lists_are_read_again};
 
 /// Proof only: what `chacl -l` prints in brackets of each file is read by chacl as the same lists, and put into the file

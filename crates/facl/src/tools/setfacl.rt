@@ -9,11 +9,13 @@ use crate::tools::operands::paths_of;
 use crate::tools::setfacl_entries::{both_at, drops, entries_of_line};
 use crate::tools::syntax::{any, both, by_name};
 use crate::tools::tested::do_or_test;
-use acl_rights::{
-    Change, ChangeEntries, ChangeFlags, Command, DumpRecords, DumpUse, Edit, People, State,
-    read_dump,
-};
-use facl_output::{LineFault, LineFiles, OperandRow, OptionRow, Source, Syntax, WordRef, Words};
+use acl_dump::{DumpUse, read_dump};
+use acl_edit::{Change, ChangeEntries, ChangeFlags, Edit};
+use acl_files::DumpRecords;
+use acl_people::People;
+use acl_tree::{Command, State};
+use facl_output::{LineFault, Source};
+use facl_words::{LineFiles, OperandRow, OptionRow, Syntax, WordRef, Words};
 use std::alloc::Global;
 
 /// Changes the lists of the files of a line.

@@ -7,7 +7,10 @@ ghost use Rattle.facl.specs.Replies.{Gives};
 ghost use Rattle.facl.specs.Setfacl.{both_at, drops, entries_given, entries_in, entries_of_line, has_default};
 
 use crate::tools::setfacl::{ChangeLine, EntrySource};
-use acl_rights::{ChangeEntries, Draft, People, Perm, Sep, Spec, Specs, Want, read_entries};
+use acl_edit::{ChangeEntries, Specs};
+use acl_entry::{Draft, Perm};
+use acl_people::People;
+use acl_syntax::{Sep, Spec, Want, read_entries};
 use facl_output::{LineFault, Source};
 use std::alloc::{AllocError, Global};
 

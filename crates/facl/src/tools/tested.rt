@@ -3,16 +3,16 @@
 ghost use Rattle.std.specs.Prelude.{◌≡◌, false, None, Ok, IfOk};
 ghost use Rattle.facl.specs.Replies.{Replies, Gives};
 ghost use Rattle.facl.specs.Setfacl.{command_files, done_or_tested, tested, tested_or_fault};
-ghost use Rattle.acl_rights.specs.acl_tree.Found.{files_found};
-ghost use Rattle.acl_rights.specs.acl_tree.Operands.{first_missing};
-ghost use Rattle.acl_rights.specs.acl_tree.Restoring.{paths_of};
-ghost use Rattle.acl_rights.specs.acl_tree.Step.{step};
+ghost use Rattle.acl_files.specs.Found.{files_found};
+ghost use Rattle.acl_files.specs.Operands.{first_missing};
+ghost use Rattle.acl_files.specs.Restoring.{paths_of};
+ghost use Rattle.acl_tree.specs.Step.{step};
 
 use crate::tools::effect::{Effect, prepared};
-use acl_rights::{
-    Command, DumpRecord, DumpRecords, Found, Path, Paths, Selection, Staged, State, Tree,
-    each_file_is_edited,
-};
+use acl_dump::DumpRecord;
+use acl_files::{DumpRecords, Found, Paths, Selection};
+use acl_names::Path;
+use acl_tree::{Command, Staged, State, Tree, each_file_is_edited};
 use facl_output::{LineFault, append_test_listing};
 use std::alloc::{AllocError, Global};
 

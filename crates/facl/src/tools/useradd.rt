@@ -7,8 +7,13 @@ ghost use Rattle.facl.specs.Useradd.{answered, line_with, decoded_name, new_user
 use crate::tools::effect::{Effect, effect_of};
 use crate::tools::operands::name_meant;
 use crate::tools::syntax::{by_letter, one};
-use acl_rights::{Command, Id, NewUser, State, UserName, read_id, read_name};
-use facl_output::{LineFault, OperandRow, OptionRow, Syntax, WordRef, Words};
+use acl_entry::Id;
+use acl_names::read_name;
+use acl_people::UserName;
+use acl_syntax::read_id;
+use acl_tree::{Command, NewUser, State};
+use facl_output::LineFault;
+use facl_words::{OperandRow, OptionRow, Syntax, WordRef, Words};
 use std::alloc::{AllocError, Global};
 
 /// The words of the tool.

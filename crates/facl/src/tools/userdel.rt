@@ -7,8 +7,9 @@ ghost use Rattle.facl.specs.Userdel.{answered, read};
 use crate::tools::effect::{Effect, effect_of};
 use crate::tools::operands::name_meant;
 use crate::tools::syntax::one;
-use acl_rights::{Command, State};
-use facl_output::{LineFault, OperandRow, Syntax, WordRef, Words};
+use acl_tree::{Command, State};
+use facl_output::LineFault;
+use facl_words::{OperandRow, Syntax, WordRef, Words};
 use std::alloc::Global;
 
 /// The words of the tool.

@@ -7,8 +7,9 @@ ghost use Rattle.facl.specs.Usermod.{answered, read};
 use crate::tools::effect::{Effect, effect_of};
 use crate::tools::operands::name_meant;
 use crate::tools::syntax::{by_letter, one};
-use acl_rights::{Command, State};
-use facl_output::{LineFault, OperandRow, OptionRow, Syntax, WordRef, Words};
+use acl_tree::{Command, State};
+use facl_output::LineFault;
+use facl_words::{OperandRow, OptionRow, Syntax, WordRef, Words};
 use std::alloc::Global;
 
 /// The words of the tool.

@@ -8,8 +8,14 @@ use crate::answers::who::write_who;
 use crate::tools::effect::Effect;
 use crate::tools::operands::path_at;
 use crate::tools::syntax::{by_name, one};
-use acl_rights::{IndexedState, Judge, Path, Perm, TreeFault, Verdicts, read_perms};
-use facl_output::{LineFault, OperandRow, OptionRow, Syntax, WordRef, Words};
+use acl_entry::Perm;
+use acl_files::TreeFault;
+use acl_names::Path;
+use acl_rights::{IndexedState, Verdicts};
+use acl_syntax::read_perms;
+use acl_verdicts::Judge;
+use facl_output::LineFault;
+use facl_words::{OperandRow, OptionRow, Syntax, WordRef, Words};
 use std::alloc::Global;
 
 /// The words of the tool.

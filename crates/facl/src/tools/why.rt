@@ -9,8 +9,13 @@ use crate::answers::why::{files_asked, write_why};
 use crate::tools::effect::Effect;
 use crate::tools::operands::{name_meant, paths_of};
 use crate::tools::syntax::{by_name, one, some};
-use acl_rights::{Name, Paths, People, State, Subject, TreeFault};
-use facl_output::{LineFault, LineFiles, OperandRow, OptionRow, Syntax, WordRef, Words};
+use acl_entry::Subject;
+use acl_files::{Paths, TreeFault};
+use acl_names::Name;
+use acl_people::People;
+use acl_tree::State;
+use facl_output::LineFault;
+use facl_words::{LineFiles, OperandRow, OptionRow, Syntax, WordRef, Words};
 use std::alloc::Global;
 
 /// The words of the tool.

@@ -1,6 +1,7 @@
 use Rattle.std.proofs.Common.{◌≡◌, sym, ap, subst, ◌∙◌}
 use Rattle.std.proofs.lemmas.Result.{IfOk-weaker}
-use Rattle.acl_files.specs.Files.{Files, IsInOrder}
+use Rattle.acl_files.specs.Files.{Files}
+use Rattle.path_map.specs.Entries.{IsInOrder}
 use Rattle.acl_files.specs.Inner.{files_from}
 use Rattle.acl_files.specs.Loading.{files_of}
 use Rattle.acl_files.proofs.Loaded.{files_are, files_in_order}

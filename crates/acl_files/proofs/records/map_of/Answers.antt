@@ -3,7 +3,8 @@ use Rattle.std.proofs.lemmas.Grind.{common_steps}
 use Rattle.std.proofs.lemmas.List.{reverse-reverse}
 use Rattle.std.proofs.lemmas.Result.{IfOk-weaker}
 use Rattle.path_map.proofs.Chunks.{in_order-left}
-use Rattle.acl_files.specs.Files.{Files, IsInOrder}
+use Rattle.acl_files.specs.Files.{Files}
+use Rattle.path_map.specs.Entries.{IsInOrder}
 use Rattle.acl_files.specs.Inner.{files_from, next_below}
 use Rattle.acl_files.specs.Loading.{node_of}
 use Rattle.acl_files.proofs.Loaded.{reverse-end}

@@ -1,11 +1,10 @@
 use Rattle.std.proofs.Common.{◌≡◌, map, sym, ap, subst, ◌∙◌}
 use Rattle.std.proofs.lemmas.Result.{IfOk-weaker}
 use Rattle.acl_edit.specs.declared.node.Node.{Node}
-use Rattle.path_map.specs.Entries.{seen}
+use Rattle.path_map.specs.Entries.{seen, IsInOrder}
 use Rattle.path_map.specs.Merged.{without_all}
 use Rattle.kinds.specs.Numbered.{Numbers, Kept, entries_in}
 use Rattle.kinds.proofs.Chosen.{in_order-filter, in_order_by}
-use Rattle.acl_files.specs.Files.{IsInOrder}
 use Rattle.acl_files.specs.Operands.{in_region, files_meant}
 use Rattle.acl_files.proofs.Without.{left_by}
 use Rattle.acl_files.proofs.records.without_files.Goals as goal

@@ -9,10 +9,10 @@ use Rattle.path_map.specs.Merged.{put_all}
 use Rattle.kinds.specs.Numbered.{entries_in}
 use Rattle.acl_edit.specs.declared.node.Node.{Node}
 use Rattle.acl_files.specs.Loading.{in_path_order, record_at}
-use Rattle.acl_files.specs.Files.{PathOf, Files, Recorded}
+use Rattle.acl_names.specs.Paths.{PathOf}
+use Rattle.acl_files.specs.Files.{Files, Recorded}
 use Rattle.acl_files.specs.Sound.{IsSoundTree}
-use Rattle.acl_files.specs.Edits.{unless_missing}
-use Rattle.acl_files.specs.Edits.{KeepsPlace, edit_each, edit_all, with_edits}
+use Rattle.acl_files.specs.Edits.{unless_missing, KeepsPlace, edit_each, edit_all, with_edits}
 use Rattle.acl_files.specs.Inner.{RestoredFile, IsFileOf, SomeEdited, restored, restore_each, node_after}
 use Rattle.acl_files.specs.Operands.{is_file, edit_files, files_meant, first_missing}
 use Rattle.acl_files.specs.Restoring.{edit_of, restore_one, paths_of}

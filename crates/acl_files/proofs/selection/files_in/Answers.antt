@@ -1,14 +1,14 @@
 use Rattle.std.proofs.Common.{◌≡◌, ◌++◌, ◌∷◌, [], sym, ap, subst, ◌∙◌, append_assoc}
-use Rattle.path_map.specs.Entries.{seen}
+use Rattle.path_map.specs.Entries.{seen, IsInOrder}
 use Rattle.kinds.specs.Kinds.{IsNode, node_at}
 use Rattle.acl_edit.specs.declared.node.Node.{Node}
 use Rattle.kinds.specs.Numbered.{Numbers, Kept, entries_by, AreUsed}
 use Rattle.kinds.proofs.Chosen.{entries_filter, used_filter}
 use Rattle.kinds.proofs.EntriesBy.{entry_first}
-use Rattle.acl_files.specs.Files.{Files, IsInOrder}
+use Rattle.acl_files.specs.Files.{Files}
 use Rattle.acl_files.specs.Found.{found_in, found_file}
 use Rattle.acl_files.specs.Operands.{in_region, files_meant}
-use Rattle.acl_files.specs.Sound.{holds_below}
+use Rattle.path_map.specs.Below.{holds_below}
 use Rattle.acl_files.proofs.Selected.{below_peeked, below_by_next}
 use Rattle.acl_files.proofs.selection.files_in.Goals as goal
 

@@ -1,4 +1,4 @@
-use Rattle.acl_rights.specs.acl_entry.Check.{rights}
+use Rattle.acl_entry.specs.Check.{rights}
 use Rattle.acl_rights.specs.Tables.{IsWhole}
 use Rattle.acl_rights_tests.proofs.world.first_wrong.Given as goal
 

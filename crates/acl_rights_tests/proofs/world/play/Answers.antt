@@ -1,8 +1,8 @@
 use Rattle.std.proofs.Common.{◌≤◌, length, subst, sym, arith}
-use Rattle.acl_rights.specs.acl_entry.Check.{rights}
-use Rattle.acl_rights.specs.acl_people.KnownPeople.{KnownPeople}
-use Rattle.acl_rights.specs.acl_tree.Files.{Recorded}
-use Rattle.acl_rights.specs.acl_tree.State.{State}
+use Rattle.acl_entry.specs.Check.{rights}
+use Rattle.acl_people.specs.KnownPeople.{KnownPeople}
+use Rattle.acl_files.specs.Files.{Recorded}
+use Rattle.acl_tree.specs.State.{State}
 use Rattle.acl_rights.specs.Tables.{VerdictTable, IsWhole}
 use native.Mathlib.Nat.{mul-le-mul_right}
 use Rattle.acl_rights_tests.proofs.world.play.Goals as goal

@@ -1,5 +1,5 @@
 use Rattle.std.proofs.Common.{◌<◌, length, arith, ap, sym, subst, ◌∙◌}
-use Rattle.acl_files.specs.acl_edit.Nodes.{IsSound}
+use Rattle.acl_edit.specs.Nodes.{IsSound}
 use Rattle.acl_files.specs.Files.{Files, max_files}
 use Rattle.acl_tree.proofs.NewFiles.{made_new, is_new}
 use Rattle.acl_tree.proofs.creat.new_file.Goals as goal

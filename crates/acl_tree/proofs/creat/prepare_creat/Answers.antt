@@ -2,10 +2,10 @@ use Rattle.std.proofs.Common.{◌≡◌, Bool, true, false, cond, ◌||◌, Some
 use Rattle.std.specs.Ordering.{eq_by_cmp}
 use Rattle.std.specs.FinMap.{find, put}
 use Rattle.std.specs.FinMap.Entries.{find-put}
-use Rattle.acl_files.specs.acl_names.Paths.{path_cmp}
-use Rattle.acl_files.proofs.of_acl_names.PathOrder.{path_total}
-use Rattle.acl_files.specs.acl_edit.declared.node.Node.{Node}
-use Rattle.acl_files.specs.Files.{PathOf, Files, Recorded}
+use Rattle.acl_names.specs.Paths.{path_cmp, PathOf}
+use Rattle.acl_names.proofs.PathOrder.{path_total}
+use Rattle.acl_edit.specs.declared.node.Node.{Node}
+use Rattle.acl_files.specs.Files.{Files, Recorded}
 use Rattle.acl_files.specs.Sound.{IsSoundTree}
 use Rattle.acl_tree.specs.Creat.{creat_by}
 use Rattle.acl_tree.specs.State.{State, state_from, with_tree}

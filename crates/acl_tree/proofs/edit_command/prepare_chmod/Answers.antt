@@ -1,5 +1,5 @@
 use Rattle.std.proofs.Common.{◌≡◌, Ok, sym, ap, ◌∙◌}
-use Rattle.acl_files.specs.acl_edit.Nodes as nodes
+use Rattle.acl_edit.specs.Nodes as nodes
 use Rattle.acl_files.specs.Files.{Recorded}
 use Rattle.acl_files.specs.Operands.{first_missing}
 use Rattle.acl_files.proofs.Edits.{never_fails}

@@ -1,11 +1,12 @@
 use Rattle.std.proofs.Common.{◌≡◌, false, None, Ok, not, filter, refl, ap, sym, subst, ◌∙◌}
 use Rattle.std.specs.List.{AllByRecursion}
 use Rattle.std.specs.FinMap.{find}
-use Rattle.acl_files.specs.acl_names.Paths.{path_cmp}
+use Rattle.acl_names.specs.Paths.{path_cmp}
 use Rattle.acl_files.specs.Files.{Files, Recorded}
 use Rattle.acl_files.specs.Operands.{is_file, in_region}
 use Rattle.acl_tree.specs.Rm.{first_refused, without_files, or_refused}
-use Rattle.acl_files.specs.Sound.{holds_below, IsSoundTree}
+use Rattle.path_map.specs.Below.{holds_below}
+use Rattle.acl_files.specs.Sound.{IsSoundTree}
 use Rattle.acl_tree.specs.State.{State, state_from, with_tree}
 use Rattle.acl_tree.specs.Reports.{staged_from}
 use Rattle.acl_tree.specs.declared.user_change.UserChange.TheVariants.{Unchanged}

@@ -1,6 +1,6 @@
 use Rattle.std.proofs.Common.{◌≡◌, refl, ap, sym, subst, ◌∙◌}
 use Rattle.std.specs.FinMap.{find}
-use Rattle.acl_files.specs.acl_names.Paths.{path_cmp}
+use Rattle.acl_names.specs.Paths.{path_cmp}
 use Rattle.acl_files.specs.Files.{Recorded}
 use Rattle.acl_files.specs.Sound.{IsSoundTree}
 use Rattle.acl_tree.specs.State.{state_from}

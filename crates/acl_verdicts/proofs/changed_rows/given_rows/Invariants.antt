@@ -1,5 +1,5 @@
 use Rattle.std.proofs.Common.{◌≡◌, ◌≤◌, ◌+◌, ◌*◌, length, map, take}
-use Rattle.acl_files.specs.kinds.Placed.{given}
+use Rattle.kinds.specs.Placed.{given}
 use Rattle.acl_verdicts.specs.KindRows.{some_row}
 use Rattle.acl_verdicts.proofs.changed_rows.given_rows.Given as goal
 

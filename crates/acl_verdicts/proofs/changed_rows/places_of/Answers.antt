@@ -1,7 +1,8 @@
 use Rattle.std.proofs.Common.{◌≡◌, ◌+◌, ◌++◌, [], ◌∷◌, ℕ, List, map, take, sym, ap, subst, ◌∙◌}
 use Rattle.std.proofs.lemmas.List.{map-append}
-use Rattle.path_map.specs.Entries.{PathOf, seen}
-use Rattle.acl_files.specs.acl_entry.declared.label.Label.{Label}
+use Rattle.acl_names.specs.Paths.{PathOf}
+use Rattle.path_map.specs.Entries.{seen}
+use Rattle.acl_entry.specs.declared.label.Label.{Label}
 use Rattle.acl_verdicts.specs.KindRows.{with_label, borrowed_labels, ArePlaced}
 use Rattle.acl_verdicts.proofs.RowsOfKinds.{placed_more, items_more}
 use Rattle.acl_verdicts.proofs.changed_rows.places_of.Goals as goal

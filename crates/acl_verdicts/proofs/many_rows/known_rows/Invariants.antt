@@ -1,4 +1,4 @@
-use Rattle.acl_files.specs.kinds.Numbered.{entries_in}
+use Rattle.kinds.specs.Numbered.{entries_in}
 use Rattle.acl_verdicts.specs.KindRows.{shared_rows, AreOfEntries}
 use Rattle.acl_verdicts.proofs.many_rows.known_rows.Given as goal
 

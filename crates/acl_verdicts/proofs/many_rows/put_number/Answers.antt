@@ -1,7 +1,7 @@
 use Rattle.std.proofs.Common.{subst}
 use Rattle.std.specs.Prelude.{IfSome}
-use Rattle.acl_files.specs.kinds.Numbered.{entries_in}
-use Rattle.acl_files.specs.kinds.Placed.{IsOfEntry}
+use Rattle.kinds.specs.Numbered.{entries_in}
+use Rattle.kinds.specs.Placed.{IsOfEntry}
 use Rattle.acl_verdicts.proofs.RowsOfNumbers.{of_entries_more}
 use Rattle.acl_verdicts.proofs.many_rows.put_number.Goals as goal
 

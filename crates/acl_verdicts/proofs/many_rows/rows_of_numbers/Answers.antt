@@ -1,5 +1,5 @@
 use Rattle.std.proofs.Common.{◌≡◌, ◌<◌, length, ap, ◌∙◌, arith}
-use Rattle.acl_files.specs.kinds.Renewed.{renewed_before}
+use Rattle.kinds.specs.Renewed.{renewed_before}
 use Rattle.acl_verdicts.specs.KindRows.{node_row}
 use Rattle.acl_verdicts.proofs.RowsOfNumbers.{one_more, fits, numbers_more}
 use Rattle.acl_verdicts.proofs.many_rows.rows_of_numbers.Goals as goal

@@ -1,6 +1,6 @@
 use Rattle.std.proofs.Common.{◌≡◌, ◌≤◌, ◌+◌, ◌*◌, length}
-use Rattle.acl_files.specs.kinds.Given.{shared_nodes}
-use Rattle.acl_files.specs.kinds.Renewed.{renewed_before}
+use Rattle.kinds.specs.Given.{shared_nodes}
+use Rattle.kinds.specs.Renewed.{renewed_before}
 use Rattle.acl_verdicts.specs.KindRows.{node_row, shared_rows, AreRows}
 use Rattle.acl_verdicts.proofs.many_rows.rows_of_numbers.Given as goal
 

@@ -1,7 +1,7 @@
 use Rattle.std.proofs.Common.{arith, ◌∙◌, sym, ap}
 use Rattle.path_map.specs.Entries.{seen}
-use Rattle.acl_files.specs.acl_names.Below.{encloses}
-use Rattle.acl_files.proofs.of_acl_names.Below.{within_below}
+use Rattle.acl_names.specs.Below.{encloses}
+use Rattle.acl_names.proofs.Below.{within_below}
 use Rattle.acl_verdicts.proofs.Walks.{before_row, shrink_step, top_step, none_left, not_within}
 use Rattle.acl_verdicts.proofs.stack.depth_above.Goals as goal
 

@@ -1,7 +1,7 @@
 use Rattle.std.proofs.Common.{◌≡◌, ◌≤◌, false, length, map, take}
 use Rattle.std.specs.Ordering.{is_gt}
-use Rattle.acl_files.specs.acl_names.Paths.{path_cmp}
-use Rattle.path_map.specs.Entries.{PathOf, seen}
+use Rattle.acl_names.specs.Paths.{path_cmp, PathOf}
+use Rattle.path_map.specs.Entries.{seen}
 use Rattle.acl_verdicts.specs.Walks.{nearest}
 use Rattle.acl_verdicts.proofs.stack.depth_above.Given as goal
 

@@ -1,6 +1,6 @@
 use Rattle.std.proofs.Common.{◌≡◌, ◌++◌, ◌∷◌, [], subst}
-use Rattle.acl_tree.specs.acl_dump.Writing.{file_text}
-use Rattle.acl_tree.specs.acl_edit.declared.node.Node.{Node}
+use Rattle.acl_dump.specs.Writing.{file_text}
+use Rattle.acl_edit.specs.declared.node.Node.{Node}
 use Rattle.facl_output.specs.Listings.{has_slash}
 use Rattle.facl_output.specs.AttrListings.{attr_lines}
 use Rattle.facl_output.proofs.Parts.{three_parts}

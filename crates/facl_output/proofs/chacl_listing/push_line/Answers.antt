@@ -1,9 +1,9 @@
 use Rattle.std.proofs.Common.{arith, ◌≡◌, ◌++◌, ◌∷◌, [], codes, subst}
 use Rattle.std.proofs.lemmas.Grind.{common_steps}
-use Rattle.acl_tree.proofs.of_acl_names.Appended.{still_begins}
-use Rattle.acl_tree.specs.acl_edit.declared.node.Node.{Node}
-use Rattle.acl_tree.specs.acl_entry.Lists.{entries}
-use Rattle.acl_tree.specs.acl_syntax.Writing.{short}
+use Rattle.acl_names.proofs.Appended.{still_begins}
+use Rattle.acl_edit.specs.declared.node.Node.{Node}
+use Rattle.acl_entry.specs.Lists.{entries}
+use Rattle.acl_syntax.specs.Writing.{short}
 use Rattle.facl_output.specs.Listings.{path_shown}
 use Rattle.facl_output.specs.ChaclListings.{default_part}
 use Rattle.facl_output.proofs.Parts.{two_parts, three_parts}

@@ -1,6 +1,6 @@
 use Rattle.std.proofs.Common.{take, arith, sym, ap, ◌∙◌}
 use Rattle.std.proofs.lemmas.Grind.{common_steps}
-use Rattle.acl_tree.proofs.of_acl_names.Appended.{still_begins}
+use Rattle.acl_names.proofs.Appended.{still_begins}
 use Rattle.facl_output.specs.Listings.{is_listed, file_text, files_text}
 use Rattle.facl_output.proofs.Loops.{passed_added, other_left, all_passed}
 use Rattle.facl_output.proofs.listing.push_files.Goals as goal

@@ -1,5 +1,5 @@
 use Rattle.std.proofs.Common.{Bool, sym, subst}
-use Rattle.acl_tree.specs.acl_names.Appends.{Appends}
+use Rattle.acl_names.specs.Appends.{Appends}
 use Rattle.facl_output.specs.Listings.{names_shown, files_text}
 use Rattle.facl_output.proofs.listing.push_listing.Goals as goal
 

@@ -1,10 +1,9 @@
 use Rattle.std.proofs.Common.{◌≡◌, length, true, sym, subst}
 use Rattle.std.specs.List.{list_all}
-use Rattle.acl_tree.specs.acl_names.Paths.{is_component}
-use Rattle.acl_tree.specs.acl_dump.Again.{IsListIf}
-use Rattle.acl_tree.specs.acl_edit.declared.node.Node.{Node}
-use Rattle.acl_tree.specs.Files.{PathOf}
-use Rattle.acl_tree.specs.acl_people.KnownPeople.{KnownPeople, naming_of}
+use Rattle.acl_names.specs.Paths.{is_component, PathOf}
+use Rattle.acl_dump.specs.Again.{IsListIf}
+use Rattle.acl_edit.specs.declared.node.Node.{Node}
+use Rattle.acl_people.specs.KnownPeople.{KnownPeople, naming_of}
 use Rattle.facl_output.proofs.round_trips.file_is_read_again.Goals as goal
 
 pub returns-in-Some : goal.returns-in-Some

@@ -1,6 +1,6 @@
 use Rattle.std.proofs.Common.{take, arith}
 use Rattle.std.proofs.lemmas.Grind.{common_steps}
-use Rattle.acl_tree.proofs.of_acl_names.Appended.{still_begins}
+use Rattle.acl_names.proofs.Appended.{still_begins}
 use Rattle.facl_output.specs.TestListing.{file_line, test_listing}
 use Rattle.facl_output.proofs.Loops.{item_added, all_added}
 use Rattle.facl_output.proofs.test_listing.push_files.Goals as goal

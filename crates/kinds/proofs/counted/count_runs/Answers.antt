@@ -1,6 +1,7 @@
 use Rattle.std.proofs.Common.{◌≡◌, ◌+◌, ◌++◌, [], ◌∷◌, ℕ, map, take, sym, ap, subst}
 use Rattle.std.proofs.lemmas.List.{take_all}
-use Rattle.path_map.specs.Entries.{PathOf, seen}
+use Rattle.acl_names.specs.Paths.{PathOf}
+use Rattle.path_map.specs.Entries.{seen}
 use Rattle.kinds.specs.Kinds.{IsNode}
 use Rattle.kinds.specs.Numbered.{Numbers}
 use Rattle.kinds.specs.Counted.{CountsBut}

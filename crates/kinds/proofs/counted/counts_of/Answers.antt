@@ -1,5 +1,6 @@
 use Rattle.std.proofs.Common.{◌≡◌, ◌+◌, ◌++◌, [], ◌∷◌, ℕ, map, take, sym, subst}
-use Rattle.path_map.specs.Entries.{PathOf, seen}
+use Rattle.acl_names.specs.Paths.{PathOf}
+use Rattle.path_map.specs.Entries.{seen}
 use Rattle.kinds.specs.Numbered.{Numbers}
 use Rattle.kinds.specs.Counted.{CountsPaths}
 use Rattle.kinds.proofs.EntriesBy.{items_more}

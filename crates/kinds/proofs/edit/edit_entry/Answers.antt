@@ -1,6 +1,7 @@
 use Rattle.std.proofs.Common.{◌≡◌, ℕ, ◌++◌, ◌∷◌, [], List, map, sym, ap, subst, ◌∙◌}
 use Rattle.std.proofs.lemmas.List.{map-append}
-use Rattle.path_map.specs.Entries.{PathOf, seen}
+use Rattle.acl_names.specs.Paths.{PathOf}
+use Rattle.path_map.specs.Entries.{seen}
 use Rattle.kinds.specs.declared.memo.Met.{Met}
 use Rattle.kinds.specs.Numbered.{Numbers}
 use Rattle.kinds.specs.Memo.{EditsOneMore}

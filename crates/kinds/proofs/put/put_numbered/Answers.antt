@@ -1,5 +1,6 @@
 use Rattle.std.proofs.Common.{◌≡◌, ℕ, List, Option, map, sym, ap, subst, ◌∙◌}
-use Rattle.path_map.specs.Entries.{PathOf, seen, found}
+use Rattle.acl_names.specs.Paths.{PathOf}
+use Rattle.path_map.specs.Entries.{seen, found}
 use Rattle.path_map.specs.Merged.{put_all}
 use Rattle.kinds.specs.Numbered.{Numbers, Kept, AreSound, entries_by, entries_in}
 use Rattle.kinds.specs.Inner.{AddsAll, ReleasesAll}

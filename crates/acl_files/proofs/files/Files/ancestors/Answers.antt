@@ -1,6 +1,6 @@
 use Rattle.std.proofs.Common.{◌∷◌, ◌++◌, [], ap, ◌∙◌}
 use Rattle.std.specs.Prelude.{option_map}
-use Rattle.path_map.specs.Entries.{PathOf}
+use Rattle.acl_names.specs.Paths.{PathOf}
 use Rattle.kinds.specs.Numbered.{entries_in}
 use Rattle.kinds.specs.Puts.{borrowed}
 use Rattle.acl_files.specs.Files.{Files}

@@ -1,10 +1,9 @@
 use Rattle.std.proofs.Common.{◌≡◌, ◌≢◌, ◌∷◌, ◌-◌, ◌<◌, [], false, List, Less, length, take, drop, sym, ap, subst, ◌∙◌, arith}
 use Rattle.std.proofs.lemmas.Grind.{common_steps}
-use Rattle.acl_names.specs.Paths.{path_cmp}
+use Rattle.acl_names.specs.Paths.{path_cmp, PathOf}
 use Rattle.path_map.specs.Below.{from}
 use Rattle.path_map.specs.Inner.{IsEndOf}
 use Rattle.kinds.specs.Numbered.{Numbers}
-use Rattle.acl_files.specs.Files.{PathOf}
 use Rattle.acl_files.specs.Inner.{Ascend}
 use Rattle.acl_files.specs.Operands.{means, files_meant}
 use Rattle.acl_files.proofs.Selected.{Head, head_of, none_meant, end_of_end, end_after, end_at, sought_meant, sought_end, sought_fewer, passed_meant}

@@ -4,7 +4,7 @@ use Rattle.acl_names.specs.Below.{encloses}
 use Rattle.path_map.specs.Inner.{From, IsEndOf}
 use Rattle.kinds.specs.Numbered.{Numbers}
 use Rattle.acl_files.specs.Changed.{outside}
-use Rattle.acl_files.specs.Files.{PathOf}
+use Rattle.acl_names.specs.Paths.{PathOf}
 use Rattle.acl_files.proofs.Selected.{Head, head_of}
 use Rattle.acl_files.proofs.Outside.{order_left, end_outside, nothing_within, found_outside, meant_outside}
 use Rattle.acl_files.proofs.walk.Walk.pass_within.Goals as goal

@@ -1,6 +1,6 @@
 use Rattle.std.proofs.Common.{ap, ◌∙◌}
-use Rattle.acl_tree.specs.acl_files.kinds.Numbered.{entries_in}
-use Rattle.acl_tree.specs.acl_people.KnownPeople.{persons}
+use Rattle.kinds.specs.Numbered.{entries_in}
+use Rattle.acl_people.specs.KnownPeople.{persons}
 use Rattle.acl_rights.specs.Tables.{VerdictTable}
 use Rattle.acl_rights.proofs.Rowed.{rowed_rows, rowed_labels_are}
 use Rattle.acl_rights.proofs.index.Index.build.Goals as goal

@@ -1,11 +1,13 @@
 use Rattle.std.proofs.Common.{◌≤◌, length, ap, sym, subst, ◌∙◌, arith}
-use Rattle.path_map.specs.Entries.{PathOf, IsInOrder}
-use Rattle.acl_tree.specs.acl_files.kinds.Numbered.{entries_in}
-use Rattle.acl_tree.specs.acl_people.KnownPeople.{KnownPeople, persons}
-use Rattle.acl_tree.specs.Files.{Files, Recorded}
+use Rattle.acl_names.specs.Paths.{PathOf}
+use Rattle.path_map.specs.Entries.{IsInOrder}
+use Rattle.kinds.specs.Numbered.{entries_in}
+use Rattle.acl_people.specs.KnownPeople.{KnownPeople, persons}
+use Rattle.acl_files.specs.Files.{Files, Recorded}
 use Rattle.acl_verdicts.specs.declared.kind_rows.LabelRow.{LabelRow}
 use Rattle.acl_verdicts.proofs.Orders.{in_order-values}
-use Rattle.acl_rights.specs.Tables.{VerdictTable, Rows, rows_of}
+use Rattle.acl_rights.specs.Tables.{VerdictTable}
+use Rattle.acl_verdicts.specs.Rows.{Rows, rows_of}
 use Rattle.acl_rights.specs.Reach.{unlike}
 use Rattle.acl_rights.specs.Kept.{GoesFrom}
 use Rattle.acl_rights.specs.Lines.{HaveLabels}

@@ -1,6 +1,6 @@
 use Rattle.std.proofs.Common.{Some, sym, ap, subst, ◌∙◌}
 use Rattle.path_map.specs.Entries.{first}
-use Rattle.acl_files.specs.kinds.Numbered.{entries_in}
+use Rattle.kinds.specs.Numbered.{entries_in}
 use Rattle.acl_verdicts.specs.KindRows.{rows_at}
 use Rattle.acl_verdicts.specs.RowsLeft.{entries_left, rows_left, AreLeft}
 use Rattle.acl_verdicts.proofs.RowsLeft.{first_left, left_before, left_shrunk, left_reached, left_next, entries_after}

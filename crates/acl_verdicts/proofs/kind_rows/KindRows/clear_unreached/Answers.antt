@@ -1,7 +1,7 @@
 use Rattle.std.proofs.Common.{◌∙◌, Some, ap, arith}
 use Rattle.std.specs.Prelude.{option_map}
-use Rattle.acl_files.specs.kinds.Puts.{borrowed}
-use Rattle.acl_files.specs.kinds.Numbered.{entries_in}
+use Rattle.kinds.specs.Puts.{borrowed}
+use Rattle.kinds.specs.Numbered.{entries_in}
 use Rattle.acl_verdicts.specs.Walks.{cut_from}
 use Rattle.acl_verdicts.proofs.Searched.{cut_first, cut_next, count_less}
 use Rattle.acl_verdicts.proofs.kind_rows.KindRows.clear_unreached.Goals as goal

@@ -1,6 +1,6 @@
 use Rattle.std.specs.Prelude.{option_map}
-use Rattle.acl_files.specs.kinds.Puts.{borrowed}
-use Rattle.acl_files.specs.kinds.Numbered.{entries_in}
+use Rattle.kinds.specs.Puts.{borrowed}
+use Rattle.kinds.specs.Numbered.{entries_in}
 use Rattle.acl_verdicts.proofs.Searched.{IsCutBy, count_left}
 use Rattle.acl_verdicts.proofs.kind_rows.KindRows.clear_unreached.Given as goal
 

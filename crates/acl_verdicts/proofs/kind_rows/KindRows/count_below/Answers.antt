@@ -1,7 +1,7 @@
 use Rattle.std.proofs.Common.{length, ap, ◌∙◌, arith}
 use Rattle.std.specs.Prelude.{count_by}
 use Rattle.path_map.specs.Below.{lies_in}
-use Rattle.acl_files.specs.kinds.Numbered.{Numbers}
+use Rattle.kinds.specs.Numbered.{Numbers}
 use Rattle.acl_verdicts.proofs.Counted.{entries_long, entries_counted}
 use Rattle.acl_verdicts.proofs.kind_rows.KindRows.count_below.Goals as goal
 

@@ -1,7 +1,7 @@
 use Rattle.std.proofs.Common.{◌≡◌, Bool, List, false, length, map, get_or, ap, ◌∙◌, arith}
 use Rattle.std.specs.Prelude.{count_by, filter}
 use Rattle.path_map.specs.Below.{lies_in}
-use Rattle.acl_files.specs.kinds.Numbered.{Numbers, Kept}
+use Rattle.kinds.specs.Numbered.{Numbers, Kept}
 use Rattle.acl_verdicts.specs.declared.kind_rows.LabelRow.{LabelRow}
 use Rattle.acl_verdicts.specs.KindRows.{mentions_any}
 use Rattle.acl_verdicts.proofs.Counted.{entries_long}

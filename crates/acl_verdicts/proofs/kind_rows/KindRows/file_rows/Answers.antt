@@ -1,5 +1,5 @@
 use Rattle.std.proofs.Common.{[], ap, refl, ◌∙◌}
-use Rattle.acl_files.specs.kinds.Numbered.{entries_in}
+use Rattle.kinds.specs.Numbered.{entries_in}
 use Rattle.acl_verdicts.specs.KindRows.{rows_at}
 use Rattle.acl_verdicts.specs.RowsLeft.{entries_left}
 use Rattle.acl_verdicts.proofs.Orders.{in_order-values}

@@ -1,5 +1,5 @@
 use Rattle.std.proofs.Common.{map, ◌∙◌}
-use Rattle.acl_files.specs.kinds.Numbered.{entries_in}
+use Rattle.kinds.specs.Numbered.{entries_in}
 use Rattle.acl_verdicts.proofs.Granted.{may_rows}
 use Rattle.acl_verdicts.proofs.kind_rows.KindRows.granted_paths.Goals as goal
 

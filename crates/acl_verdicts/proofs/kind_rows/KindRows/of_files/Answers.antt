@@ -1,5 +1,5 @@
 use Rattle.std.proofs.Common.{◌*◌, length, refl, ap, ◌∙◌, arith}
-use Rattle.acl_files.specs.kinds.Numbered.{entries_in}
+use Rattle.kinds.specs.Numbered.{entries_in}
 use Rattle.acl_verdicts.proofs.RowsOfKinds.{sum_of_each}
 use Rattle.acl_verdicts.proofs.kind_rows.KindRows.of_files.Goals as goal
 

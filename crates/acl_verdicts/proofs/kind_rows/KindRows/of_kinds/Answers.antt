@@ -1,6 +1,6 @@
 use Rattle.std.proofs.Common.{ap, ◌∙◌}
-use Rattle.acl_files.specs.kinds.Numbered.{entries_in}
-use Rattle.acl_files.specs.kinds.Given.{shared_nodes}
+use Rattle.kinds.specs.Numbered.{entries_in}
+use Rattle.kinds.specs.Given.{shared_nodes}
 use Rattle.acl_verdicts.specs.KindRows.{shared_rows}
 use Rattle.acl_verdicts.proofs.RowsOfNumbers.{rows_of_entries, rows_long, rows_have, rows_rowed}
 use Rattle.acl_verdicts.proofs.kind_rows.KindRows.of_kinds.Goals as goal

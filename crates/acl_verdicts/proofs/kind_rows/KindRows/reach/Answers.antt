@@ -1,5 +1,5 @@
 use Rattle.std.proofs.Common.{ℕ, cond, Some, sym, ap, ◌∙◌}
-use Rattle.acl_files.specs.kinds.Numbered.{entries_in}
+use Rattle.kinds.specs.Numbered.{entries_in}
 use Rattle.acl_verdicts.proofs.Searched.{cell_nowhere, cell_of_none, cell_here}
 use Rattle.acl_verdicts.proofs.kind_rows.KindRows.reach.Goals as goal
 

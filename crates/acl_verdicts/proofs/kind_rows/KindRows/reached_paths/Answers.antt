@@ -1,6 +1,6 @@
 use Rattle.std.proofs.Common.{None, map, refl, sym, ap, subst, ◌∙◌}
 use Rattle.std.specs.Prelude.{option_map}
-use Rattle.acl_files.specs.kinds.Numbered.{entries_in}
+use Rattle.kinds.specs.Numbered.{entries_in}
 use Rattle.acl_verdicts.specs.KindRows.{rows_at}
 use Rattle.acl_verdicts.specs.Rows.{grants}
 use Rattle.acl_verdicts.specs.Walks.{AreFound}

@@ -1,5 +1,5 @@
 use Rattle.std.proofs.Common.{List, ℕ, Some, sym, ap, ◌∙◌}
-use Rattle.acl_files.specs.kinds.Numbered.{entries_in}
+use Rattle.kinds.specs.Numbered.{entries_in}
 use Rattle.acl_verdicts.specs.Reach.{reached_from}
 use Rattle.acl_verdicts.specs.KindRows.{rows_at}
 use Rattle.acl_verdicts.proofs.Searched.{row_nowhere, row_here}

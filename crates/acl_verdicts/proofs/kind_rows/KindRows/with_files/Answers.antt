@@ -1,10 +1,11 @@
 use Rattle.std.proofs.Common.{◌≡◌, ℕ, List, Option, map, length, sym, ap, subst, ◌∙◌}
 use Rattle.std.proofs.lemmas.List.{length-map}
-use Rattle.path_map.specs.Entries.{PathOf, IsInOrder, seen}
+use Rattle.acl_names.specs.Paths.{PathOf}
+use Rattle.path_map.specs.Entries.{IsInOrder, seen}
 use Rattle.path_map.specs.Merged.{put_all, without_all}
-use Rattle.acl_files.specs.kinds.Numbered.{entries_in}
-use Rattle.acl_files.specs.kinds.Placed.{placed, given, AreGiven, ArePlaces}
-use Rattle.acl_files.specs.acl_entry.declared.label.Label.{Label}
+use Rattle.kinds.specs.Numbered.{entries_in}
+use Rattle.kinds.specs.Placed.{placed, given, AreGiven, ArePlaces}
+use Rattle.acl_entry.specs.declared.label.Label.{Label}
 use Rattle.acl_verdicts.specs.declared.kind_rows.LabelRow.{LabelRow}
 use Rattle.acl_verdicts.specs.KindRows.{some_row, with_label, borrowed_labels, RowedPaths, AreRowsOf, ArePlaced}
 use Rattle.acl_verdicts.proofs.RowsOfKinds.{rows_placed, rows_given, rows_left, places_within, places_order}

@@ -1,5 +1,5 @@
 use Rattle.std.proofs.Common.{ap, ◌∙◌}
-use Rattle.acl_files.specs.kinds.Numbered.{entries_in}
+use Rattle.kinds.specs.Numbered.{entries_in}
 use Rattle.acl_verdicts.specs.declared.kind_rows.LabelRow.{LabelRow}
 use Rattle.acl_verdicts.specs.KindRows.{each_row}
 use Rattle.acl_verdicts.proofs.RowsOfKinds.{again_where}

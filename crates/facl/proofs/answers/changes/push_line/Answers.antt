@@ -1,7 +1,7 @@
 use Rattle.std.proofs.Common.{arith, ◌≡◌, ◌++◌, ◌∷◌, [], ℕ, List, length, take, ap, ◌∙◌}
 use Rattle.std.proofs.lemmas.Grind.{common_steps}
 use Rattle.std.specs.List.{flat_map}
-use Rattle.acl_rights.specs.acl_entry.Perms.{text}
+use Rattle.acl_entry.specs.Perms.{text}
 use Rattle.facl.specs.ChangesText.{after_comma}
 use Rattle.facl_output.proofs.Parts.{two_parts, begins_itself, begins_later, begins_more}
 use Rattle.facl.proofs.answers.changes.push_line.Goals as goal

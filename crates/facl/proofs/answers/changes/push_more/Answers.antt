@@ -1,5 +1,5 @@
 use Rattle.std.proofs.Common.{◌++◌, ◌∷◌, [], ap, ◌∙◌}
-use Rattle.acl_rights.specs.acl_entry.Perms.{text}
+use Rattle.acl_entry.specs.Perms.{text}
 use Rattle.facl.specs.ChangesText.{after_comma}
 use Rattle.facl_output.proofs.Loops.{item_added, all_added}
 use Rattle.facl_output.proofs.Parts.{two_parts}

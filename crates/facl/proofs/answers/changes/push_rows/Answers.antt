@@ -1,5 +1,5 @@
 use Rattle.std.proofs.Common.{◌≡◌, ◌++◌, ℕ, List, append-nil, sym, ap, ◌∙◌, arith, take}
-use Rattle.acl_rights.proofs.of_acl_names.Appended.{still_begins}
+use Rattle.acl_names.proofs.Appended.{still_begins}
 use Rattle.std.proofs.lemmas.Grind.{common_steps}
 use Rattle.facl.specs.ChangesText.{change_lines}
 use Rattle.facl.specs.Inner.{verdict_or_none, lines_between}

@@ -1,7 +1,7 @@
 use Rattle.std.proofs.Common.{◌++◌, ◌∷◌, [], ℕ, List, not, filter, lit<, sym, ap, ◌∙◌}
 use Rattle.std.specs.Prelude.{◌&&◌}
 use Rattle.std.proofs.lemmas.List.{take_all}
-use Rattle.acl_rights.specs.acl_entry.Check.{has}
+use Rattle.acl_entry.specs.Check.{has}
 use Rattle.facl.proofs.Spaced.{among, below_eight}
 use Rattle.facl.proofs.Gained.{one_gained, one_kept}
 use Rattle.facl.proofs.answers.changes.requests_gained.Goals as goal

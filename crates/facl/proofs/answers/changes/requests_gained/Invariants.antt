@@ -1,5 +1,5 @@
 use Rattle.std.proofs.Common.{◌≡◌, not, take, filter}
-use Rattle.acl_rights.specs.acl_entry.Check.{has}
+use Rattle.acl_entry.specs.Check.{has}
 use Rattle.facl.proofs.Spaced.{among}
 use Rattle.facl.proofs.answers.changes.requests_gained.Given as goal
 

@@ -1,6 +1,6 @@
 use Rattle.std.proofs.Common.{ap, subst, ◌∙◌}
-use Rattle.acl_rights.specs.acl_files.path_map.Entries.{IsInOrder}
-use Rattle.acl_rights.specs.acl_tree.State.{State}
+use Rattle.path_map.specs.Entries.{IsInOrder}
+use Rattle.acl_tree.specs.State.{State}
 use Rattle.facl.specs.Inner.{walk_of}
 use Rattle.acl_rights.specs.Verdicts.{rows_granted}
 use Rattle.facl.proofs.ChangeLines.{all_lines}

@@ -1,8 +1,8 @@
 use Rattle.std.proofs.Common.{◌≡◌, ◌++◌, map, ap, subst, ◌∙◌}
-use Rattle.acl_rights.specs.acl_files.path_map.Entries.{IsInOrder}
-use Rattle.acl_rights.specs.acl_names.Names.{escaped}
-use Rattle.acl_rights.specs.acl_people.KnownPeople.{KnownPeople}
-use Rattle.acl_rights.specs.acl_tree.State.{State}
+use Rattle.path_map.specs.Entries.{IsInOrder}
+use Rattle.acl_names.specs.Names.{escaped}
+use Rattle.acl_people.specs.KnownPeople.{KnownPeople}
+use Rattle.acl_tree.specs.State.{State}
 use Rattle.facl.specs.Inner.{lines_of_walk, walk_of}
 use Rattle.acl_rights.specs.Verdicts.{rows_granted}
 use Rattle.facl.proofs.IndexLines.{index_lines}

@@ -1,6 +1,6 @@
 use Rattle.std.proofs.Common.{◌<◌, ◌++◌, ◌∷◌, [], length, map, sym, ap, ◌∙◌, arith}
 use Rattle.std.proofs.lemmas.List.{map-append}
-use Rattle.acl_rights.specs.acl_names.Names.{escaped}
+use Rattle.acl_names.specs.Names.{escaped}
 use Rattle.facl.proofs.IndexLines.{one_more, is_there}
 use Rattle.facl.proofs.answers.index.written_names.Goals as goal
 use Rattle.facl.proofs.answers.index.written_names.Goals.{in-Some+in_ok-write_name+in_ok-push, in_default}

@@ -1,5 +1,5 @@
 use Rattle.std.proofs.Common.{◌≡◌, take, map}
-use Rattle.acl_rights.specs.acl_names.Names.{escaped}
+use Rattle.acl_names.specs.Names.{escaped}
 use Rattle.facl.proofs.answers.index.written_names.Given as goal
 
 abbrev pub invariant-loop-user : goal.invariant-loop-user

@@ -1,8 +1,8 @@
 use Rattle.std.proofs.Common.{◌<◌, ◌≤◌, ◌++◌, ◌∷◌, [], append_assoc, length, take, map, filter, not, sym, ap, ◌∙◌, arith}
 use Rattle.std.specs.Prelude.{if◌then◌else◌}
 use Rattle.std.proofs.lemmas.List.{take_all}
-use Rattle.acl_rights.specs.acl_people.KnownPeople.{users_of}
-use Rattle.acl_rights.specs.acl_people.NameTables.{has_name}
+use Rattle.acl_people.specs.KnownPeople.{users_of}
+use Rattle.acl_people.specs.NameTables.{has_name}
 use Rattle.facl.specs.Inner.{placed_of, placed_in}
 use Rattle.facl.proofs.IndexLines.{is_there}
 use Rattle.facl.proofs.ChangeLines.{one_gone}

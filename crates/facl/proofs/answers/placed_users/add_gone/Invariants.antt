@@ -1,6 +1,6 @@
 use Rattle.std.proofs.Common.{◌≡◌, ◌++◌, not, take, map, filter}
-use Rattle.acl_rights.specs.acl_people.KnownPeople.{users_of}
-use Rattle.acl_rights.specs.acl_people.NameTables.{has_name}
+use Rattle.acl_people.specs.KnownPeople.{users_of}
+use Rattle.acl_people.specs.NameTables.{has_name}
 use Rattle.facl.specs.Inner.{placed_of, placed_in}
 use Rattle.facl.proofs.answers.placed_users.add_gone.Given as goal
 

@@ -1,7 +1,7 @@
 use Rattle.std.proofs.Common.{◌++◌, not, map, filter, sym, ap, ◌∙◌}
 use Rattle.std.proofs.lemmas.List.{map-append}
-use Rattle.acl_rights.specs.acl_people.KnownPeople.{users_of}
-use Rattle.acl_rights.specs.acl_people.NameTables.{has_name}
+use Rattle.acl_people.specs.KnownPeople.{users_of}
+use Rattle.acl_people.specs.NameTables.{has_name}
 use Rattle.facl.specs.Inner.{placed_in}
 use Rattle.facl.proofs.answers.placed_users.users_of_both.Goals as goal
 

@@ -2,9 +2,9 @@ use Rattle.std.proofs.Common.{◌+◌, ◌++◌, ◌∷◌, [], ℕ, List, appen
 use Rattle.std.proofs.lemmas.Grind.{common_steps}
 use Rattle.std.specs.Prelude.{codes}
 use Rattle.std.proofs.lemmas.List.{take_all}
-use Rattle.acl_rights.specs.acl_entry.Perms.{numbered}
-use Rattle.acl_rights.specs.acl_entry.Check.{has}
-use Rattle.acl_rights.proofs.of_acl_names.Appended.{still_begins}
+use Rattle.acl_entry.specs.Perms.{numbered}
+use Rattle.acl_entry.specs.Check.{has}
+use Rattle.acl_names.proofs.Appended.{still_begins}
 use Rattle.facl.specs.Requests.{requests_text}
 use Rattle.facl.proofs.Spaced.{spaced, is_empty, among, not_empty, one_granted, one_refused, below_eight, text_step, text_some, text_none}
 use Rattle.facl.proofs.answers.requests.push_requests.Goals as goal

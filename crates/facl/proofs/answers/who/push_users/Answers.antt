@@ -1,6 +1,6 @@
 use Rattle.std.proofs.Common.{get_or, refl, arith, take}
 use Rattle.std.specs.List.{flat_map}
-use Rattle.acl_rights.proofs.of_acl_names.Appended.{still_begins}
+use Rattle.acl_names.proofs.Appended.{still_begins}
 use Rattle.std.proofs.lemmas.Grind.{common_steps}
 use Rattle.facl.specs.Inner.{line_at}
 use Rattle.facl_output.proofs.Loops.{item_added, all_added}

@@ -1,7 +1,7 @@
 use Rattle.std.proofs.Common.{◌≡◌, ◌++◌, Some, sym, ap, ◌∙◌}
 use Rattle.std.specs.Prelude.{option_map}
 use Rattle.std.specs.List.{flat_map}
-use Rattle.acl_rights.specs.acl_tree.State.{State}
+use Rattle.acl_tree.specs.State.{State}
 use Rattle.facl.specs.Inner.{line_at}
 use Rattle.acl_rights.specs.Verdicts.{users_granted}
 use Rattle.facl.proofs.UserLines.{who_lines}

@@ -1,6 +1,6 @@
 use Rattle.std.proofs.Common.{◌≡◌, false, take}
 use Rattle.std.specs.List.{list_any}
-use Rattle.acl_rights.specs.acl_entry.Check.{is_for}
+use Rattle.acl_entry.specs.Check.{is_for}
 use Rattle.facl.proofs.answers.why.is_matched.Given as goal
 
 abbrev pub invariant-loop-entry : goal.invariant-loop-entry

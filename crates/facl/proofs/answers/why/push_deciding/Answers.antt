@@ -1,13 +1,13 @@
 use Rattle.std.proofs.Common.{◌++◌, filter, sym, ap, ◌∙◌, arith, take}
-use Rattle.acl_rights.proofs.of_acl_names.Appended.{still_begins}
+use Rattle.acl_names.proofs.Appended.{still_begins}
 use Rattle.std.proofs.lemmas.Grind.{common_steps}
 use Rattle.std.specs.List.{flat_map}
 use Rattle.std.specs.FinMap as maps
-use Rattle.acl_rights.specs.acl_entry.Lists.{entries}
-use Rattle.acl_rights.specs.acl_entry.declared.entry.Key.TheVariants.{Mask}
-use Rattle.acl_rights.specs.acl_dump.Writing.{entry_line}
-use Rattle.acl_rights.specs.acl_dump.declared.effective.Effective.TheVariants.{WhereMasked}
-use Rattle.acl_rights.specs.acl_syntax.declared.fault.Which.TheVariants.{Access}
+use Rattle.acl_entry.specs.Lists.{entries}
+use Rattle.acl_entry.specs.declared.entry.Key.TheVariants.{Mask}
+use Rattle.acl_dump.specs.Writing.{entry_line}
+use Rattle.acl_dump.specs.declared.effective.Effective.TheVariants.{WhereMasked}
+use Rattle.acl_syntax.specs.declared.fault.Which.TheVariants.{Access}
 use Rattle.facl.specs.Inner.{is_chosen}
 use Rattle.facl.proofs.Deciding.{chosen_decides}
 use Rattle.facl_output.proofs.Loops.{passed_added, other_left, all_passed}

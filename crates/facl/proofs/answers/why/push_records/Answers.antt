@@ -1,5 +1,5 @@
 use Rattle.std.proofs.Common.{arith, take}
-use Rattle.acl_rights.proofs.of_acl_names.Appended.{still_begins}
+use Rattle.acl_names.proofs.Appended.{still_begins}
 use Rattle.std.proofs.lemmas.Grind.{common_steps}
 use Rattle.facl.specs.WhyText.{why_record, why_text}
 use Rattle.facl_output.proofs.Loops.{item_added, all_added}

@@ -1,5 +1,5 @@
 use Rattle.std.proofs.Common.{◌∙◌, sym, subst, ap}
-use Rattle.facl_output.specs.facl_script.Run.{IsAnswer}
+use Rattle.facl_script.specs.Run.{IsAnswer}
 use Rattle.acl_rights.specs.States.{states_in}
 use Rattle.facl.specs.Sessions.{states_of, out_of, err_of, ran_out_of_memory}
 use Rattle.facl.specs.Units.{answered_line}

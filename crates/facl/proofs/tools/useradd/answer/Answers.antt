@@ -1,6 +1,6 @@
 use Rattle.std.proofs.Common.{subst}
-use Rattle.acl_rights.specs.acl_tree.declared.command.Command.TheVariants.{Useradd}
-use Rattle.acl_rights.specs.acl_tree.declared.command.NewUser.{NewUser}
+use Rattle.acl_tree.specs.declared.command.Command.TheVariants.{Useradd}
+use Rattle.acl_tree.specs.declared.command.NewUser.{NewUser}
 use Rattle.facl.specs.Replies.{Replies, done}
 use Rattle.facl.proofs.tools.useradd.answer.Goals as goal
 

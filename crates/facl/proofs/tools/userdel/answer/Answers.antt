@@ -1,5 +1,5 @@
 use Rattle.std.proofs.Common.{ℕ, List, subst}
-use Rattle.acl_rights.specs.acl_tree.declared.command.Command.TheVariants.{Userdel}
+use Rattle.acl_tree.specs.declared.command.Command.TheVariants.{Userdel}
 use Rattle.facl.specs.Replies.{Replies, done}
 use Rattle.facl.proofs.tools.userdel.answer.Goals as goal
 

@@ -1,5 +1,6 @@
 use Rattle.std.proofs.Common.{[], ◌∷◌, ◌++◌, List, sym, ap, subst, ◌∙◌}
-use Rattle.path_map.specs.Entries.{PathOf, IsInOrder}
+use Rattle.acl_names.specs.Paths.{PathOf}
+use Rattle.path_map.specs.Entries.{IsInOrder}
 use Rattle.kinds.specs.Numbered.{Numbers, entries_by}
 use Rattle.kinds.specs.Inner.{AddsBut}
 use Rattle.kinds.proofs.InTurn.{given_entries, given_more, given_order}

@@ -1,7 +1,6 @@
 use Rattle.std.proofs.Common.{[], ◌∷◌, ◌++◌, List, ap, ◌∙◌}
 use Rattle.std.specs.FinMap.{is_sorted}
-use Rattle.acl_names.specs.Paths.{path_cmp}
-use Rattle.path_map.specs.Entries.{PathOf}
+use Rattle.acl_names.specs.Paths.{path_cmp, PathOf}
 use Rattle.kinds.proofs.InTurn.{order_more}
 use Rattle.kinds.proofs.builder.KindMapBuilder.takes.Goals as goal
 

@@ -1,7 +1,8 @@
 use Rattle.std.proofs.Common.{◌≡◌, ℕ, List, map, length, sym, ap, subst, ◌∙◌}
 use Rattle.std.specs.List.{AllByRecursion}
 use Rattle.std.proofs.lemmas.List.{length-map}
-use Rattle.path_map.specs.Entries.{PathOf, seen}
+use Rattle.acl_names.specs.Paths.{PathOf}
+use Rattle.path_map.specs.Entries.{seen}
 use Rattle.path_map.specs.Merged.{put_all}
 use Rattle.kinds.specs.Kinds.{KindsOf, IsNode}
 use Rattle.kinds.specs.Numbered.{Numbers, entries_by, entries_in}

@@ -1,6 +1,7 @@
 use Rattle.std.proofs.Common.{◌≡◌, ℕ, [], ◌∷◌, ◌++◌, List, map, sym, ap, subst, ◌∙◌}
 use Rattle.std.proofs.lemmas.List.{map-append}
-use Rattle.path_map.specs.Entries.{PathOf, seen}
+use Rattle.acl_names.specs.Paths.{PathOf}
+use Rattle.path_map.specs.Entries.{seen}
 use Rattle.kinds.specs.Numbered.{Numbers, entries_by}
 use Rattle.kinds.specs.Counted.{AddsUncounted}
 use Rattle.kinds.proofs.ByNumber.{entries_more, uncounted_more}

@@ -2,7 +2,7 @@ use Rattle.std.proofs.Common.{◌≡◌, ◌<◌, ◌++◌, Global, List, [], le
 use Rattle.std.specs.declared.rc.Rc.{Rc}
 use Rattle.std.specs.List.{flat_map}
 use Rattle.std.proofs.lemmas.Grind.{common_steps}
-use Rattle.path_map.specs.Entries.{PathOf}
+use Rattle.acl_names.specs.Paths.{PathOf}
 use Rattle.path_map.proofs.First.{is_first, is_first_part, none_in_parts, first_of_run, first_of_chunks, first_of_branches, first_of_tops}
 use Rattle.path_map.proofs.map.Entries.peek.Goals as goal
 

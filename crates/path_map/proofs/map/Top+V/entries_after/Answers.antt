@@ -1,7 +1,8 @@
 use Rattle.std.proofs.Common.{◌≡◌, ◌+◌, ◌-◌, ◌++◌, Global, List, [], drop, sym, ap, subst, ◌∙◌, arith}
 use Rattle.std.specs.declared.rc.Rc.{Rc}
 use Rattle.std.specs.List.{flat_map}
-use Rattle.path_map.specs.Entries.{PathOf, IsInOrder}
+use Rattle.acl_names.specs.Paths.{PathOf}
+use Rattle.path_map.specs.Entries.{IsInOrder}
 use Rattle.path_map.specs.Below.{after}
 use Rattle.path_map.specs.Inner.{ArePassed}
 use Rattle.path_map.proofs.Passed.{after_whole, after_part}

@@ -1,7 +1,7 @@
 use Rattle.std.proofs.Common.{subst, sym, ap, ◌∙◌}
-use Rattle.acl_rights.specs.acl_files.path_map.Entries.{IsInOrder}
-use Rattle.acl_rights.specs.acl_tree.Files.{Recorded}
-use Rattle.acl_rights.specs.acl_tree.State.{State}
+use Rattle.path_map.specs.Entries.{IsInOrder}
+use Rattle.acl_files.specs.Files.{Recorded}
+use Rattle.acl_tree.specs.State.{State}
 use Rattle.facl.specs.Inner.{walk_of}
 use Rattle.acl_rights.specs.Verdicts.{rows_granted}
 use Rattle.facl.proofs.ChangeLines.{whole_table, table_of, walked_order, rows_paths}
