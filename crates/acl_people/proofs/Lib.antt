@@ -13,3 +13,7 @@ pub mod Moved
 pub mod Rising
 pub mod Undone
 pub mod Otherwise
+pub mod Lists
+pub mod WhoIsWhere
+pub mod AtPlaces
+pub mod ByEntries

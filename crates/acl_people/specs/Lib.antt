@@ -7,3 +7,6 @@ pub mod Members
 pub mod Changes
 pub mod Moves
 pub mod Laws
+pub mod Places
+pub mod Cases
+pub mod GroupsOfOne

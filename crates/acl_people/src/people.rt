@@ -11,10 +11,10 @@ ghost use Rattle.acl_names.specs.Made.{values, Makes};
 
 use crate::fault::{LoadFault, text_fault};
 use crate::groups::Groups;
-use crate::subjects::{shared_person, subjects_of};
+use crate::persons::{shared_person, subjects_of};
+use crate::subjects::Subjects;
 use crate::users::Users;
 use acl_entry::{Id, Subject};
-use acl_subjects::Subjects;
 use acl_syntax::{Names, PasswdRow};
 use std::alloc::{AllocError, Global};
 use std::marker::Model;

@@ -1,88 +1,176 @@
-//! Each user as the check of access sees one.
+//! All users in their order, found by id and by group.
 
-ghost use Rattle.std.specs.Prelude.{◌∷◌, [], map};
-ghost use Rattle.acl_people.specs.Members.{person_among};
-ghost use Rattle.acl_people.specs.KnownPeople.{person};
-ghost use Rattle.acl_names.specs.Made.{values, Makes, MakesOne, MakesShared, AddsShared};
+ghost use Rattle.std.specs.Prelude.{◌≡◌, ◌<◌, ◌++◌, ◌∷◌, [], Some, length, option_map, slice_get, slice_set, List};
+ghost use Rattle.std.specs.List.{remove};
+ghost use Rattle.std.specs.Coded.{coded_list};
+ghost use Rattle.acl_entry.specs.Person.{Person, coded_person};
+ghost use Rattle.acl_names.specs.Made.{values, Makes, MakesShared};
+ghost use Rattle.acl_people.specs.Places.{has_id, is_in, AreThose, AreNoted};
 
-use crate::each_shared::push_shared;
-use crate::groups::{Group, Groups};
-use crate::memberships::members_of;
+use crate::places_by_id::{PlacesById, joined_by, moved, notes_by_group, notes_by_id};
 use acl_entry::{Id, Subject};
-use acl_syntax::PasswdRow;
 use std::alloc::{AllocError, Global};
-use std::collections::BTreeMap;
+use std::marker::Model;
 use std::rc::Rc;
 
-/// The user of a row, as the check sees one.
-fn subject_of(
-    alloc: Global,
-    members: &BTreeMap<&[u8], Vec<Id>>,
-    row: &PasswdRow,
-) -> Result<Subject, AllocError>
-    ensures { Makes result (person_among members.now row.now) }
+/// All users in their order, with the places of the users of each id and of each group. Two users may have one
+/// id. Copies share their memory.
+#[derive(Drop)]
+pub struct Subjects {
+    users: Rc<Vec<Rc<Subject>>>,
+    by_id: Rc<PlacesById>,
+    by_group: Rc<PlacesById>,
+}
+
+impl Model for Subjects {
+    ghost Value = { List Person };
+
+    ghost coded = { coded_list coded_person };
+
+    ghost view = { λ u. values u.users.value.items };
+
+    ghost invariant = { λ u. AreNoted has_id u.by_id.value (values u.users.value.items)
+        × AreNoted is_in u.by_group.value (values u.users.value.items) };
+}
+
+/// Some users, by their pointers, with room for one more.
+fn copied(alloc: Global, users: &[Rc<Subject>]) -> Result<Vec<Rc<Subject>>, AllocError>
+    ensures { MakesShared result (values users.now) }
 {
-    let mut gids = Vec::new(alloc);
-    gids.push(row.gid)?;
-    if let Some(more) = members.get(row.name.as_bytes()) {
-        gids.extend_from_slice(more)?;
+    let mut all = Vec::with_capacity(alloc, users.len() + 1)?;
+    for user in users {
+        all.push(user.clone()?)?;
     }
-    Subject::from_groups(alloc, row.uid, &gids)
+    Ok(all)
 }
 
-/// Adds the user of a row, the last. Fails only if memory runs out.
-fn push_subject(
-    alloc: Global,
-    subjects: &mut Vec<Rc<Subject>>,
-    members: &BTreeMap<&[u8], Vec<Id>>,
-    row: &PasswdRow,
-) -> Result<(), AllocError>
-    ensures { AddsShared result subjects.old subjects.new (person_among members.now row.now ∷ []) }
-{
-    let subject = subject_of(alloc, members, row)?;
-    push_shared(alloc, subjects, subject)
-}
-
-/// Every user's id and groups, in the order of the users' rows: one pass over the group rows, and one over
-/// the users.
-pub(crate) fn subjects_of(
-    alloc: Global,
-    users: &[Rc<PasswdRow>],
-    groups: &[Rc<Group>],
-) -> Result<Vec<Rc<Subject>>, AllocError>
-    ensures { MakesShared result (map (person (values groups.now)) (values users.now)) }
-{
-    let members = members_of(alloc, groups)?;
-    let mut subjects = Vec::with_capacity(alloc, users.len())?;
-    for row in users {
-        push_subject(alloc, &mut subjects, &members, row)?;
+impl Subjects {
+    /// Users with the places that are noted for them.
+    fn found_by(
+        alloc: Global,
+        users: Vec<Rc<Subject>>,
+        by_id: Rc<PlacesById>,
+        by_group: PlacesById,
+    ) -> Result<Subjects, AllocError>
+        requires ids { AreNoted has_id by_id.value (values users.items) }
+        requires groups { AreNoted is_in by_group (values users.items) }
+        ensures { Makes result (values users.items) }
+    {
+        Ok(Subjects {
+            users: Rc::new(alloc, users)?,
+            by_id,
+            by_group: Rc::new(alloc, by_group)?,
+        })
     }
-    Ok(subjects)
-}
 
-/// One user's id and groups: a pass over the group rows. Fails only if memory runs out.
-fn person_of(alloc: Global, groups: &[Rc<Group>], user: &PasswdRow) -> Result<Subject, AllocError>
-    ensures { Makes result (person (values groups.now) user.now) }
-{
-    let mut gids = Vec::new(alloc);
-    gids.push(user.gid)?;
-    for group in groups {
-        if group.names_user(user.name.as_bytes()) {
-            gids.push(group.gid())?;
-        }
+    /// The places by id.
+    fn ids(&self) -> &Rc<PlacesById>
+        ensures { AreNoted has_id result.now.value self.now }
+    {
+        &self.by_id
     }
-    let subject = Subject::from_groups(alloc, user.uid, &gids)?;
-    Ok(subject)
-}
 
-/// One user's id and groups, for those that share them. Fails only if memory runs out.
-pub(crate) fn shared_person(
-    alloc: Global,
-    groups: &Groups,
-    user: &PasswdRow,
-) -> Result<Rc<Subject>, AllocError>
-    ensures { MakesOne result (person groups.now user.now) }
-{
-    let subject = person_of(alloc, groups.rows(), user)?;
-    Ok(Rc::new(alloc, subject)?)
+    /// The places by group.
+    fn groups(&self) -> &PlacesById
+        ensures { AreNoted is_in result.now self.now }
+    {
+        &self.by_group
+    }
+
+    /// These users. Fails only if memory runs out.
+    pub fn of(alloc: Global, users: Vec<Rc<Subject>>) -> Result<Subjects, AllocError>
+        ensures { Makes result (values users.items) }
+    {
+        let by_id = PlacesById::of(alloc, notes_by_id(alloc, &users)?)?;
+        let by_group = PlacesById::of(alloc, notes_by_group(alloc, &users)?)?;
+        let by_id = Rc::new(alloc, by_id)?;
+        Subjects::found_by(alloc, users, by_id, by_group)
+    }
+
+    /// The same users, in shared memory. Fails only if memory runs out.
+    pub fn share(&self) -> Result<Subjects, AllocError>
+        ensures { Makes result self.now }
+    {
+        Ok(Subjects {
+            users: self.users.clone()?,
+            by_id: self.by_id.clone()?,
+            by_group: self.by_group.clone()?,
+        })
+    }
+
+    /// How many users there are.
+    pub fn len(&self) -> usize
+        ensures { result ≡ length self.now }
+    {
+        self.users.len()
+    }
+
+    /// The users in their order.
+    pub fn as_slice(&self) -> &[Rc<Subject>]
+        ensures { values result.now ≡ self.now }
+    {
+        &self.users
+    }
+
+    /// The user at a place.
+    pub fn get(&self, at: usize) -> Option<&Rc<Subject>>
+        ensures { option_map (λ s. s.now.value) result ≡ slice_get self.now at }
+    {
+        self.users.get(at)
+    }
+
+    /// The places of the users of an id.
+    pub fn of_id(&self, id: Id) -> &[usize]
+        ensures { AreThose (has_id id) self.now result.now }
+    {
+        self.by_id.get(id)
+    }
+
+    /// The places of the users in a group.
+    pub fn of_group(&self, group: Id) -> &[usize]
+        ensures { AreThose (is_in group) self.now result.now }
+    {
+        self.by_group.get(group)
+    }
+
+    /// The users with another one of the same id in the place of one. Only the lists of the groups that the user
+    /// joined or left are made again. Fails only if memory runs out.
+    pub fn with(&self, alloc: Global, at: usize, user: Rc<Subject>) -> Result<Subjects, AllocError>
+        requires { option_map (λ u. u.uid) (slice_get self.now at) ≡ Some user.value.uid }
+        ensures { Makes result (slice_set self.now at user.value) }
+    {
+        let users = self.as_slice();
+        let by_group = moved(alloc, self.groups(), at, &users[at], &user)?;
+        let mut all = copied(alloc, users)?;
+        all[at] = user;
+        let all = Subjects::found_by(alloc, all, self.ids().clone()?, by_group)?;
+        Ok(all)
+    }
+
+    /// The users with one more, the last. Only the lists of this user's id and groups are made again. Fails only
+    /// if memory runs out.
+    pub fn with_last(&self, alloc: Global, user: Rc<Subject>) -> Result<Subjects, AllocError>
+        ensures { Makes result (self.now ++ user.value ∷ []) }
+    {
+        let users = self.as_slice();
+        let mut by_id = self.ids().copy()?;
+        by_id.add(alloc, user.uid(), users.len())?;
+        let by_group = joined_by(alloc, self.groups(), users.len(), &user)?;
+        let mut all = copied(alloc, users)?;
+        all.push(user)?;
+        let all = Subjects::found_by(alloc, all, Rc::new(alloc, by_id)?, by_group)?;
+        Ok(all)
+    }
+
+    /// The users without one. Those after it have other places then, so all lists are made again. Fails only if
+    /// memory runs out.
+    pub fn without(&self, alloc: Global, at: usize) -> Result<Subjects, AllocError>
+        requires { at < length self.now }
+        ensures { Makes result (remove self.now at) }
+    {
+        let mut users = copied(alloc, self.as_slice())?;
+        let _gone = users.remove(at);
+        let others = Subjects::of(alloc, users)?;
+        Ok(others)
+    }
 }

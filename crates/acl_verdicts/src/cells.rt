@@ -8,7 +8,7 @@ ghost use Rattle.acl_verdicts.specs.Walks.{lets, cut_from};
 
 use crate::judge::Judge;
 use acl_entry::{Label, Perm, Requests, Subject};
-use acl_subjects::Subjects;
+use acl_people::Subjects;
 use std::alloc::{AllocError, Global};
 use std::marker::Model;
 use std::rc::Rc;

@@ -14,7 +14,7 @@ use crate::judge::Judge;
 use crate::kind_rows::{KindRows, LabelRow, with_row};
 use acl_entry::Label;
 use acl_names::Path;
-use acl_subjects::Subjects;
+use acl_people::Subjects;
 use kinds::{GivenNode, KindMap};
 use std::alloc::{AllocError, Global};
 use std::collections::BTreeMap;

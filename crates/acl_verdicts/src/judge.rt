@@ -6,7 +6,7 @@ ghost use Rattle.acl_entry.specs.Check.{rights};
 ghost use Rattle.acl_verdicts.specs.Rows.{Verdict, row_of, IsLocal};
 
 use acl_entry::{Label, Requests, Subject, granted};
-use acl_subjects::{Subjects, granted_to_all};
+use acl_people::{Subjects, granted_to_all};
 
 /// Decides what a user may do with a file, by one definition for all values of the type, and counts its
 /// verdicts.

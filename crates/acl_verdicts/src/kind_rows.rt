@@ -16,7 +16,7 @@ use acl_edit::Node;
 use acl_entry::{Id, Label, Subject};
 use acl_files::Files;
 use acl_names::Path;
-use acl_subjects::Subjects;
+use acl_people::Subjects;
 use kinds::{KindMap, KindTest, Renewal};
 use std::alloc::{AllocError, Global};
 

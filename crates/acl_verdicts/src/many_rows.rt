@@ -14,7 +14,7 @@ use crate::judge::Judge;
 use crate::kind_rows::{KindRows, LabelRow};
 use acl_edit::Node;
 use acl_entry::Label;
-use acl_subjects::Subjects;
+use acl_people::Subjects;
 use kinds::KindMap;
 use std::alloc::{AllocError, Global};
 use std::collections::BTreeMap;

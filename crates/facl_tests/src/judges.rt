@@ -6,7 +6,7 @@ ghost use Rattle.acl_entry.specs.Perms.{number};
 ghost use Rattle.facl_tests.specs.Verdicts.{class_set, owner_alone, owner_alone_local, whole_class, whole_class_local};
 
 use acl_entry::{Key, Label, Perm, Requests, Subject};
-use acl_subjects::Subjects;
+use acl_people::Subjects;
 use acl_verdicts::Judge;
 
 fn set_of(label: &Label, key: Key) -> Perm

@@ -1,4 +1,0 @@
-pub mod Lists
-pub mod WhoIsWhere
-pub mod AtPlaces
-pub mod ByEntries

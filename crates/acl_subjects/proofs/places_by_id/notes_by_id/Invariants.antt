@@ -1,6 +1,0 @@
-use Rattle.std.proofs.Common.{◌≡◌, ℕ, map, take}
-use Rattle.acl_subjects.specs.Places.{is_noted, has_id, passes_at}
-use Rattle.acl_subjects.proofs.places_by_id.notes_by_id.Given as goal
-
-abbrev pub invariant-loop-place : goal.invariant-loop-place
-invariant-loop-place l = (id at : ℕ) → is_noted id at l.notes.items ≡ passes_at (has_id id) (take l.place (map (λ s. s.value) l.users)) at
