@@ -89,7 +89,7 @@ def message_of(tool: bytes, text: bytes) -> bytes:
     return tool + b": " + text
 
 
-# --- listings: by getfacl, `why` and `attr` of the program (acl_dump/src/writing.rt), and by facl-snapshot in dumps
+# --- listings: by getfacl, `why` and `attr` of the program (acl_text/src/dump_writing.rt), and by facl-snapshot in dumps
 
 FILE_HEAD, OWNER_HEAD, GROUP_HEAD, FLAGS_HEAD = b"# file: ", b"# owner: ", b"# group: ", b"# flags: "
 FILE_LINE = rb"^# file: (.*)$"  # A pattern; with re.MULTILINE.

@@ -410,7 +410,7 @@ def measure_live(given: Words) -> int:
 # The tree and the people alone.
 
 TREE_BENCH = "tree_bench"
-TREE_USES = ["acl_dump", "acl_edit", "acl_names", "acl_people", "acl_syntax", "acl_tree"]
+TREE_USES = ["acl_edit", "acl_names", "acl_people", "acl_text", "acl_tree"]
 
 
 def build_tree_bench(room: str) -> str:

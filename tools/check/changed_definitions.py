@@ -36,8 +36,8 @@ SECONDS = "300"
 TESTS: Dict[str, List[str]] = {
     "acl_entry": ["acl_entry_tests"], "acl_names": ["acl_text_tests", "acl_tree_tests"],
     "path_map": ["path_map_tests", "acl_tree_tests"], "kinds": ["kinds_tests"],
-    "acl_syntax": ["acl_text_tests"], "acl_attr": ["acl_text_tests"],
-    "acl_people": ["acl_rights_tests", "acl_tree_tests"], "acl_dump": ["acl_text_tests"],
+    "acl_text": ["acl_text_tests"],
+    "acl_people": ["acl_rights_tests", "acl_tree_tests"],
     "acl_edit": ["acl_edit_tests"],
     "acl_files": ["acl_tree_tests"], "acl_tree": ["acl_tree_tests"],
     "acl_verdicts": ["acl_rights_tests"], "acl_rights": ["acl_rights_tests"], "facl_script": ["facl_script_tests"],

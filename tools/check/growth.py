@@ -271,7 +271,7 @@ CALLS = [
     "acl_files::files::Files::get", "acl_names::path::Path::is_below", "acl_names::path::Path::is_within",
     "acl_names::path::Path::new", "acl_names::path::Path::order", "acl_people::groups::Group::names_user",
     "acl_people::name_table::NameTable::place_of_name", "acl_people::name_table::NameTable::place_of_word",
-    "acl_syntax::fields::perms_of", "acl_tree::step::Staged::give_up", "acl_tree::state::State::commit",
+    "acl_text::fields::perms_of", "acl_tree::step::Staged::give_up", "acl_tree::state::State::commit",
     "acl_verdicts::judge::PosixJudge::verdict", "acl_rights::indexed_states::IndexedStates::begin_again",
     "facl_words::text_words::is_text_word", "path_map::map::PathMap::from",
 ]

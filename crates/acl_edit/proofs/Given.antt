@@ -7,7 +7,7 @@ use Rattle.acl_entry.specs.Lists.{KeyMap, class_union, or_else}
 use Rattle.acl_entry.specs.declared.entry.Key.{Key}
 use Rattle.acl_entry.specs.declared.entry.Key.TheVariants.{Owner, User, OwningGroup, Group, Mask, Other}
 use Rattle.acl_entry.proofs.KeyLaws.{key_total}
-use Rattle.acl_syntax.specs.declared.entries.Spec.{Spec}
+use Rattle.acl_text.specs.declared.entries.Spec.{Spec}
 use Rattle.acl_edit.specs.Parts.{Part, is_given, is_mask, names, puts}
 use Rattle.acl_edit.specs.Steps.{perms_of, remove, replace, modify, put_some, fill_one, fill_from}
 use Rattle.acl_edit.specs.Masks.{has_mask, has_named, add_mask, recalculate, is_recalculated, with_mask}

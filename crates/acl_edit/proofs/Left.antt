@@ -5,7 +5,7 @@ use Rattle.acl_entry.specs.Keys.{key_cmp, is_base}
 use Rattle.acl_entry.specs.Lists.{KeyMap, effective, or_else}
 use Rattle.acl_entry.specs.declared.entry.Key.{Key}
 use Rattle.acl_entry.specs.declared.entry.Key.TheVariants.{Mask}
-use Rattle.acl_syntax.specs.declared.fault.Which.TheVariants.{Access, Default}
+use Rattle.acl_text.specs.declared.fault.Which.TheVariants.{Access, Default}
 use Rattle.acl_edit.specs.Parts.{part, names, puts, is_given, is_mask}
 use Rattle.acl_edit.specs.Steps.{gives_execute, strip, replace, fill_from}
 use Rattle.acl_edit.specs.Masks.{takes_mask, with_mask}

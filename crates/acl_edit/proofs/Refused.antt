@@ -5,13 +5,13 @@ use Rattle.std.specs.Option.{option_map_or}
 use Rattle.acl_entry.specs.Lists.{KeyMap, entries, fault}
 use Rattle.acl_entry.specs.declared.entry.Entry.{Entry}
 use Rattle.acl_entry.specs.declared.entry.ListFault.{ListFault}
-use Rattle.acl_syntax.specs.declared.entries.Spec.{Spec}
-use Rattle.acl_syntax.specs.declared.fault.Which.{Which}
-use Rattle.acl_syntax.specs.declared.fault.Which.TheVariants.{Access, Default}
+use Rattle.acl_text.specs.declared.entries.Spec.{Spec}
+use Rattle.acl_text.specs.declared.fault.Which.{Which}
+use Rattle.acl_text.specs.declared.fault.Which.TheVariants.{Access, Default}
 use Rattle.acl_edit.specs.Nodes.{is_directory, with_lists}
 use Rattle.acl_edit.specs.Parts.{is_given, is_for}
 use Rattle.acl_edit.specs.Edits as steps
-use Rattle.acl_syntax.specs.InTurn.{◌>>=◌}
+use Rattle.acl_text.specs.InTurn.{◌>>=◌}
 use Rattle.acl_edit.specs.Edits.{edit, edit_of, checked_default, changed_default, is_misplaced, allowed}
 use Rattle.acl_edit.specs.Laws.{OfLine, puts_default, misplaces_default, RefusesLists, RefusesNoList}
 use Rattle.acl_edit.specs.declared.edit.Change.{Change}

@@ -8,7 +8,7 @@ use Rattle.acl_entry.specs.Lists.{KeyMap}
 use Rattle.acl_entry.specs.declared.entry.Key.{Key}
 use Rattle.acl_entry.specs.declared.entry.Key.TheVariants.{Owner, OwningGroup, Mask, Other}
 use Rattle.acl_entry.proofs.KeyLaws.{key_total}
-use Rattle.acl_syntax.specs.declared.entries.Spec.{Spec}
+use Rattle.acl_text.specs.declared.entries.Spec.{Spec}
 use Rattle.acl_edit.specs.Steps.{perms_of, put_some, remove, modify, replace, fill_one, fill_from}
 use Rattle.acl_edit.specs.Masks.{has_mask, has_named, add_mask}
 use Rattle.acl_edit.specs.Parts.{Part}

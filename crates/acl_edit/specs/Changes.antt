@@ -1,6 +1,6 @@
 -- What a setfacl(1) line asks for: its options but --restore and --test.
 use Rattle.std.specs.Prelude.{Bool, List}
-use Rattle.acl_syntax.specs.declared.entries.Spec.{Spec}
+use Rattle.acl_text.specs.declared.entries.Spec.{Spec}
 use Rattle.acl_edit.specs.declared.edit.Change.{Change}
 
 -- these options

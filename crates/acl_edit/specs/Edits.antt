@@ -3,9 +3,9 @@ use Rattle.std.specs.Prelude.{ℕ, ◌==◌, Bool, true, false, not, ◌&&◌, �
 use Rattle.std.specs.Option.{option_map_or}
 use Rattle.std.specs.FinMap as maps
 use Rattle.acl_entry.specs.Lists.{KeyMap, entries, fault, minimal, mode, or_else}
-use Rattle.acl_syntax.specs.declared.fault.Which.{Which}
-use Rattle.acl_syntax.specs.declared.fault.Which.TheVariants.{Access, Default}
-use Rattle.acl_syntax.specs.InTurn.{◌>>=◌, GivesUnless}
+use Rattle.acl_text.specs.declared.fault.Which.{Which}
+use Rattle.acl_text.specs.declared.fault.Which.TheVariants.{Access, Default}
+use Rattle.acl_text.specs.InTurn.{◌>>=◌, GivesUnless}
 use Rattle.acl_edit.specs.Nodes.{is_directory, with_lists}
 use Rattle.acl_edit.specs.Parts.{Part, part, puts, names}
 use Rattle.acl_edit.specs.Steps.{gives_execute, strip, remove, modify, replace, fill_from}

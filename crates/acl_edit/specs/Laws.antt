@@ -9,12 +9,12 @@ use Rattle.acl_entry.specs.Lists.{KeyMap, IsValid, entries, fault, effective, cl
 use Rattle.acl_entry.specs.declared.entry.ListFault.{ListFault}
 use Rattle.acl_entry.specs.declared.entry.Key.{Key}
 use Rattle.acl_entry.specs.declared.entry.Key.TheVariants.{OwningGroup, Mask}
-use Rattle.acl_syntax.specs.declared.fault.Which.{Which}
-use Rattle.acl_syntax.specs.declared.fault.Which.TheVariants.{Access, Default}
+use Rattle.acl_text.specs.declared.fault.Which.{Which}
+use Rattle.acl_text.specs.declared.fault.Which.TheVariants.{Access, Default}
 use Rattle.acl_edit.specs.Nodes.{is_directory}
 use Rattle.acl_edit.specs.Parts.{Part, part, names, puts, is_given, is_mask, is_for}
 use Rattle.acl_edit.specs.Steps.{perms_of, gives_execute}
-use Rattle.acl_syntax.specs.declared.entries.Spec.{Spec}
+use Rattle.acl_text.specs.declared.entries.Spec.{Spec}
 use Rattle.acl_edit.specs.Masks.{has_named, is_recalculated}
 use Rattle.acl_edit.specs.Edits.{edit, edit_of}
 use Rattle.acl_edit.specs.declared.edit.Change.{Change}

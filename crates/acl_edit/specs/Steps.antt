@@ -8,8 +8,8 @@ use Rattle.acl_entry.specs.Lists.{KeyMap, entries, effective}
 use Rattle.acl_entry.specs.declared.entry.Key.{Key}
 use Rattle.acl_entry.specs.declared.entry.Key.TheVariants.{Owner, OwningGroup, Other}
 use Rattle.acl_entry.specs.declared.entry.Entry.{Entry}
-use Rattle.acl_syntax.specs.declared.entries.PermSpec.{PermSpec}
-use Rattle.acl_syntax.specs.declared.entries.Spec.{Spec}
+use Rattle.acl_text.specs.declared.entries.PermSpec.{PermSpec}
+use Rattle.acl_text.specs.declared.entries.Spec.{Spec}
 use Rattle.acl_edit.specs.Nodes.{is_directory}
 use Rattle.acl_edit.specs.Parts.{is_mask}
 use Rattle.acl_edit.specs.declared.node.Node.{Node}

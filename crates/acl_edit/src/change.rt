@@ -19,7 +19,7 @@ use crate::steps::{
 };
 use crate::{EditFault, Kind, Node};
 use acl_entry::{Acl, Draft, Key};
-use acl_syntax::{Spec, Which};
+use acl_text::{Spec, Which};
 use std::alloc::{AllocError, Global};
 
 impl Change {

@@ -14,7 +14,7 @@ ghost use Rattle.acl_edit.specs.Laws.{OnLine, GivesBack, misplaces_default};
 use crate::change::{change, clone_of};
 use crate::{Kind, Node};
 use acl_entry::{Acl, Id, Label, ListFault};
-use acl_syntax::{Spec, Which};
+use acl_text::{Spec, Which};
 use std::alloc::{AllocError, AllocFailed, Global};
 use std::marker::Model;
 
@@ -267,8 +267,8 @@ pub struct Specs {
 impl Model for Specs {
     ghost use Rattle.std.specs.Prelude.{List};
     ghost use Rattle.std.specs.Coded.{coded_list};
-    ghost use Rattle.acl_syntax.specs.declared.entries.Spec.{Spec};
-    ghost use Rattle.acl_syntax.specs.contracts.entries.Spec as spec_contracts;
+    ghost use Rattle.acl_text.specs.declared.entries.Spec.{Spec};
+    ghost use Rattle.acl_text.specs.contracts.entries.Spec as spec_contracts;
 
     ghost Value = { List Spec };
 

@@ -13,7 +13,7 @@ use crate::change::{Scope, is_mask};
 use crate::edit::Change;
 use crate::{Kind, Node};
 use acl_entry::{Acl, Draft, Entry, Key, Perm};
-use acl_syntax::{PermSpec, Spec, Which};
+use acl_text::{PermSpec, Spec, Which};
 use std::alloc::{AllocError, Global};
 
 /// Execute alone.

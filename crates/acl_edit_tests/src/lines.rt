@@ -1,7 +1,7 @@
 //! Lines of setfacl, each with the lists that it leaves, or its fault.
 use crate::made::{expect, specs};
 use acl_edit::{Change, ChangeEntries, ChangeFlags, Edit, Specs};
-use acl_syntax::Want;
+use acl_text::Want;
 use std::alloc::Global;
 use std::process::Abort;
 

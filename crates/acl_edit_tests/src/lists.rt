@@ -7,7 +7,7 @@ use acl_edit::{
     edits_are_refused_for_their_lists,
 };
 use acl_entry::{Key, ListFault, Perm};
-use acl_syntax::{PermSpec, Spec, Which};
+use acl_text::{PermSpec, Spec, Which};
 use std::alloc::Global;
 use std::process::Abort;
 

@@ -1,7 +1,7 @@
 //! Files, lists and edits from texts, and what becomes of a file as a text. Users and groups go by number.
 use acl_edit::{Edit, EditFault, Kind, Node, apply};
 use acl_entry::{Acl, Entry, Id, Label, Perm};
-use acl_syntax::{NoNames, Sep, Spec, Want, append_short, read_entries};
+use acl_text::{NoNames, Sep, Spec, Want, append_short, read_entries};
 use std::alloc::Global;
 use std::process::Abort;
 

@@ -3,7 +3,7 @@ use acl_edit::{
     Change, ChangeEntries, ChangeFlags, Edit, EditFault, Kind, Node, Specs, apply, chmod, create,
 };
 use acl_entry::{Acl, Id, Label};
-use acl_syntax::{NoNames, Sep, Spec, Want, Which, read_entries};
+use acl_text::{NoNames, Sep, Spec, Want, Which, read_entries};
 use std::alloc::Global;
 use std::process::Abort;
 

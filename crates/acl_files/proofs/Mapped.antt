@@ -7,7 +7,7 @@ use Rattle.std.specs.FinMap.{find}
 use Rattle.std.specs.FinMap.Entries.{by_order, find-put}
 use Rattle.acl_names.specs.Paths.{path_cmp, PathOf}
 use Rattle.acl_names.proofs.PathOrder.{path_total, exact_paths}
-use Rattle.acl_dump.specs.declared.record.DumpRecord.{DumpRecord}
+use Rattle.acl_text.specs.declared.record.DumpRecord.{DumpRecord}
 use Rattle.acl_names.specs.Below.{is_above}
 use Rattle.acl_files.specs.Loading.{insert_record, in_path_order, node_of, has_below, files_of, record_at, loaded_at}
 use Rattle.acl_files.proofs.Loaded.{seen, put_insert}

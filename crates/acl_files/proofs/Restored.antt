@@ -10,7 +10,7 @@ use Rattle.std.specs.FinMap.Entries.{below_all, find-where_key, same_entries}
 use Rattle.std.proofs.lemmas.List.Elements.{recursion_from_All}
 use Rattle.acl_names.specs.Paths.{path_cmp, PathOf}
 use Rattle.acl_names.proofs.PathOrder.{path_total, exact_paths}
-use Rattle.acl_dump.specs.declared.record.DumpRecord.{DumpRecord}
+use Rattle.acl_text.specs.declared.record.DumpRecord.{DumpRecord}
 use Rattle.acl_edit.specs.declared.edit.EditFault.{EditFault}
 use Rattle.acl_edit.specs.declared.node.Node.{Node}
 use Rattle.path_map.specs.Entries.{IsInOrder}

@@ -14,9 +14,9 @@ use Rattle.std.proofs.lemmas.List.Sums.{length-filter}
 use Rattle.std.specs.FinMap.Entries.{by_order, below_all, find-put, is_sorted-put, same_entries}
 use Rattle.acl_names.specs.Paths.{path_cmp, PathOf}
 use Rattle.acl_names.proofs.PathOrder.{path_total, exact_paths}
-use Rattle.acl_dump.specs.declared.record.DumpRecord.{DumpRecord}
-use Rattle.acl_dump.specs.OwnPaths.{have_own_paths}
-use Rattle.acl_dump.specs.Records.{same_path, is_repeated}
+use Rattle.acl_text.specs.declared.record.DumpRecord.{DumpRecord}
+use Rattle.acl_text.specs.OwnPaths.{have_own_paths}
+use Rattle.acl_text.specs.Records.{same_path, is_repeated}
 use Rattle.acl_files.specs.Loading.{insert_record, in_path_order, record_at}
 
 abbrev has : PathOf → DumpRecord → Bool

@@ -5,8 +5,8 @@ use Rattle.std.specs.FinMap.{find}
 use Rattle.std.specs.List.{All}
 use Rattle.std.specs.declared.cmp.Ordering.TheVariants.{Greater}
 use Rattle.acl_names.specs.Paths.{path_cmp, PathOf}
-use Rattle.acl_dump.specs.declared.record.DumpRecord.{DumpRecord}
-use Rattle.acl_dump.specs.contracts.record.DumpRecord as record_contracts
+use Rattle.acl_text.specs.declared.record.DumpRecord.{DumpRecord}
+use Rattle.acl_text.specs.contracts.record.DumpRecord as record_contracts
 use Rattle.acl_edit.specs.Edits.{edit}
 use Rattle.acl_edit.specs.declared.edit.EditFault.{EditFault}
 use Rattle.acl_edit.specs.declared.node.Node.{Node}

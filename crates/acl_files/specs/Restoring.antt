@@ -1,6 +1,6 @@
 -- setfacl(1) --restore: files get the lists and flags of their records, and the owner and group that these name.
 use Rattle.std.specs.Prelude.{List, Option, Some, None, Result, Ok, option_map, map, false}
-use Rattle.acl_dump.specs.declared.record.DumpRecord.{DumpRecord}
+use Rattle.acl_text.specs.declared.record.DumpRecord.{DumpRecord}
 use Rattle.acl_edit.specs.Edits.{edit}
 use Rattle.acl_edit.specs.declared.edit.Edit.{Edit}
 use Rattle.acl_edit.specs.declared.edit.Edit.TheVariants.{Restore}

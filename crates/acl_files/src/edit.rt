@@ -1,7 +1,7 @@
 //! Edits of the files of a command: each file of it is edited, or none.
 
 ghost use Rattle.std.specs.Prelude.{◌≡◌};
-ghost use Rattle.acl_syntax.specs.InTurn.{GivesUnless};
+ghost use Rattle.acl_text.specs.InTurn.{GivesUnless};
 ghost use Rattle.acl_edit.specs.Edits.{Gives};
 ghost use Rattle.acl_files.specs.Edits.{OneEdit, KeepsPlaces, of_each, edit_all, file_fault};
 ghost use Rattle.acl_files.specs.Inner.{EditsOne, fault_of};

@@ -7,7 +7,7 @@ ghost use Rattle.acl_files.specs.declared.fault.TreeFault.{TreeFault};
 use acl_edit::EditFault;
 use acl_entry::Id;
 use acl_names::{Name, Path};
-use acl_syntax::TextFault;
+use acl_text::TextFault;
 use std::alloc::{AllocError, AllocFailed};
 
 /// Why a command is refused. A refused command changes nothing.

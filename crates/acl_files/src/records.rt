@@ -5,17 +5,17 @@ ghost use Rattle.std.specs.FinMap.{put};
 ghost use Rattle.acl_names.specs.Paths.{path_cmp};
 ghost use Rattle.path_map.specs.Entries.{IsInOrder};
 ghost use Rattle.kinds.specs.Numbered.{entries_in};
-ghost use Rattle.acl_dump.specs.OwnPaths.{have_own_paths};
+ghost use Rattle.acl_text.specs.OwnPaths.{have_own_paths};
 ghost use Rattle.acl_files.specs.Loading.{node_of, files_of, in_path_order};
 ghost use Rattle.acl_files.specs.Inner.{next_below, files_from};
 ghost use Rattle.acl_files.specs.Operands.{in_region};
 
 use crate::alike::AlikeNodes;
 use crate::region::{Region, numbers_in};
-use acl_dump::DumpRecord;
 use acl_edit::{Kind, Node};
 use acl_entry::{Id, Label};
 use acl_names::Path;
+use acl_text::DumpRecord;
 use kinds::{KindMap, KindMapBuilder, KindPuts};
 use std::alloc::{AllocError, Global};
 

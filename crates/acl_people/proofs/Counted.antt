@@ -11,11 +11,11 @@ use Rattle.std.proofs.lemmas.List.Sums.{position_or_len_is}
 use Rattle.std.proofs.lemmas.Bool.{cases_lt, and_parts}
 use Rattle.std.proofs.lemmas.Bool.Decides.{nat_tests}
 use Rattle.acl_names.specs.Pieces.{pieces, is_byte}
-use Rattle.acl_syntax.specs.declared.fault.FaultKind.{FaultKind}
-use Rattle.acl_syntax.specs.declared.fault.FaultKind.TheVariants.{TooMany}
-use Rattle.acl_syntax.specs.declared.fault.TextFault.{TextFault}
-use Rattle.acl_syntax.specs.InTurn.{read_each_from, at_place}
-use Rattle.acl_syntax.specs.Rows.{is_repeated, counted, one_line, has_no_content, most_rows}
+use Rattle.acl_text.specs.declared.fault.FaultKind.{FaultKind}
+use Rattle.acl_text.specs.declared.fault.FaultKind.TheVariants.{TooMany}
+use Rattle.acl_text.specs.declared.fault.TextFault.{TextFault}
+use Rattle.acl_text.specs.InTurn.{read_each_from, at_place}
+use Rattle.acl_text.specs.Rows.{is_repeated, counted, one_line, has_no_content, most_rows}
 use Rattle.acl_people.specs.NameTables.{Named, is_name, AreNames, AreCounted}
 use Rattle.acl_people.proofs.Bytes.{are_texts, pieces_made}
 use Rattle.acl_people.proofs.Places.{position-cons, position-push}

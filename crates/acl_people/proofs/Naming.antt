@@ -5,8 +5,8 @@ use Rattle.std.proofs.lemmas.Bool.{eqb-true}
 use Rattle.std.proofs.lemmas.List.Quantifiers.{position-Some}
 use Rattle.std.proofs.lemmas.Option.{get_or_from_slice_get}
 use Rattle.acl_names.specs.Pieces.{is_byte}
-use Rattle.acl_syntax.specs.Ids.{is_number}
-use Rattle.acl_syntax.specs.Writing.{IsNamed, IsFoundAs}
+use Rattle.acl_text.specs.Ids.{is_number}
+use Rattle.acl_text.specs.Writing.{IsNamed, IsFoundAs}
 use Rattle.acl_people.specs.NameTables.{Named, is_name, prints, id_named, name_shown, AreNames, IsNaming}
 use Rattle.acl_people.proofs.Places.{find-position}
 

@@ -9,8 +9,8 @@ use Rattle.std.proofs.lemmas.Bool.{eqb-true}
 use Rattle.std.proofs.lemmas.List.{set-get_or}
 use Rattle.std.proofs.lemmas.Option.{get_or_from_slice_get}
 use Rattle.acl_entry.specs.Person.{Person}
-use Rattle.acl_syntax.specs.declared.rows.PasswdRow.{PasswdRow}
-use Rattle.acl_syntax.specs.declared.rows.GroupRow.{GroupRow}
+use Rattle.acl_text.specs.declared.rows.PasswdRow.{PasswdRow}
+use Rattle.acl_text.specs.declared.rows.GroupRow.{GroupRow}
 use Rattle.acl_people.specs.KnownPeople.{KnownPeople, names_user, gids_of, person, persons, IsSound}
 use Rattle.acl_people.specs.Changes.{change_at, name_of, gid_of, name_added, name_removed, is_member, with_member, without_member}
 use Rattle.acl_people.specs.Laws.{has_otherwise}

@@ -3,10 +3,10 @@ use Rattle.std.proofs.Common.{◌≡◌, ℕ, ◌<◌, Bool, true, false, eqb, L
 use Rattle.std.specs.List.{list_all}
 use Rattle.std.proofs.lemmas.Bool.{and_parts}
 use Rattle.acl_names.specs.Pieces.{pieces, is_byte}
-use Rattle.acl_syntax.specs.declared.rows.PasswdRow.{PasswdRow}
-use Rattle.acl_syntax.specs.declared.rows.GroupRow.{GroupRow}
-use Rattle.acl_syntax.specs.Ids.{id_of}
-use Rattle.acl_syntax.specs.Rows.{passwd_row, group_row, passwd_of, group_of, passwd_name, group_name, names_of}
+use Rattle.acl_text.specs.declared.rows.PasswdRow.{PasswdRow}
+use Rattle.acl_text.specs.declared.rows.GroupRow.{GroupRow}
+use Rattle.acl_text.specs.Ids.{id_of}
+use Rattle.acl_text.specs.Rows.{passwd_row, group_row, passwd_of, group_of, passwd_name, group_name, names_of}
 use Rattle.acl_people.specs.NameTables.{AreCounted}
 use Rattle.acl_people.specs.Entries.{user_entry, group_entry}
 use Rattle.acl_people.proofs.Bytes.{are_texts, pieces_made}

@@ -3,9 +3,9 @@ use Rattle.std.specs.Prelude.{◌≡◌, ◌<◌, ℕ, length, List, [], ◌∷�
 use Rattle.std.specs.List.{remove}
 use Rattle.std.specs.Option.{option_map_or}
 use Rattle.std.specs.Str.{bytes_eq}
-use Rattle.acl_syntax.specs.declared.rows.PasswdRow.{PasswdRow}
-use Rattle.acl_syntax.specs.declared.rows.GroupRow.{GroupRow}
-use Rattle.acl_syntax.specs.Rows.{most_rows}
+use Rattle.acl_text.specs.declared.rows.PasswdRow.{PasswdRow}
+use Rattle.acl_text.specs.declared.rows.GroupRow.{GroupRow}
+use Rattle.acl_text.specs.Rows.{most_rows}
 use Rattle.acl_people.specs.NameTables.{has_name}
 use Rattle.acl_people.specs.Entries.{user_row}
 use Rattle.acl_people.specs.KnownPeople.{KnownPeople, names_user, users_of}

@@ -1,7 +1,7 @@
 -- The names and ids of rows.
 use Rattle.std.specs.Prelude.{◌≡◌, ℕ, List, map}
-use Rattle.acl_syntax.specs.declared.rows.PasswdRow.{PasswdRow}
-use Rattle.acl_syntax.specs.declared.rows.GroupRow.{GroupRow}
+use Rattle.acl_text.specs.declared.rows.PasswdRow.{PasswdRow}
+use Rattle.acl_text.specs.declared.rows.GroupRow.{GroupRow}
 use Rattle.acl_people.specs.NameTables.{Named, AreCounted}
 
 abbrev pub user_entry : PasswdRow → Named

@@ -4,12 +4,12 @@ use Rattle.std.specs.List.{list_any}
 use Rattle.std.specs.Str.{bytes_eq}
 use Rattle.std.specs.FinSet.{from_list}
 use Rattle.acl_entry.specs.Person.{Person}
-use Rattle.acl_syntax.specs.declared.rows.PasswdRow.{PasswdRow}
-use Rattle.acl_syntax.specs.declared.rows.GroupRow.{GroupRow}
-use Rattle.acl_syntax.specs.declared.fault.TextFault.{TextFault}
-use Rattle.acl_syntax.specs.InTurn.{GivesUnless}
-use Rattle.acl_syntax.specs.Naming.{Naming}
-use Rattle.acl_syntax.specs.Rows.{passwd_of, group_of, most_rows}
+use Rattle.acl_text.specs.declared.rows.PasswdRow.{PasswdRow}
+use Rattle.acl_text.specs.declared.rows.GroupRow.{GroupRow}
+use Rattle.acl_text.specs.declared.fault.TextFault.{TextFault}
+use Rattle.acl_text.specs.InTurn.{GivesUnless}
+use Rattle.acl_text.specs.Naming.{Naming}
+use Rattle.acl_text.specs.Rows.{passwd_of, group_of, most_rows}
 use Rattle.acl_people.specs.declared.fault.LoadFault.{LoadFault}
 use Rattle.acl_people.specs.declared.fault.LoadFault.TheVariants.{AlreadyLoaded, Text, NoMemory}
 use Rattle.acl_people.specs.NameTables.{Named, id_named, name_shown, AreNames, IsNaming}

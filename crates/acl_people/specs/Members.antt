@@ -11,8 +11,8 @@ use Rattle.std.specs.Cmp.Lexicographic.{slice_cmp}
 use Rattle.std.specs.declared.alloc.Global.{Global}
 use denote.Ref.{Bor}
 use Rattle.acl_entry.specs.Person.{Person}
-use Rattle.acl_syntax.specs.declared.rows.PasswdRow.{PasswdRow}
-use Rattle.acl_syntax.specs.declared.rows.GroupRow.{GroupRow}
+use Rattle.acl_text.specs.declared.rows.PasswdRow.{PasswdRow}
+use Rattle.acl_text.specs.declared.rows.GroupRow.{GroupRow}
 
 abbrev pub Members : Type 0
 Members = BTreeMap (Bor (List ℕ)) (Vec ℕ Global)

@@ -4,9 +4,9 @@ use Rattle.std.specs.List.{list_all}
 use Rattle.std.specs.Option.{is_some}
 use Rattle.std.specs.Str.{bytes_eq}
 use Rattle.acl_names.specs.Pieces.{is_byte}
-use Rattle.acl_syntax.specs.Ids.{is_number, id_of}
-use Rattle.acl_syntax.specs.Rows.{most_rows}
-use Rattle.acl_syntax.specs.Writing.{IsNamed}
+use Rattle.acl_text.specs.Ids.{is_number, id_of}
+use Rattle.acl_text.specs.Rows.{most_rows}
+use Rattle.acl_text.specs.Writing.{IsNamed}
 
 -- a name and its id
 abbrev pub Named : Type 0

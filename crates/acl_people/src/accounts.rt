@@ -12,7 +12,7 @@ use crate::people::People;
 use crate::user_name::UserName;
 use acl_entry::Id;
 use acl_names::Name;
-use acl_syntax::{MAX_ROWS, PasswdRow};
+use acl_text::{MAX_ROWS, PasswdRow};
 use std::alloc::{AllocError, Global};
 use std::rc::Rc;
 

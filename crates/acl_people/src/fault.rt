@@ -3,7 +3,7 @@
 ghost use Rattle.std.specs.Prelude.{◌≡◌, ◌≢◌};
 ghost use Rattle.acl_people.specs.declared.fault.LoadFault.{LoadFault};
 
-use acl_syntax::{FaultKind, TextFault};
+use acl_text::{FaultKind, TextFault};
 use std::alloc::{AllocError, AllocFailed};
 
 /// Why a passwd or a group text isn't loaded.

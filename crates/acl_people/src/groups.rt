@@ -1,9 +1,9 @@
 //! The rows of group(5), looked up by name and by id.
 
 ghost use Rattle.std.specs.Prelude.{◌≡◌, ◌<◌, ◌∷◌, [], map, length, slice_set, List};
-ghost use Rattle.acl_syntax.specs.InTurn.{Gives};
-ghost use Rattle.acl_syntax.specs.Rows.{group_of};
-ghost use Rattle.acl_syntax.specs.declared.rows.GroupRow.{GroupRow};
+ghost use Rattle.acl_text.specs.InTurn.{Gives};
+ghost use Rattle.acl_text.specs.Rows.{group_of};
+ghost use Rattle.acl_text.specs.declared.rows.GroupRow.{GroupRow};
 ghost use Rattle.acl_people.specs.Entries.{group_entry, AreGroups, IsTableOf};
 ghost use Rattle.acl_people.specs.KnownPeople.{names_user};
 ghost use Rattle.acl_people.specs.Changes.{change_at, name_added, name_removed, names_but};
@@ -13,7 +13,7 @@ use crate::each_shared::{each_but_one, each_shared, push_shared};
 use crate::name_table::{NameTable, NamedRow};
 use acl_entry::Id;
 use acl_names::Name;
-use acl_syntax::{GroupRow, TextFault, read_group};
+use acl_text::{GroupRow, TextFault, read_group};
 use std::alloc::{AllocError, Global};
 use std::marker::Model;
 use std::rc::Rc;

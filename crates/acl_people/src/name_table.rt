@@ -9,7 +9,7 @@ ghost use Rattle.acl_people.specs.Kept.{named_in, AreFirstPlaces, KeepsFirst, Ad
 ghost use Rattle.acl_names.specs.Made.{Makes, MakesOne};
 
 use acl_entry::Id;
-use acl_syntax::{is_number, read_id};
+use acl_text::{is_number, read_id};
 use indexmap::IndexMap;
 use sha2::{Digest, Sha256};
 use std::alloc::{AllocError, Global};

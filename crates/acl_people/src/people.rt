@@ -15,7 +15,7 @@ use crate::persons::{shared_person, subjects_of};
 use crate::subjects::Subjects;
 use crate::users::Users;
 use acl_entry::{Id, Subject};
-use acl_syntax::{Names, PasswdRow};
+use acl_text::{Names, PasswdRow};
 use std::alloc::{AllocError, Global};
 use std::marker::Model;
 use std::rc::Rc;

@@ -9,7 +9,7 @@ use crate::each_shared::push_shared;
 use crate::groups::{Group, Groups};
 use crate::memberships::members_of;
 use acl_entry::{Id, Subject};
-use acl_syntax::PasswdRow;
+use acl_text::PasswdRow;
 use std::alloc::{AllocError, Global};
 use std::collections::BTreeMap;
 use std::rc::Rc;

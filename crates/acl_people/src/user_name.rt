@@ -1,10 +1,10 @@
 //! Names that new users may have.
 
 ghost use Rattle.std.specs.Prelude.{◌≡◌, ◌<◌, length, Some, None, if◌then◌else◌, true, List, ℕ};
-ghost use Rattle.acl_syntax.specs.UserNames.{is_user_name};
+ghost use Rattle.acl_text.specs.UserNames.{is_user_name};
 
 use acl_names::Name;
-use acl_syntax::is_user_name;
+use acl_text::is_user_name;
 use std::marker::Model;
 
 /// A name that a new user may have: not empty, not digits alone, and without a colon, a comma, a line feed

@@ -2,9 +2,9 @@
 
 ghost use Rattle.std.specs.Prelude.{◌≡◌, ◌<◌, ◌++◌, ◌∷◌, [], length, List};
 ghost use Rattle.std.specs.List.{remove};
-ghost use Rattle.acl_syntax.specs.InTurn.{Gives};
-ghost use Rattle.acl_syntax.specs.Rows.{passwd_of};
-ghost use Rattle.acl_syntax.specs.declared.rows.PasswdRow.{PasswdRow};
+ghost use Rattle.acl_text.specs.InTurn.{Gives};
+ghost use Rattle.acl_text.specs.Rows.{passwd_of};
+ghost use Rattle.acl_text.specs.declared.rows.PasswdRow.{PasswdRow};
 ghost use Rattle.acl_people.specs.Entries.{user_entry, AreUsers, IsTableOf};
 ghost use Rattle.acl_people.specs.Changes.{change_at, with_gid};
 ghost use Rattle.acl_names.specs.Made.{values, Makes};
@@ -12,7 +12,7 @@ ghost use Rattle.acl_names.specs.Made.{values, Makes};
 use crate::each_shared::{each_but_one, each_shared};
 use crate::name_table::{NameTable, NamedRow};
 use acl_entry::Id;
-use acl_syntax::{PasswdRow, TextFault, read_passwd};
+use acl_text::{PasswdRow, TextFault, read_passwd};
 use std::alloc::{AllocError, Global};
 use std::marker::Model;
 use std::rc::Rc;

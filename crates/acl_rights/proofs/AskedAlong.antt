@@ -6,7 +6,7 @@ use Rattle.acl_entry.specs.Check.{has}
 use Rattle.acl_entry.specs.Perms.{Perms}
 use Rattle.acl_entry.specs.Person.{Person}
 use Rattle.acl_names.specs.Paths.{path_cmp, PathOf}
-use Rattle.acl_syntax.specs.declared.rows.PasswdRow.{PasswdRow}
+use Rattle.acl_text.specs.declared.rows.PasswdRow.{PasswdRow}
 use Rattle.acl_edit.specs.declared.node.Node.{Node}
 use Rattle.acl_people.specs.KnownPeople.{person, persons}
 use Rattle.acl_tree.specs.State.{State}

@@ -35,6 +35,6 @@ pub use acl_entry::{Acl, Id, Key, Label, NoMemory, Perm, Requests, Subject};
 pub use acl_files::{DumpRecords, Paths};
 pub use acl_names::{Name, Path, read_name};
 pub use acl_people::{People, UserName};
-pub use acl_syntax::Spec;
+pub use acl_text::Spec;
 pub use acl_tree::{Command, Membership, NewFile, NewUser, Staged, State, Table, Tree};
 pub use acl_verdicts::{Cells, FileRow, FileRows, Judge, Posix};

@@ -5,7 +5,7 @@ use acl_entry::Id;
 use acl_files::Paths;
 use acl_names::{Name, Path, read_path};
 use acl_people::{People, UserName};
-use acl_syntax::{Sep, Want, read_entries};
+use acl_text::{Sep, Want, read_entries};
 use acl_tree::{Command, Membership, NewUser, Table};
 use std::alloc::Global;
 

@@ -1,6 +1,6 @@
 //! Listings of one file and of several.
 use crate::made::{all_found, setup};
-use acl_dump::Effective;
+use acl_text::Effective;
 use acl_tree::State;
 use facl_output::{Options, append_listing, listing_is_loaded_again};
 use std::alloc::Global;

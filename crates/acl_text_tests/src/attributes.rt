@@ -2,9 +2,8 @@
 use crate::made::Who::{Mask, Other, Owner, OwningGroup, User};
 use crate::made::{Row, cuts_and_changes, expect_same, id, list, push};
 use crate::slow_attr::{Numbers, read};
-use acl_attr::{decode_attr, encode_attr};
 use acl_entry::{Acl, Key};
-use acl_syntax::{FaultKind, TextFault};
+use acl_text::{FaultKind, TextFault, decode_attr, encode_attr};
 use std::alloc::Global;
 use std::process::Abort;
 

@@ -3,8 +3,8 @@
 use crate::dumps::{Row, agrees, expect_faults};
 use crate::made::{expect_row, push};
 use crate::people::People;
-use acl_dump::{DumpUse, read_dump};
 use acl_entry::Id;
+use acl_text::{DumpUse, read_dump};
 use std::alloc::Global;
 use std::process::Abort;
 

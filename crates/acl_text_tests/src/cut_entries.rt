@@ -3,7 +3,7 @@
 use crate::entries::{expect_specs, fault_of};
 use crate::made::cuts_and_changes;
 use crate::slow_entries::read;
-use acl_syntax::{Sep, Want};
+use acl_text::{Sep, Want};
 use std::alloc::Global;
 use std::process::Abort;
 

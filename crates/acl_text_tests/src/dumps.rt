@@ -2,12 +2,12 @@
 use crate::made::{cuts_and_changes, expect_bytes, expect_fault, expect_same, pieces, push};
 use crate::people::People;
 use crate::slow_dump::{Slow, read};
-use acl_dump::{
-    DumpRecord, DumpUse, Effective, Header, append_header, append_list, append_record, read_dump,
-};
 use acl_entry::{Acl, Entry, Id, ListFault};
 use acl_names::Path;
-use acl_syntax::{FaultKind, Names, NoNames, TextFault, Which};
+use acl_text::{
+    DumpRecord, DumpUse, Effective, FaultKind, Header, Names, NoNames, TextFault, Which,
+    append_header, append_list, append_record, read_dump,
+};
 use std::alloc::Global;
 use std::process::Abort;
 

@@ -3,7 +3,7 @@
 use crate::made::Who::{Group, Mask, Other, User};
 use crate::made::{Who, expect_fault, expect_row, key, perm};
 use crate::people::People;
-use acl_syntax::{PermSpec, Sep, Spec, TextFault, Want, read_entries, read_perms};
+use acl_text::{PermSpec, Sep, Spec, TextFault, Want, read_entries, read_perms};
 use std::alloc::Global;
 use std::process::Abort;
 

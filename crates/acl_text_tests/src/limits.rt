@@ -1,7 +1,7 @@
 //! The greatest sizes of texts, and one more.
 
 use crate::made::push;
-use acl_syntax::{FaultKind, NoNames, Sep, TextFault, Want, read_entries, read_group, read_passwd};
+use acl_text::{FaultKind, NoNames, Sep, TextFault, Want, read_entries, read_group, read_passwd};
 use std::alloc::Global;
 use std::process::Abort;
 

@@ -1,7 +1,7 @@
 //! Keys, permission sets, lists and bytes from what a table can contain, and texts cut and changed.
 
 use acl_entry::{Acl, Entry, Id, Key, Perm};
-use acl_syntax::TextFault;
+use acl_text::TextFault;
 use std::alloc::Global;
 use std::process::Abort;
 

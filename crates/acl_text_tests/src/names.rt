@@ -2,7 +2,7 @@
 
 use crate::made::{expect_bytes, expect_row, expect_same};
 use acl_names::{Path, read_name, read_path, write_name, write_path};
-use acl_syntax::is_user_name;
+use acl_text::is_user_name;
 use std::alloc::Global;
 use std::cmp::Ordering;
 use std::process::Abort;

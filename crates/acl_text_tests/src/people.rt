@@ -4,7 +4,7 @@ ghost use Rattle.std.specs.Prelude.{◌==◌, if◌then◌else◌, Some, None, c
 ghost use Rattle.std.specs.Str.{bytes_eq};
 
 use acl_entry::Id;
-use acl_syntax::Names;
+use acl_text::Names;
 
 #[derive(Clone, Copy)]
 pub struct People;

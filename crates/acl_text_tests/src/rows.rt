@@ -2,7 +2,7 @@
 //! or `bad row` and the line.
 
 use crate::made::{expect_bytes, push};
-use acl_syntax::{FaultKind, GroupRow, PasswdRow, TextFault, read_group, read_passwd};
+use acl_text::{FaultKind, GroupRow, PasswdRow, TextFault, read_group, read_passwd};
 use std::alloc::Global;
 use std::process::Abort;
 

@@ -3,9 +3,8 @@
 use crate::made::pieces;
 use crate::people::People;
 use crate::slow_entries::{entry, fields_of, without_default};
-use acl_dump::DumpUse;
 use acl_entry::{Entry, Key, ListFault, Perm};
-use acl_syntax::{FaultKind, Names, Sep, TextFault, Want, Which};
+use acl_text::{DumpUse, FaultKind, Names, Sep, TextFault, Want, Which};
 use std::alloc::Global;
 use std::process::Abort;
 

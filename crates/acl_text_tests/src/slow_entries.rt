@@ -5,7 +5,7 @@
 use crate::made::pieces;
 use crate::people::People;
 use acl_entry::{Id, Key, Perm};
-use acl_syntax::{FaultKind, Names, PermSpec, Sep, Spec, TextFault, Want};
+use acl_text::{FaultKind, Names, PermSpec, Sep, Spec, TextFault, Want};
 use std::alloc::Global;
 use std::process::Abort;
 

@@ -4,7 +4,7 @@ use crate::made::Who::{Group, Mask, Other, Owner, OwningGroup, User};
 use crate::made::{Row, expect_same, id, list, perm, push};
 use crate::people::People;
 use acl_entry::{Entry, Key};
-use acl_syntax::{Form, NoNames, append_entry, append_short, write_long, write_short};
+use acl_text::{Form, NoNames, append_entry, append_short, write_long, write_short};
 
 static ENTRIES: [Row; 7] = [
     (Owner, 6),

@@ -2,7 +2,7 @@
 use Rattle.std.proofs.Common.{◌≡◌, Bool, true, false, List, Option, Some, Result, Ok, Err, if◌then◌else◌, refl, sym, ap, subst, ◌∙◌}
 use Rattle.std.specs.Prelude.{option_map}
 use Rattle.acl_entry.specs.Lists.{KeyMap}
-use Rattle.acl_syntax.specs.InTurn.{◌>>=◌}
+use Rattle.acl_text.specs.InTurn.{◌>>=◌}
 use Rattle.acl_edit.specs.Edits.{edit, edit_of, change, changed_access, changed_default, is_misplaced}
 use Rattle.acl_edit.specs.Nodes.{with_lists}
 use Rattle.acl_edit.specs.declared.edit.Change.{Change}

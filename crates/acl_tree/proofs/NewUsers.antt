@@ -5,13 +5,13 @@ use Rattle.std.specs.Option.{option_or, ok_or}
 use Rattle.std.specs.List.{list_any}
 use Rattle.std.proofs.lemmas.List.{map-append, length-map}
 use Rattle.std.proofs.lemmas.Slice.Eq.{bytes_eq-Decides}
-use Rattle.acl_syntax.specs.Ids.{is_number, id_of}
-use Rattle.acl_syntax.specs.declared.rows.PasswdRow.{PasswdRow}
+use Rattle.acl_text.specs.Ids.{is_number, id_of}
+use Rattle.acl_text.specs.declared.rows.PasswdRow.{PasswdRow}
 use Rattle.acl_people.specs.Changes.{gid_of, with_user}
 use Rattle.acl_people.specs.Entries.{user_entry}
 use Rattle.acl_people.specs.KnownPeople.{KnownPeople, users_of, names_user}
 use Rattle.acl_people.specs.NameTables.{Named, is_name, is_id, has_name, has_id}
-use Rattle.acl_syntax.specs.UserNames.{cuts_row, is_user_name}
+use Rattle.acl_text.specs.UserNames.{cuts_row, is_user_name}
 use Rattle.acl_people.proofs.Places.{position-push}
 use Rattle.acl_people.proofs.Undone.{user_again}
 use Rattle.acl_tree.specs.declared.command.Command.TheVariants.{Useradd, Userdel}

@@ -11,8 +11,8 @@ use Rattle.acl_names.specs.Paths.{path_cmp, PathOf}
 use Rattle.acl_names.proofs.PathOrder.{exact_paths}
 use Rattle.path_map.proofs.Differences.{Leads, leads_all}
 use Rattle.acl_names.specs.Below.{encloses, parent}
-use Rattle.acl_syntax.specs.Ids.{is_number, id_of}
-use Rattle.acl_syntax.specs.declared.rows.PasswdRow.{PasswdRow}
+use Rattle.acl_text.specs.Ids.{is_number, id_of}
+use Rattle.acl_text.specs.declared.rows.PasswdRow.{PasswdRow}
 use Rattle.acl_edit.specs.Creation.{inherit}
 use Rattle.acl_edit.specs.Nodes.{is_directory}
 use Rattle.acl_edit.specs.declared.node.Kind.{Kind}

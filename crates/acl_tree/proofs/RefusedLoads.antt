@@ -2,9 +2,9 @@
 use Rattle.std.proofs.Common.{◌≡◌, ℕ, Bool, true, false, ◌||◌, List, length, Result, Ok, Err, if◌then◌else◌, nat_lt, refl, sym, ap, ◌∙◌, true≢false, arith}
 use Rattle.std.specs.Prelude.{◌==◌}
 use Rattle.std.proofs.lemmas.Bool.{ltb-true, lt-ltb}
-use Rattle.acl_dump.specs.declared.record.DumpRecord.{DumpRecord}
-use Rattle.acl_syntax.specs.Rows.{passwd_of, group_of}
-use Rattle.acl_syntax.specs.declared.fault.TextFault.{TextFault}
+use Rattle.acl_text.specs.declared.record.DumpRecord.{DumpRecord}
+use Rattle.acl_text.specs.Rows.{passwd_of, group_of}
+use Rattle.acl_text.specs.declared.fault.TextFault.{TextFault}
 use Rattle.acl_files.specs.declared.fault.TreeFault.{TreeFault}
 use Rattle.acl_files.specs.declared.fault.TreeFault.TheVariants.{AlreadyLoaded, Text, TooMany, NoMemory}
 use Rattle.acl_files.specs.Files.{max_files}

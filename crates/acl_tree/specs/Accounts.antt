@@ -1,6 +1,6 @@
 -- useradd(8) and userdel(8): users come and go.
 use Rattle.std.specs.Prelude.{ℕ, List, length, nat_le, if◌then◌else◌, Result, Ok, Err}
-use Rattle.acl_syntax.specs.Rows.{most_rows}
+use Rattle.acl_text.specs.Rows.{most_rows}
 use Rattle.acl_people.specs.NameTables.{has_name, has_id}
 use Rattle.acl_people.specs.KnownPeople.{KnownPeople, users_of}
 use Rattle.acl_people.specs.Changes.{with_user, without_user}

@@ -3,7 +3,7 @@ use Rattle.std.specs.Prelude.{ℕ, List, length, slice_get, nat_lt, Bool, if◌t
 use Rattle.std.specs.List.{list_any}
 use Rattle.std.specs.FinMap.{find, put}
 use Rattle.acl_names.specs.Paths.{path_cmp, PathOf}
-use Rattle.acl_syntax.specs.declared.rows.PasswdRow.{PasswdRow}
+use Rattle.acl_text.specs.declared.rows.PasswdRow.{PasswdRow}
 use Rattle.acl_edit.specs.Nodes.{is_directory}
 use Rattle.acl_edit.specs.Creation.{inherit}
 use Rattle.acl_edit.specs.declared.node.Node.{Node}

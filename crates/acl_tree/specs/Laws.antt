@@ -4,7 +4,7 @@ use Rattle.std.specs.List.{AllByRecursion, list_any}
 use Rattle.std.specs.Ordering.{eq_by_cmp}
 use Rattle.std.specs.FinMap.{find}
 use Rattle.acl_names.specs.Paths.{path_cmp, PathOf}
-use Rattle.acl_dump.specs.declared.record.DumpRecord.{DumpRecord}
+use Rattle.acl_text.specs.declared.record.DumpRecord.{DumpRecord}
 use Rattle.acl_edit.specs.Edits.{edit_of, no_flags}
 use Rattle.acl_edit.specs.Laws.{ShowsRecalculated, BoundsRecalculated, MakesMask}
 use Rattle.acl_edit.specs.Nodes.{is_directory}
@@ -13,7 +13,7 @@ use Rattle.acl_edit.specs.declared.edit.Edit as edits
 use Rattle.acl_edit.specs.declared.edit.EditFault.{EditFault}
 use Rattle.acl_edit.specs.declared.node.Node.{Node}
 use Rattle.acl_people.specs.KnownPeople.{names_user}
-use Rattle.acl_syntax.specs.UserNames.{is_user_name}
+use Rattle.acl_text.specs.UserNames.{is_user_name}
 use Rattle.acl_tree.specs.declared.command.Command.{Command}
 use Rattle.acl_tree.specs.declared.command.Command.TheVariants.{Load, Chmod, Edit, Restore, Creat, Rm, Gpasswd, Usermod, Useradd, Userdel}
 use Rattle.acl_tree.specs.declared.command.NewFile.{NewFile}

@@ -1,9 +1,9 @@
 -- load: the texts of users, groups and files.
 use Rattle.std.specs.Prelude.{ℕ, List, length, Bool, true, nat_lt, ◌||◌, if◌then◌else◌, Result, Ok, Err}
-use Rattle.acl_syntax.specs.declared.fault.TextFault.{TextFault}
-use Rattle.acl_dump.specs.declared.record.DumpRecord.{DumpRecord}
-use Rattle.acl_dump.specs.declared.record.DumpUse.TheVariants as uses
-use Rattle.acl_dump.specs.Records.{dump_of}
+use Rattle.acl_text.specs.declared.fault.TextFault.{TextFault}
+use Rattle.acl_text.specs.declared.record.DumpRecord.{DumpRecord}
+use Rattle.acl_text.specs.declared.record.DumpUse.TheVariants as uses
+use Rattle.acl_text.specs.Records.{dump_of}
 use Rattle.acl_files.specs.Files.{max_files}
 use Rattle.acl_files.specs.Loading.{files_of}
 use Rattle.acl_files.specs.declared.fault.TreeFault.{TreeFault}

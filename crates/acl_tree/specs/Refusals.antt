@@ -3,9 +3,9 @@ use Rattle.std.specs.Prelude.{◌≡◌, ◌≤◌, ◌<◌, ◌↔◌, ℕ, suc
 use Rattle.std.specs.Ordering.{eq_by_cmp}
 use Rattle.std.specs.FinMap.{find}
 use Rattle.acl_names.specs.Paths.{path_cmp, PathOf}
-use Rattle.acl_syntax.specs.Rows.{passwd_of, group_of, most_rows}
-use Rattle.acl_syntax.specs.declared.fault.TextFault.{TextFault}
-use Rattle.acl_dump.specs.declared.record.DumpRecord.{DumpRecord}
+use Rattle.acl_text.specs.Rows.{passwd_of, group_of, most_rows}
+use Rattle.acl_text.specs.declared.fault.TextFault.{TextFault}
+use Rattle.acl_text.specs.declared.record.DumpRecord.{DumpRecord}
 use Rattle.acl_edit.specs.declared.edit.EditFault.{EditFault}
 use Rattle.acl_edit.specs.declared.node.Kind.{Kind}
 use Rattle.acl_edit.specs.declared.node.Kind.TheVariants.{Plain, Directory}

@@ -1,6 +1,6 @@
 -- What a command makes of the state: the step of each.
 use Rattle.std.specs.Prelude.{Bool, true, false, if◌then◌else◌, Option, Some, None, Result, Ok, Err}
-use Rattle.acl_syntax.specs.InTurn.{GivesUnless}
+use Rattle.acl_text.specs.InTurn.{GivesUnless}
 use Rattle.acl_files.specs.declared.fault.TreeFault.{TreeFault}
 use Rattle.acl_files.specs.declared.fault.TreeFault.TheVariants.{AlreadyLoaded, NotMember, UidExists, TooManyUsers, NoMemory}
 use Rattle.acl_files.specs.Restoring.{restored_tree}

@@ -19,7 +19,7 @@ use acl_edit::{Kind, Node, create};
 use acl_files::{Files, Region, TreeFault, put_file};
 use acl_names::{Name, Path};
 use acl_people::People;
-use acl_syntax::PasswdRow;
+use acl_text::PasswdRow;
 use std::alloc::Global;
 
 /// The row of the user that a word means.

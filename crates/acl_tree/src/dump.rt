@@ -10,9 +10,8 @@ ghost use Rattle.acl_tree.specs.declared.user_change.UserChange.{UserChange};
 
 use crate::state::BorrowedState;
 use crate::step::Staged;
-use acl_dump::{DumpUse, read_dump};
 use acl_files::{Files, Region, TreeFault, files_of};
-use acl_syntax::{FaultKind, TextFault};
+use acl_text::{DumpUse, FaultKind, TextFault, read_dump};
 use std::alloc::Global;
 
 /// The largest number of files of a tree.

@@ -2,7 +2,7 @@
 
 ghost use Rattle.std.specs.Prelude.{◌≡◌, IfOk};
 ghost use Rattle.acl_files.specs.Edits.{of_each, edit_all};
-ghost use Rattle.acl_syntax.specs.InTurn.{GivesUnless};
+ghost use Rattle.acl_text.specs.InTurn.{GivesUnless};
 ghost use Rattle.acl_tree.specs.Inner.{IsStaged, whole};
 ghost use Rattle.acl_tree.specs.Reports.{Prepares};
 ghost use Rattle.acl_tree.specs.declared.user_change.UserChange.{UserChange};

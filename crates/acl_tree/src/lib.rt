@@ -29,7 +29,6 @@ pub use tree::Tree;
 pub use user_change::{GroupIds, UserChange};
 
 // The public calls take and give these values of the crates below.
-pub use acl_dump::{DumpRecord, DumpUse, read_dump};
 pub use acl_edit::{Change, ChangeEntries, ChangeFlags, Edit, EditFault, Kind, Node, Specs};
 pub use acl_entry::{Acl, Id, Key, Label, ListFault, NoMemory, Subject};
 pub use acl_files::{
@@ -37,4 +36,6 @@ pub use acl_files::{
 };
 pub use acl_names::{Name, Path, read_name};
 pub use acl_people::{People, UserName};
-pub use acl_syntax::{FaultKind, Names, NoNames, Spec, TextFault, Which};
+pub use acl_text::{
+    DumpRecord, DumpUse, FaultKind, Names, NoNames, Spec, TextFault, Which, read_dump,
+};

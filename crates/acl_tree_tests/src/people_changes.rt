@@ -4,7 +4,7 @@ use acl_names::Name;
 use acl_people::{
     People, UserName, added_member_is_removed, added_user_is_removed, group_held_otherwise_stays,
 };
-use acl_syntax::Names;
+use acl_text::Names;
 use std::alloc::Global;
 use std::mem;
 use std::process::Abort;

@@ -1,7 +1,7 @@
 //! Users, groups, and the words and ids that mean them.
 use acl_entry::Id;
 use acl_people::{LoadFault, People};
-use acl_syntax::{FaultKind, Names, TextFault};
+use acl_text::{FaultKind, Names, TextFault};
 use std::alloc::Global;
 use std::process::Abort;
 

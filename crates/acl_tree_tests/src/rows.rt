@@ -2,13 +2,12 @@
 //!
 //! A row is data. What comes of a command and what a file is are compared as texts, so a new test needs no code.
 use crate::shown::{are_shown, listing, outcome};
-use acl_dump::{DumpUse, read_dump};
 use acl_edit::{Change, ChangeEntries, ChangeFlags, Edit, Kind, Specs};
 use acl_entry::Id;
 use acl_files::{DumpRecords, Paths};
 use acl_names::{Name, Path, read_path};
 use acl_people::{People, UserName};
-use acl_syntax::{Sep, Want, read_entries};
+use acl_text::{DumpUse, Sep, Want, read_dump, read_entries};
 use acl_tree::{Command, Membership, NewFile, NewUser, State, Table};
 use std::alloc::Global;
 use std::process::Abort;

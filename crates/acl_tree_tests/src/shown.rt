@@ -5,7 +5,7 @@ use acl_entry::{Acl, Id, Label, Perm, Requests, Subject, granted};
 use acl_files::{Differences, TreeFault};
 use acl_names::{Name, Path, append_path};
 use acl_people::People;
-use acl_syntax::{Names, TextFault, append_id, append_short};
+use acl_text::{Names, TextFault, append_id, append_short};
 use acl_tree::{Command, Staged, State, Tree, UserChange};
 use std::alloc::Global;
 use std::process::Abort;

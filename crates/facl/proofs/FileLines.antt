@@ -12,7 +12,7 @@ use Rattle.acl_entry.specs.Check.{has}
 use Rattle.acl_entry.specs.Perms.{Perms}
 use Rattle.acl_names.specs.Paths.{path_cmp, PathOf}
 use Rattle.acl_names.proofs.PathOrder.{path_total}
-use Rattle.acl_syntax.specs.declared.rows.PasswdRow.{PasswdRow}
+use Rattle.acl_text.specs.declared.rows.PasswdRow.{PasswdRow}
 use Rattle.acl_edit.specs.declared.node.Node.{Node}
 use Rattle.acl_files.specs.Inner.{next_file_below}
 use Rattle.acl_files.proofs.Follows.{known_by_next}

@@ -1,7 +1,7 @@
 -- Lines of each form are refused for their first part at fault.
 use Rattle.std.proofs.Common.{◌≡◌, ◌≤◌, ℕ, List, Option, Some, None, Result, Ok, Err, refl, sym, ap, ◌∙◌, arith}
-use Rattle.acl_syntax.specs.declared.entries.Spec.{Spec}
-use Rattle.acl_syntax.specs.declared.entries.Want.TheVariants.{WithPerms, WithoutPerms}
+use Rattle.acl_text.specs.declared.entries.Spec.{Spec}
+use Rattle.acl_text.specs.declared.entries.Want.TheVariants.{WithPerms, WithoutPerms}
 use Rattle.acl_names.specs.Paths.{PathOf}
 use Rattle.acl_tree.specs.State.{State}
 use Rattle.facl_output.specs.declared.fault.LineFault.{LineFault}

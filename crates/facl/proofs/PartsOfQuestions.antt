@@ -8,7 +8,7 @@ use Rattle.acl_files.specs.declared.fault.TreeFault.TheVariants.{NoSuchFile, NoS
 use Rattle.acl_names.specs.Paths.{path_cmp, PathOf}
 use Rattle.acl_people.specs.KnownPeople.{KnownPeople, users_of}
 use Rattle.acl_people.specs.NameTables.{place_of_word}
-use Rattle.acl_syntax.specs.declared.rows.PasswdRow.{PasswdRow}
+use Rattle.acl_text.specs.declared.rows.PasswdRow.{PasswdRow}
 use Rattle.acl_files.specs.Files.{Files}
 use Rattle.acl_files.specs.Operands.{first_missing}
 use Rattle.acl_tree.specs.State.{State}

@@ -5,18 +5,18 @@ use Rattle.std.specs.List.{AllByRecursion}
 use Rattle.std.specs.Option.{option_map_or}
 use Rattle.acl_entry.proofs.Maps.{map_of-entries}
 use Rattle.facl_output.proofs.ListsPut.{access_put, default_put, both_put}
-use Rattle.acl_attr.specs.Attr.{attr_bytes, attr_of}
+use Rattle.acl_text.specs.Attr.{attr_bytes, attr_of}
 use Rattle.acl_edit.specs.Nodes.{IsSound}
 use Rattle.acl_edit.specs.declared.node.Node.{Node}
 use Rattle.acl_entry.specs.Lists.{KeyMap, entries, map_of}
 use Rattle.acl_entry.specs.declared.entry.Entry as entry
 use Rattle.acl_people.specs.KnownPeople.{KnownPeople, naming_of}
-use Rattle.acl_syntax.specs.InTurn.{of_list}
-use Rattle.acl_syntax.specs.Writing.{short, specs_from}
-use Rattle.acl_syntax.specs.declared.entries.Spec.{Spec}
-use Rattle.acl_syntax.specs.declared.fault.TextFault.{TextFault}
-use Rattle.acl_syntax.specs.declared.fault.Which.{Which}
-use Rattle.acl_syntax.specs.declared.fault.Which.TheVariants.{Access, Default}
+use Rattle.acl_text.specs.InTurn.{of_list}
+use Rattle.acl_text.specs.Writing.{short, specs_from}
+use Rattle.acl_text.specs.declared.entries.Spec.{Spec}
+use Rattle.acl_text.specs.declared.fault.TextFault.{TextFault}
+use Rattle.acl_text.specs.declared.fault.Which.{Which}
+use Rattle.acl_text.specs.declared.fault.Which.TheVariants.{Access, Default}
 use Rattle.acl_names.specs.Paths.{PathOf}
 use Rattle.acl_files.specs.Files.{Files}
 use Rattle.acl_files.specs.Sound.{ArePlaced}

@@ -9,7 +9,7 @@ use Rattle.acl_entry.specs.Keys.{key_cmp, same_key}
 use Rattle.acl_entry.specs.Lists.{KeyMap}
 use Rattle.acl_entry.specs.Perms.{Perms, none}
 use Rattle.acl_entry.specs.declared.entry.Key.{Key}
-use Rattle.acl_syntax.specs.declared.entries.Spec.{Spec}
+use Rattle.acl_text.specs.declared.entries.Spec.{Spec}
 use Rattle.facl.specs.RemovedKeys.{keys_of, removes, with_key}
 use Rattle.facl.specs.Setfacl.{is_same_entry}
 use Rattle.facl.specs.declared.tools.setfacl_entries.RemovedKeys.{RemovedKeys}

@@ -10,8 +10,8 @@ use Rattle.acl_names.specs.Paths.{path_of, path_cmp, PathOf}
 use Rattle.acl_people.specs.Entries.{user_entry}
 use Rattle.acl_people.specs.KnownPeople.{KnownPeople, users_of, person, subject}
 use Rattle.acl_people.specs.NameTables.{Named, is_id, is_name, place_of_word}
-use Rattle.acl_syntax.specs.Ids.{is_number, id_of}
-use Rattle.acl_syntax.specs.declared.rows.PasswdRow.{PasswdRow}
+use Rattle.acl_text.specs.Ids.{is_number, id_of}
+use Rattle.acl_text.specs.declared.rows.PasswdRow.{PasswdRow}
 use Rattle.acl_files.specs.Files.{Files}
 use Rattle.acl_files.specs.Operands.{first_missing}
 use Rattle.facl_output.specs.declared.fault.LineFault.{LineFault}

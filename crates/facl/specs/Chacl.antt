@@ -1,7 +1,7 @@
 -- chacl(1).
 use Rattle.std.specs.Prelude.{ℕ, ◌+◌, List, [], ◌∷◌, Bool, true, false, if◌then◌else◌, nat_le, codes, refl, Option, Some, None, Result}
 use Rattle.acl_edit.specs.declared.edit.Edit.TheVariants.{Put, Flatten}
-use Rattle.acl_syntax.specs.declared.fault.Which.TheVariants.{Access, Default}
+use Rattle.acl_text.specs.declared.fault.Which.TheVariants.{Access, Default}
 use Rattle.acl_people.specs.KnownPeople.{KnownPeople, naming_of}
 use Rattle.acl_files.specs.Found.{FoundFile, files_found}
 use Rattle.acl_files.specs.Operands.{first_missing}

@@ -8,7 +8,7 @@ use Rattle.path_map.specs.Merged.{put_all}
 use Rattle.acl_names.specs.Names.{escaped}
 use Rattle.acl_people.specs.KnownPeople.{users_of}
 use Rattle.acl_people.specs.NameTables.{is_name, has_name}
-use Rattle.acl_syntax.specs.declared.rows.PasswdRow.{PasswdRow}
+use Rattle.acl_text.specs.declared.rows.PasswdRow.{PasswdRow}
 use Rattle.acl_names.specs.Paths.{PathOf}
 use Rattle.acl_tree.specs.State.{State}
 use Rattle.acl_verdicts.specs.Rows.{Verdict}

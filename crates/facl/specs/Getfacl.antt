@@ -1,7 +1,7 @@
 -- getfacl(1).
 use Rattle.std.specs.Prelude.{ℕ, List, [], ◌∷◌, Bool, true, false, codes, refl, Option, None, Some, Result}
-use Rattle.acl_dump.specs.declared.effective.Effective.{Effective}
-use Rattle.acl_dump.specs.declared.effective.Effective.TheVariants.{WhereMasked, Always, Never}
+use Rattle.acl_text.specs.declared.effective.Effective.{Effective}
+use Rattle.acl_text.specs.declared.effective.Effective.TheVariants.{WhereMasked, Always, Never}
 use Rattle.acl_people.specs.KnownPeople.{KnownPeople, naming_of}
 use Rattle.acl_files.specs.Found.{FoundFile, files_found}
 use Rattle.acl_files.specs.Operands.{first_missing}

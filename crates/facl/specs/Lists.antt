@@ -4,13 +4,13 @@ use Rattle.std.specs.Option.{option_map_or}
 use Rattle.acl_entry.specs.Lists.{KeyMap, fault, map_of}
 use Rattle.acl_entry.specs.Perms.{none}
 use Rattle.acl_entry.specs.declared.entry.Entry.{Entry}
-use Rattle.acl_syntax.specs.Entries.{entries_of}
-use Rattle.acl_syntax.specs.InTurn.{of_list}
-use Rattle.acl_syntax.specs.declared.entries.Sep.TheVariants.{Comma}
-use Rattle.acl_syntax.specs.declared.entries.Spec.{Spec}
-use Rattle.acl_syntax.specs.declared.entries.Want.TheVariants.{Plain}
-use Rattle.acl_syntax.specs.declared.fault.TextFault.{TextFault}
-use Rattle.acl_syntax.specs.declared.fault.Which.{Which}
+use Rattle.acl_text.specs.Entries.{entries_of}
+use Rattle.acl_text.specs.InTurn.{of_list}
+use Rattle.acl_text.specs.declared.entries.Sep.TheVariants.{Comma}
+use Rattle.acl_text.specs.declared.entries.Spec.{Spec}
+use Rattle.acl_text.specs.declared.entries.Want.TheVariants.{Plain}
+use Rattle.acl_text.specs.declared.fault.TextFault.{TextFault}
+use Rattle.acl_text.specs.declared.fault.Which.{Which}
 use Rattle.acl_people.specs.KnownPeople.{KnownPeople, naming_of}
 use Rattle.facl_words.specs.Forms.{Text}
 use Rattle.facl_output.specs.Faults.{line_fault_of_text}

@@ -2,8 +2,8 @@
 use Rattle.std.specs.Prelude.{ℕ, ◌+◌, List, [], ◌∷◌, Option, Some, None, Result, Ok, Err}
 use Rattle.acl_names.specs.Names.{decoded}
 use Rattle.acl_names.specs.Paths.{path_of, PathOf}
-use Rattle.acl_syntax.specs.Blanks.{trimmed}
-use Rattle.acl_syntax.specs.declared.fault.FaultKind.TheVariants.{BadPath}
+use Rattle.acl_text.specs.Blanks.{trimmed}
+use Rattle.acl_text.specs.declared.fault.FaultKind.TheVariants.{BadPath}
 use Rattle.acl_people.specs.KnownPeople.{KnownPeople, users_of}
 use Rattle.acl_people.specs.NameTables.{place_of_word}
 use Rattle.acl_files.specs.declared.fault.TreeFault.TheVariants.{NoSuchFile, NoSuchUser}

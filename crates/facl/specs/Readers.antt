@@ -1,7 +1,7 @@
 -- What the readers of the tools have in common.
 use Rattle.std.specs.Prelude.{Option, option_and_then, option_map, false}
 use Rattle.acl_entry.specs.Perms.{Perms}
-use Rattle.acl_syntax.specs.Letters.{perms_of}
+use Rattle.acl_text.specs.Letters.{perms_of}
 use Rattle.facl_words.specs.Forms.{Text}
 
 -- what is read next, where this could be read

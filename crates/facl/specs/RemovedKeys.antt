@@ -4,7 +4,7 @@ use Rattle.std.specs.Bool.{beq}
 use Rattle.std.specs.FinMap as maps
 use Rattle.acl_entry.specs.Lists.{KeyMap}
 use Rattle.acl_entry.specs.Perms.{none}
-use Rattle.acl_syntax.specs.declared.entries.Spec.{Spec}
+use Rattle.acl_text.specs.declared.entries.Spec.{Spec}
 use Rattle.facl.specs.declared.tools.setfacl_entries.RemovedKeys.{RemovedKeys}
 
 -- the keys of one list, once an entry is added

@@ -1,7 +1,7 @@
 -- What is answered to a line: a reply, or the line's first fault.
 use Rattle.std.specs.Option.{option_map_or}
 use Rattle.std.specs.Prelude.{◌≡◌, ◌≢◌, ℕ, Bool, false, List, [], Option, None, Some, Result, Ok, Err, MatchResult}
-use Rattle.acl_syntax.specs.InTurn.{GivesUnless}
+use Rattle.acl_text.specs.InTurn.{GivesUnless}
 use Rattle.acl_tree.specs.State.{State, with_change, with_tree}
 use Rattle.acl_files.specs.Files.{Recorded}
 use Rattle.acl_tree.specs.Memberships.{ChangedUser}

@@ -6,8 +6,8 @@ use Rattle.acl_edit.specs.declared.edit.Edit.TheVariants.{Put}
 use Rattle.acl_edit.specs.declared.node.Node.{Node}
 use Rattle.acl_entry.specs.Lists.{KeyMap}
 use Rattle.acl_people.specs.KnownPeople.{KnownPeople, naming_of}
-use Rattle.acl_syntax.specs.declared.fault.Which.{Which}
-use Rattle.acl_syntax.specs.declared.fault.Which.TheVariants.{Access, Default}
+use Rattle.acl_text.specs.declared.fault.Which.{Which}
+use Rattle.acl_text.specs.declared.fault.Which.TheVariants.{Access, Default}
 use Rattle.acl_names.specs.Paths.{PathOf}
 use Rattle.acl_files.specs.Found.{FoundFile}
 use Rattle.facl_output.specs.AttrListings.{attr_line}

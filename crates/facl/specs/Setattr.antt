@@ -4,12 +4,12 @@ use Rattle.std.specs.List.{starts_with}
 use Rattle.std.specs.Option.{option_or}
 use Rattle.hex.specs.Hex.{decode_of}
 use Rattle.hex.specs.declared.error.FromHexError.{FromHexError}
-use Rattle.acl_attr.specs.Attr.{attr_of, bad_attr}
+use Rattle.acl_text.specs.Attr.{attr_of, bad_attr}
 use Rattle.acl_edit.specs.declared.edit.Edit.{Edit}
 use Rattle.acl_edit.specs.declared.edit.Edit.TheVariants.{Put}
 use Rattle.acl_entry.specs.Lists.{KeyMap}
-use Rattle.acl_syntax.specs.declared.fault.Which.{Which}
-use Rattle.acl_syntax.specs.declared.fault.Which.TheVariants.{Access, Default}
+use Rattle.acl_text.specs.declared.fault.Which.{Which}
+use Rattle.acl_text.specs.declared.fault.Which.TheVariants.{Access, Default}
 use Rattle.acl_tree.specs.State.{State}
 use Rattle.facl_words.specs.Forms.{Text, files_of}
 use Rattle.facl_words.specs.Syntax.{Syntax, one}

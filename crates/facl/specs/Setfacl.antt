@@ -3,15 +3,15 @@ use Rattle.std.specs.Prelude.{ℕ, List, Bool, false, not, ◌&&◌, ◌||◌, [
 use Rattle.std.specs.Bool.{beq}
 use Rattle.std.specs.List.{find, list_any}
 use Rattle.acl_entry.specs.Keys.{same_key}
-use Rattle.acl_syntax.specs.Entries.{entries_of}
-use Rattle.acl_syntax.specs.declared.entries.Sep.{Sep}
-use Rattle.acl_syntax.specs.declared.entries.Sep.TheVariants.{Comma, Line}
-use Rattle.acl_syntax.specs.declared.entries.Spec.{Spec}
-use Rattle.acl_syntax.specs.declared.entries.Want.{Want}
-use Rattle.acl_syntax.specs.declared.entries.Want.TheVariants.{WithPerms, WithoutPerms}
-use Rattle.acl_dump.specs.Records.{dump_of}
-use Rattle.acl_dump.specs.declared.record.DumpRecord.{DumpRecord}
-use Rattle.acl_dump.specs.declared.record.DumpUse.TheVariants as uses
+use Rattle.acl_text.specs.Entries.{entries_of}
+use Rattle.acl_text.specs.declared.entries.Sep.{Sep}
+use Rattle.acl_text.specs.declared.entries.Sep.TheVariants.{Comma, Line}
+use Rattle.acl_text.specs.declared.entries.Spec.{Spec}
+use Rattle.acl_text.specs.declared.entries.Want.{Want}
+use Rattle.acl_text.specs.declared.entries.Want.TheVariants.{WithPerms, WithoutPerms}
+use Rattle.acl_text.specs.Records.{dump_of}
+use Rattle.acl_text.specs.declared.record.DumpRecord.{DumpRecord}
+use Rattle.acl_text.specs.declared.record.DumpUse.TheVariants as uses
 use Rattle.acl_edit.specs.declared.edit.Edit.{Edit as FileEdit}
 use Rattle.acl_edit.specs.declared.edit.Edit.TheVariants as edits
 use Rattle.acl_people.specs.KnownPeople.{KnownPeople, naming_of}

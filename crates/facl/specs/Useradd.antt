@@ -1,8 +1,8 @@
 -- useradd(8): a new user.
 use Rattle.std.specs.Prelude.{ℕ, [], ◌∷◌, codes, refl, if◌then◌else◌, Option, None, Some, Result}
 use Rattle.acl_names.specs.Names.{decoded}
-use Rattle.acl_syntax.specs.UserNames.{is_user_name}
-use Rattle.acl_syntax.specs.Ids.{id_of}
+use Rattle.acl_text.specs.UserNames.{is_user_name}
+use Rattle.acl_text.specs.Ids.{id_of}
 use Rattle.acl_tree.specs.declared.command.NewUser.{NewUser}
 use Rattle.acl_tree.specs.Accounts.{useradd}
 use Rattle.acl_tree.specs.State.{State, with_change}

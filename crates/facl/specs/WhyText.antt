@@ -12,10 +12,10 @@ use Rattle.acl_entry.specs.declared.entry.Entry.{Entry}
 use Rattle.acl_entry.specs.declared.entry.Key.TheVariants.{Owner, User, Mask, Other}
 use Rattle.acl_entry.specs.declared.label.Label.{Label}
 use Rattle.acl_names.specs.Paths.{path_cmp, PathOf}
-use Rattle.acl_syntax.specs.Naming.{Naming}
-use Rattle.acl_syntax.specs.declared.fault.Which.TheVariants.{Access}
-use Rattle.acl_dump.specs.Writing.{file_text, entry_line}
-use Rattle.acl_dump.specs.declared.effective.Effective.TheVariants.{WhereMasked}
+use Rattle.acl_text.specs.Naming.{Naming}
+use Rattle.acl_text.specs.declared.fault.Which.TheVariants.{Access}
+use Rattle.acl_text.specs.DumpWriting.{file_text, entry_line}
+use Rattle.acl_text.specs.declared.effective.Effective.TheVariants.{WhereMasked}
 use Rattle.acl_edit.specs.declared.node.Node.{Node}
 use Rattle.acl_names.specs.Below.{encloses}
 use Rattle.acl_files.specs.Files.{Files}

@@ -6,10 +6,10 @@ use Rattle.std.proofs.lemmas.Bool.{ne_eqb, lt-leb}
 use Rattle.std.proofs.lemmas.Grind.{flat_map-append}
 use Rattle.std.proofs.lemmas.List.{append-nil, length-map}
 use Rattle.std.proofs.lemmas.List.Elements.{recursion_from_All}
-use Rattle.acl_attr.proofs.ReadAgain.{few}
-use Rattle.acl_syntax.proofs.Plain.{plain-blank, plain-comma, trimmed_none, pieces_at, pieces_none, fields_again}
-use Rattle.acl_syntax.proofs.WrittenLists.{plain_text, tag_plain, qualifier_plain, key_again, entry_again, in_entry, short_again}
-use Rattle.acl_dump.specs.Again.{IsList, IsListIf}
+use Rattle.acl_text.proofs.ReadAgain.{few}
+use Rattle.acl_text.proofs.Plain.{plain-blank, plain-comma, trimmed_none, pieces_at, pieces_none, fields_again}
+use Rattle.acl_text.proofs.WrittenLists.{plain_text, tag_plain, qualifier_plain, key_again, entry_again, in_entry, short_again}
+use Rattle.acl_text.specs.Again.{IsList, IsListIf}
 use Rattle.acl_edit.specs.declared.node.Node.{Node}
 use Rattle.acl_entry.specs.Ids.{nobody}
 use Rattle.acl_entry.specs.Keys.{id_of}
@@ -20,21 +20,21 @@ use Rattle.acl_entry.specs.declared.entry.Key.{Key}
 use Rattle.acl_entry.specs.declared.entry.Key.TheVariants as keys
 use Rattle.acl_names.specs.Pieces.{pieces}
 use Rattle.acl_people.specs.KnownPeople.{KnownPeople, naming_of}
-use Rattle.acl_syntax.specs.Blanks.{is_blank, trimmed}
-use Rattle.acl_syntax.specs.Entries.{rules_of, tagged, entry_from, entry_of, wanted_perms, key_of, allowed_key, most_text_entries, one_more, entries_of}
-use Rattle.acl_syntax.specs.Fields.{EntryRow, entry_fields, row_of, is_default_word}
-use Rattle.acl_syntax.specs.InTurn.{at_place, read_each_from, or_fault, ◌>>=◌}
-use Rattle.acl_syntax.specs.Naming.{Naming}
-use Rattle.acl_syntax.specs.Writing.{tag_text, qualifier, entry_text, after_comma, short, spec_of, IsKeyNamed, AreNamed}
-use Rattle.acl_syntax.specs.declared.entries.PermSpec.{PermSpec}
-use Rattle.acl_syntax.specs.declared.entries.Rules.{Rules}
-use Rattle.acl_syntax.specs.declared.entries.Sep.TheVariants.{Comma}
-use Rattle.acl_syntax.specs.declared.entries.Spec.{Spec}
-use Rattle.acl_syntax.specs.declared.entries.Want.TheVariants as wants
-use Rattle.acl_syntax.specs.declared.fault.FaultKind.{FaultKind}
-use Rattle.acl_syntax.specs.declared.fault.FaultKind.TheVariants.{BadTag}
-use Rattle.acl_syntax.specs.declared.fault.TextFault.{TextFault}
-use Rattle.acl_syntax.specs.declared.entries.Form.TheVariants.{Short}
+use Rattle.acl_text.specs.Blanks.{is_blank, trimmed}
+use Rattle.acl_text.specs.Entries.{rules_of, tagged, entry_from, entry_of, wanted_perms, key_of, allowed_key, most_text_entries, one_more, entries_of}
+use Rattle.acl_text.specs.Fields.{EntryRow, entry_fields, row_of, is_default_word}
+use Rattle.acl_text.specs.InTurn.{at_place, read_each_from, or_fault, ◌>>=◌}
+use Rattle.acl_text.specs.Naming.{Naming}
+use Rattle.acl_text.specs.Writing.{tag_text, qualifier, entry_text, after_comma, short, spec_of, IsKeyNamed, AreNamed}
+use Rattle.acl_text.specs.declared.entries.PermSpec.{PermSpec}
+use Rattle.acl_text.specs.declared.entries.Rules.{Rules}
+use Rattle.acl_text.specs.declared.entries.Sep.TheVariants.{Comma}
+use Rattle.acl_text.specs.declared.entries.Spec.{Spec}
+use Rattle.acl_text.specs.declared.entries.Want.TheVariants as wants
+use Rattle.acl_text.specs.declared.fault.FaultKind.{FaultKind}
+use Rattle.acl_text.specs.declared.fault.FaultKind.TheVariants.{BadTag}
+use Rattle.acl_text.specs.declared.fault.TextFault.{TextFault}
+use Rattle.acl_text.specs.declared.entries.Form.TheVariants.{Short}
 use Rattle.facl_output.specs.RoundTrips.{IsListAgain, IsShortAgain, entries_for, dacl_entries, all_entries, specs_of}
 use Rattle.facl_output.specs.TestListing.{default_entry, default_entries, lists_text}
 

@@ -1,6 +1,6 @@
 -- The lists of a file, put into this file, leave it as it is.
 use Rattle.std.proofs.Common.{◌≡◌, Bool, Option, Some, None, Ok, refl, sym, ap, subst, ◌∙◌}
-use Rattle.acl_syntax.specs.InTurn.{◌>>=◌}
+use Rattle.acl_text.specs.InTurn.{◌>>=◌}
 use Rattle.acl_edit.specs.Edits.{allowed, edit, put}
 use Rattle.acl_edit.specs.Nodes.{IsSound, with_lists}
 use Rattle.acl_edit.specs.declared.edit.Edit.TheVariants.{Put}

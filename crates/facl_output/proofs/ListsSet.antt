@@ -5,14 +5,14 @@ use Rattle.std.specs.FinMap as maps
 use Rattle.std.specs.List.{list_any, position_from, AllByRecursion}
 use Rattle.std.specs.Option.{option_map_or}
 use Rattle.std.proofs.lemmas.List.{append-nil, length-map}
-use Rattle.acl_attr.proofs.ReadAgain.{few, new_key, one_more}
+use Rattle.acl_text.proofs.ReadAgain.{few, new_key, one_more}
 use Rattle.acl_entry.proofs.Faults.{fault_short}
 use Rattle.acl_entry.proofs.Maps.{map_of-entries, in_order-entries}
 use Rattle.acl_edit.proofs.Kept.{checked_valid, default_unnamed}
-use Rattle.acl_dump.specs.Again.{IsListIf}
+use Rattle.acl_text.specs.Again.{IsListIf}
 use Rattle.acl_edit.specs.declared.edit.Change.{Change}
 use Rattle.acl_edit.specs.Changes.{options}
-use Rattle.acl_syntax.specs.InTurn.{◌>>=◌}
+use Rattle.acl_text.specs.InTurn.{◌>>=◌}
 use Rattle.acl_edit.specs.Edits.{worked, access_after, default_after, checked, checked_default, changed_access, changed_default, change}
 use Rattle.acl_edit.specs.Masks.{has_mask, has_named, add_mask, recalculate, is_recalculated, takes_mask, with_mask}
 use Rattle.acl_edit.specs.Nodes.{IsSound, is_directory, with_lists}
@@ -31,10 +31,10 @@ use Rattle.acl_entry.specs.declared.entry.ListFault.TheVariants.{Repeated, Missi
 use Rattle.acl_entry.specs.declared.entry.Key.{Key}
 use Rattle.acl_entry.specs.declared.entry.Key.TheVariants.{Owner, User, OwningGroup, Group, Mask, Other}
 use Rattle.acl_people.specs.KnownPeople.{KnownPeople, naming_of}
-use Rattle.acl_syntax.specs.declared.entries.Spec.{Spec}
-use Rattle.acl_syntax.specs.declared.fault.Which.{Which}
-use Rattle.acl_syntax.specs.declared.fault.Which.TheVariants.{Access, Default}
-use Rattle.acl_syntax.specs.Writing.{spec_of}
+use Rattle.acl_text.specs.declared.entries.Spec.{Spec}
+use Rattle.acl_text.specs.declared.fault.Which.{Which}
+use Rattle.acl_text.specs.declared.fault.Which.TheVariants.{Access, Default}
+use Rattle.acl_text.specs.Writing.{spec_of}
 use Rattle.acl_names.specs.Paths.{PathOf}
 use Rattle.acl_files.specs.Files.{Files}
 use Rattle.acl_files.specs.Sound.{ArePlaced}

@@ -12,15 +12,15 @@ use Rattle.acl_edit.specs.declared.node.Kind.{Kind}
 use Rattle.acl_edit.specs.declared.node.Kind.TheVariants.{Plain, Directory}
 use Rattle.acl_edit.specs.declared.node.Node.{Node}
 use Rattle.acl_people.specs.KnownPeople.{KnownPeople, naming_of}
-use Rattle.acl_dump.specs.declared.record.DumpRecord.{DumpRecord}
-use Rattle.acl_dump.specs.declared.record.DumpUse.{DumpUse}
-use Rattle.acl_dump.specs.declared.record.DumpUse.TheVariants.{Load, Restore}
-use Rattle.acl_dump.specs.Writing.{record_text}
-use Rattle.acl_dump.specs.Again.{AreApart, AreFlags, IsReadable, HasHeaders, paths, placed, dump_text, line_count}
-use Rattle.acl_dump.proofs.WrittenRecords.{dump_again}
+use Rattle.acl_text.specs.declared.record.DumpRecord.{DumpRecord}
+use Rattle.acl_text.specs.declared.record.DumpUse.{DumpUse}
+use Rattle.acl_text.specs.declared.record.DumpUse.TheVariants.{Load, Restore}
+use Rattle.acl_text.specs.DumpWriting.{record_text}
+use Rattle.acl_text.specs.Again.{AreApart, AreFlags, IsReadable, HasHeaders, paths, placed, dump_text, line_count}
+use Rattle.acl_text.proofs.WrittenRecords.{dump_again}
 use Rattle.acl_files.specs.declared.fault.TreeFault.{TreeFault}
 use Rattle.acl_files.specs.declared.fault.TreeFault.TheVariants.{TooMany}
-use Rattle.acl_syntax.specs.Naming.{Naming}
+use Rattle.acl_text.specs.Naming.{Naming}
 use Rattle.acl_files.specs.Files.{Files, no_files}
 use Rattle.path_map.specs.Entries.{IsInOrder}
 use Rattle.acl_names.specs.Below.{is_above}

@@ -1,10 +1,10 @@
 -- What is printed of files is restored as these files.
 use Rattle.std.proofs.Common.{◌≡◌, ℕ, ◌+◌, Bool, true, false, cond, List, [], ◌∷◌, filter, Ok, refl, sym, ap, subst, ◌∙◌}
 use Rattle.std.specs.List.{AllByRecursion}
-use Rattle.acl_dump.specs.declared.record.DumpRecord.{DumpRecord}
-use Rattle.acl_dump.specs.declared.record.DumpUse.TheVariants.{Restore}
-use Rattle.acl_dump.specs.Again.{AreApart, IsReadable, paths, placed, dump_text, line_count}
-use Rattle.acl_dump.specs.Records.{dump_of}
+use Rattle.acl_text.specs.declared.record.DumpRecord.{DumpRecord}
+use Rattle.acl_text.specs.declared.record.DumpUse.TheVariants.{Restore}
+use Rattle.acl_text.specs.Again.{AreApart, IsReadable, paths, placed, dump_text, line_count}
+use Rattle.acl_text.specs.Records.{dump_of}
 use Rattle.acl_edit.specs.declared.node.Node.{Node}
 use Rattle.acl_people.specs.KnownPeople.{KnownPeople, naming_of}
 use Rattle.path_map.proofs.Differences.{Leads, leads_all}

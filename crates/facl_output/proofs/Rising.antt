@@ -9,9 +9,9 @@ use Rattle.std.proofs.lemmas.Bool.{and_parts}
 use Rattle.std.proofs.lemmas.List.{map-append, append-nil}
 use Rattle.acl_names.specs.Paths.{path_cmp, PathOf}
 use Rattle.acl_edit.specs.declared.node.Node.{Node}
-use Rattle.acl_dump.specs.declared.record.DumpRecord.{DumpRecord}
-use Rattle.acl_dump.specs.Records.{same_path}
-use Rattle.acl_dump.specs.Again.{AreApart, paths}
+use Rattle.acl_text.specs.declared.record.DumpRecord.{DumpRecord}
+use Rattle.acl_text.specs.Records.{same_path}
+use Rattle.acl_text.specs.Again.{AreApart, paths}
 use Rattle.acl_files.specs.Files.{Files}
 use Rattle.path_map.specs.Entries.{IsInOrder}
 use Rattle.acl_files.specs.Loading.{insert_record, in_path_order}

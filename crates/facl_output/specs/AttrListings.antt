@@ -3,8 +3,8 @@ use Rattle.std.specs.Prelude.{ℕ, List, [], ◌∷◌, ◌++◌, Option, Some, 
 use Rattle.std.specs.List.{flat_map}
 use Rattle.hex.specs.Hex.{encode_lower}
 use Rattle.acl_entry.specs.Lists.{KeyMap}
-use Rattle.acl_attr.specs.Attr.{attr_bytes}
-use Rattle.acl_dump.specs.Writing.{file_text}
+use Rattle.acl_text.specs.Attr.{attr_bytes}
+use Rattle.acl_text.specs.DumpWriting.{file_text}
 use Rattle.acl_edit.specs.declared.node.Node.{Node}
 use Rattle.acl_files.specs.Found.{FoundFile}
 use Rattle.facl_output.specs.Listings.{has_slash}

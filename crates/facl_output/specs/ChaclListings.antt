@@ -2,8 +2,8 @@
 use Rattle.std.specs.Prelude.{ℕ, List, [], ◌∷◌, ◌++◌, Option, Some, None, codes}
 use Rattle.std.specs.List.{flat_map}
 use Rattle.acl_entry.specs.Lists.{KeyMap, entries}
-use Rattle.acl_syntax.specs.Naming.{Naming}
-use Rattle.acl_syntax.specs.Writing.{short}
+use Rattle.acl_text.specs.Naming.{Naming}
+use Rattle.acl_text.specs.Writing.{short}
 use Rattle.acl_files.specs.Found.{FoundFile}
 use Rattle.facl_output.specs.Listings.{path_shown}
 

@@ -1,6 +1,6 @@
 -- What the faults of the layers below are for a line or a run: their running out of memory is its own.
-use Rattle.acl_syntax.specs.declared.fault.FaultKind.TheVariants as kinds
-use Rattle.acl_syntax.specs.declared.fault.TextFault.{TextFault}
+use Rattle.acl_text.specs.declared.fault.FaultKind.TheVariants as kinds
+use Rattle.acl_text.specs.declared.fault.TextFault.{TextFault}
 use Rattle.acl_files.specs.declared.fault.TreeFault.{TreeFault}
 use Rattle.acl_files.specs.declared.fault.TreeFault.TheVariants as trees
 use Rattle.facl_script.specs.declared.words.SplitFault.{SplitFault}
@@ -14,7 +14,7 @@ use Rattle.facl_output.specs.declared.fault.LineFault.{LineFault}
 use Rattle.facl_output.specs.declared.fault.LineFault.TheVariants as line
 use Rattle.facl_output.specs.declared.fault.RunFault.{RunFault}
 use Rattle.facl_output.specs.declared.fault.RunFault.TheVariants as run
-use Rattle.acl_syntax.specs.declared.fault.FaultKind.{FaultKind}
+use Rattle.acl_text.specs.declared.fault.FaultKind.{FaultKind}
 
 -- that memory ran out, or else another fault
 abbrev pub unless_memory : FaultKind → LineFault → LineFault

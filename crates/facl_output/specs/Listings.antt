@@ -4,11 +4,11 @@ use Rattle.std.specs.List.{list_any, flat_map}
 use Rattle.acl_entry.specs.Lists.{is_minimal}
 use Rattle.acl_edit.specs.Nodes.{is_directory}
 use Rattle.acl_edit.specs.declared.node.Node.{Node}
-use Rattle.acl_syntax.specs.Naming.{Naming, no_names}
-use Rattle.acl_syntax.specs.declared.fault.Which.TheVariants.{Access}
-use Rattle.acl_dump.specs.declared.effective.Effective.TheVariants.{WhereMasked}
+use Rattle.acl_text.specs.Naming.{Naming, no_names}
+use Rattle.acl_text.specs.declared.fault.Which.TheVariants.{Access}
+use Rattle.acl_text.specs.declared.effective.Effective.TheVariants.{WhereMasked}
 use Rattle.acl_names.specs.Paths.{path_text}
-use Rattle.acl_dump.specs.Writing.{header_text, list_text, default_text, slash_text}
+use Rattle.acl_text.specs.DumpWriting.{header_text, list_text, default_text, slash_text}
 use Rattle.acl_files.specs.Found.{FoundFile}
 use Rattle.facl_output.specs.declared.listing.Options.{Options}
 

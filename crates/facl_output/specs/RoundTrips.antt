@@ -1,25 +1,25 @@
 -- Where what is printed of files is read again as these files, or as their lists.
 use Rattle.std.specs.Prelude.{◌≡◌, ℕ, ◌+◌, List, [], ◌∷◌, ◌++◌, map, length, Bool, true, false, Option, Some, None, IfSome, Ok}
 use Rattle.std.specs.List.{list_all}
-use Rattle.acl_attr.specs.Attr.{attr_bytes, attr_of}
+use Rattle.acl_text.specs.Attr.{attr_bytes, attr_of}
 use Rattle.acl_entry.specs.Lists.{KeyMap, IsValid, entries}
 use Rattle.acl_entry.specs.declared.entry.Entry.{Entry}
 use Rattle.acl_names.specs.Paths.{is_component, PathOf}
-use Rattle.acl_syntax.specs.Entries.{entries_of}
-use Rattle.acl_syntax.specs.Writing.{short, spec_of, specs_from}
-use Rattle.acl_syntax.specs.declared.entries.Sep.TheVariants.{Comma}
-use Rattle.acl_syntax.specs.declared.entries.Spec.{Spec}
-use Rattle.acl_syntax.specs.declared.entries.Want.TheVariants as wants
+use Rattle.acl_text.specs.Entries.{entries_of}
+use Rattle.acl_text.specs.Writing.{short, spec_of, specs_from}
+use Rattle.acl_text.specs.declared.entries.Sep.TheVariants.{Comma}
+use Rattle.acl_text.specs.declared.entries.Spec.{Spec}
+use Rattle.acl_text.specs.declared.entries.Want.TheVariants as wants
 use Rattle.acl_edit.specs.Changes.{options}
 use Rattle.acl_edit.specs.Edits.{edit}
 use Rattle.acl_edit.specs.Nodes.{with_lists}
 use Rattle.acl_edit.specs.declared.edit.Edit.TheVariants as edits
 use Rattle.acl_edit.specs.declared.node.Node.{Node}
 use Rattle.acl_people.specs.KnownPeople.{KnownPeople, naming_of}
-use Rattle.acl_dump.specs.declared.record.DumpRecord.{DumpRecord}
-use Rattle.acl_dump.specs.declared.record.DumpUse.TheVariants as uses
-use Rattle.acl_dump.specs.Again.{IsFound, IsList, IsListIf}
-use Rattle.acl_dump.specs.Records.{dump_of}
+use Rattle.acl_text.specs.declared.record.DumpRecord.{DumpRecord}
+use Rattle.acl_text.specs.declared.record.DumpUse.TheVariants as uses
+use Rattle.acl_text.specs.Again.{IsFound, IsList, IsListIf}
+use Rattle.acl_text.specs.Records.{dump_of}
 use Rattle.acl_files.specs.Files.{Files, no_files}
 use Rattle.acl_files.specs.Found.{FoundFile, files_found}
 use Rattle.acl_tree.specs.State.{State}

@@ -4,9 +4,9 @@ use Rattle.std.specs.List.{flat_map}
 use Rattle.acl_entry.specs.declared.entry.Entry.{Entry}
 use Rattle.acl_entry.specs.Lists.{KeyMap, entries}
 use Rattle.acl_edit.specs.declared.node.Node.{Node}
-use Rattle.acl_syntax.specs.Naming.{Naming}
-use Rattle.acl_syntax.specs.declared.entries.Form.TheVariants.{Short}
-use Rattle.acl_syntax.specs.Writing.{entry_text, short}
+use Rattle.acl_text.specs.Naming.{Naming}
+use Rattle.acl_text.specs.declared.entries.Form.TheVariants.{Short}
+use Rattle.acl_text.specs.Writing.{entry_text, short}
 use Rattle.acl_files.specs.Found.{FoundFile}
 use Rattle.facl_output.specs.Listings.{path_shown}
 

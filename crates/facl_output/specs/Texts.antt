@@ -7,13 +7,13 @@ use Rattle.acl_edit.specs.declared.edit.EditFault.{EditFault}
 use Rattle.acl_edit.specs.declared.edit.EditFault.TheVariants as edits
 use Rattle.acl_names.specs.Names.{escaped}
 use Rattle.acl_names.specs.Paths.{path_text}
-use Rattle.acl_syntax.specs.declared.entries.Form.TheVariants.{Long}
-use Rattle.acl_syntax.specs.declared.fault.FaultKind.{FaultKind}
-use Rattle.acl_syntax.specs.declared.fault.FaultKind.TheVariants as kinds
-use Rattle.acl_syntax.specs.declared.fault.TextFault.{TextFault}
-use Rattle.acl_syntax.specs.declared.fault.Which.{Which}
-use Rattle.acl_syntax.specs.declared.fault.Which.TheVariants.{Access, Default}
-use Rattle.acl_syntax.specs.Writing.{tag_text}
+use Rattle.acl_text.specs.declared.entries.Form.TheVariants.{Long}
+use Rattle.acl_text.specs.declared.fault.FaultKind.{FaultKind}
+use Rattle.acl_text.specs.declared.fault.FaultKind.TheVariants as kinds
+use Rattle.acl_text.specs.declared.fault.TextFault.{TextFault}
+use Rattle.acl_text.specs.declared.fault.Which.{Which}
+use Rattle.acl_text.specs.declared.fault.Which.TheVariants.{Access, Default}
+use Rattle.acl_text.specs.Writing.{tag_text}
 use Rattle.acl_files.specs.declared.fault.TreeFault.{TreeFault}
 use Rattle.acl_files.specs.declared.fault.TreeFault.TheVariants as trees
 use Rattle.facl_output.specs.declared.fault.Source.{Source}

@@ -3,18 +3,16 @@
 ghost use Rattle.std.specs.Prelude.{◌≡◌, ◌++◌, ◌∷◌, [], IfOk, codes, string_bytes};
 ghost use Rattle.acl_names.specs.Appends.{Appends};
 ghost use Rattle.hex.specs.Hex.{encode_lower};
-ghost use Rattle.acl_attr.specs.Attr.{attr_bytes};
-ghost use Rattle.acl_dump.specs.Writing.{file_text};
+ghost use Rattle.acl_text.specs.Attr.{attr_bytes};
+ghost use Rattle.acl_text.specs.DumpWriting.{file_text};
 ghost use Rattle.facl_output.specs.Listings.{has_slash};
 ghost use Rattle.facl_output.specs.AttrListings.{attr_line, default_line, attr_lines, attr_text, attr_listing};
 
 use crate::listing::has_slash;
-use acl_attr::encode_attr;
-use acl_dump::{Header, append_header};
 use acl_edit::Node;
 use acl_entry::Acl;
 use acl_files::Found;
-use acl_syntax::NoNames;
+use acl_text::{Header, NoNames, append_header, encode_attr};
 use std::alloc::{AllocError, Global};
 
 /// The bytes of a list as hex digits.

@@ -7,7 +7,7 @@ ghost use Rattle.facl_output.specs.declared.fault.LineFault.{LineFault};
 ghost use Rattle.facl_output.specs.declared.fault.RunFault.{RunFault};
 
 use acl_files::TreeFault;
-use acl_syntax::{FaultKind, TextFault};
+use acl_text::{FaultKind, TextFault};
 use acl_tree::Table;
 use facl_script::{ScriptFault, SplitFault};
 use facl_words::WordsFault;

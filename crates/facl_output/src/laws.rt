@@ -8,8 +8,8 @@ ghost use Rattle.acl_tree.specs.State.{state_from};
 ghost use Rattle.facl_output.specs.RoundTrips.{listing_of, all_paths_listing, root_listing, IsLoadedAs, IsRestoredAsItIs, AreAttributesAgain, AreListsAgain};
 
 use crate::round_trips::files_are_read_again;
-use acl_dump::records_are_read_again;
 use acl_people::People;
+use acl_text::records_are_read_again;
 use acl_tree::{Tree, restore_of_what_is_changes_nothing};
 
 /// Proof only: what getfacl(1) prints without options of all files of a tree, loaded as a dump by the

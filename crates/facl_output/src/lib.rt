@@ -31,7 +31,7 @@ pub use acl_edit::EditFault;
 pub use acl_entry::{Id, Key, ListFault};
 pub use acl_files::TreeFault;
 pub use acl_names::{Name, Path};
-pub use acl_syntax::{FaultKind, TextFault, Which};
+pub use acl_text::{FaultKind, TextFault, Which};
 pub use acl_tree::Table;
 pub use facl_script::ScriptFault;
 pub use facl_words::WordsFault;

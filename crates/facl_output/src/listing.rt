@@ -1,15 +1,14 @@
 //! The listings of getfacl(1), by its options.
 
 ghost use Rattle.std.specs.Prelude.{◌≡◌, ◌++◌, ◌∷◌, []};
-ghost use Rattle.acl_dump.specs.Writing.{list_text};
+ghost use Rattle.acl_text.specs.DumpWriting.{list_text};
 ghost use Rattle.acl_names.specs.Appends.{Appends, AppendsWhole};
 ghost use Rattle.facl_output.specs.Listings.{has_base_alone, is_listed, has_slash, path_shown, flags_shown, headers, default_entries, file_text, files_text, listing};
 
-use acl_dump::{Effective, Header, append_header, append_list};
 use acl_edit::{Kind, Node};
 use acl_files::Found;
 use acl_names::append_path;
-use acl_syntax::{Names, NoNames, Which};
+use acl_text::{Effective, Header, Names, NoNames, Which, append_header, append_list};
 use std::alloc::AllocError;
 
 /// Whether a file has base entries alone, and no default list.

@@ -4,8 +4,8 @@ ghost use Rattle.std.specs.Prelude.{◌≡◌, ◌++◌, codes, decimal};
 ghost use Rattle.acl_names.specs.Appends.{Appends};
 ghost use Rattle.facl_output.specs.Messages.{head, line_text, message, numbered, reporter, warning};
 ghost use Rattle.facl_output.specs.Texts.{is_of_whole_list, kind_text, list_name, list_text, source_name, text_fault_text, placed, edit_text, tree_text};
-ghost use Rattle.acl_syntax.specs.declared.entries.Form.TheVariants.{Long};
-ghost use Rattle.acl_syntax.specs.Writing.{tag_text};
+ghost use Rattle.acl_text.specs.declared.entries.Form.TheVariants.{Long};
+ghost use Rattle.acl_text.specs.Writing.{tag_text};
 ghost use Rattle.acl_names.specs.Names.{escaped};
 ghost use Rattle.acl_names.specs.Paths.{path_text};
 
@@ -14,7 +14,7 @@ use acl_edit::EditFault;
 use acl_entry::{Id, Key, ListFault};
 use acl_files::TreeFault;
 use acl_names::{Name, Path, append_name, append_path};
-use acl_syntax::{FaultKind, TextFault, Which};
+use acl_text::{FaultKind, TextFault, Which};
 use itoa::Buffer;
 use std::alloc::AllocError;
 

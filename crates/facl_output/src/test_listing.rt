@@ -9,7 +9,7 @@ use crate::listing::{end_line, push_path_shown};
 use acl_edit::Node;
 use acl_entry::{Acl, Entry};
 use acl_files::Found;
-use acl_syntax::{Form, Names, append_entry, append_short};
+use acl_text::{Form, Names, append_entry, append_short};
 use std::alloc::AllocError;
 
 /// Adds an entry of the default list, a comma before it.

@@ -3,7 +3,7 @@ use acl_edit::EditFault;
 use acl_entry::{Id, Key, ListFault};
 use acl_files::TreeFault;
 use acl_names::{Name, Path, read_path};
-use acl_syntax::{FaultKind, TextFault, Which};
+use acl_text::{FaultKind, TextFault, Which};
 use facl_output::{LineFault, push_message};
 use std::alloc::Global;
 use std::process::Abort;

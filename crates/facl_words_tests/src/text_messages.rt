@@ -1,6 +1,6 @@
 //! The messages of faulty texts: each kind of fault and each source.
 use acl_entry::{Key, ListFault};
-use acl_syntax::{FaultKind, TextFault, Which};
+use acl_text::{FaultKind, TextFault, Which};
 use facl_output::{LineFault, Source, push_message};
 use std::alloc::Global;
 use std::process::Abort;

@@ -10,11 +10,10 @@ ghost use Rattle.acl_files.specs.Operands.{first_missing, IsMissing};
 ghost use Rattle.facl.specs.Inner.{sole_key, is_chosen, ways, asked_paths};
 ghost use Rattle.facl.specs.WhyText.{deciding_text, files_asked, why_record, why_text};
 
-use acl_dump::{Effective, append_line};
 use acl_entry::{Entry, Id, Key, Label, Subject};
 use acl_files::{Found, Paths, Selection, TreeFault};
 use acl_names::Path;
-use acl_syntax::{Names, Which};
+use acl_text::{Effective, Names, Which, append_line};
 use acl_tree::Tree;
 use facl_output::push_path;
 use std::alloc::{AllocError, Global};

@@ -11,7 +11,7 @@ use crate::tools::operands::paths_of;
 use crate::tools::syntax::{by_letter, some};
 use acl_edit::Edit;
 use acl_files::Selection;
-use acl_syntax::Which;
+use acl_text::Which;
 use acl_tree::State;
 use facl_output::{LineFault, Source, write_chacl_listing};
 use facl_words::{LineFiles, OperandRow, OptionRow, Syntax, Word, WordRef, Words};

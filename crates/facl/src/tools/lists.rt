@@ -6,7 +6,7 @@ ghost use Rattle.facl.specs.Lists.{entry_of, list_from, specs_of, list_of_text};
 
 use acl_entry::{Acl, Entry, Perm};
 use acl_people::People;
-use acl_syntax::{FaultKind, Sep, Spec, TextFault, Want, Which, read_entries};
+use acl_text::{FaultKind, Sep, Spec, TextFault, Want, Which, read_entries};
 use facl_output::{LineFault, Source};
 use std::alloc::{AllocError, Global};
 

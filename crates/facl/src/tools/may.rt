@@ -12,7 +12,7 @@ use acl_entry::Perm;
 use acl_files::TreeFault;
 use acl_names::Name;
 use acl_rights::{IndexedState, Verdicts};
-use acl_syntax::read_perms;
+use acl_text::read_perms;
 use acl_verdicts::Judge;
 use facl_output::LineFault;
 use facl_words::{OperandRow, OptionRow, Syntax, WordRef, Words};

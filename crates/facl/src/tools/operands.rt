@@ -7,7 +7,7 @@ ghost use Rattle.facl.specs.Operands.{path_at, paths_from, name_meant, user_or_f
 use acl_files::{Paths, TreeFault};
 use acl_names::{Name, Path, read_name, read_path};
 use acl_people::People;
-use acl_syntax::{FaultKind, TextFault, trim};
+use acl_text::{FaultKind, TextFault, trim};
 use facl_output::{LineFault, Source};
 use facl_words::{Word, WordRef};
 use std::alloc::{AllocError, Global};

@@ -7,10 +7,9 @@ ghost use Rattle.facl.specs.Setattr.{answered, attribute_of, bytes_of, digits_of
 use crate::tools::edits::{NamedFiles, edit_files};
 use crate::tools::effect::Effect;
 use crate::tools::syntax::one;
-use acl_attr::decode_attr;
 use acl_edit::Edit;
 use acl_entry::Acl;
-use acl_syntax::{FaultKind, TextFault, Which};
+use acl_text::{FaultKind, TextFault, Which, decode_attr};
 use acl_tree::State;
 use facl_output::{LineFault, Source};
 use facl_words::{LineFiles, OperandRow, Syntax, WordRef, Words};

@@ -10,7 +10,7 @@ use crate::tools::setfacl::{ChangeLine, EntrySource};
 use acl_edit::{ChangeEntries, Specs};
 use acl_entry::{Draft, Perm};
 use acl_people::People;
-use acl_syntax::{Sep, Spec, Want, read_entries};
+use acl_text::{Sep, Spec, Want, read_entries};
 use facl_output::{LineFault, Source};
 use std::alloc::{AllocError, Global};
 

@@ -9,9 +9,9 @@ ghost use Rattle.acl_files.specs.Restoring.{paths_of};
 ghost use Rattle.acl_tree.specs.Step.{step};
 
 use crate::tools::effect::{Effect, prepared};
-use acl_dump::DumpRecord;
 use acl_files::{DumpRecords, Found, Paths, Selection};
 use acl_names::Path;
+use acl_text::DumpRecord;
 use acl_tree::{Command, Staged, State, Tree, each_file_is_edited};
 use facl_output::{LineFault, append_test_listing};
 use std::alloc::{AllocError, Global};

@@ -10,7 +10,7 @@ use crate::tools::syntax::{by_letter, one};
 use acl_entry::Id;
 use acl_names::read_name;
 use acl_people::UserName;
-use acl_syntax::read_id;
+use acl_text::read_id;
 use acl_tree::{Command, NewUser, State};
 use facl_output::LineFault;
 use facl_words::{OperandRow, OptionRow, Syntax, WordRef, Words};

@@ -3,8 +3,8 @@ use Rattle.std.specs.Prelude.{option_map}
 use Rattle.std.specs.List.{All}
 use Rattle.std.proofs.lemmas.List.Sorted.{All-permutation}
 use Rattle.std.proofs.lemmas.Result.{err_from_is_err_and}
-use Rattle.acl_dump.specs.OwnPaths.{have_own_paths}
-use Rattle.acl_dump.specs.declared.record.DumpRecord.{DumpRecord}
+use Rattle.acl_text.specs.OwnPaths.{have_own_paths}
+use Rattle.acl_text.specs.declared.record.DumpRecord.{DumpRecord}
 use Rattle.path_map.specs.Merged.{put_all}
 use Rattle.kinds.specs.Numbered.{entries_in}
 use Rattle.acl_edit.specs.declared.node.Node.{Node}

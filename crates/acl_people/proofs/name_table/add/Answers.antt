@@ -2,7 +2,7 @@ use Rattle.std.proofs.Common.{◌&&◌, not, ◌++◌, ◌∷◌, [], Vec, Globa
 use Rattle.std.specs.Option.{option_or}
 use Rattle.std.specs.BTreeMap.{get}
 use Rattle.std.specs.Str.{bytes_eq}
-use Rattle.acl_syntax.specs.Ids.{is_number}
+use Rattle.acl_text.specs.Ids.{is_number}
 use Rattle.acl_people.specs.NameTables.{Named, is_name}
 use Rattle.acl_people.proofs.NamedRows.{insert-absent, or_none, and_true, and_false}
 use Rattle.acl_people.proofs.name_table.add.Goals as goal

@@ -2,7 +2,7 @@ use Rattle.std.proofs.Common.{◌≡◌, ◌∷◌, ℕ, List, nat_cmp, map, ap,
 use Rattle.std.specs.FinSet as sets
 use Rattle.std.proofs.lemmas.Grind.{common_steps}
 use Rattle.acl_entry.specs.Person.{Person}
-use Rattle.acl_syntax.specs.declared.rows.PasswdRow.{PasswdRow}
+use Rattle.acl_text.specs.declared.rows.PasswdRow.{PasswdRow}
 use Rattle.acl_people.specs.Members.{gids_at}
 use Rattle.acl_people.specs.KnownPeople.{person}
 use Rattle.acl_people.proofs.Gids.{person_is}

@@ -1,6 +1,6 @@
 use Rattle.std.proofs.Common.{◌≡◌, List, length, nat_lt, if◌then◌else◌, true, false, Ok, Err, arith, refl, sym, ap, subst, ◌∙◌, true≢false}
 use Rattle.std.proofs.lemmas.Grind.{common_steps}
-use Rattle.acl_dump.specs.declared.record.DumpRecord.{DumpRecord}
+use Rattle.acl_text.specs.declared.record.DumpRecord.{DumpRecord}
 use Rattle.acl_files.specs.Files.{Files, Recorded, max_files}
 use Rattle.acl_files.specs.Loading.{files_of}
 use Rattle.acl_files.specs.declared.fault.TreeFault.TheVariants.{TooMany}

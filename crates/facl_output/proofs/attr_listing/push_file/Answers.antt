@@ -1,5 +1,5 @@
 use Rattle.std.proofs.Common.{◌≡◌, ◌++◌, ◌∷◌, [], subst}
-use Rattle.acl_dump.specs.Writing.{file_text}
+use Rattle.acl_text.specs.DumpWriting.{file_text}
 use Rattle.acl_edit.specs.declared.node.Node.{Node}
 use Rattle.facl_output.specs.Listings.{has_slash}
 use Rattle.facl_output.specs.AttrListings.{attr_lines}

@@ -3,7 +3,7 @@ use Rattle.std.proofs.lemmas.Grind.{common_steps}
 use Rattle.acl_names.proofs.Appended.{still_begins}
 use Rattle.acl_edit.specs.declared.node.Node.{Node}
 use Rattle.acl_entry.specs.Lists.{entries}
-use Rattle.acl_syntax.specs.Writing.{short}
+use Rattle.acl_text.specs.Writing.{short}
 use Rattle.facl_output.specs.Listings.{path_shown}
 use Rattle.facl_output.specs.ChaclListings.{default_part}
 use Rattle.facl_output.proofs.Parts.{two_parts, three_parts}

@@ -1,4 +1,4 @@
-use Rattle.acl_dump.specs.declared.record.DumpUse.TheVariants.{Restore}
+use Rattle.acl_text.specs.declared.record.DumpUse.TheVariants.{Restore}
 use Rattle.acl_people.specs.KnownPeople.{naming_of}
 use Rattle.acl_files.specs.Operands.{files_meant}
 use Rattle.acl_tree.specs.State.{State, state_from}

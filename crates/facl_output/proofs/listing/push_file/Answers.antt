@@ -1,10 +1,10 @@
 use Rattle.std.proofs.Common.{◌++◌, ◌∷◌, [], subst}
 use Rattle.acl_edit.specs.declared.node.Node.{Node}
 use Rattle.acl_names.specs.Appends.{Appends}
-use Rattle.acl_syntax.specs.declared.fault.Which.TheVariants.{Access}
-use Rattle.acl_dump.specs.Writing.{list_text}
+use Rattle.acl_text.specs.declared.fault.Which.TheVariants.{Access}
+use Rattle.acl_text.specs.DumpWriting.{list_text}
 use Rattle.facl_output.specs.Listings.{headers, default_entries}
-use Rattle.acl_dump.proofs.Appending.{appends_both}
+use Rattle.acl_text.proofs.Appending.{appends_both}
 use Rattle.facl_output.proofs.listing.push_file.Goals as goal
 
 pub returns : goal.returns

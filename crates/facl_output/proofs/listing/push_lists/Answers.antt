@@ -1,8 +1,8 @@
 use Rattle.std.proofs.Common.{◌++◌, ◌∷◌, []}
-use Rattle.acl_syntax.specs.declared.fault.Which.TheVariants.{Access}
-use Rattle.acl_dump.specs.Writing.{list_text}
+use Rattle.acl_text.specs.declared.fault.Which.TheVariants.{Access}
+use Rattle.acl_text.specs.DumpWriting.{list_text}
 use Rattle.facl_output.specs.Listings.{default_entries}
-use Rattle.acl_dump.proofs.Appending.{appends_both}
+use Rattle.acl_text.proofs.Appending.{appends_both}
 use Rattle.facl_output.proofs.listing.push_lists.Goals as goal
 
 pub returns : goal.returns

@@ -1,6 +1,6 @@
 use Rattle.std.proofs.Common.{take}
 use Rattle.acl_people.specs.KnownPeople.{naming_of}
-use Rattle.acl_syntax.specs.Writing.{AreNamed}
+use Rattle.acl_text.specs.Writing.{AreNamed}
 use Rattle.facl_output.proofs.round_trips.list_is_read_again.Given as goal
 
 abbrev pub invariant-loop-entry : goal.invariant-loop-entry

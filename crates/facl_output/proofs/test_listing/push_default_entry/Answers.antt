@@ -1,6 +1,6 @@
 use Rattle.std.proofs.Common.{codes}
-use Rattle.acl_syntax.specs.Writing.{entry_text}
-use Rattle.acl_syntax.specs.declared.entries.Form.TheVariants.{Short}
+use Rattle.acl_text.specs.Writing.{entry_text}
+use Rattle.acl_text.specs.declared.entries.Form.TheVariants.{Short}
 use Rattle.facl_output.proofs.Parts.{appends_last}
 use Rattle.facl_output.proofs.test_listing.push_default_entry.Goals as goal
 

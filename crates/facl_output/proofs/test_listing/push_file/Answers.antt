@@ -3,7 +3,7 @@ use Rattle.acl_edit.specs.declared.node.Node.{Node}
 use Rattle.acl_names.specs.Appends.{Appends}
 use Rattle.facl_output.specs.Listings.{path_shown}
 use Rattle.facl_output.specs.TestListing.{lists_text}
-use Rattle.acl_dump.proofs.Appending.{appends_both}
+use Rattle.acl_text.proofs.Appending.{appends_both}
 use Rattle.facl_output.proofs.test_listing.push_file.Goals as goal
 
 pub returns : goal.returns

@@ -1,7 +1,7 @@
 use Rattle.acl_entry.specs.Lists.{entries}
-use Rattle.acl_syntax.specs.Writing.{short}
+use Rattle.acl_text.specs.Writing.{short}
 use Rattle.facl_output.specs.TestListing.{default_entries}
-use Rattle.acl_dump.proofs.Appending.{appends_both}
+use Rattle.acl_text.proofs.Appending.{appends_both}
 use Rattle.facl_output.proofs.test_listing.push_lists.Goals as goal
 
 pub returns : goal.returns

@@ -1,6 +1,6 @@
 use Rattle.std.proofs.Common.{◌++◌, ◌∷◌, [], codes}
 use Rattle.facl_output.specs.TestListing.{lists_text}
-use Rattle.acl_dump.proofs.Appending.{appends_both}
+use Rattle.acl_text.proofs.Appending.{appends_both}
 use Rattle.facl_output.proofs.test_listing.push_lists_of.Goals as goal
 
 pub returns : goal.returns

@@ -1,5 +1,5 @@
 use Rattle.std.proofs.Common.{◌≡◌, true, sym, ap, ◌∙◌, arith}
-use Rattle.acl_syntax.specs.declared.fault.Which.TheVariants.{Access}
+use Rattle.acl_text.specs.declared.fault.Which.TheVariants.{Access}
 use Rattle.acl_edit.specs.Parts.{part, names}
 use Rattle.acl_edit.specs.Rooms.{size}
 use Rattle.acl_edit.proofs.Sizes.{none_left, size-worked}

@@ -1,8 +1,8 @@
 use Rattle.std.proofs.Common.{◌≡◌, map, slice_get, slice_set, Some, List, option_map, sym, ap, ◌∙◌, arith, length}
 use Rattle.std.proofs.lemmas.List.{length-map}
 use Rattle.acl_entry.specs.Person.{Person}
-use Rattle.acl_syntax.specs.declared.rows.PasswdRow.{PasswdRow}
-use Rattle.acl_syntax.specs.declared.rows.GroupRow.{GroupRow}
+use Rattle.acl_text.specs.declared.rows.PasswdRow.{PasswdRow}
+use Rattle.acl_text.specs.declared.rows.GroupRow.{GroupRow}
 use Rattle.acl_people.specs.KnownPeople.{person, persons}
 use Rattle.acl_people.proofs.Moving.{after_is, user_within}
 use Rattle.acl_people.proofs.Pointers.{value_at}

@@ -3,8 +3,8 @@ use Rattle.std.specs.Option.{is_some}
 use Rattle.std.specs.List.{list_all}
 use Rattle.std.proofs.lemmas.List.{map_push, length-map}
 use Rattle.acl_names.specs.Pieces.{is_byte}
-use Rattle.acl_syntax.specs.declared.rows.PasswdRow.{PasswdRow}
-use Rattle.acl_syntax.specs.Rows.{most_rows}
+use Rattle.acl_text.specs.declared.rows.PasswdRow.{PasswdRow}
+use Rattle.acl_text.specs.Rows.{most_rows}
 use Rattle.std.proofs.lemmas.Result.{IfOk-weaker}
 use Rattle.acl_people.specs.NameTables.{is_name, AreCounted}
 use Rattle.acl_people.specs.Entries.{user_entry, user_row}

@@ -1,6 +1,6 @@
 use Rattle.std.proofs.Common.{◌≡◌, length, map, slice_get, slice_set, Some, refl, sym, subst, ap, ◌∙◌, arith}
 use Rattle.std.proofs.lemmas.List.{length-map}
-use Rattle.acl_syntax.specs.declared.rows.PasswdRow.{PasswdRow}
+use Rattle.acl_text.specs.declared.rows.PasswdRow.{PasswdRow}
 use Rattle.acl_people.specs.NameTables.{AreCounted}
 use Rattle.acl_people.specs.Entries.{user_entry, user_row}
 use Rattle.acl_people.specs.Changes.{change_at, with_gid}

@@ -1,6 +1,6 @@
 use Rattle.std.proofs.Common.{codes}
 use Rattle.facl.specs.ChangesText.{change_line, requests_gained}
-use Rattle.acl_dump.proofs.Appending.{appends_both}
+use Rattle.acl_text.proofs.Appending.{appends_both}
 use Rattle.facl.proofs.answers.changes.push_user.Goals as goal
 
 pub returns : goal.returns

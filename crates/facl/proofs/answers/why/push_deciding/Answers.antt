@@ -5,9 +5,9 @@ use Rattle.std.specs.List.{flat_map}
 use Rattle.std.specs.FinMap as maps
 use Rattle.acl_entry.specs.Lists.{entries}
 use Rattle.acl_entry.specs.declared.entry.Key.TheVariants.{Mask}
-use Rattle.acl_dump.specs.Writing.{entry_line}
-use Rattle.acl_dump.specs.declared.effective.Effective.TheVariants.{WhereMasked}
-use Rattle.acl_syntax.specs.declared.fault.Which.TheVariants.{Access}
+use Rattle.acl_text.specs.DumpWriting.{entry_line}
+use Rattle.acl_text.specs.declared.effective.Effective.TheVariants.{WhereMasked}
+use Rattle.acl_text.specs.declared.fault.Which.TheVariants.{Access}
 use Rattle.facl.specs.Inner.{is_chosen}
 use Rattle.facl.proofs.Deciding.{chosen_decides}
 use Rattle.facl_output.proofs.Loops.{passed_added, other_left, all_passed}

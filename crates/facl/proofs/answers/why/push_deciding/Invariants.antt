@@ -1,8 +1,8 @@
 use Rattle.std.proofs.Common.{◌≡◌, ◌++◌, take, filter}
 use Rattle.std.specs.List.{flat_map}
-use Rattle.acl_syntax.specs.declared.fault.Which.TheVariants.{Access}
-use Rattle.acl_dump.specs.Writing.{entry_line}
-use Rattle.acl_dump.specs.declared.effective.Effective.TheVariants.{WhereMasked}
+use Rattle.acl_text.specs.declared.fault.Which.TheVariants.{Access}
+use Rattle.acl_text.specs.DumpWriting.{entry_line}
+use Rattle.acl_text.specs.declared.effective.Effective.TheVariants.{WhereMasked}
 use Rattle.facl.specs.Inner.{is_chosen}
 use Rattle.facl.proofs.answers.why.push_deciding.Given as goal
 

@@ -1,4 +1,0 @@
-pub mod Chunks
-pub mod ReadAgain
-pub mod Numbers
-pub mod ReadBack

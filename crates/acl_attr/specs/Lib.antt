@@ -1,3 +1,0 @@
-pub mod Attr
-pub mod Encoded
-pub mod Laws

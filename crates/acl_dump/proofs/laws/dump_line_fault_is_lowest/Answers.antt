@@ -1,5 +1,0 @@
-use Rattle.acl_dump.proofs.LowestLines.{line_lowest}
-use Rattle.acl_dump.proofs.laws.dump_line_fault_is_lowest.Goals as goal
-
-pub returns : goal.returns
-returns c = λ naming draft line. line_lowest naming draft line

@@ -1,5 +1,0 @@
-use Rattle.acl_syntax.proofs.Lowest.{entry_lowest}
-use Rattle.acl_syntax.proofs.laws.entry_fault_is_lowest.Goals as goal
-
-pub returns : goal.returns
-returns c = entry_lowest

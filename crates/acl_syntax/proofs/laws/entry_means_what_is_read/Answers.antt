@@ -1,5 +1,0 @@
-use Rattle.acl_syntax.proofs.Means.{means_spec}
-use Rattle.acl_syntax.proofs.laws.entry_means_what_is_read.Goals as goal
-
-pub returns : goal.returns
-returns c = means_spec

@@ -1,6 +1,0 @@
-use Rattle.acl_syntax.specs.Rows.{passwd_name, passwd_row}
-use Rattle.acl_syntax.proofs.CountedRows.{counted_are}
-use Rattle.acl_syntax.proofs.laws.passwd_rows_are_first_of_their_names.Goals as goal
-
-pub returns : goal.returns
-returns c = counted_are passwd_name passwd_row

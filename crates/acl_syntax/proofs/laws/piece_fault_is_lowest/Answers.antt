@@ -1,5 +1,0 @@
-use Rattle.acl_syntax.proofs.Lowest.{piece_lowest}
-use Rattle.acl_syntax.proofs.laws.piece_fault_is_lowest.Goals as goal
-
-pub returns : goal.returns
-returns c = piece_lowest

@@ -1,9 +1,0 @@
-use Rattle.std.proofs.Common.{arith}
-use Rattle.std.proofs.lemmas.Grind.{common_steps}
-use Rattle.acl_syntax.proofs.writing.push_short.Goals as goal
-
-pub returns-in_err-append_entry : goal.returns-in_err-append_entry
-returns-in_err-append_entry g c = grind (arith, common_steps)
-
-pub returns : goal.returns
-returns g c = grind (arith, common_steps)

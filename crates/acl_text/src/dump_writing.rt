@@ -1,0 +1,183 @@
+//! Writing the records of a dump (getfacl(1)).
+
+ghost use Rattle.std.specs.Prelude.{◌≡◌, ◌++◌, ◌∷◌, [], codes};
+ghost use Rattle.acl_entry.specs.Perms as perms;
+ghost use Rattle.std.specs.List.{flat_map};
+ghost use Rattle.acl_names.specs.Appends.{Appends, AppendsWhole};
+ghost use Rattle.acl_text.specs.declared.fault.Which.TheVariants.{Default};
+ghost use Rattle.acl_text.specs.DumpWriting.{is_shown, tab_count, tabs, effective_text, front, shown, entry_line, list_text, default_text};
+
+use crate::effective::Effective;
+use crate::entries::Form;
+use crate::fault::Which;
+use crate::naming::Names;
+use crate::writing::append_entry;
+use acl_entry::{Acl, Entry, Key, Perm};
+use std::alloc::AllocError;
+
+/// As many tabs as are ever written after an entry.
+const TABS: [u8; 4] = [b'\t', b'\t', b'\t', b'\t'];
+
+/// Whether the effective permissions of an entry are shown.
+fn is_shown(how: Effective, mask: Perm, perm: Perm) -> bool
+    ensures { result ≡ is_shown how mask perm }
+{
+    match how {
+        Effective::WhereMasked => !mask.contains(perm),
+        Effective::Always => true,
+        Effective::Never => false,
+    }
+}
+
+/// The number of tabs after an entry of this many bytes.
+fn tab_count(bytes: usize) -> usize
+    ensures { result ≡ tab_count bytes }
+{
+    4usize.saturating_sub(bytes / 8).max(1)
+}
+
+/// Adds the effective permissions of an entry of this many bytes, where they are shown.
+fn push_comment(
+    text: &mut Vec<u8>,
+    how: Effective,
+    mask: &Option<Perm>,
+    entry: &Entry,
+    bytes: usize,
+) -> Result<(), AllocError>
+    ensures { Appends result text.old text.new (effective_text how mask.now entry.now bytes) }
+{
+    let Some(mask) = mask else {
+        return Ok(());
+    };
+    if !entry.key.is_class() || !is_shown(how, *mask, entry.perm) {
+        return Ok(());
+    }
+    push_effective(text, entry.perm.meet(*mask), bytes)
+}
+
+/// Adds the tabs after an entry of this many bytes, and its effective permissions.
+fn push_effective(text: &mut Vec<u8>, perm: Perm, bytes: usize) -> Result<(), AllocError>
+    ensures { Appends result text.old text.new (tabs bytes ++ (codes "#effective:" ++ perms.text perm)) }
+{
+    text.extend_from_slice(&TABS[..tab_count(bytes)])?;
+    text.extend_from_slice(b"#effective:")?;
+    text.extend_from_slice(&perm.text())?;
+    Ok(())
+}
+
+/// Ends the line of an entry of this many bytes: its effective permissions, where they are shown, and a line feed.
+fn end_line(
+    text: &mut Vec<u8>,
+    how: Effective,
+    mask: &Option<Perm>,
+    entry: &Entry,
+    bytes: usize,
+) -> Result<(), AllocError>
+    ensures { Appends result text.old text.new (effective_text how mask.now entry.now bytes ++ 10 ∷ []) }
+{
+    push_comment(text, how, mask, entry, bytes)?;
+    text.push(b'\n')?;
+    Ok(())
+}
+
+/// What is before each entry of a list.
+fn front(which: Which) -> &'static [u8]
+    ensures { result.now ≡ front which }
+{
+    match which {
+        Which::Access => b"",
+        Which::Default => b"default:",
+    }
+}
+
+/// Adds an entry, with `default:` in front where it is one of a default list.
+fn push_front_and_entry<N: Names>(
+    text: &mut Vec<u8>,
+    which: Which,
+    entry: &Entry,
+    names: &N,
+) -> Result<(), AllocError>
+    ensures { Appends result text.old text.new (shown (N.naming names.now) which entry.now) }
+{
+    text.extend_from_slice(front(which))?;
+    append_entry(text, entry, Form::Long, names)?;
+    Ok(())
+}
+
+/// Adds an entry of one of a file's lists, whose mask is given, as [`append_list`] adds it.
+///
+/// # Errors
+///
+/// If memory runs out; then a part of it may be added.
+pub fn append_line<N: Names>(
+    text: &mut Vec<u8>,
+    how: Effective,
+    which: Which,
+    mask: &Option<Perm>,
+    entry: &Entry,
+    names: &N,
+) -> Result<(), AllocError>
+    ensures { Appends result text.old text.new (entry_line (N.naming names.now) how which mask.now entry.now) }
+{
+    let before = text.len();
+    push_front_and_entry(text, which, entry, names)?;
+    let bytes = text.len() - before;
+    end_line(text, how, mask, entry, bytes)
+}
+
+/// Adds the lines of a list.
+fn push_list<N: Names>(
+    text: &mut Vec<u8>,
+    how: Effective,
+    which: Which,
+    mask: &Option<Perm>,
+    entries: &[Entry],
+    names: &N,
+) -> Result<(), AllocError>
+    ensures { Appends result text.old text.new (flat_map (entry_line (N.naming names.now) how which mask.now) entries.now) }
+{
+    for entry in entries {
+        append_line(text, how, which, mask, entry, names)?;
+    }
+    Ok(())
+}
+
+/// Adds the entries of one of a file's lists, a line each, in the long form and in list order; default
+/// entries have `default:` in front. Where the effective permissions of an entry are shown they follow
+/// after tabs and `#effective:`; the tabs are as many as an entry of its length needs, at least one.
+///
+/// # Errors
+///
+/// If memory runs out; then nothing is added.
+pub fn append_list<N: Names>(
+    text: &mut Vec<u8>,
+    acl: &Acl,
+    which: Which,
+    how: Effective,
+    names: &N,
+) -> Result<(), AllocError>
+    ensures { AppendsWhole result text.old text.new (list_text (N.naming names.now) how which acl.now) }
+{
+    let mask = acl.get(Key::Mask);
+    let before = text.len();
+    if let Err(refused) = push_list(text, how, which, &mask, acl.entries(), names) {
+        text.truncate(before);
+        return Err(refused);
+    }
+    Ok(())
+}
+
+/// Adds the default list, if there is one, as [`append_list`] adds it.
+pub(crate) fn append_default<N: Names>(
+    text: &mut Vec<u8>,
+    dacl: &Option<Acl>,
+    how: Effective,
+    names: &N,
+) -> Result<(), AllocError>
+    ensures { AppendsWhole result text.old text.new (default_text (N.naming names.now) how dacl.now) }
+{
+    match dacl {
+        None => Ok(()),
+        Some(acl) => append_list(text, acl, Which::Default, how, names),
+    }
+}
