@@ -43,7 +43,7 @@ EXCEPTIONS: Dict[Tuple[str, str], str] = {
     ("crates/facl_cli/src/args.rt", "words_fault"): KIND,
     ("crates/facl_cli/src/files.rt", "From<io::Error> for Unread"): KIND,
     ("crates/facl/src/tools/setattr.rt", "bytes_of"): KIND,
-    ("crates/facl_words/src/fault.rt", "From<Error> for WordsFault"): KIND,
+    ("crates/facl_script/src/tool_fault.rt", "From<Error> for WordsFault"): KIND,
 }
 ALLOCATIONS, FAULT = ("AllocError", "AllocFailed"), "NoMemory"
 NAMES = (*ALLOCATIONS, FAULT)

@@ -77,7 +77,7 @@ class ToolRows:
         self.top = top
         names = NAMED.findall(text_of(top, "crates/facl/src/tools.rt"))
         self.tools = {name: switches_of(text_of(top, f"crates/facl/src/tools/{name}.rt")) for name in names}
-        self.program = {f"--{name}" for _, _, name, _ in SWITCH.findall(text_of(top, "crates/facl_words/src/args.rt"))}
+        self.program = {f"--{name}" for _, _, name, _ in SWITCH.findall(text_of(top, "crates/facl_script/src/args.rt"))}
 
     def all_faults(self) -> Iterator[Fault]:
         yield from self.of_page()

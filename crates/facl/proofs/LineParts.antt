@@ -11,7 +11,7 @@ use Rattle.facl_output.specs.declared.fault.LineFault.TheVariants as faults
 use Rattle.facl_script.specs.Units.{ScriptUnit, UnitText, none, whole, too_long, unended}
 use Rattle.facl_script.specs.Words.{words_of, words_or_open, has_no_words}
 use Rattle.facl_script.specs.declared.words.SplitFault.TheVariants as splits
-use Rattle.facl_words.specs.Forms.{Text}
+use Rattle.facl_script.specs.Forms.{Text}
 use Rattle.facl.specs.ToolParts as requests
 use Rattle.facl.specs.ToolParts.{Part, in_first_text, in_second_text, in_third_text, in_two_texts, in_operand, in_user, in_file, in_command}
 use Rattle.facl.specs.FirstPart.{IsNotAfter, IsFirst, IsRefusedForFirst}

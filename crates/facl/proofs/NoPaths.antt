@@ -2,7 +2,7 @@
 use Rattle.std.proofs.Common.{◌≡◌, ◌≤◌, ◌+◌, ℕ, zero, suc, List, [], ◌∷◌, Option, Some, None, Result, Ok, Err, refl, sym, ap, ◌∙◌, arith}
 use Rattle.acl_names.specs.Paths.{path_of, PathOf}
 use Rattle.facl_output.specs.declared.fault.LineFault.{LineFault}
-use Rattle.facl_words.specs.Forms.{Text}
+use Rattle.facl_script.specs.Forms.{Text}
 use Rattle.facl.specs.ToolParts.{IsNoPath}
 use Rattle.facl.specs.Operands.{bad_operand, path_at, paths_from}
 use Rattle.facl.specs.Replies.{after, or_fault}

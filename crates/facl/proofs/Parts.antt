@@ -3,7 +3,7 @@ use Rattle.std.proofs.Common.{◌≡◌, ◌≤◌, ℕ, List, Result, Ok, Err, 
 use Rattle.std.specs.Prelude.{◌==◌}
 use Rattle.acl_files.specs.Files.{Files}
 use Rattle.facl_output.specs.declared.fault.LineFault.{LineFault}
-use Rattle.facl_words.specs.Forms.{Text}
+use Rattle.facl_script.specs.Forms.{Text}
 use Rattle.facl.specs.FirstPart.{IsRefusedForFirst}
 use Rattle.facl.specs.ToolParts.{Part, in_first_text, in_second_text, in_third_text, in_two_texts, in_operand, in_user, in_file, in_command, rank, place, IsBadOperand, IsUnrecorded}
 use Rattle.facl.specs.Replies.{Reply, after}

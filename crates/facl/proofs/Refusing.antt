@@ -5,7 +5,7 @@ use Rattle.acl_rights.specs.declared.indexed.States.{States}
 use Rattle.facl_script.specs.Play.{Answer}
 use Rattle.facl_script.specs.Run.{IsAnswer}
 use Rattle.facl_script.specs.Units.{ScriptUnit}
-use Rattle.facl_words.specs.Forms.{Text}
+use Rattle.facl_script.specs.Forms.{Text}
 use Rattle.facl_output.specs.declared.fault.LineFault.{LineFault}
 use Rattle.facl_output.specs.declared.fault.LineFault.TheVariants.{NoMemory}
 use Rattle.facl.specs.Units.{is_silent, words_of_line, refused, answer_of_words, unless_out_of_memory, answered_line, answered}

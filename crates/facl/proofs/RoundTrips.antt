@@ -25,7 +25,7 @@ use Rattle.facl_output.specs.ChaclListings.{default_part}
 use Rattle.facl_output.specs.Listings.{path_shown}
 use Rattle.facl_output.specs.TestListing.{lists_text}
 use Rattle.facl_output.specs.Faults.{line_fault_of_text}
-use Rattle.facl_words.specs.Forms.{Text}
+use Rattle.facl_script.specs.Forms.{Text}
 use Rattle.facl_output.specs.declared.fault.LineFault.{LineFault}
 use Rattle.facl_output.specs.declared.fault.Source.{Source}
 use Rattle.facl_output.specs.declared.fault.Source.TheVariants.{Entry, DefaultEntry, AttributeEntry}

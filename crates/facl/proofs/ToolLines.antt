@@ -2,9 +2,9 @@
 use Rattle.std.proofs.Common.{◌≡◌, ℕ, List, Option, Some, None, option_and_then, refl}
 use Rattle.acl_tree.specs.State.{State}
 use Rattle.facl_output.specs.declared.fault.LineFault.TheVariants.{Usage}
-use Rattle.facl_words.specs.Forms.{Text}
-use Rattle.facl_words.specs.Words.{words_by}
-use Rattle.facl_words.specs.declared.words.Words.{Words}
+use Rattle.facl_script.specs.Forms.{Text}
+use Rattle.facl_script.specs.ToolWords.{words_by}
+use Rattle.facl_script.specs.declared.tool_words.Words.{Words}
 use Rattle.facl.specs.Replies.{after, or_fault}
 use Rattle.acl_verdicts.specs.Rows.{Verdict}
 use Rattle.facl.specs.Tools.{syntax_of, read_line, words_of, line_or_fault, answered, tool_line}

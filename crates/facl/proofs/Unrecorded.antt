@@ -16,7 +16,7 @@ use Rattle.acl_files.specs.Files.{Files}
 use Rattle.acl_files.specs.Operands.{first_missing}
 use Rattle.facl_output.specs.declared.fault.LineFault.{LineFault}
 use Rattle.facl_output.specs.declared.fault.LineFault.TheVariants.{Tree}
-use Rattle.facl_words.specs.Forms.{Text}
+use Rattle.facl_script.specs.Forms.{Text}
 use Rattle.facl.specs.ToolParts.{IsUnrecorded, IsNoUser}
 use Rattle.facl.specs.Operands.{bad_operand, path_at, paths_from, name_meant, user_or_fault}
 use Rattle.facl.specs.Replies.{after, or_fault}

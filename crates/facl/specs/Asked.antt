@@ -3,10 +3,10 @@
 use Rattle.std.specs.Prelude.{◌≡◌, Bool, true, List, Option}
 use Rattle.std.specs.List.{list_any}
 use Rattle.std.specs.Str.{bytes_eq}
-use Rattle.facl_words.specs.Forms.{Text}
-use Rattle.facl_words.specs.Naming as words
-use Rattle.facl_words.specs.Syntax.{Syntax}
-use Rattle.facl_words.specs.declared.words.Words.{Words}
+use Rattle.facl_script.specs.Forms.{Text}
+use Rattle.facl_script.specs.Naming as words
+use Rattle.facl_script.specs.Syntax.{Syntax}
+use Rattle.facl_script.specs.declared.tool_words.Words.{Words}
 
 -- the syntax has a flag, an option or an operand of this name
 abbrev pub IsFlag : Syntax → Text → Type 0

@@ -4,9 +4,9 @@ use Rattle.facl_output.specs.AttrListings.{attr_listing}
 use Rattle.acl_files.specs.Found.{files_found}
 use Rattle.acl_files.specs.Operands.{first_missing}
 use Rattle.acl_tree.specs.State.{State}
-use Rattle.facl_words.specs.Forms.{files_of}
-use Rattle.facl_words.specs.Syntax.{Syntax, one}
-use Rattle.facl_words.specs.declared.words.Words.{Words}
+use Rattle.facl_script.specs.Forms.{files_of}
+use Rattle.facl_script.specs.Syntax.{Syntax, one}
+use Rattle.facl_script.specs.declared.tool_words.Words.{Words}
 use Rattle.facl_output.specs.declared.fault.LineFault.{LineFault}
 use Rattle.facl.specs.Asked.{operands_from}
 use Rattle.facl.specs.Operands.{paths_from, recorded_or_fault}

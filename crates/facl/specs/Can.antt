@@ -7,9 +7,9 @@ use Rattle.acl_files.specs.declared.fault.TreeFault.TheVariants.{NoSuchFile}
 use Rattle.acl_names.specs.Paths.{PathOf}
 use Rattle.acl_tree.specs.State.{State}
 use Rattle.acl_verdicts.specs.Rows.{Verdict}
-use Rattle.facl_words.specs.Forms.{Text, file_of}
-use Rattle.facl_words.specs.Syntax.{Syntax, by_name, one}
-use Rattle.facl_words.specs.declared.words.Words.{Words}
+use Rattle.facl_script.specs.Forms.{Text, file_of}
+use Rattle.facl_script.specs.Syntax.{Syntax, by_name, one}
+use Rattle.facl_script.specs.declared.tool_words.Words.{Words}
 use Rattle.facl_output.specs.declared.fault.LineFault.{LineFault}
 use Rattle.facl_output.specs.declared.fault.LineFault.TheVariants.{Tree}
 use Rattle.facl.specs.Operands.{path_at, name_meant, user_or_fault}

@@ -6,9 +6,9 @@ use Rattle.acl_people.specs.KnownPeople.{KnownPeople, naming_of}
 use Rattle.acl_files.specs.Found.{FoundFile, files_found}
 use Rattle.acl_files.specs.Operands.{first_missing}
 use Rattle.acl_tree.specs.State.{State}
-use Rattle.facl_words.specs.Forms.{Text, files_of}
-use Rattle.facl_words.specs.Syntax.{Syntax, by_letter, some}
-use Rattle.facl_words.specs.declared.words.Words.{Words}
+use Rattle.facl_script.specs.Forms.{Text, files_of}
+use Rattle.facl_script.specs.Syntax.{Syntax, by_letter, some}
+use Rattle.facl_script.specs.declared.tool_words.Words.{Words}
 use Rattle.facl_output.specs.declared.fault.LineFault.{LineFault}
 use Rattle.facl_output.specs.declared.fault.Source.TheVariants.{Entry, DefaultEntry}
 use Rattle.facl_output.specs.ChaclListings.{chacl_listing}

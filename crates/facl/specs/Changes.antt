@@ -4,8 +4,8 @@ use Rattle.facl.specs.Asked.{has}
 use Rattle.facl.specs.ChangesText.{changes_text}
 use Rattle.acl_tree.specs.State.{State}
 use Rattle.acl_verdicts.specs.Rows.{Verdict}
-use Rattle.facl_words.specs.Syntax.{Syntax, by_name}
-use Rattle.facl_words.specs.declared.words.Words.{Words}
+use Rattle.facl_script.specs.Syntax.{Syntax, by_name}
+use Rattle.facl_script.specs.declared.tool_words.Words.{Words}
 use Rattle.facl_output.specs.declared.fault.LineFault.{LineFault}
 use Rattle.facl.specs.Replies.{Reply, printed}
 use Rattle.facl.specs.declared.tools.changes.ChangesLine.{ChangesLine}

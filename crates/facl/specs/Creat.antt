@@ -5,9 +5,9 @@ use Rattle.acl_edit.specs.declared.node.Kind.TheVariants.{Plain, Directory}
 use Rattle.acl_tree.specs.declared.command.NewFile.{NewFile}
 use Rattle.acl_tree.specs.Creat.{creat}
 use Rattle.acl_tree.specs.State.{State}
-use Rattle.facl_words.specs.Forms.{Text, file_of}
-use Rattle.facl_words.specs.Syntax.{Syntax, by_letter, by_name, by_name_or, one}
-use Rattle.facl_words.specs.declared.words.Words.{Words}
+use Rattle.facl_script.specs.Forms.{Text, file_of}
+use Rattle.facl_script.specs.Syntax.{Syntax, by_letter, by_name, by_name_or, one}
+use Rattle.facl_script.specs.declared.tool_words.Words.{Words}
 use Rattle.facl_output.specs.declared.fault.LineFault.{LineFault}
 use Rattle.facl.specs.Asked.{has, operand, value}
 use Rattle.facl.specs.Modes.{permission_mode_of}

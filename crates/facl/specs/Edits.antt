@@ -3,7 +3,7 @@ use Rattle.std.specs.Prelude.{List, Bool, Result}
 use Rattle.acl_edit.specs.declared.edit.Edit.{Edit}
 use Rattle.acl_tree.specs.EditCommand.{edited_tree}
 use Rattle.acl_tree.specs.State.{State}
-use Rattle.facl_words.specs.Forms.{Text}
+use Rattle.facl_script.specs.Forms.{Text}
 use Rattle.facl_output.specs.declared.fault.LineFault.{LineFault}
 use Rattle.facl.specs.Replies.{Reply, after, replied_tree}
 use Rattle.facl.specs.Operands.{paths_from}

@@ -8,9 +8,9 @@ use Rattle.acl_files.specs.Operands.{first_missing}
 use Rattle.acl_tree.specs.State.{State}
 use Rattle.facl_output.specs.Listings.{listing}
 use Rattle.facl_output.specs.declared.listing.Options.{Options}
-use Rattle.facl_words.specs.Forms.{files_of}
-use Rattle.facl_words.specs.Syntax.{Syntax, both, some}
-use Rattle.facl_words.specs.declared.words.Words.{Words}
+use Rattle.facl_script.specs.Forms.{files_of}
+use Rattle.facl_script.specs.Syntax.{Syntax, both, some}
+use Rattle.facl_script.specs.declared.tool_words.Words.{Words}
 use Rattle.facl_output.specs.declared.fault.LineFault.{LineFault}
 use Rattle.facl.specs.Asked.{has, operands_from}
 use Rattle.facl.specs.Operands.{paths_from, recorded_or_fault}

@@ -3,9 +3,9 @@ use Rattle.std.specs.Prelude.{[], ◌∷◌, codes, refl, Option, None, Some, Re
 use Rattle.acl_tree.specs.declared.command.Membership.TheVariants.{Add, Remove}
 use Rattle.acl_tree.specs.Memberships.{gpasswd}
 use Rattle.acl_tree.specs.State.{State}
-use Rattle.facl_words.specs.Forms.{Text}
-use Rattle.facl_words.specs.Syntax.{Syntax, by_letter, one}
-use Rattle.facl_words.specs.declared.words.Words.{Words}
+use Rattle.facl_script.specs.Forms.{Text}
+use Rattle.facl_script.specs.Syntax.{Syntax, by_letter, one}
+use Rattle.facl_script.specs.declared.tool_words.Words.{Words}
 use Rattle.facl_output.specs.declared.fault.LineFault.{LineFault}
 use Rattle.facl.specs.Asked.{operand, value}
 use Rattle.facl.specs.Operands.{name_meant}

@@ -6,9 +6,9 @@ use Rattle.acl_tree.specs.declared.command.Table.TheVariants.{Passwd, Group, Dum
 use Rattle.acl_tree.specs.UserMoves.{load_moves}
 use Rattle.acl_tree.specs.State.{State}
 use Rattle.acl_tree.specs.Loads.{load}
-use Rattle.facl_words.specs.Forms.{Text}
-use Rattle.facl_words.specs.Syntax.{Syntax, one}
-use Rattle.facl_words.specs.declared.words.Words.{Words}
+use Rattle.facl_script.specs.Forms.{Text}
+use Rattle.facl_script.specs.Syntax.{Syntax, one}
+use Rattle.facl_script.specs.declared.tool_words.Words.{Words}
 use Rattle.facl_output.specs.declared.fault.LineFault.{LineFault}
 use Rattle.facl.specs.Asked.{operand}
 use Rattle.facl.specs.Readers.{and_then}

@@ -8,9 +8,9 @@ use Rattle.acl_people.specs.KnownPeople.{users_of}
 use Rattle.acl_people.specs.NameTables.{place_of_word}
 use Rattle.acl_tree.specs.State.{State}
 use Rattle.acl_verdicts.specs.Rows.{Verdict}
-use Rattle.facl_words.specs.Forms.{Text}
-use Rattle.facl_words.specs.Syntax.{Syntax, by_name, one}
-use Rattle.facl_words.specs.declared.words.Words.{Words}
+use Rattle.facl_script.specs.Forms.{Text}
+use Rattle.facl_script.specs.Syntax.{Syntax, by_name, one}
+use Rattle.facl_script.specs.declared.tool_words.Words.{Words}
 use Rattle.facl_output.specs.declared.fault.LineFault.{LineFault}
 use Rattle.facl_output.specs.declared.fault.LineFault.TheVariants.{Tree}
 use Rattle.facl.specs.Operands.{name_meant}

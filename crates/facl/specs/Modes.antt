@@ -1,7 +1,7 @@
 -- Octal modes: chmod(1), umask(1).
 use Rattle.std.specs.Prelude.{ℕ, ◌+◌, ◌*◌, ◌-◌, ◌==◌, ◌&&◌, ◌||◌, Bool, [], ◌∷◌, if◌then◌else◌, length, nat_le, nat_lt, Option, None, Some}
 use Rattle.std.specs.List.{list_all, slice_index_or}
-use Rattle.facl_words.specs.Forms.{Text}
+use Rattle.facl_script.specs.Forms.{Text}
 
 abbrev pub is_octal_digit : ℕ → Bool
 is_octal_digit b = nat_le 48 b && nat_le b 55

@@ -7,7 +7,7 @@ use Rattle.acl_text.specs.declared.fault.FaultKind.TheVariants.{BadPath}
 use Rattle.acl_people.specs.KnownPeople.{KnownPeople, users_of}
 use Rattle.acl_people.specs.NameTables.{place_of_word}
 use Rattle.acl_files.specs.declared.fault.TreeFault.TheVariants.{NoSuchFile, NoSuchUser}
-use Rattle.facl_words.specs.Forms.{Text}
+use Rattle.facl_script.specs.Forms.{Text}
 use Rattle.facl_output.specs.declared.fault.LineFault.{LineFault}
 use Rattle.facl_output.specs.declared.fault.LineFault.TheVariants as faults
 use Rattle.facl_output.specs.declared.fault.Source.TheVariants.{Operand}

@@ -2,7 +2,7 @@
 use Rattle.std.specs.Prelude.{Option, option_and_then, option_map, false}
 use Rattle.acl_entry.specs.Perms.{Perms}
 use Rattle.acl_text.specs.Letters.{perms_of}
-use Rattle.facl_words.specs.Forms.{Text}
+use Rattle.facl_script.specs.Forms.{Text}
 
 -- what is read next, where this could be read
 abbrev pub and_then : {A B : Type 0} → Option A → (A → Option B) → Option B

@@ -2,9 +2,9 @@
 use Rattle.std.specs.Prelude.{[], ◌∷◌, codes, refl, Option, Some, Result}
 use Rattle.acl_tree.specs.Rm.{rm}
 use Rattle.acl_tree.specs.State.{State}
-use Rattle.facl_words.specs.Forms.{files_of}
-use Rattle.facl_words.specs.Syntax.{Syntax, by_letter, some}
-use Rattle.facl_words.specs.declared.words.Words.{Words}
+use Rattle.facl_script.specs.Forms.{files_of}
+use Rattle.facl_script.specs.Syntax.{Syntax, by_letter, some}
+use Rattle.facl_script.specs.declared.tool_words.Words.{Words}
 use Rattle.facl_output.specs.declared.fault.LineFault.{LineFault}
 use Rattle.facl.specs.Asked.{has, operands_from}
 use Rattle.facl.specs.Operands.{paths_from}

@@ -14,7 +14,7 @@ use Rattle.facl_output.specs.AttrListings.{attr_line}
 use Rattle.facl_output.specs.ChaclListings.{chacl_line}
 use Rattle.facl_output.specs.Listings.{path_shown}
 use Rattle.facl_output.specs.TestListing.{file_line}
-use Rattle.facl_words.specs.Forms.{Text}
+use Rattle.facl_script.specs.Forms.{Text}
 use Rattle.facl_output.specs.declared.fault.Source.TheVariants.{Entry, DefaultEntry}
 use Rattle.facl.specs.Lists.{list_of_text}
 use Rattle.facl.specs.Setattr as setattr

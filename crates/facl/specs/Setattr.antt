@@ -11,9 +11,9 @@ use Rattle.acl_entry.specs.Lists.{KeyMap}
 use Rattle.acl_text.specs.declared.fault.Which.{Which}
 use Rattle.acl_text.specs.declared.fault.Which.TheVariants.{Access, Default}
 use Rattle.acl_tree.specs.State.{State}
-use Rattle.facl_words.specs.Forms.{Text, files_of}
-use Rattle.facl_words.specs.Syntax.{Syntax, one}
-use Rattle.facl_words.specs.declared.words.Words.{Words}
+use Rattle.facl_script.specs.Forms.{Text, files_of}
+use Rattle.facl_script.specs.Syntax.{Syntax, one}
+use Rattle.facl_script.specs.declared.tool_words.Words.{Words}
 use Rattle.facl_output.specs.declared.fault.LineFault.{LineFault}
 use Rattle.facl_output.specs.declared.fault.LineFault.TheVariants as faults
 use Rattle.facl_output.specs.declared.fault.Source.TheVariants.{AttributeEntry}

@@ -2,9 +2,9 @@
 use Rattle.std.specs.Prelude.{List, [], ◌∷◌, ◌&&◌, ◌||◌, Bool, not, codes, refl, if◌then◌else◌, Option, None, Some}
 use Rattle.std.specs.Bool.{beq}
 use Rattle.acl_edit.specs.declared.edit.ChangeFlags.{ChangeFlags}
-use Rattle.facl_words.specs.Forms.{Text, files_of, is_empty}
-use Rattle.facl_words.specs.Syntax.{Syntax, any, both, by_name, of_text}
-use Rattle.facl_words.specs.declared.words.Words.{Words}
+use Rattle.facl_script.specs.Forms.{Text, files_of, is_empty}
+use Rattle.facl_script.specs.Syntax.{Syntax, any, both, by_name, of_text}
+use Rattle.facl_script.specs.declared.tool_words.Words.{Words}
 use Rattle.facl.specs.Asked.{gives, has, operands_from, value}
 use Rattle.facl.specs.Readers.{and_then}
 use Rattle.facl.specs.declared.tools.setfacl.ChangeLine.{ChangeLine}

@@ -14,7 +14,7 @@ use Rattle.acl_tree.specs.declared.command.Command.TheVariants as commands
 use Rattle.acl_tree.specs.declared.command.NewFile.{NewFile}
 use Rattle.acl_files.specs.Files.{Files}
 use Rattle.acl_tree.specs.State.{State}
-use Rattle.facl_words.specs.Forms.{Text}
+use Rattle.facl_script.specs.Forms.{Text}
 use Rattle.facl_output.specs.declared.fault.LineFault.{LineFault}
 use Rattle.facl_output.specs.declared.fault.LineFault.TheVariants as faults
 use Rattle.facl_output.specs.declared.fault.Source.TheVariants.{Entry, DefaultEntry}

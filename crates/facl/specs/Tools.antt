@@ -4,11 +4,11 @@ use Rattle.std.specs.List.{find}
 use Rattle.std.specs.Str.{bytes_eq}
 use Rattle.acl_verdicts.specs.Rows.{Verdict}
 use Rattle.acl_tree.specs.State.{State}
-use Rattle.facl_words.specs.Forms.{Text}
-use Rattle.facl_words.specs.Rows.{syntax_view}
-use Rattle.facl_words.specs.Syntax.{Syntax}
-use Rattle.facl_words.specs.Words.{words_by}
-use Rattle.facl_words.specs.declared.words.Words.{Words}
+use Rattle.facl_script.specs.Forms.{Text}
+use Rattle.facl_script.specs.Rows.{syntax_view}
+use Rattle.facl_script.specs.Syntax.{Syntax}
+use Rattle.facl_script.specs.ToolWords.{words_by}
+use Rattle.facl_script.specs.declared.tool_words.Words.{Words}
 use Rattle.facl_output.specs.declared.fault.LineFault.{LineFault}
 use Rattle.facl_output.specs.declared.fault.LineFault.TheVariants.{Usage}
 use Rattle.facl.specs.Replies.{Reply, after, or_fault}

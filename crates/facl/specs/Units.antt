@@ -5,8 +5,8 @@ use Rattle.facl_script.specs.Play.{Answer, quiet}
 use Rattle.facl_script.specs.Units.{ScriptUnit, UnitText, none, whole, too_long, unended}
 use Rattle.facl_script.specs.Words.{has_no_words, line_words}
 use Rattle.facl_script.specs.declared.words.SplitFault.{SplitFault}
-use Rattle.facl_words.specs.Args.{files_for}
-use Rattle.facl_words.specs.Forms.{Text}
+use Rattle.facl_script.specs.Args.{files_for}
+use Rattle.facl_script.specs.Forms.{Text}
 use Rattle.facl_output.specs.Faults.{line_fault_of_split}
 use Rattle.facl_output.specs.Messages.{message, warning}
 use Rattle.facl_output.specs.declared.fault.LineFault.{LineFault}

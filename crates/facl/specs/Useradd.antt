@@ -7,9 +7,9 @@ use Rattle.acl_tree.specs.declared.command.NewUser.{NewUser}
 use Rattle.acl_tree.specs.Accounts.{useradd}
 use Rattle.acl_tree.specs.State.{State, with_change}
 use Rattle.acl_tree.specs.declared.user_change.UserChange.TheVariants.{Added}
-use Rattle.facl_words.specs.Forms.{Text}
-use Rattle.facl_words.specs.Syntax.{Syntax, by_letter, one}
-use Rattle.facl_words.specs.declared.words.Words.{Words}
+use Rattle.facl_script.specs.Forms.{Text}
+use Rattle.facl_script.specs.Syntax.{Syntax, by_letter, one}
+use Rattle.facl_script.specs.declared.tool_words.Words.{Words}
 use Rattle.facl_output.specs.declared.fault.LineFault.{LineFault}
 use Rattle.facl.specs.Asked.{operand, value}
 use Rattle.facl.specs.Operands.{name_meant}

@@ -2,8 +2,8 @@
 use Rattle.std.specs.Prelude.{[], ◌∷◌, codes, refl, Option, Some, Result}
 use Rattle.acl_tree.specs.Memberships.{usermod}
 use Rattle.acl_tree.specs.State.{State}
-use Rattle.facl_words.specs.Syntax.{Syntax, by_letter, one}
-use Rattle.facl_words.specs.declared.words.Words.{Words}
+use Rattle.facl_script.specs.Syntax.{Syntax, by_letter, one}
+use Rattle.facl_script.specs.declared.tool_words.Words.{Words}
 use Rattle.facl_output.specs.declared.fault.LineFault.{LineFault}
 use Rattle.facl.specs.Asked.{operand, value}
 use Rattle.facl.specs.Operands.{name_meant}

@@ -10,9 +10,9 @@ use Rattle.acl_names.specs.Paths.{PathOf}
 use Rattle.acl_files.specs.Found.{FoundFile}
 use Rattle.acl_files.specs.Operands.{first_missing}
 use Rattle.acl_tree.specs.State.{State}
-use Rattle.facl_words.specs.Forms.{Text, files_of}
-use Rattle.facl_words.specs.Syntax.{Syntax, by_name, one, some}
-use Rattle.facl_words.specs.declared.words.Words.{Words}
+use Rattle.facl_script.specs.Forms.{Text, files_of}
+use Rattle.facl_script.specs.Syntax.{Syntax, by_name, one, some}
+use Rattle.facl_script.specs.declared.tool_words.Words.{Words}
 use Rattle.facl_output.specs.declared.fault.LineFault.{LineFault}
 use Rattle.facl_output.specs.declared.fault.LineFault.TheVariants.{Tree}
 use Rattle.facl.specs.Operands.{paths_from, name_meant, recorded_or_fault}

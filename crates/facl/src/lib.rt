@@ -48,5 +48,6 @@ pub use acl_rights::{IndexedState, Verdicts};
 pub use acl_tree::State;
 pub use acl_verdicts::Judge;
 pub use facl_output::{LineFault, RunFault, Source, push_run_fault};
-pub use facl_script::{Feed, Sink, StdFeed, StdSink};
-pub use facl_words::{Flags, OperandRow, Operands, OptionRow, Syntax, Values, Words};
+pub use facl_script::{
+    Feed, Flags, OperandRow, Operands, OptionRow, Sink, StdFeed, StdSink, Syntax, Values, Words,
+};

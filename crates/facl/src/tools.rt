@@ -34,7 +34,7 @@ mod why;
 ghost use Rattle.std.specs.Prelude.{◌≡◌, IfOk, is_some, map, option_map, string_bytes};
 ghost use Rattle.std.specs.List.{find};
 ghost use Rattle.std.specs.Str.{bytes_eq};
-ghost use Rattle.facl_words.specs.Rows.{syntax_view};
+ghost use Rattle.facl_script.specs.Rows.{syntax_view};
 ghost use Rattle.facl.specs.Replies.{Gives, Replies, after};
 ghost use Rattle.facl.specs.Tools.{answered, line_or_fault, loads, read_line, row_of, row_view, syntax_of, table, tool_line, tool_name, tool_named, words_of, words_or_fault};
 ghost use Rattle.facl.specs.contracts.tools.ToolPartialEq.TheImpl.{ghosts as equality};
@@ -43,7 +43,7 @@ use crate::tools::effect::Effect;
 use acl_rights::IndexedState;
 use acl_verdicts::Judge;
 use facl_output::LineFault;
-use facl_words::{Syntax, Words, read_by};
+use facl_script::{Syntax, Words, read_by};
 use std::alloc::{AllocError, Global};
 
 /// A tool that a line of a script may name.

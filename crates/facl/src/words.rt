@@ -17,5 +17,5 @@ use std::alloc::Global;
 pub fn read_args(alloc: Global, words: &[String]) -> Result<[Option<String>; 3], LineFault>
     ensures { Gives (map (option_map string_bytes)) result (args_or_fault (map string_bytes words.now)) }
 {
-    Ok(facl_words::read_args(alloc, words)?)
+    Ok(facl_script::read_args(alloc, words)?)
 }

@@ -7,8 +7,8 @@ use Rattle.facl.specs.Runs.{has_refused}
 use Rattle.facl.specs.declared.status.Status.{Status}
 use Rattle.facl.specs.facl_output.Messages.{run_fault_text}
 use Rattle.facl.specs.facl_output.declared.fault.RunFault.TheVariants.{Setup}
-use Rattle.facl_words.specs.declared.fault.WordsFault.{WordsFault}
-use Rattle.facl_words.specs.declared.fault.WordsFault.TheVariants as words
+use Rattle.facl_script.specs.declared.tool_fault.WordsFault.{WordsFault}
+use Rattle.facl_script.specs.declared.tool_fault.WordsFault.TheVariants as words
 use Rattle.facl_cli.specs.declared.fault.ProgramFault.{ProgramFault}
 use Rattle.facl_cli.specs.declared.fault.ProgramFault.TheVariants.{Usage, CannotRead, Run, NoMemory}
 

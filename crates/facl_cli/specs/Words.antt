@@ -1,7 +1,7 @@
 -- The program's words.
 use Rattle.std.specs.Prelude.{List, [], ◌∷◌, Option, drop, option_map, string_bytes}
-use Rattle.facl_words.specs.Args.{files_for}
-use Rattle.facl_words.specs.Forms.{Text}
+use Rattle.facl_script.specs.Args.{files_for}
+use Rattle.facl_script.specs.Forms.{Text}
 use Rattle.facl_cli.specs.declared.args.Files.{Files}
 
 -- the files that the words name, of which the first is the program's name

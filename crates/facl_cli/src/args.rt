@@ -6,7 +6,7 @@ ghost use Rattle.facl_cli.specs.Lines.{ran_out_of_memory};
 ghost use Rattle.facl_cli.specs.Words.{files_named, names_of};
 
 use crate::fault::ProgramFault;
-use facl_words::read_args;
+use facl_script::read_args;
 use std::alloc::Global;
 use std::env::Env;
 use std::io::ErrorKind;

@@ -6,8 +6,7 @@ ghost use Rattle.facl_cli.specs.Lines.{IsLineReported, fault_by_words, fault_lin
 ghost use Rattle.facl_cli.specs.declared.fault.ProgramFault.{ProgramFault};
 
 use facl::{RunFault, push_run_fault};
-use facl_script::{ScriptFault, Sink, write_whole};
-use facl_words::WordsFault;
+use facl_script::{ScriptFault, Sink, WordsFault, write_whole};
 use std::alloc::{AllocError, Global};
 
 /// Why the program ends with 2.

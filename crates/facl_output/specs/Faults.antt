@@ -7,8 +7,8 @@ use Rattle.facl_script.specs.declared.words.SplitFault.{SplitFault}
 use Rattle.facl_script.specs.declared.words.SplitFault.TheVariants as splits
 use Rattle.facl_script.specs.declared.fault.ScriptFault.{ScriptFault}
 use Rattle.facl_script.specs.declared.fault.ScriptFault.TheVariants as scripts
-use Rattle.facl_words.specs.declared.fault.WordsFault.{WordsFault}
-use Rattle.facl_words.specs.declared.fault.WordsFault.TheVariants as words
+use Rattle.facl_script.specs.declared.tool_fault.WordsFault.{WordsFault}
+use Rattle.facl_script.specs.declared.tool_fault.WordsFault.TheVariants as words
 use Rattle.facl_output.specs.declared.fault.Source.{Source}
 use Rattle.facl_output.specs.declared.fault.LineFault.{LineFault}
 use Rattle.facl_output.specs.declared.fault.LineFault.TheVariants as line

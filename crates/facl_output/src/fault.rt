@@ -9,8 +9,7 @@ ghost use Rattle.facl_output.specs.declared.fault.RunFault.{RunFault};
 use acl_files::TreeFault;
 use acl_text::{FaultKind, TextFault};
 use acl_tree::Table;
-use facl_script::{ScriptFault, SplitFault};
-use facl_words::WordsFault;
+use facl_script::{ScriptFault, SplitFault, WordsFault};
 use std::alloc::{AllocError, AllocFailed};
 use thiserror::Error;
 

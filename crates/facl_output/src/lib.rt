@@ -33,5 +33,4 @@ pub use acl_files::TreeFault;
 pub use acl_names::{Name, Path};
 pub use acl_text::{FaultKind, TextFault, Which};
 pub use acl_tree::Table;
-pub use facl_script::ScriptFault;
-pub use facl_words::WordsFault;
+pub use facl_script::{ScriptFault, WordsFault};

@@ -10,3 +10,6 @@ pub mod WrittenLemmas
 pub mod QuoteLemmas
 pub mod PieceLemmas
 pub mod PieceCuts
+pub mod Building
+pub mod TextWordLemmas
+pub mod Named

@@ -17,3 +17,14 @@ pub mod Write
 pub mod Play
 pub mod Run
 pub mod Laws
+pub mod Commands
+pub mod Refusals
+pub mod Args
+pub mod ToolWords
+pub mod Forms
+pub mod Syntax
+pub mod Rows
+pub mod Naming
+pub mod TextWords
+pub mod Beginning
+pub mod Rules

@@ -1,16 +1,30 @@
-//! A script that is read from any reader, cut into lines, words and units, and answered to two writers.
+//! A script that is read from any reader, cut into lines, words and units, and answered to two writers; and how the words
+//! of a line, and of the program, are read by a row.
+//!
+//! A row gives the flags, options and operands of a tool. `read_by` reads the words after a tool's name by its row,
+//! `read_args` those after the program's, each by a `clap` command of its own; and `asks_for_text` decides which lines
+//! ask for the lines after them. Callers see `Words`, asked by the names of the row, and two faults, and nothing of
+//! `clap`. What each tool makes of its words is in the crate of the tools.
 #![tactic(auto)]
 
+mod args;
+mod commands;
 mod devices;
 mod fault;
 mod held;
 mod laws;
 mod play;
+mod reading;
 mod source;
+mod syntax;
 mod text;
+mod text_words;
+mod tool_fault;
+mod tool_words;
 mod unit;
 mod words;
 
+pub use args::read_args;
 pub use devices::{Feed, Sink, StdFeed, StdSink, write_answer, write_whole};
 pub use fault::ScriptFault;
 pub use held::{HeldLine, HeldText, HeldUnit, LineFound, has_no_words};
@@ -19,7 +33,12 @@ pub use laws::{
     script_has_units_as_spelled, words_joined_by_spaces_are_split_again,
 };
 pub use play::{Session, run_session};
+pub use reading::{LineFiles, WordRef, read_by};
 pub use source::{LINE_LIMIT, SCRIPT_LIMIT};
+pub use syntax::{OperandRow, OptionRow, Syntax};
 pub use text::TextFound;
+pub use text_words::{asks_for_text, is_text_word};
+pub use tool_fault::WordsFault;
+pub use tool_words::{Flags, Operands, Values, Word, Words};
 pub use unit::{Script, UnitFound};
 pub use words::{CharAction, Place, SplitFault, split_words};

@@ -2,7 +2,7 @@
 //! table, a colon, and the operands. An empty operand is `''`, and a refused line is `usage`.
 use facl::{Tool, read_words, syntax_of};
 use facl_output::LineFault;
-use facl_words::{OptionRow, Word, Words};
+use facl_script::{OptionRow, Word, Words};
 use std::alloc::Global;
 use std::process::Abort;
 

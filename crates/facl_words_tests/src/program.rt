@@ -1,7 +1,7 @@
 //! The program's own words, and the names of the tools.
 use crate::expected::words_of;
 use facl::Tool;
-use facl_words::{WordsFault, read_args};
+use facl_script::{WordsFault, read_args};
 use std::alloc::Global;
 use std::process::Abort;
 

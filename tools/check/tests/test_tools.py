@@ -97,14 +97,14 @@ ARCHITECTURE = """# Crates
 <!-- graph -->
 ```mermaid
 graph TD
-    facl_words --> low
-    facl --> facl_words
+    facl_script --> low
+    facl --> facl_script
 ```
 <!-- end -->
 | Crate | What it is for |
 |---|---|
 | `low` | maps |
-| `facl_words` | words |
+| `facl_script` | words |
 | `facl` | all |
 
 | Limit | Value | Constant | Message |
@@ -140,7 +140,7 @@ with open(os.path.join(TOP, "commands", "facl_commands", "tools.py"), encoding="
     Tool(b"chmod", EDIT, "MODE FILE..", (RECURSIVE, option("-v"))),
 )""", tools_file.read())
 FILES: Dict[str, str] = {
-    "crates.txt": "# crates\nlow: clap\nlow_tests: low\nfacl_words: low  # words\nfacl: clap facl_words low\n",
+    "crates.txt": "# crates\nlow: clap\nlow_tests: low\nfacl_script: low  # words\nfacl: clap facl_script low\n",
     "crates/low/src/lib.rt": "mod a;\npub mod open;\nmod b;\npub use a::{Judge, Map, maps_are_maps, read};\n",
     "crates/low/src/a.rt": A,
     "crates/low/src/open.rt": "//! Cut.\npub fn cut() ensures pieces { x } {}",
@@ -151,18 +151,18 @@ FILES: Dict[str, str] = {
     "crates/facl/src/tools.rt": '//! Tools.\nrow!(Can, "can", can::SYNTAX),\nrow!(Chmod, "chmod", chmod::SYNTAX),\n',
     "crates/facl/src/tools/can.rt": '//! One.\nflags: &[by_name!("reach")],\n',
     "crates/facl/src/tools/chmod.rt": "//! One.\nflags: &[both!('R', \"recursive\"), by_letter!('v', \"v\")],\n",
-    "crates/facl_words/src/args.rt": '//! Words.\n[by_name!("dump")]\n',
+    "crates/facl_script/src/args.rt": '//! Words.\n[by_name!("dump")]\n',
     "commands/facl-ask": "#!/bin/sh\n# Asks\n# all.\nexit\n",
     "commands/facl_commands/tools.py": RECORDS,
     "commands/facl_commands/cause_rows.py": '"""Rows."""\nrow("a", USAGE, first("can"), "", "", "chmod")\n',
     "tools/lib/a.py": '#!/usr/bin/env python3\n"""Checks\nall.\n\nMore.\n"""\n',
-    "tools/README.md": "lib/a.py, and facl_words.md is no script.\n",
+    "tools/README.md": "lib/a.py, and facl_script.md is no script.\n",
     "docs/PROOFS.md": PROOFS,
     "docs/ARCHITECTURE.md": ARCHITECTURE,
     "docs/facl.1": PAGE,
     "docs/SPECIFICATION.md": "4,096 maps of 1000; `can --reach`, `chmod -Rv`, `-R`, `-v`.\n",
     "docs/READING.md": "# To `read`: short\n```\nabbrev pub look_up : Map → ℕ\n\npub const MOST: usize = 4_096;\n```\n",
-    "CONTRIBUTING.md": "| Crates | Tests |\n|---|---|\n| low | low_tests |\n| facl, facl_words | none |\n",
+    "CONTRIBUTING.md": "| Crates | Tests |\n|---|---|\n| low | low_tests |\n| facl, facl_script | none |\n",
     "README.md": README,
 }
 MADE = "is not as the sources have it: tools/check/documents.py --write"
@@ -181,7 +181,7 @@ FAULTS: Dict[str, List[Tuple[str, ...]]] = {
         ("`Map::grow`", "`Map::get`", f"1: the block index {MADE}"),
         ("<!-- index", "<!-- no index", f"1: the block index {MADE}")],
     "docs/ARCHITECTURE.md": [
-        ("facl --> facl_words", "facl --> low", f"1: the block graph {MADE}"),
+        ("facl --> facl_script", "facl --> low", f"1: the block graph {MADE}"),
         ("below 4,096", "4,097", "17: MOST of low is 4096", "12: 4095 is no limit of docs/ARCHITECTURE.md"),
         ("low `MOST`", "low `LEAST`", "17: LEAST of low is not there"),
         ("| `facl` |", "| `gone` |", "13: no crate gone in crates.txt", "1: facl is not in the map")],
@@ -207,7 +207,7 @@ FAULTS: Dict[str, List[Tuple[str, ...]]] = {
 
 
 # What the check of tools and options reads.
-OF_TOOLS = ("crates/facl/src/tools.rt", "crates/facl/src/tools", "crates/facl_words/src/args.rt", "README.md",
+OF_TOOLS = ("crates/facl/src/tools.rt", "crates/facl/src/tools", "crates/facl_script/src/args.rt", "README.md",
             "commands/facl_commands", "docs/SPECIFICATION.md", "docs/facl.1", "docs/facl-commands.1")
 RECORDS_PATH, CAUSES = "commands/facl_commands/tools.py", "commands/facl_commands/cause_rows.py"
 RULES, PAGE_PATH = "docs/SPECIFICATION.md", "docs/facl.1"

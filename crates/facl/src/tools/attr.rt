@@ -10,7 +10,7 @@ use crate::tools::syntax::one;
 use acl_files::Selection;
 use acl_tree::State;
 use facl_output::{LineFault, write_attributes};
-use facl_words::{LineFiles, OperandRow, Syntax, Words};
+use facl_script::{LineFiles, OperandRow, Syntax, Words};
 use std::alloc::Global;
 
 /// The words of the tool.

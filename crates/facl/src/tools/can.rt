@@ -13,7 +13,7 @@ use acl_names::Path;
 use acl_rights::{IndexedState, Verdicts};
 use acl_verdicts::Judge;
 use facl_output::LineFault;
-use facl_words::{OperandRow, OptionRow, Syntax, WordRef, Words};
+use facl_script::{OperandRow, OptionRow, Syntax, WordRef, Words};
 use std::alloc::Global;
 
 /// The words of the tool.

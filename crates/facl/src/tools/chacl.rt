@@ -14,7 +14,7 @@ use acl_files::Selection;
 use acl_text::Which;
 use acl_tree::State;
 use facl_output::{LineFault, Source, write_chacl_listing};
-use facl_words::{LineFiles, OperandRow, OptionRow, Syntax, Word, WordRef, Words};
+use facl_script::{LineFiles, OperandRow, OptionRow, Syntax, Word, WordRef, Words};
 use std::alloc::Global;
 
 /// The words of the tool: lists, where the flags require them, and then files.

@@ -10,7 +10,7 @@ use crate::tools::syntax::by_name;
 use acl_rights::IndexedState;
 use acl_verdicts::Judge;
 use facl_output::LineFault;
-use facl_words::{OptionRow, Syntax, Words};
+use facl_script::{OptionRow, Syntax, Words};
 use std::alloc::Global;
 
 /// The words of the tool.

@@ -11,7 +11,7 @@ use crate::tools::syntax::{by_letter, by_name, one};
 use acl_edit::Kind;
 use acl_tree::{Command, NewFile, State};
 use facl_output::LineFault;
-use facl_words::{OperandRow, OptionRow, Syntax, WordRef, Words};
+use facl_script::{OperandRow, OptionRow, Syntax, WordRef, Words};
 use std::alloc::Global;
 
 /// The words of the tool.

@@ -8,7 +8,7 @@ use crate::tools::operands::paths_of;
 use acl_edit::Edit;
 use acl_tree::{Command, State};
 use facl_output::LineFault;
-use facl_words::Word;
+use facl_script::Word;
 use std::alloc::Global;
 
 /// The FILEs of a line, with `recursive` also all files below them.

@@ -11,7 +11,7 @@ use acl_files::Selection;
 use acl_text::Effective;
 use acl_tree::State;
 use facl_output::{LineFault, Options, append_listing};
-use facl_words::{LineFiles, OperandRow, OptionRow, Syntax, Words};
+use facl_script::{LineFiles, OperandRow, OptionRow, Syntax, Words};
 use std::alloc::Global;
 
 /// The words of the tool.

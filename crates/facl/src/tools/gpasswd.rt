@@ -9,7 +9,7 @@ use crate::tools::operands::name_meant;
 use crate::tools::syntax::{by_letter, one};
 use acl_tree::{Command, Membership, State};
 use facl_output::LineFault;
-use facl_words::{OperandRow, OptionRow, Syntax, WordRef, Words};
+use facl_script::{OperandRow, OptionRow, Syntax, WordRef, Words};
 use std::alloc::Global;
 
 /// The words of the tool.

@@ -8,7 +8,7 @@ use crate::tools::effect::Effect;
 use acl_rights::IndexedState;
 use acl_verdicts::Judge;
 use facl_output::LineFault;
-use facl_words::Syntax;
+use facl_script::Syntax;
 use std::alloc::Global;
 
 /// The tool takes no words.

@@ -8,7 +8,7 @@ use crate::tools::effect::{Effect, effect_of};
 use crate::tools::syntax::one;
 use acl_tree::{Command, State, Table};
 use facl_output::LineFault;
-use facl_words::{OperandRow, Syntax, Words};
+use facl_script::{OperandRow, Syntax, Words};
 use std::alloc::Global;
 
 /// The words of the tool.

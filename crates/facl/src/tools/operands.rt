@@ -9,7 +9,7 @@ use acl_names::{Name, Path, read_name, read_path};
 use acl_people::People;
 use acl_text::{FaultKind, TextFault, trim};
 use facl_output::{LineFault, Source};
-use facl_words::{Word, WordRef};
+use facl_script::{Word, WordRef};
 use std::alloc::{AllocError, Global};
 
 /// The path of the operand at a place, counted from 1.

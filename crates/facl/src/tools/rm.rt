@@ -9,7 +9,7 @@ use crate::tools::operands::paths_of;
 use crate::tools::syntax::{by_letter, some};
 use acl_tree::{Command, State};
 use facl_output::LineFault;
-use facl_words::{LineFiles, OperandRow, OptionRow, Syntax, Words};
+use facl_script::{LineFiles, OperandRow, OptionRow, Syntax, Words};
 use std::alloc::Global;
 
 /// The words of the tool.

@@ -12,7 +12,7 @@ use acl_entry::Acl;
 use acl_text::{FaultKind, TextFault, Which, decode_attr};
 use acl_tree::State;
 use facl_output::{LineFault, Source};
-use facl_words::{LineFiles, OperandRow, Syntax, WordRef, Words};
+use facl_script::{LineFiles, OperandRow, Syntax, WordRef, Words};
 use hex::FromHexError;
 use std::alloc::Global;
 

@@ -15,7 +15,7 @@ use acl_people::People;
 use acl_text::{DumpUse, read_dump};
 use acl_tree::{Command, State};
 use facl_output::{LineFault, Source};
-use facl_words::{LineFiles, OperandRow, OptionRow, Syntax, WordRef, Words};
+use facl_script::{LineFiles, OperandRow, OptionRow, Syntax, WordRef, Words};
 use std::alloc::Global;
 
 /// Changes the lists of the files of a line.

@@ -13,7 +13,7 @@ use acl_people::UserName;
 use acl_text::read_id;
 use acl_tree::{Command, NewUser, State};
 use facl_output::LineFault;
-use facl_words::{OperandRow, OptionRow, Syntax, WordRef, Words};
+use facl_script::{OperandRow, OptionRow, Syntax, WordRef, Words};
 use std::alloc::{AllocError, Global};
 
 /// The words of the tool.

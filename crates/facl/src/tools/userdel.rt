@@ -9,7 +9,7 @@ use crate::tools::operands::name_meant;
 use crate::tools::syntax::one;
 use acl_tree::{Command, State};
 use facl_output::LineFault;
-use facl_words::{OperandRow, Syntax, WordRef, Words};
+use facl_script::{OperandRow, Syntax, WordRef, Words};
 use std::alloc::Global;
 
 /// The words of the tool.

@@ -15,7 +15,7 @@ use acl_rights::{IndexedState, Verdicts};
 use acl_text::read_perms;
 use acl_verdicts::Judge;
 use facl_output::LineFault;
-use facl_words::{OperandRow, OptionRow, Syntax, WordRef, Words};
+use facl_script::{OperandRow, OptionRow, Syntax, WordRef, Words};
 use std::alloc::Global;
 
 /// The words of the tool.

@@ -15,7 +15,7 @@ use acl_names::Name;
 use acl_people::People;
 use acl_tree::State;
 use facl_output::LineFault;
-use facl_words::{LineFiles, OperandRow, OptionRow, Syntax, WordRef, Words};
+use facl_script::{LineFiles, OperandRow, OptionRow, Syntax, WordRef, Words};
 use std::alloc::Global;
 
 /// The words of the tool.

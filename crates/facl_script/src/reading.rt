@@ -1,0 +1,310 @@
+//! A line's words, borrowed from it, and taken from what clap found.
+
+ghost use Rattle.std.specs.Prelude.{◌≡◌, ◌++◌, [], IfOk, MatchResult, OnOk, Some, map, count_by, string_bytes, true, unwrap_or};
+ghost use Rattle.std.specs.List.{list_all, list_any};
+ghost use Rattle.clap.specs.Words.{all_of, first_of, found_of, is_simple_and_free, rows_of};
+ghost use Rattle.facl_script.specs.Rows.{syntax_view, option_view};
+ghost use Rattle.facl_script.specs.Commands.{app_for, is_on, flags_in, operands_in, value_or, values_in};
+ghost use Rattle.facl_script.specs.Refusals.{IsRefusal};
+ghost use Rattle.facl_script.specs.Rules.{fits_text, is_named, texts_given};
+ghost use Rattle.facl_script.specs.TextWords.{is_text_word as is_text_spelling};
+ghost use Rattle.facl_script.specs.ToolWords.{words_by, words_in, words_read};
+ghost use Rattle.facl_script.specs.Forms.{file_of, files_of, is_dash as names_input};
+
+use crate::commands::matches_for;
+use crate::syntax::{OptionRow, Syntax};
+use crate::text_words::is_text_word;
+use crate::tool_fault::WordsFault;
+use crate::tool_words::{Flags, Operands, Values, Word, Words};
+use clap::ArgMatches;
+use std::alloc::{AllocError, Global};
+use std::marker::Model;
+
+/// Whether `clap` found a flag.
+fn is_flag_on(matches: &ArgMatches<'_>, id: &str) -> bool
+    ensures { result ≡ is_on id.now (rows_of (found_of matches.now)) }
+{
+    match matches.get_str(id) {
+        Some(value) => value == "true",
+        None => false,
+    }
+}
+
+/// For each flag of the syntax whether `clap` found it.
+fn flags_of(alloc: Global, syntax: &Syntax, matches: &ArgMatches<'_>) -> Result<Flags, AllocError>
+    ensures { IfOk result (λ f.
+        f ≡ flags_in (syntax_view syntax.now) (rows_of (found_of matches.now))) }
+{
+    let mut items = Vec::new(alloc);
+    for flag in syntax.flags {
+        items.push(is_flag_on(matches, flag.id))?;
+    }
+    Ok(Flags::new(items))
+}
+
+/// The value of an option, if `clap` found it.
+fn option_value(
+    alloc: Global,
+    row: &OptionRow,
+    matches: &ArgMatches<'_>,
+) -> Result<Option<Word>, AllocError>
+    ensures { IfOk result (λ v. v ≡ value_or (option_view row.now).fallback
+        (first_of (option_view row.now).id (rows_of (found_of matches.now)))) }
+{
+    match matches.get_str(row.id) {
+        Some(text) => Ok(Some(Word::new(alloc, text)?)),
+        None => match row.fallback {
+            Some(text) => Ok(Some(Word::new(alloc, text)?)),
+            None => Ok(None),
+        },
+    }
+}
+
+/// For each option of the syntax its value, if `clap` found it.
+fn values_of(alloc: Global, syntax: &Syntax, matches: &ArgMatches<'_>) -> Result<Values, AllocError>
+    ensures { IfOk result (λ v.
+        v ≡ values_in (syntax_view syntax.now) (rows_of (found_of matches.now))) }
+{
+    let mut items = Vec::new(alloc);
+    for option in syntax.options {
+        items.push(option_value(alloc, option, matches)?)?;
+    }
+    Ok(Values::new(items))
+}
+
+/// Adds texts as words.
+fn push_words(alloc: Global, items: &mut Vec<Word>, texts: &[&str]) -> Result<(), AllocError>
+    ensures { OnOk result (items.new.items ≡ items.old.items ++ map (λ t. t.now) texts.now) }
+{
+    for text in texts {
+        items.push(Word::new(alloc, text)?)?;
+    }
+    Ok(())
+}
+
+/// Adds the words of one operand.
+fn push_operand(
+    alloc: Global,
+    items: &mut Vec<Word>,
+    id: &str,
+    matches: &ArgMatches<'_>,
+) -> Result<(), AllocError>
+    ensures { OnOk result (items.new.items
+        ≡ items.old.items ++ unwrap_or (all_of id.now (rows_of (found_of matches.now))) []) }
+{
+    match matches.get_raw(id) {
+        Some(texts) => push_words(alloc, items, texts),
+        None => Ok(()),
+    }
+}
+
+/// The operands that `clap` found, in their order.
+fn operands_of(
+    alloc: Global,
+    syntax: &Syntax,
+    matches: &ArgMatches<'_>,
+) -> Result<Operands, AllocError>
+    ensures { IfOk result (λ o.
+        o ≡ operands_in (syntax_view syntax.now) (rows_of (found_of matches.now))) }
+{
+    let mut items = Vec::new(alloc);
+    for operand in syntax.operands {
+        push_operand(alloc, &mut items, operand.id, matches)?;
+    }
+    Ok(Operands::new(items))
+}
+
+/// The words that `clap` found. Fails only if memory runs out.
+fn words_found(
+    alloc: Global,
+    syntax: &Syntax,
+    matches: &ArgMatches<'_>,
+) -> Result<Words, AllocError>
+    ensures { IfOk result (λ w. w ≡ words_in (syntax_view syntax.now) (rows_of (found_of matches.now))) }
+{
+    let flags = flags_of(alloc, syntax, matches)?;
+    let values = values_of(alloc, syntax, matches)?;
+    let operands = operands_of(alloc, syntax, matches)?;
+    Ok(Words {
+        flags,
+        values,
+        operands,
+    })
+}
+
+/// The words as clap reads them.
+fn words_by_clap(alloc: Global, syntax: &Syntax, words: &[String]) -> Result<Words, WordsFault>
+    requires { is_simple_and_free (app_for (syntax_view syntax.now)) ≡ true }
+    ensures { MatchResult result
+        (λ w. words_read (syntax_view syntax.now) (map string_bytes words.now) ≡ Some w)
+        (IsRefusal (words_read (syntax_view syntax.now) (map string_bytes words.now))) }
+{
+    let matches = matches_for(alloc, syntax, words)?;
+    let found = words_found(alloc, syntax, &matches);
+    drop(matches);
+    Ok(found?)
+}
+
+/// How many of the options that read a text were given.
+fn texts_given(syntax: &Syntax, found: &Words) -> usize
+    ensures { result ≡ texts_given (syntax_view syntax.now) found.now }
+{
+    syntax
+        .options
+        .iter()
+        .filter(|option| option.is_text && found.gives(syntax, option.id))
+        .count()
+}
+
+/// Whether an option reads no text, is absent, or names standard input.
+fn is_named(syntax: &Syntax, found: &Words, option: &OptionRow) -> bool
+    ensures { result ≡ is_named (syntax_view syntax.now) found.now (option_view option.now) }
+{
+    if !option.is_text {
+        return true;
+    }
+    match found.value(syntax, option.id) {
+        Some(file) => is_dash(file.as_bytes()),
+        None => true,
+    }
+}
+
+/// Whether each option that reads a text is absent or names standard input.
+fn are_named(syntax: &Syntax, found: &Words) -> bool
+    ensures { result ≡ list_all (λ option. is_named (syntax_view syntax.now) found.now (option_view option))
+        syntax.now.options.now }
+{
+    syntax
+        .options
+        .iter()
+        .all(|option| is_named(syntax, found, option))
+}
+
+/// How many words name standard input as a text.
+fn texts_named(words: &[String]) -> usize
+    ensures { result ≡ count_by is_text_spelling (map string_bytes words.now) }
+{
+    words
+        .iter()
+        .filter(|word| is_text_word(word.as_bytes()))
+        .count()
+}
+
+/// Whether each option that reads a text names standard input, and the words that do so are as many as these options:
+/// at most one.
+#[tactic(auto, using(crate::proofs::Named::all_by_rows))]
+fn fits_text(syntax: &Syntax, words: &[String], found: &Words) -> bool
+    ensures { result ≡ fits_text (syntax_view syntax.now) (map string_bytes words.now) found.now }
+{
+    let given = texts_given(syntax, found);
+    are_named(syntax, found) && texts_named(words) == given && given <= 1
+}
+
+/// The words of a line by the syntax of its tool: flags, options and operands.
+///
+/// Returns `Usage` where `clap` refuses the words by the syntax, and where those that name the lines after the line as
+/// its text are not as many as the options that read one, at most one. Returns `NoMemory` only if memory runs out, and
+/// then in place of any answer.
+#[tactic(auto, unfolding(crate::specs::ToolWords::words_by))]
+pub fn read_by(alloc: Global, syntax: &Syntax, words: &[String]) -> Result<Words, WordsFault>
+    requires { is_simple_and_free (app_for (syntax_view syntax.now)) ≡ true }
+    ensures { MatchResult result
+        (λ w. words_by (syntax_view syntax.now) (map string_bytes words.now) ≡ Some w)
+        (IsRefusal (words_by (syntax_view syntax.now) (map string_bytes words.now))) }
+{
+    let found = words_by_clap(alloc, syntax, words)?;
+    if fits_text(syntax, words, &found) {
+        Ok(found)
+    } else {
+        Err(WordsFault::Usage)
+    }
+}
+
+/// Whether a word is `-`, which names standard input and no file.
+pub(crate) fn is_dash(word: &[u8]) -> bool
+    ensures { result ≡ names_input word.now }
+{
+    word == b"-".as_slice()
+}
+
+/// A word of a line, borrowed.
+#[derive(Debug, Drop)]
+pub struct WordRef<'a> {
+    bytes: &'a [u8],
+}
+
+impl<'a> Model for WordRef<'a> {
+    ghost use Rattle.std.specs.Prelude.{List, ℕ};
+
+    ghost Value = { List ℕ };
+
+    ghost view = { λ w. w.bytes.now };
+}
+
+impl<'a> WordRef<'a> {
+    /// The word with these bytes.
+    pub fn new(bytes: &'a [u8]) -> WordRef<'a>
+        ensures { result ≡ bytes.now }
+    {
+        WordRef { bytes }
+    }
+
+    /// The word's bytes.
+    pub fn as_bytes(&self) -> &'a [u8]
+        ensures { result.now ≡ self.now }
+    {
+        self.bytes
+    }
+
+    /// The word as a FILE. `None` where it is `-`, which names no file.
+    pub fn file(self) -> Option<WordRef<'a>>
+        ensures { result ≡ file_of self.entry }
+    {
+        if is_dash(self.bytes) {
+            None
+        } else {
+            Some(self)
+        }
+    }
+}
+
+/// Whether one of the words is `-`.
+fn have_dash(words: &[Word]) -> bool
+    ensures { result ≡ list_any names_input words.now }
+{
+    words.iter().any(|word| is_dash(word.as_bytes()))
+}
+
+/// FILEs that a line gives, borrowed: at least one, and none is `-`.
+#[derive(Debug, Drop)]
+pub struct LineFiles<'a> {
+    words: &'a [Word],
+}
+
+impl<'a> Model for LineFiles<'a> {
+    ghost use Rattle.std.specs.Prelude.{List, ℕ};
+
+    ghost Value = { List (List ℕ) };
+
+    ghost view = { λ f. f.words.now };
+}
+
+impl<'a> LineFiles<'a> {
+    /// The FILEs of words. `None` where there is no word, or one is `-`.
+    pub fn of(words: &'a [Word]) -> Option<LineFiles<'a>>
+        ensures { result ≡ files_of words.now }
+    {
+        if words.is_empty() || have_dash(words) {
+            None
+        } else {
+            Some(LineFiles { words })
+        }
+    }
+
+    /// Their words.
+    pub fn as_slice(&self) -> &'a [Word]
+        ensures { result.now ≡ self.now }
+    {
+        self.words
+    }
+}
