@@ -268,7 +268,7 @@ def refused_growths(program: str) -> int:
 
 CALLS = [
     "acl_edit::node::Node::same_label", "acl_entry::acl::Acl::set_mode_entries", "acl_entry::draft::Draft::finish",
-    "acl_files::files::Files::get", "acl_names::path::Path::is_below", "acl_names::path::Path::is_within",
+    "acl_tree::files::Files::get", "acl_names::path::Path::is_below", "acl_names::path::Path::is_within",
     "acl_names::path::Path::new", "acl_names::path::Path::order", "acl_people::groups::Group::names_user",
     "acl_people::name_table::NameTable::place_of_name", "acl_people::name_table::NameTable::place_of_word",
     "acl_text::fields::perms_of", "acl_tree::step::Staged::give_up", "acl_tree::state::State::commit",

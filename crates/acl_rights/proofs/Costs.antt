@@ -8,9 +8,9 @@ use Rattle.std.proofs.lemmas.List.{length-map}
 use Rattle.std.proofs.lemmas.List.Sums.{length-filter}
 use Rattle.acl_edit.specs.declared.node.Node.{Node}
 use Rattle.acl_people.specs.KnownPeople.{KnownPeople, persons}
-use Rattle.acl_files.specs.Files.{Files, Recorded}
-use Rattle.acl_files.specs.Changed.{same_label, is_changed, changed_between}
-use Rattle.acl_files.proofs.Changes.{label_itself}
+use Rattle.acl_tree.specs.Files.{Files, Recorded}
+use Rattle.acl_tree.specs.Changed.{same_label, is_changed, changed_between}
+use Rattle.acl_tree.proofs.Changes.{label_itself}
 use Rattle.acl_tree.specs.Reports.{StagedState}
 use Rattle.acl_tree.specs.declared.user_change.UserChange.{UserChange}
 use Rattle.acl_tree.specs.declared.user_change.UserChange.TheVariants.{Unchanged, Loaded, Memberships, Added, Removed}

@@ -11,7 +11,7 @@ use Rattle.acl_entry.specs.Person.{Person}
 use Rattle.acl_entry.specs.declared.label.Label.{Label}
 use Rattle.acl_edit.specs.declared.node.Node.{Node}
 use Rattle.acl_names.specs.Paths.{PathOf}
-use Rattle.acl_files.specs.Files.{Files}
+use Rattle.acl_tree.specs.Files.{Files}
 use Rattle.acl_people.specs.GroupsOfOne.{in_just_one}
 use Rattle.acl_people.specs.Moves.{MovesUser}
 use Rattle.acl_verdicts.specs.Rows.{Verdict, cells_of, rows_of}

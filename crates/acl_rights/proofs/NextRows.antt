@@ -9,8 +9,8 @@ use Rattle.acl_entry.specs.Person.{Person}
 use Rattle.acl_entry.specs.declared.label.Label.{Label}
 use Rattle.acl_edit.specs.declared.node.Node.{Node}
 use Rattle.acl_names.specs.Paths.{PathOf}
-use Rattle.acl_files.specs.Files.{Files, Recorded}
-use Rattle.acl_files.specs.Changed.{is_changed}
+use Rattle.acl_tree.specs.Files.{Files, Recorded}
+use Rattle.acl_tree.specs.Changed.{is_changed}
 use Rattle.acl_people.specs.KnownPeople.{persons}
 use Rattle.acl_tree.specs.Reports.{StagedState, UsersMoved}
 use Rattle.acl_tree.specs.declared.user_change.UserChange.{UserChange}

@@ -13,7 +13,7 @@ use Rattle.acl_names.proofs.PathOrder.{exact_paths}
 use Rattle.std.specs.Ordering.{is_eq}
 use Rattle.acl_edit.specs.declared.node.Node.{Node}
 use Rattle.acl_names.specs.Below.{is_above}
-use Rattle.acl_files.specs.Files.{Files}
+use Rattle.acl_tree.specs.Files.{Files}
 use Rattle.acl_people.specs.KnownPeople.{person, persons}
 use Rattle.acl_tree.specs.State.{State}
 use Rattle.acl_verdicts.specs.Rows.{Verdict, Rows, cells_of, rows_of, places_from, who_in, grants_to, may_in}

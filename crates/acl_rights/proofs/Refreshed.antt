@@ -14,15 +14,15 @@ use Rattle.acl_entry.specs.declared.label.Label.{Label}
 use Rattle.acl_names.specs.Paths.{path_cmp, PathOf}
 use Rattle.acl_edit.specs.declared.node.Node.{Node}
 use Rattle.acl_names.specs.Below.{encloses, is_above}
-use Rattle.acl_files.specs.Changed.{same_label, is_changed, changed_between, gone_between}
-use Rattle.acl_files.specs.Files.{Files, Recorded}
+use Rattle.acl_tree.specs.Changed.{same_label, is_changed, changed_between, gone_between}
+use Rattle.acl_tree.specs.Files.{Files, Recorded}
 use Rattle.acl_people.specs.KnownPeople.{persons}
 use Rattle.acl_people.specs.Moves.{MovesUser}
 use Rattle.path_map.specs.Below.{holds_below, lies_in}
 use Rattle.acl_tree.specs.Reports.{StagedState, UsersMoved, place_left}
 use Rattle.acl_tree.specs.declared.user_change.UserChange.{UserChange}
 use Rattle.acl_tree.specs.declared.user_change.UserChange.TheVariants.{Unchanged, Loaded, Memberships, Added, Removed}
-use Rattle.acl_files.proofs.Changes.{label_is_same}
+use Rattle.acl_tree.proofs.Changes.{label_is_same}
 use Rattle.path_map.specs.Entries.{IsInOrder}
 use Rattle.acl_verdicts.specs.Rows.{Verdict, Rows, cells_of, rows_of}
 use Rattle.acl_rights.specs.Groups.{mentions_one}

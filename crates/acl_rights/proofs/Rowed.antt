@@ -14,9 +14,9 @@ use Rattle.acl_entry.specs.declared.label.Label.{Label}
 use Rattle.acl_names.specs.Paths.{path_cmp, PathOf}
 use Rattle.acl_edit.specs.declared.node.Node.{Node}
 use Rattle.acl_people.specs.Moves.{MovesUser}
-use Rattle.acl_files.specs.Changed.{same_label, changed_between, gone_between}
-use Rattle.acl_files.specs.Files.{Files}
-use Rattle.acl_files.proofs.Changes.{label_is_same}
+use Rattle.acl_tree.specs.Changed.{same_label, changed_between, gone_between}
+use Rattle.acl_tree.specs.Files.{Files}
+use Rattle.acl_tree.proofs.Changes.{label_is_same}
 use Rattle.path_map.specs.Entries.{IsInOrder}
 use Rattle.path_map.specs.Merged.{has, merged, put_all}
 use Rattle.path_map.proofs.Rows.{rows_merged}

@@ -1,6 +1,6 @@
 -- How many verdicts a line asks of the judge.
 use Rattle.std.specs.Prelude.{ℕ, ◌+◌, ◌*◌, ◌^◌, length}
-use Rattle.acl_files.specs.Changed.{changed_between}
+use Rattle.acl_tree.specs.Changed.{changed_between}
 use Rattle.acl_tree.specs.State.{State}
 use Rattle.acl_tree.specs.declared.user_change.UserChange.{UserChange}
 use Rattle.acl_rights.specs.Stages.{moves_asked}

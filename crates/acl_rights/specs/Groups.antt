@@ -4,7 +4,7 @@ use Rattle.std.specs.List.{sum_by}
 use Rattle.acl_entry.specs.Mentions.{mentions, is_one_of, meets}
 use Rattle.acl_edit.specs.declared.node.Node.{Node}
 use Rattle.acl_names.specs.Paths.{PathOf}
-use Rattle.acl_files.specs.Files.{Files}
+use Rattle.acl_tree.specs.Files.{Files}
 
 -- whether a file's label mentions a group
 abbrev pub mentions_group : ℕ → PathOf × Node → Bool

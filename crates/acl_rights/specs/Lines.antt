@@ -4,7 +4,7 @@ use Rattle.acl_entry.specs.declared.label.Label.{Label}
 use Rattle.kinds.specs.Numbered.{entries_in}
 use Rattle.acl_people.specs.KnownPeople.{persons}
 use Rattle.acl_names.specs.Paths.{PathOf}
-use Rattle.acl_files.specs.Files.{Files}
+use Rattle.acl_tree.specs.Files.{Files}
 use Rattle.acl_tree.specs.Reports.{StagedState}
 use Rattle.acl_verdicts.specs.KindRows.{RowedPaths, rowed, rows_at}
 use Rattle.acl_verdicts.specs.declared.kind_rows.KindRows.{KindRows}

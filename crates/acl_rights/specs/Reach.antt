@@ -9,7 +9,7 @@ use Rattle.acl_names.specs.Paths.{path_cmp, PathOf}
 use Rattle.acl_edit.specs.declared.node.Node.{Node}
 use Rattle.acl_people.specs.KnownPeople.{persons}
 use Rattle.acl_names.specs.Below.{is_above}
-use Rattle.acl_files.specs.Files.{Files}
+use Rattle.acl_tree.specs.Files.{Files}
 use Rattle.acl_tree.specs.State.{State}
 use Rattle.acl_tree.specs.Reports.{StagedState, place_left}
 use Rattle.acl_tree.specs.declared.user_change.UserChange.{UserChange}

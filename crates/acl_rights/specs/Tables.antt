@@ -10,7 +10,7 @@ use Rattle.acl_entry.specs.Perms.{Perms}
 use Rattle.acl_names.specs.Paths.{path_cmp, PathOf}
 use Rattle.acl_names.specs.declared.path.Path.{Path}
 use Rattle.acl_people.specs.KnownPeople.{persons}
-use Rattle.acl_files.specs.Files.{Files}
+use Rattle.acl_tree.specs.Files.{Files}
 use Rattle.acl_tree.specs.State.{State}
 use Rattle.acl_tree.specs.Reports.{coded_files}
 use Rattle.acl_verdicts.specs.Rows.{Verdict, Rows, cells_of, rows_of, coded_rows, places_from, who_in, may_in}

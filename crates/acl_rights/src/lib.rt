@@ -32,9 +32,10 @@ pub use indexed::{IndexedState, IndexedStates, States, Verdicts};
 // The public calls take and give these values of the crates below.
 pub use acl_edit::{Change, ChangeEntries, ChangeFlags, Edit, Kind, Specs};
 pub use acl_entry::{Acl, Id, Key, Label, NoMemory, Perm, Requests, Subject};
-pub use acl_files::{DumpRecords, Paths};
 pub use acl_names::{Name, Path, read_name};
 pub use acl_people::{People, UserName};
 pub use acl_text::Spec;
-pub use acl_tree::{Command, Membership, NewFile, NewUser, Staged, State, Table, Tree};
+pub use acl_tree::{
+    Command, DumpRecords, Membership, NewFile, NewUser, Paths, Staged, State, Table, Tree,
+};
 pub use acl_verdicts::{Cells, FileRow, FileRows, Judge, Posix};

@@ -1,7 +1,7 @@
 //! The rows of verdicts after a line, by how the line moves the users.
 
 ghost use Rattle.std.specs.Prelude.{◌≡◌, ◌+◌, ◌-◌, ◌<◌, ◌≤◌, ◌^◌, true, Some, length, map, slice_get, IfOk, MatchOption};
-ghost use Rattle.acl_files.specs.Files.{Files};
+ghost use Rattle.acl_tree.specs.Files.{Files};
 ghost use Rattle.kinds.specs.Numbered.{entries_in};
 ghost use Rattle.acl_people.specs.KnownPeople.{persons};
 ghost use Rattle.acl_verdicts.specs.KindRows.{rowed, with_label};
@@ -10,9 +10,8 @@ ghost use Rattle.acl_rights.specs.Stages.{most_asked, moves_groups};
 ghost use Rattle.acl_rights.specs.Lines.{labels_of, AreBefore, IsAfter};
 
 use acl_entry::{Label, Subject};
-use acl_files::Differences;
 use acl_names::Path;
-use acl_tree::{GroupIds, Staged, UserChange};
+use acl_tree::{Differences, GroupIds, Staged, UserChange};
 use acl_verdicts::{Judge, KindRows};
 use std::alloc::{AllocError, Global};
 

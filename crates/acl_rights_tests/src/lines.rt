@@ -2,11 +2,10 @@
 
 use acl_edit::{Change, ChangeEntries, ChangeFlags, Edit, Specs};
 use acl_entry::Id;
-use acl_files::Paths;
 use acl_names::{Name, Path, read_path};
 use acl_people::{People, UserName};
 use acl_text::{Sep, Want, read_entries};
-use acl_tree::{Command, Membership, NewUser, Table};
+use acl_tree::{Command, Membership, NewUser, Paths, Table};
 use std::alloc::Global;
 
 /// A command, its operands and texts as they are written.

@@ -1,9 +1,8 @@
 //! Short ways to make a state and its files in tests.
 use crate::lines::path;
 use acl_edit::Node;
-use acl_files::Found;
 use acl_names::Path;
-use acl_tree::{Command, State, Table, Tree};
+use acl_tree::{Command, Found, State, Table, Tree};
 use std::alloc::Global;
 use std::process::Abort;
 

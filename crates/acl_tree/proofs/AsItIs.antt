@@ -18,17 +18,17 @@ use Rattle.path_map.specs.Merged.{put_all}
 use Rattle.path_map.proofs.Differences.{Leads, leads_all}
 use Rattle.path_map.proofs.Edits.{put_edited}
 use Rattle.acl_tree.specs.declared.command.Command.TheVariants.{Restore}
-use Rattle.acl_files.specs.Files.{Files}
+use Rattle.acl_tree.specs.Files.{Files}
 use Rattle.path_map.specs.Entries.{IsInOrder}
-use Rattle.acl_files.specs.Edits.{unless_missing, and_others, edit_each, edit_all, with_edits}
+use Rattle.acl_tree.specs.Edits.{unless_missing, and_others, edit_each, edit_all, with_edits}
 use Rattle.acl_tree.specs.Laws.{Contains, IsAsRecorded}
-use Rattle.acl_files.specs.Loading.{record_at}
-use Rattle.acl_files.specs.Operands.{is_file, first_missing, files_meant}
-use Rattle.acl_files.specs.Restoring.{edit_of, edit_if_some, restore_one, paths_of}
-use Rattle.acl_files.specs.Sound.{ArePlaced, IsSoundTree}
+use Rattle.acl_tree.specs.Loading.{record_at}
+use Rattle.acl_tree.specs.Operands.{is_file, first_missing, files_meant}
+use Rattle.acl_tree.specs.Restoring.{edit_of, edit_if_some, restore_one, paths_of}
+use Rattle.acl_tree.specs.Sound.{ArePlaced, IsSoundTree}
 use Rattle.acl_tree.specs.State.{State, with_tree}
 use Rattle.acl_tree.specs.Step.{step}
-use Rattle.acl_files.proofs.Selected.{same_path}
+use Rattle.acl_tree.proofs.Selected.{same_path}
 
 -- ---- one file
 

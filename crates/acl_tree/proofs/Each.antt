@@ -9,20 +9,20 @@ use Rattle.acl_text.specs.declared.record.DumpRecord.{DumpRecord}
 use Rattle.acl_edit.specs.declared.edit.Edit.{Edit}
 use Rattle.acl_edit.specs.declared.edit.EditFault.{EditFault}
 use Rattle.acl_edit.specs.declared.node.Node.{Node}
-use Rattle.acl_files.specs.declared.fault.TreeFault.{TreeFault}
-use Rattle.acl_files.specs.declared.edit.FileFault.{FileFault}
-use Rattle.acl_files.specs.Files.{Files, Recorded}
+use Rattle.acl_tree.specs.declared.fault.TreeFault.{TreeFault}
+use Rattle.acl_tree.specs.declared.edit.FileFault.{FileFault}
+use Rattle.acl_tree.specs.Files.{Files, Recorded}
 use Rattle.path_map.specs.Entries.{IsInOrder}
-use Rattle.acl_files.specs.Operands.{is_file, edit_files, files_meant, first_missing}
-use Rattle.acl_files.specs.Edits.{and_others, edit_each, edit_all, with_edits, unless_missing}
+use Rattle.acl_tree.specs.Operands.{is_file, edit_files, files_meant, first_missing}
+use Rattle.acl_tree.specs.Edits.{and_others, edit_each, edit_all, with_edits, unless_missing}
 use Rattle.acl_tree.specs.EditCommand.{edit_one, edited_tree}
-use Rattle.acl_files.specs.Restoring.{restore_one, paths_of, restored_tree}
-use Rattle.acl_files.specs.Inner.{ok_or, node_after}
+use Rattle.acl_tree.specs.Restoring.{restore_one, paths_of, restored_tree}
+use Rattle.acl_tree.specs.Inner.{ok_or, node_after}
 use Rattle.acl_tree.specs.Laws.{EditsEach}
-use Rattle.acl_files.specs.Changed.{gone_between}
-use Rattle.acl_files.proofs.Changes.{gone-edited}
-use Rattle.acl_files.proofs.Edits.{put_edits}
-use Rattle.acl_files.proofs.Selected.{filter_alike}
+use Rattle.acl_tree.specs.Changed.{gone_between}
+use Rattle.acl_tree.proofs.Changes.{gone-edited}
+use Rattle.acl_tree.proofs.Edits.{put_edits}
+use Rattle.acl_tree.proofs.Selected.{filter_alike}
 
 err_is_not_ok : {A B : Type 0} (a : A) (b : B) → Err b ≡ Ok a → ⊥
 err_is_not_ok a b h = cc

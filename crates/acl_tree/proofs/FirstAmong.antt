@@ -5,8 +5,8 @@ use Rattle.std.specs.Ordering.{eq_by_cmp, is_eq}
 use Rattle.std.proofs.lemmas.Cmp.{tied_itself}
 use Rattle.acl_names.specs.Paths.{path_cmp, PathOf}
 use Rattle.acl_names.proofs.PathOrder.{path_total}
-use Rattle.acl_files.specs.Operands.{is_file}
-use Rattle.acl_files.proofs.Selected.{same_path}
+use Rattle.acl_tree.specs.Operands.{is_file}
+use Rattle.acl_tree.proofs.Selected.{same_path}
 use Rattle.acl_tree.specs.Refusals.{IsAmong, place}
 
 none_is_not_some : {A : Type 0} (a : A) → None ≡ Some a → ⊥

@@ -1,4 +1,4 @@
-pub mod Placed
+pub mod PlacedNodes
 pub mod NewFiles
 pub mod Each
 pub mod Removals
@@ -18,3 +18,21 @@ pub mod RefusedOperands
 pub mod RefusedEdits
 pub mod RefusedLoads
 pub mod FirstFaults
+pub mod Edited
+pub mod Kept
+pub mod Changes
+pub mod Selected
+pub mod Edits
+pub mod Left
+pub mod Outside
+pub mod Placed
+pub mod Restored
+pub mod Ancestors
+pub mod Shared
+pub mod Follows
+pub mod Loaded
+pub mod Mapped
+pub mod SortedRecords
+pub mod Without
+pub mod ByKind
+pub mod SameNodes

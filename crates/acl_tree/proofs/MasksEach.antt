@@ -11,7 +11,7 @@ use Rattle.acl_edit.specs.declared.edit.EditFault.TheVariants.{DefaultOnFile}
 use Rattle.acl_edit.specs.declared.node.Node.{Node}
 use Rattle.acl_edit.proofs.Lines.{makes_mask, shows_recalculated, bounds_recalculated}
 use Rattle.acl_names.specs.Paths.{PathOf}
-use Rattle.acl_files.specs.Files.{Recorded}
+use Rattle.acl_tree.specs.Files.{Recorded}
 use Rattle.path_map.specs.Entries.{IsInOrder}
 use Rattle.acl_tree.specs.EditCommand.{edited_tree}
 use Rattle.acl_tree.specs.Laws.{KeepsMaskRules, MasksEach}

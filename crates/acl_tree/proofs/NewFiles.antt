@@ -18,18 +18,18 @@ use Rattle.path_map.specs.Merged.{has}
 use Rattle.acl_names.proofs.Below.{below_within, not_before, not_below_itself, within_below, within_itself}
 use Rattle.acl_names.proofs.Parents.{below_parent}
 use Rattle.path_map.proofs.Differences.{Leads, leads_all, has_put_all}
-use Rattle.acl_files.specs.Files.{Files, Recorded, max_files}
+use Rattle.acl_tree.specs.Files.{Files, Recorded, max_files}
 use Rattle.acl_names.specs.Below.{is_above, encloses, parent}
-use Rattle.acl_files.specs.Changed.{gone_between}
+use Rattle.acl_tree.specs.Changed.{gone_between}
 use Rattle.acl_tree.specs.Creat.{exists, only_directory, directory_at, creat_in, creat_by}
 use Rattle.acl_tree.specs.declared.command.NewFile.{NewFile}
-use Rattle.acl_files.specs.declared.fault.TreeFault.{TreeFault}
-use Rattle.acl_files.specs.declared.fault.TreeFault.TheVariants.{NotDirectory, Exists, TooMany}
-use Rattle.acl_tree.specs.Inner.{IsNewIn}
+use Rattle.acl_tree.specs.declared.fault.TreeFault.{TreeFault}
+use Rattle.acl_tree.specs.declared.fault.TreeFault.TheVariants.{NotDirectory, Exists, TooMany}
+use Rattle.acl_tree.specs.InnerCommands.{IsNewIn}
 use Rattle.path_map.specs.Below.{holds_below}
-use Rattle.acl_files.specs.Sound.{IsPlaced, ArePlaced, IsSoundTree}
-use Rattle.acl_files.proofs.Changes.{none_gone}
-use Rattle.acl_files.proofs.Shared.{in_order-put}
+use Rattle.acl_tree.specs.Sound.{IsPlaced, ArePlaced, IsSoundTree}
+use Rattle.acl_tree.proofs.Changes.{none_gone}
+use Rattle.acl_tree.proofs.Shared.{in_order-put}
 
 -- ---- tests of lists
 

@@ -16,8 +16,8 @@ use Rattle.acl_people.proofs.Places.{position-push}
 use Rattle.acl_people.proofs.Undone.{user_again}
 use Rattle.acl_tree.specs.declared.command.Command.TheVariants.{Useradd, Userdel}
 use Rattle.acl_tree.specs.declared.command.NewUser.{NewUser}
-use Rattle.acl_files.specs.declared.fault.TreeFault.{TreeFault}
-use Rattle.acl_files.specs.declared.fault.TreeFault.TheVariants.{UserExists, UidExists, TooManyUsers, NoSuchUser}
+use Rattle.acl_tree.specs.declared.fault.TreeFault.{TreeFault}
+use Rattle.acl_tree.specs.declared.fault.TreeFault.TheVariants.{UserExists, UidExists, TooManyUsers, NoSuchUser}
 use Rattle.acl_tree.specs.Accounts.{add_to, remove_at}
 use Rattle.acl_tree.specs.Laws.{with_users_loaded}
 use Rattle.acl_tree.specs.Memberships.{user_at, group_at}

@@ -9,15 +9,15 @@ use Rattle.acl_text.specs.declared.record.DumpRecord.{DumpRecord}
 use Rattle.acl_edit.specs.declared.edit.Edit.{Edit}
 use Rattle.acl_edit.specs.declared.edit.EditFault.{EditFault}
 use Rattle.acl_edit.specs.declared.node.Node.{Node}
-use Rattle.acl_files.specs.declared.edit.FileFault.{FileFault}
-use Rattle.acl_files.specs.declared.edit.FileFault.TheVariants as of_files
-use Rattle.acl_files.specs.declared.fault.TreeFault.{TreeFault}
-use Rattle.acl_files.specs.declared.fault.TreeFault.TheVariants as faults
-use Rattle.acl_files.specs.Files.{Files}
+use Rattle.acl_tree.specs.declared.edit.FileFault.{FileFault}
+use Rattle.acl_tree.specs.declared.edit.FileFault.TheVariants as of_files
+use Rattle.acl_tree.specs.declared.fault.TreeFault.{TreeFault}
+use Rattle.acl_tree.specs.declared.fault.TreeFault.TheVariants as faults
+use Rattle.acl_tree.specs.Files.{Files}
 use Rattle.path_map.specs.Entries.{IsInOrder}
-use Rattle.acl_files.specs.Operands.{is_file, files_meant, first_missing}
-use Rattle.acl_files.specs.Edits.{and_others, edit_each, with_edits, file_fault, unless_missing}
-use Rattle.acl_files.specs.Restoring.{restore_one, paths_of}
+use Rattle.acl_tree.specs.Operands.{is_file, files_meant, first_missing}
+use Rattle.acl_tree.specs.Edits.{and_others, edit_each, with_edits, file_fault, unless_missing}
+use Rattle.acl_tree.specs.Restoring.{restore_one, paths_of}
 use Rattle.acl_tree.specs.declared.command.Command.{Command}
 use Rattle.acl_tree.specs.declared.command.Command.TheVariants as commands
 use Rattle.acl_tree.specs.EditCommand.{edit_one}

@@ -18,9 +18,9 @@ use Rattle.acl_edit.specs.Nodes.{is_directory}
 use Rattle.acl_edit.specs.declared.node.Kind.{Kind}
 use Rattle.acl_edit.specs.declared.node.Kind.TheVariants.{Plain, Directory}
 use Rattle.acl_edit.specs.declared.node.Node.{Node}
-use Rattle.acl_files.specs.declared.fault.TreeFault.{TreeFault}
-use Rattle.acl_files.specs.declared.fault.TreeFault.TheVariants.{NoSuchUser, Exists, NoSuchFile, NotDirectory, TooMany}
-use Rattle.acl_files.specs.Files.{Files, Recorded, max_files}
+use Rattle.acl_tree.specs.declared.fault.TreeFault.{TreeFault}
+use Rattle.acl_tree.specs.declared.fault.TreeFault.TheVariants.{NoSuchUser, Exists, NoSuchFile, NotDirectory, TooMany}
+use Rattle.acl_tree.specs.Files.{Files, Recorded, max_files}
 use Rattle.path_map.specs.Entries.{IsInOrder}
 use Rattle.acl_people.specs.Entries.{user_entry}
 use Rattle.acl_people.specs.KnownPeople.{KnownPeople, users_of}

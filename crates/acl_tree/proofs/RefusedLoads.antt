@@ -5,10 +5,10 @@ use Rattle.std.proofs.lemmas.Bool.{ltb-true, lt-ltb}
 use Rattle.acl_text.specs.declared.record.DumpRecord.{DumpRecord}
 use Rattle.acl_text.specs.Rows.{passwd_of, group_of}
 use Rattle.acl_text.specs.declared.fault.TextFault.{TextFault}
-use Rattle.acl_files.specs.declared.fault.TreeFault.{TreeFault}
-use Rattle.acl_files.specs.declared.fault.TreeFault.TheVariants.{AlreadyLoaded, Text, TooMany, NoMemory}
-use Rattle.acl_files.specs.Files.{max_files}
-use Rattle.acl_files.specs.Loading.{files_of}
+use Rattle.acl_tree.specs.declared.fault.TreeFault.{TreeFault}
+use Rattle.acl_tree.specs.declared.fault.TreeFault.TheVariants.{AlreadyLoaded, Text, TooMany, NoMemory}
+use Rattle.acl_tree.specs.Files.{max_files}
+use Rattle.acl_tree.specs.Loading.{files_of}
 use Rattle.acl_people.specs.KnownPeople.{KnownPeople, loaded}
 use Rattle.acl_people.specs.declared.fault.LoadFault.TheVariants as loads
 use Rattle.acl_tree.specs.declared.command.Command.{Command}

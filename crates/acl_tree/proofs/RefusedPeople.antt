@@ -4,8 +4,8 @@ use Rattle.std.specs.Prelude.{◌==◌}
 use Rattle.std.proofs.lemmas.Bool.{leb-true, le-leb}
 use Rattle.std.specs.Option.{ok_or}
 use Rattle.acl_text.specs.Rows.{most_rows}
-use Rattle.acl_files.specs.declared.fault.TreeFault.{TreeFault}
-use Rattle.acl_files.specs.declared.fault.TreeFault.TheVariants.{NoSuchUser, NoSuchGroup, NotMember, UserExists, UidExists, TooManyUsers}
+use Rattle.acl_tree.specs.declared.fault.TreeFault.{TreeFault}
+use Rattle.acl_tree.specs.declared.fault.TreeFault.TheVariants.{NoSuchUser, NoSuchGroup, NotMember, UserExists, UidExists, TooManyUsers}
 use Rattle.acl_people.specs.Changes.{is_member, without_member, with_primary_group, with_user}
 use Rattle.acl_people.specs.KnownPeople.{users_of, groups_of}
 use Rattle.acl_people.specs.NameTables.{place_of_word, has_name, has_id}

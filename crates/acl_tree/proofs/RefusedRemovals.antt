@@ -7,8 +7,8 @@ use Rattle.acl_edit.specs.Nodes.{is_directory}
 use Rattle.acl_edit.specs.declared.node.Kind.{Kind}
 use Rattle.acl_edit.specs.declared.node.Kind.TheVariants.{Plain, Directory}
 use Rattle.acl_edit.specs.declared.node.Node.{Node}
-use Rattle.acl_files.specs.declared.fault.TreeFault.{TreeFault}
-use Rattle.acl_files.specs.declared.fault.TreeFault.TheVariants.{NoSuchFile, IsDirectory}
+use Rattle.acl_tree.specs.declared.fault.TreeFault.{TreeFault}
+use Rattle.acl_tree.specs.declared.fault.TreeFault.TheVariants.{NoSuchFile, IsDirectory}
 use Rattle.acl_tree.specs.declared.command.Command.{Command}
 use Rattle.acl_tree.specs.declared.command.Command.TheVariants.{Rm}
 use Rattle.acl_tree.specs.Rm.{refusal, first_refused, without_files, or_refused}

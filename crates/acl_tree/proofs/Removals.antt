@@ -10,18 +10,18 @@ use Rattle.acl_edit.specs.declared.node.Node.{Node}
 use Rattle.path_map.specs.Merged.{has}
 use Rattle.path_map.proofs.Differences.{Leads, leads_all, has_where}
 use Rattle.path_map.proofs.Rows.{in_order-filter}
-use Rattle.acl_files.specs.declared.fault.TreeFault.{TreeFault}
-use Rattle.acl_files.specs.declared.fault.TreeFault.TheVariants.{IsDirectory}
-use Rattle.acl_files.specs.Files.{Files, Recorded}
+use Rattle.acl_tree.specs.declared.fault.TreeFault.{TreeFault}
+use Rattle.acl_tree.specs.declared.fault.TreeFault.TheVariants.{IsDirectory}
+use Rattle.acl_tree.specs.Files.{Files, Recorded}
 use Rattle.path_map.specs.Entries.{IsInOrder}
 use Rattle.acl_names.specs.Below.{is_above, encloses}
-use Rattle.acl_files.specs.Changed.{gone_between}
-use Rattle.acl_files.specs.Operands.{is_file, files_meant}
+use Rattle.acl_tree.specs.Changed.{gone_between}
+use Rattle.acl_tree.specs.Operands.{is_file, files_meant}
 use Rattle.acl_tree.specs.Rm.{refusal, first_refused, without_files}
 use Rattle.path_map.specs.Below.{holds_below}
-use Rattle.acl_files.specs.Sound.{IsPlaced, ArePlaced, IsSoundTree}
+use Rattle.acl_tree.specs.Sound.{IsPlaced, ArePlaced, IsSoundTree}
 use Rattle.acl_names.proofs.Below.{below_within, within_trans}
-use Rattle.acl_files.proofs.Selected.{same_path}
+use Rattle.acl_tree.proofs.Selected.{same_path}
 
 and_true : (a b : Bool) → b ≡ true → (a && b) ≡ a
 and_true true b h = h

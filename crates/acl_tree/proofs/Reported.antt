@@ -5,14 +5,14 @@ use Rattle.acl_people.specs.KnownPeople.{KnownPeople, persons}
 use Rattle.acl_people.specs.Moves.{MovesUser}
 use Rattle.acl_tree.specs.declared.user_change.UserChange.{UserChange}
 use Rattle.acl_tree.specs.declared.user_change.UserChange.TheVariants.{Unchanged}
-use Rattle.acl_files.specs.Files.{Files, Recorded}
+use Rattle.acl_tree.specs.Files.{Files, Recorded}
 use Rattle.path_map.specs.Entries.{IsInOrder}
-use Rattle.acl_files.specs.Changed.{gone_between}
+use Rattle.acl_tree.specs.Changed.{gone_between}
 use Rattle.path_map.specs.Below.{holds_below}
 use Rattle.acl_tree.specs.State.{State, state_from}
 use Rattle.acl_tree.specs.Reports.{StagedState, UsersMoved, Reports, staged_from}
 use Rattle.acl_tree.specs.UserMoves.{move_of}
-use Rattle.acl_files.proofs.Changes.{none_gone}
+use Rattle.acl_tree.proofs.Changes.{none_gone}
 
 module _ (old new : State) (change : UserChange) (s : StagedState) (is : s ≡ staged_from old.tree.files new change) where
   -- after files are removed

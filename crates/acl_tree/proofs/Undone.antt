@@ -11,16 +11,16 @@ use Rattle.acl_edit.specs.Nodes.{is_directory}
 use Rattle.acl_edit.specs.declared.node.Node.{Node}
 use Rattle.acl_tree.specs.declared.command.Command.TheVariants.{Creat, Rm}
 use Rattle.acl_tree.specs.declared.command.NewFile.{NewFile}
-use Rattle.acl_files.specs.declared.fault.TreeFault.TheVariants.{IsDirectory}
-use Rattle.acl_files.specs.Files.{Files}
+use Rattle.acl_tree.specs.declared.fault.TreeFault.TheVariants.{IsDirectory}
+use Rattle.acl_tree.specs.Files.{Files}
 use Rattle.acl_names.specs.Below.{encloses}
 use Rattle.acl_tree.specs.Creat.{row_of, exists, creat}
-use Rattle.acl_files.specs.Operands.{is_file}
+use Rattle.acl_tree.specs.Operands.{is_file}
 use Rattle.acl_tree.specs.Rm.{refusal, first_refused, without_files, or_refused}
 use Rattle.acl_tree.specs.State.{State, with_tree}
 use Rattle.acl_tree.specs.Step.{step}
 use Rattle.acl_names.proofs.Below.{within_itself}
-use Rattle.acl_files.proofs.Selected.{same_path}
+use Rattle.acl_tree.proofs.Selected.{same_path}
 use Rattle.acl_tree.proofs.Unnamed.{only_tree, puts_by}
 
 either_false : (a b : Bool) → (a || b) ≡ false → (a ≡ false) × (b ≡ false)

@@ -15,9 +15,9 @@ use Rattle.acl_tree.specs.declared.command.Command.{Command}
 use Rattle.acl_tree.specs.declared.command.Command.TheVariants.{Load, Chmod, Edit, Restore, Creat, Rm, Gpasswd, Usermod, Useradd, Userdel}
 use Rattle.acl_tree.specs.declared.command.NewFile.{NewFile}
 use Rattle.acl_tree.specs.declared.command.Table.TheVariants.{Passwd, Group, Dump}
-use Rattle.acl_files.specs.declared.fault.TreeFault.{TreeFault}
-use Rattle.acl_files.specs.declared.fault.TreeFault.TheVariants.{Exists, TooMany, AlreadyLoaded}
-use Rattle.acl_files.specs.Files.{Files, Recorded, max_files}
+use Rattle.acl_tree.specs.declared.fault.TreeFault.{TreeFault}
+use Rattle.acl_tree.specs.declared.fault.TreeFault.TheVariants.{Exists, TooMany, AlreadyLoaded}
+use Rattle.acl_tree.specs.Files.{Files, Recorded, max_files}
 use Rattle.path_map.specs.Entries.{IsInOrder}
 use Rattle.acl_names.specs.Below.{parent}
 use Rattle.acl_tree.specs.Creat.{row_of, exists, directory_at, creat_in, creat_by, creat}
@@ -25,8 +25,8 @@ use Rattle.acl_tree.specs.EditCommand.{edited_tree}
 use Rattle.acl_tree.specs.Accounts.{useradd, userdel}
 use Rattle.acl_tree.specs.Laws.{LeavesUnnamed}
 use Rattle.acl_tree.specs.Memberships.{ChangedUser, gpasswd, usermod}
-use Rattle.acl_files.specs.Operands.{is_file, first_missing}
-use Rattle.acl_files.specs.Restoring.{restored_tree}
+use Rattle.acl_tree.specs.Operands.{is_file, first_missing}
+use Rattle.acl_tree.specs.Restoring.{restored_tree}
 use Rattle.acl_tree.specs.Rm.{first_refused, without_files, or_refused, rm}
 use Rattle.acl_tree.specs.State.{State, with_tree, with_change}
 use Rattle.acl_tree.specs.Step.{step}

@@ -5,8 +5,8 @@ use Rattle.acl_people.specs.NameTables.{has_name, has_id}
 use Rattle.acl_people.specs.KnownPeople.{KnownPeople, users_of}
 use Rattle.acl_people.specs.Changes.{with_user, without_user}
 use Rattle.acl_tree.specs.declared.command.NewUser.{NewUser}
-use Rattle.acl_files.specs.declared.fault.TreeFault.{TreeFault}
-use Rattle.acl_files.specs.declared.fault.TreeFault.TheVariants.{UserExists, UidExists, TooManyUsers}
+use Rattle.acl_tree.specs.declared.fault.TreeFault.{TreeFault}
+use Rattle.acl_tree.specs.declared.fault.TreeFault.TheVariants.{UserExists, UidExists, TooManyUsers}
 use Rattle.acl_tree.specs.Memberships.{ChangedUser, user_at, group_at}
 
 -- one user more in a group, if there is room

@@ -2,10 +2,10 @@
 use Rattle.std.specs.Prelude.{ℕ, List, Bool, Option, Some, None, Result, Ok, Err}
 use Rattle.acl_edit.specs.Nodes as nodes
 use Rattle.acl_names.specs.Paths.{PathOf}
-use Rattle.acl_files.specs.Files.{Recorded}
-use Rattle.acl_files.specs.Operands.{is_file, first_missing, edit_files}
-use Rattle.acl_files.specs.declared.fault.TreeFault.{TreeFault}
-use Rattle.acl_files.specs.declared.fault.TreeFault.TheVariants.{NoSuchFile}
+use Rattle.acl_tree.specs.Files.{Recorded}
+use Rattle.acl_tree.specs.Operands.{is_file, first_missing, edit_files}
+use Rattle.acl_tree.specs.declared.fault.TreeFault.{TreeFault}
+use Rattle.acl_tree.specs.declared.fault.TreeFault.TheVariants.{NoSuchFile}
 use Rattle.acl_tree.specs.State.{State}
 
 -- the files of the command with a mode put into them

@@ -10,9 +10,9 @@ use Rattle.acl_edit.specs.declared.node.Node.{Node}
 use Rattle.acl_people.specs.NameTables.{place_of_word}
 use Rattle.acl_people.specs.KnownPeople.{KnownPeople, users_of}
 use Rattle.acl_tree.specs.declared.command.NewFile.{NewFile}
-use Rattle.acl_files.specs.declared.fault.TreeFault.{TreeFault}
-use Rattle.acl_files.specs.declared.fault.TreeFault.TheVariants.{NoSuchFile, NotDirectory, Exists, NoSuchUser, TooMany}
-use Rattle.acl_files.specs.Files.{Files, Recorded, max_files}
+use Rattle.acl_tree.specs.declared.fault.TreeFault.{TreeFault}
+use Rattle.acl_tree.specs.declared.fault.TreeFault.TheVariants.{NoSuchFile, NotDirectory, Exists, NoSuchUser, TooMany}
+use Rattle.acl_tree.specs.Files.{Files, Recorded, max_files}
 use Rattle.acl_names.specs.Below.{encloses, parent}
 
 -- the row of the user that a word means

@@ -4,11 +4,11 @@ use Rattle.acl_edit.specs.Edits as edits
 use Rattle.acl_edit.specs.declared.edit.Edit.{Edit}
 use Rattle.acl_edit.specs.declared.edit.EditFault.{EditFault}
 use Rattle.acl_edit.specs.declared.node.Node.{Node}
-use Rattle.acl_files.specs.declared.fault.TreeFault.{TreeFault}
+use Rattle.acl_tree.specs.declared.fault.TreeFault.{TreeFault}
 use Rattle.acl_names.specs.Paths.{PathOf}
-use Rattle.acl_files.specs.Files.{Recorded}
-use Rattle.acl_files.specs.Operands.{first_missing}
-use Rattle.acl_files.specs.Edits.{edit_all, unless_missing}
+use Rattle.acl_tree.specs.Files.{Recorded}
+use Rattle.acl_tree.specs.Operands.{first_missing}
+use Rattle.acl_tree.specs.Edits.{edit_all, unless_missing}
 
 -- one file of the command: in a recursion, default entries skip files that are not directories
 abbrev pub edit_one : Edit → Bool → PathOf → Node → Result Node EditFault

@@ -1,60 +1,141 @@
--- For inner functions: no public contract names these definitions.
-use Rattle.std.specs.Prelude.{◌≡◌, ◌≢◌, ◌<◌, length, Option, Some, None, false, Result, MatchResult}
+-- For inner functions and their callers' proofs: no public contract names these definitions.
+use Rattle.std.specs.Prelude.{◌≡◌, ◌≢◌, ⊤, ℕ, List, Option, Some, None, map, [], ◌∷◌, ◌++◌, Bool, true, false, Result, Ok, Err}
+use Rattle.std.specs.Coded.{Coded, coded×, coded_ℕ, coded_list}
 use Rattle.std.specs.FinMap.{find}
+use Rattle.std.specs.List.{All}
+use Rattle.std.specs.declared.cmp.Ordering.TheVariants.{Greater}
 use Rattle.acl_names.specs.Paths.{path_cmp, PathOf}
-use Rattle.acl_text.specs.InTurn.{GivesUnless}
-use Rattle.acl_edit.specs.Nodes as nodes
+use Rattle.acl_text.specs.declared.record.DumpRecord.{DumpRecord}
+use Rattle.acl_text.specs.contracts.record.DumpRecord as record_contracts
+use Rattle.acl_edit.specs.Edits.{edit}
+use Rattle.acl_edit.specs.declared.edit.EditFault.{EditFault}
 use Rattle.acl_edit.specs.declared.node.Node.{Node}
-use Rattle.acl_edit.specs.declared.node.Kind.TheVariants.{Directory}
-use Rattle.acl_files.specs.Files.{Files, Recorded, max_files}
-use Rattle.acl_files.specs.Sound.{IsSoundTree}
-use Rattle.acl_files.specs.declared.fault.TreeFault.{TreeFault}
-use Rattle.acl_files.specs.declared.fault.TreeFault.TheVariants.{NoMemory}
-use Rattle.acl_names.specs.Below.{parent}
-use Rattle.acl_people.specs.KnownPeople.{KnownPeople}
-use Rattle.acl_tree.specs.Creat.{exists}
-use Rattle.acl_tree.specs.State.{State, state_from}
-use Rattle.acl_tree.specs.Reports.{StagedState, UsersMoved, Reports, staged_from}
-use Rattle.acl_tree.specs.declared.user_change.UserChange.{UserChange}
-use Rattle.acl_tree.specs.declared.state.BorrowedState.{BorrowedState}
+use Rattle.acl_edit.specs.contracts.node.Node as node_contracts
+use Rattle.acl_tree.specs.declared.edit.FileFault.{FileFault}
+use Rattle.acl_tree.specs.declared.edit.FileFault.TheVariants.{Edit, NoMemory}
+use Rattle.kinds.specs.Numbered.{Numbers}
+use Rattle.kinds.specs.declared.edit.Stop.{Stop}
+use Rattle.kinds.specs.declared.edit.Stop.TheVariants as stops
+use Rattle.acl_names.specs.Below.{is_above}
+use Rattle.acl_tree.specs.Files.{Files}
+use Rattle.acl_tree.specs.Loading.{node_of}
+use Rattle.acl_tree.specs.Edits.{FileEdit, and_others, edit_each}
+use Rattle.acl_tree.specs.Restoring.{edit_of}
 
--- ---- a state
+-- ---- the files of records
 
--- the state that is borrowed
-abbrev pub whole : BorrowedState → State
-whole s = state_from s.tree.now s.people.now
+-- whether the first of the records that follow is below a path
+abbrev pub next_below : PathOf → List DumpRecord → Bool
+next_below p [] = false
+next_below p (r ∷ rs) = is_above p r.path
 
--- ---- what is found
+-- the files of records in path order, each by the one that follows it
+abbrev pub files_from : List DumpRecord → Files
+files_from [] = []
+files_from (r ∷ rs) = (r.path, node_of (next_below r.path rs) r) ∷ files_from rs
 
--- A call gives the value, seen by view, or exactly its fault, unless memory ran out.
-abbrev pub Gives : {A B : Type 0} → (A → B) → Result A TreeFault → Result B TreeFault → Type 0
-Gives view result is = GivesUnless NoMemory view result is
+-- whether the first of the files that follow is below a path
+abbrev pub next_file_below : {V : Type 0} → PathOf → List (PathOf × V) → Bool
+next_file_below p [] = false
+next_file_below p (e ∷ es) = is_above p e.0
 
--- A call succeeds if there is no such fault; else it returns the fault, unless memory ran out.
-abbrev pub IsRefusedFor : {A : Type 0} → Result A TreeFault → Option TreeFault → Type 0
-IsRefusedFor result refused = MatchResult result (λ _. refused ≡ None) (λ fault. fault ≢ NoMemory → refused ≡ Some fault)
+-- ---- operands in path order
 
--- ---- what is staged
+-- none of them is before a path
+abbrev pub NoneBefore : PathOf → List PathOf → Type 0
+NoneBefore p [] = ⊤
+NoneBefore p (q ∷ qs) = (path_cmp p q ≢ Greater) × NoneBefore p qs
 
--- what is staged is a sound tree, with what differs from the state before, and how the users moved
-pub record IsStaged (old : State) (user_change : UserChange) (staged : StagedState) : Type 0 where
-  pub sound : IsSoundTree staged.state.tree
-  pub reports : Reports old staged
-  pub moved : staged.user_change ≡ user_change
+-- no path is before an earlier one
+abbrev pub Ascend : List PathOf → Type 0
+Ascend [] = ⊤
+Ascend (p ∷ ps) = NoneBefore p ps × Ascend ps
 
--- the same files with other people: it reports what that changes of a state with these files whose users moved so
-pub record StagesPeople (tree : Recorded) (people : KnownPeople) (user_change : UserChange) (staged : StagedState) : Type 0 where
-  pub all : staged ≡ staged_from tree.files (state_from tree people) user_change
-  pub sound : IsSoundTree staged.state.tree
-  pub reports : (old : KnownPeople) → UsersMoved (state_from tree old) (state_from tree people) user_change → Reports (state_from tree old) staged
+-- ---- a walk over the entries that operands mean
 
--- ---- a new file
+-- an entry is taken: those after it are left
+pub record IsTaken (e : PathOf × ℕ) (old new : Numbers) : Type 0 where
+  pub before : Numbers
+  pub joined : old ≡ before ++ e ∷ new
 
--- a file that may be put among others: none is at its path or below it, its parent is a directory, and there is room
-pub record IsNewIn (t : Files) (e : PathOf × Node) : Type 0 where
-  pub absent : exists e.0 t ≡ false
-  pub directory : Node
-  pub recorded : find path_cmp (parent e.0) t ≡ Some directory
-  pub is_directory : directory.kind ≡ Directory
-  pub room : length t < max_files
-  pub default : nodes.IsSound e.1
+-- of the entries that are still to come, first those that are meant, and then all: the first that is meant is taken, if
+-- there is one
+abbrev pub TakesFirst : Numbers × Numbers → Option (PathOf × ℕ) → Numbers × Numbers → Type 0
+TakesFirst old None new = (old.0 ≡ []) × (new.0 ≡ [])
+TakesFirst old (Some e) new = (old.0 ≡ e ∷ new.0) × IsTaken e old.1 new.1
+
+-- ---- edits
+
+-- the node after an edit that succeeds
+abbrev pub ok_or : Node → Result Node EditFault → Node
+ok_or n (Ok m) = m
+ok_or n (Err fault) = n
+
+abbrev pub node_after : FileEdit → PathOf → Node → Node
+node_after edit p n = ok_or n (edit p n)
+
+-- files edited, before others
+abbrev pub after_edits : Files → Result Files FileFault → Result Files FileFault
+after_edits edits (Ok es) = Ok (edits ++ es)
+after_edits edits (Err fault) = Err fault
+
+-- a call edits a file's node, or returns its fault with its path, unless memory ran out
+abbrev pub EditsOne : FileEdit → PathOf × Node → Result Node FileFault → Type 0
+EditsOne edit e (Ok n) = edit e.0 e.1 ≡ Ok n
+EditsOne edit e (Err fault) = fault ≢ NoMemory → edit_each edit (e ∷ []) ≡ Err fault
+
+-- why an edit of nodes by their numbers stops, as the fault of the files
+abbrev pub fault_of : Stop (PathOf × EditFault) → FileFault
+fault_of (stops.Fault fault) = Edit fault.0 fault.1
+fault_of stops.NoMemory = NoMemory
+
+-- ---- restored files
+
+-- a file, and the record that it is restored from
+abbrev pub RestoredFile : Type 0
+RestoredFile = (PathOf × Node) × DumpRecord
+
+abbrev pub coded_restored : Coded RestoredFile
+coded_restored = coded× (coded× (coded_list (coded_list coded_ℕ)) node_contracts.the_row.coded) record_contracts.the_row.coded
+
+-- it is the file of the record's path
+abbrev pub IsFileOf : Files → RestoredFile → Type 0
+IsFileOf t x = (x.0.0 ≡ x.1.path) × (find path_cmp x.1.path t ≡ Some x.0.1)
+
+-- these are the files of records, in their order
+pub record AreFilesOf (t : Files) (rs : List DumpRecord) (xs : List RestoredFile) : Type 0 where
+  pub records : map (λ x. x.1) xs ≡ rs
+  pub files : All (IsFileOf t) xs
+
+-- a node restored from a record: this is not a recursion
+abbrev pub restored_by : DumpRecord → Node → Result Node EditFault
+restored_by r n = edit n (edit_of r) false
+
+-- the file's node after the restore
+abbrev pub restored : RestoredFile → Result Node EditFault
+restored x = restored_by x.1 x.0.1
+
+-- each file restored, or the first fault with its path
+abbrev pub restore_each : List RestoredFile → Result Files FileFault
+restore_each [] = Ok []
+restore_each (x ∷ xs) = and_others x.0.0 (restored x) (restore_each xs)
+
+-- one of two, where it is the first or not
+abbrev pub OneOf : Bool → Type 0 → Type 0 → Type 0
+OneOf true a b = a
+OneOf false a b = b
+
+pub record Either (a b : Type 0) : Type 0 where
+  pub first : Bool
+  pub is : OneOf first a b
+
+-- files edited, of which those that stay as they are may be left out
+abbrev pub SomeEdited : {A : Type 0} → (A → PathOf × Node) → (A → Result Node EditFault) → List A → Files → Type 0
+SomeEdited file edit [] [] = ⊤
+SomeEdited file edit [] (k ∷ ks) = ⊥
+SomeEdited file edit (x ∷ xs) [] = (edit x ≡ Ok (file x).1) × SomeEdited file edit xs []
+SomeEdited file edit (x ∷ xs) (k ∷ ks) = Either ((((file x).0 ≡ k.0) × (edit x ≡ Ok k.1)) × SomeEdited file edit xs ks) ((edit x ≡ Ok (file x).1) × SomeEdited file edit xs (k ∷ ks))
+
+-- a file with its edited node is put after others, or left out where it stays as it is
+abbrev pub PutsOrLeaves : Files → PathOf × Node → Node → Files → Type 0
+PutsOrLeaves before e n after = Either (after ≡ before ++ (e.0, n) ∷ []) ((after ≡ before) × (e.1 ≡ n))

@@ -20,11 +20,11 @@ use Rattle.acl_tree.specs.declared.command.NewFile.{NewFile}
 use Rattle.acl_tree.specs.declared.command.NewUser.{NewUser}
 use Rattle.acl_tree.specs.declared.command.Table.{Table}
 use Rattle.acl_tree.specs.declared.command.Table.TheVariants.{Passwd, Group, Dump}
-use Rattle.acl_files.specs.Files.{Files, Recorded}
+use Rattle.acl_tree.specs.Files.{Files, Recorded}
 use Rattle.path_map.specs.Entries.{IsInOrder}
-use Rattle.acl_files.specs.Operands.{is_file}
-use Rattle.acl_files.specs.Restoring.{restore_one, paths_of, restored_tree}
-use Rattle.acl_files.specs.Sound.{IsSoundTree}
+use Rattle.acl_tree.specs.Operands.{is_file}
+use Rattle.acl_tree.specs.Restoring.{restore_one, paths_of, restored_tree}
+use Rattle.acl_tree.specs.Sound.{IsSoundTree}
 use Rattle.acl_tree.specs.EditCommand.{edit_one, edited_tree}
 use Rattle.acl_tree.specs.State.{State}
 use Rattle.acl_tree.specs.Step.{step}

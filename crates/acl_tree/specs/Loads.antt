@@ -4,10 +4,10 @@ use Rattle.acl_text.specs.declared.fault.TextFault.{TextFault}
 use Rattle.acl_text.specs.declared.record.DumpRecord.{DumpRecord}
 use Rattle.acl_text.specs.declared.record.DumpUse.TheVariants as uses
 use Rattle.acl_text.specs.Records.{dump_of}
-use Rattle.acl_files.specs.Files.{max_files}
-use Rattle.acl_files.specs.Loading.{files_of}
-use Rattle.acl_files.specs.declared.fault.TreeFault.{TreeFault}
-use Rattle.acl_files.specs.declared.fault.TreeFault.TheVariants.{TooMany, AlreadyLoaded, Text, NoMemory}
+use Rattle.acl_tree.specs.Files.{max_files}
+use Rattle.acl_tree.specs.Loading.{files_of}
+use Rattle.acl_tree.specs.declared.fault.TreeFault.{TreeFault}
+use Rattle.acl_tree.specs.declared.fault.TreeFault.TheVariants.{TooMany, AlreadyLoaded, Text, NoMemory}
 use Rattle.acl_people.specs.declared.fault.LoadFault.{LoadFault}
 use Rattle.acl_people.specs.declared.fault.LoadFault.TheVariants as loads
 use Rattle.acl_people.specs.KnownPeople.{KnownPeople, load_passwd, load_group, naming_of}

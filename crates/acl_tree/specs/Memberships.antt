@@ -6,8 +6,8 @@ use Rattle.acl_people.specs.KnownPeople.{KnownPeople, users_of, groups_of}
 use Rattle.acl_people.specs.Changes.{is_member, with_member, without_member, with_primary_group}
 use Rattle.acl_tree.specs.declared.command.Membership.{Membership}
 use Rattle.acl_tree.specs.declared.command.Membership.TheVariants.{Add, Remove}
-use Rattle.acl_files.specs.declared.fault.TreeFault.{TreeFault}
-use Rattle.acl_files.specs.declared.fault.TreeFault.TheVariants.{NoSuchUser, NoSuchGroup, NotMember}
+use Rattle.acl_tree.specs.declared.fault.TreeFault.{TreeFault}
+use Rattle.acl_tree.specs.declared.fault.TreeFault.TheVariants.{NoSuchUser, NoSuchGroup, NotMember}
 
 -- a user's place, and the people after a change of that user
 pub record ChangedUser : Type 0 where

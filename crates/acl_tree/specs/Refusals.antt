@@ -11,12 +11,12 @@ use Rattle.acl_edit.specs.declared.node.Kind.{Kind}
 use Rattle.acl_edit.specs.declared.node.Kind.TheVariants.{Plain, Directory}
 use Rattle.acl_edit.specs.declared.node.Node.{Node}
 use Rattle.acl_names.specs.Below.{encloses, parent}
-use Rattle.acl_files.specs.Files.{Files, max_files}
+use Rattle.acl_tree.specs.Files.{Files, max_files}
 use Rattle.path_map.specs.Entries.{IsInOrder}
-use Rattle.acl_files.specs.Operands.{is_file}
-use Rattle.acl_files.specs.Restoring.{restore_one, paths_of}
-use Rattle.acl_files.specs.declared.fault.TreeFault.{TreeFault}
-use Rattle.acl_files.specs.declared.fault.TreeFault.TheVariants as faults
+use Rattle.acl_tree.specs.Operands.{is_file}
+use Rattle.acl_tree.specs.Restoring.{restore_one, paths_of}
+use Rattle.acl_tree.specs.declared.fault.TreeFault.{TreeFault}
+use Rattle.acl_tree.specs.declared.fault.TreeFault.TheVariants as faults
 use Rattle.acl_people.specs.Changes.{is_member}
 use Rattle.acl_people.specs.KnownPeople.{KnownPeople, users_of, groups_of}
 use Rattle.acl_people.specs.NameTables.{place_of_word, has_name, has_id}

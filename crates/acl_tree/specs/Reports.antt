@@ -10,10 +10,10 @@ use Rattle.acl_tree.specs.declared.user_change.UserChange.TheVariants.{Unchanged
 use Rattle.acl_tree.specs.contracts.user_change.UserChange as moved_contracts
 use Rattle.acl_tree.specs.declared.command.Command.{Command}
 use Rattle.acl_tree.specs.declared.command.Command.TheVariants.{Load, Chmod, Edit, Restore, Creat, Rm, Gpasswd, Usermod, Useradd, Userdel}
-use Rattle.acl_files.specs.declared.fault.TreeFault.{TreeFault}
-use Rattle.acl_files.specs.Files.{Files}
-use Rattle.acl_files.specs.Changed.{changed_between, gone_between}
-use Rattle.acl_files.specs.Sound.{IsSoundTree}
+use Rattle.acl_tree.specs.declared.fault.TreeFault.{TreeFault}
+use Rattle.acl_tree.specs.Files.{Files}
+use Rattle.acl_tree.specs.Changed.{changed_between, gone_between}
+use Rattle.acl_tree.specs.Sound.{IsSoundTree}
 use Rattle.path_map.specs.Below.{holds_below}
 use Rattle.acl_tree.specs.State.{State, coded_state}
 use Rattle.acl_tree.specs.Step.{refused_at_once, step, Stages}

@@ -5,10 +5,10 @@ use Rattle.std.specs.FinMap.{find}
 use Rattle.acl_names.specs.Paths.{path_cmp, PathOf}
 use Rattle.acl_edit.specs.Nodes.{is_directory}
 use Rattle.acl_edit.specs.declared.node.Node.{Node}
-use Rattle.acl_files.specs.declared.fault.TreeFault.{TreeFault}
-use Rattle.acl_files.specs.declared.fault.TreeFault.TheVariants.{NoSuchFile, IsDirectory}
-use Rattle.acl_files.specs.Files.{Files, Recorded}
-use Rattle.acl_files.specs.Operands.{is_file}
+use Rattle.acl_tree.specs.declared.fault.TreeFault.{TreeFault}
+use Rattle.acl_tree.specs.declared.fault.TreeFault.TheVariants.{NoSuchFile, IsDirectory}
+use Rattle.acl_tree.specs.Files.{Files, Recorded}
+use Rattle.acl_tree.specs.Operands.{is_file}
 
 -- why an operand is not removed: without `recursive` directories are not
 abbrev pub refusal : Bool → PathOf → Option Node → Option TreeFault

@@ -1,8 +1,8 @@
 -- The whole state: the recorded files, and the users and groups.
 use Rattle.std.specs.Prelude.{Result, Ok, Err, refl}
 use Rattle.std.specs.Coded.{Coded, code_by, coded×}
-use Rattle.acl_files.specs.Files.{Recorded, coded_recorded, no_files}
-use Rattle.acl_files.specs.declared.fault.TreeFault.{TreeFault}
+use Rattle.acl_tree.specs.Files.{Recorded, coded_recorded, no_files}
+use Rattle.acl_tree.specs.declared.fault.TreeFault.{TreeFault}
 use Rattle.acl_people.specs.KnownPeople.{KnownPeople, nobody}
 use Rattle.acl_people.specs.contracts.people.People as people_contracts
 use Rattle.acl_tree.specs.Memberships.{ChangedUser}

@@ -1,9 +1,9 @@
 -- What a command makes of the state: the step of each.
 use Rattle.std.specs.Prelude.{Bool, true, false, if◌then◌else◌, Option, Some, None, Result, Ok, Err}
 use Rattle.acl_text.specs.InTurn.{GivesUnless}
-use Rattle.acl_files.specs.declared.fault.TreeFault.{TreeFault}
-use Rattle.acl_files.specs.declared.fault.TreeFault.TheVariants.{AlreadyLoaded, NotMember, UidExists, TooManyUsers, NoMemory}
-use Rattle.acl_files.specs.Restoring.{restored_tree}
+use Rattle.acl_tree.specs.declared.fault.TreeFault.{TreeFault}
+use Rattle.acl_tree.specs.declared.fault.TreeFault.TheVariants.{AlreadyLoaded, NotMember, UidExists, TooManyUsers, NoMemory}
+use Rattle.acl_tree.specs.Restoring.{restored_tree}
 use Rattle.acl_tree.specs.declared.command.Command.{Command}
 use Rattle.acl_tree.specs.declared.command.Command.TheVariants.{Load, Chmod, Edit, Restore, Creat, Rm, Gpasswd, Usermod, Useradd, Userdel}
 use Rattle.acl_tree.specs.Accounts.{useradd, userdel}

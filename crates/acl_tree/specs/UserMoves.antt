@@ -1,6 +1,6 @@
 -- How a command moves the users of a state.
 use Rattle.std.specs.Prelude.{ℕ, List, [], ◌∷◌, Result, Ok, Err}
-use Rattle.acl_files.specs.declared.fault.TreeFault.{TreeFault}
+use Rattle.acl_tree.specs.declared.fault.TreeFault.{TreeFault}
 use Rattle.acl_people.specs.KnownPeople.{KnownPeople}
 use Rattle.acl_people.specs.Moves.{moved_groups}
 use Rattle.acl_tree.specs.declared.command.Table.{Table}

@@ -1,8 +1,9 @@
 //! Commands.
 
+use crate::restore::DumpRecords;
+use crate::selection::Paths;
 use acl_edit::{Edit, Kind};
 use acl_entry::Id;
-use acl_files::{DumpRecords, Paths};
 use acl_names::{Name, Path};
 use acl_people::UserName;
 

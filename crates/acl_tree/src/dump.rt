@@ -1,16 +1,19 @@
 //! A dump as a tree.
 
 ghost use Rattle.std.specs.Prelude.{◌≡◌, ◌≢◌, [], IfOk};
-ghost use Rattle.acl_files.specs.Sound.{IsSoundTree};
-ghost use Rattle.acl_tree.specs.Inner.{whole};
+ghost use Rattle.acl_tree.specs.Sound.{IsSoundTree};
+ghost use Rattle.acl_tree.specs.InnerCommands.{whole};
 ghost use Rattle.acl_tree.specs.Loads.{load_dump};
 ghost use Rattle.acl_tree.specs.Step.{Stages};
 ghost use Rattle.acl_tree.specs.Reports.{Reports};
 ghost use Rattle.acl_tree.specs.declared.user_change.UserChange.{UserChange};
 
+use crate::fault::TreeFault;
+use crate::files::Files;
+use crate::records::files_of;
+use crate::region::Region;
 use crate::state::BorrowedState;
 use crate::step::Staged;
-use acl_files::{Files, Region, TreeFault, files_of};
 use acl_text::{DumpUse, FaultKind, TextFault, read_dump};
 use std::alloc::Global;
 

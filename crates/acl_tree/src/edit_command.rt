@@ -1,21 +1,22 @@
 //! Files are edited: setfacl(1) and chacl(1), `setfacl --restore`, chmod(1).
 
 ghost use Rattle.std.specs.Prelude.{◌≡◌, IfOk};
-ghost use Rattle.acl_files.specs.Edits.{of_each, edit_all};
+ghost use Rattle.acl_tree.specs.Edits.{of_each, edit_all};
 ghost use Rattle.acl_text.specs.InTurn.{GivesUnless};
-ghost use Rattle.acl_tree.specs.Inner.{IsStaged, whole};
+ghost use Rattle.acl_tree.specs.InnerCommands.{IsStaged, whole};
 ghost use Rattle.acl_tree.specs.Reports.{Prepares};
 ghost use Rattle.acl_tree.specs.declared.user_change.UserChange.{UserChange};
 ghost use Rattle.acl_tree.specs.declared.command.Command.TheVariants as commands;
 ghost use Rattle.acl_tree.specs.declared.command.Command.TheVariants.{Restore};
 
+use crate::edit::{FileFault, NodeEdit, edit_files};
+use crate::fault::TreeFault;
+use crate::region::Region;
+use crate::restore::{DumpRecords, restore_files};
+use crate::selection::{Selection, look_up};
 use crate::state::BorrowedState;
 use crate::step::Staged;
 use acl_edit::{Edit, EditFault, Node, apply, chmod};
-use acl_files::{
-    DumpRecords, FileFault, NodeEdit, Region, Selection, TreeFault, edit_files, look_up,
-    restore_files,
-};
 use std::alloc::Global;
 
 /// One edit for each file, in a recursion or not.

@@ -3,16 +3,16 @@
 ghost use Rattle.std.specs.Prelude.{◌≡◌, ◌<◌, length, Err, IfOk, IfErr};
 ghost use Rattle.acl_people.specs.KnownPeople.{persons};
 ghost use Rattle.acl_people.specs.Moves.{ChangesUser};
-ghost use Rattle.acl_tree.specs.Inner.{Gives, whole};
+ghost use Rattle.acl_tree.specs.InnerCommands.{Gives, whole};
 ghost use Rattle.acl_tree.specs.Reports.{Prepares, RefusesAtOnce};
 ghost use Rattle.acl_tree.specs.Memberships.{membership_changed};
 ghost use Rattle.acl_tree.specs.declared.command.Command.TheVariants.{Gpasswd};
 
 use crate::command::Membership;
+use crate::fault::TreeFault;
 use crate::stage_people::{find_group, find_user, stage_user_change};
 use crate::state::BorrowedState;
 use crate::step::Staged;
-use acl_files::TreeFault;
 use acl_names::Name;
 use acl_people::People;
 use std::alloc::Global;

@@ -2,17 +2,18 @@
 
 ghost use Rattle.std.specs.Prelude.{◌≡◌, true, Err, IfOk, IfErr, MatchResult};
 ghost use Rattle.acl_tree.specs.Loads.{tree_fault, is_loaded};
-ghost use Rattle.acl_tree.specs.Inner.{StagesPeople, whole};
+ghost use Rattle.acl_tree.specs.InnerCommands.{StagesPeople, whole};
 ghost use Rattle.acl_tree.specs.Reports.{Prepares};
 ghost use Rattle.acl_tree.specs.declared.command.Command.TheVariants.{Load};
 
 use crate::command::Table;
 use crate::dump::prepare_dump;
+use crate::fault::TreeFault;
+use crate::files::Files;
 use crate::stage_people::stage_people;
 use crate::state::BorrowedState;
 use crate::step::Staged;
 use crate::user_change::UserChange;
-use acl_files::{Files, TreeFault};
 use acl_people::{LoadFault, People};
 use std::alloc::Global;
 

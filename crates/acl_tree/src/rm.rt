@@ -2,15 +2,19 @@
 
 ghost use Rattle.std.specs.FinMap.{find};
 ghost use Rattle.acl_names.specs.Paths.{path_cmp};
-ghost use Rattle.acl_tree.specs.Inner.{IsRefusedFor, whole};
+ghost use Rattle.acl_tree.specs.InnerCommands.{IsRefusedFor, whole};
 ghost use Rattle.acl_tree.specs.Reports.{Prepares};
 ghost use Rattle.acl_tree.specs.Rm.{refusal, first_refused};
 ghost use Rattle.acl_tree.specs.declared.command.Command.TheVariants.{Rm};
 
+use crate::fault::TreeFault;
+use crate::files::Files;
+use crate::records::without_files;
+use crate::region::Region;
+use crate::selection::Selection;
 use crate::state::BorrowedState;
 use crate::step::Staged;
 use acl_edit::Kind;
-use acl_files::{Files, Region, Selection, TreeFault, without_files};
 use acl_names::Path;
 use std::alloc::Global;
 

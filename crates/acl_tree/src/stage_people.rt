@@ -3,16 +3,18 @@
 ghost use Rattle.std.specs.Prelude.{◌≡◌, ◌<◌, length, Err, IfOk, OnErr};
 ghost use Rattle.acl_people.specs.KnownPeople.{persons};
 ghost use Rattle.acl_people.specs.Moves.{ChangesUser, moved_groups};
-ghost use Rattle.acl_tree.specs.Inner.{Gives, IsStaged, StagesPeople, whole};
+ghost use Rattle.acl_tree.specs.InnerCommands.{Gives, IsStaged, StagesPeople, whole};
 ghost use Rattle.acl_tree.specs.State.{state_from};
 ghost use Rattle.acl_tree.specs.UserMoves.{move_of};
 ghost use Rattle.acl_tree.specs.Memberships.{user_at, group_at};
 
+use crate::fault::TreeFault;
+use crate::files::Files;
+use crate::region::Region;
 use crate::state::BorrowedState;
 use crate::step::Staged;
 use crate::user_change::{GroupIds, UserChange};
 use acl_entry::Id;
-use acl_files::{Files, Region, TreeFault};
 use acl_names::Name;
 use acl_people::People;
 use std::alloc::{AllocError, Global};

@@ -5,9 +5,10 @@ ghost use Rattle.acl_tree.specs.State.{nothing};
 ghost use Rattle.acl_tree.specs.Reports.{Prepares, RefusesAtOnce};
 
 use crate::command::Command;
+use crate::fault::TreeFault;
+use crate::files::Files;
 use crate::step::{Staged, prepare_command};
 use crate::tree::Tree;
-use acl_files::{Files, TreeFault};
 use acl_people::People;
 use std::alloc::{AllocError, Global};
 use std::marker::Model;

@@ -1,19 +1,24 @@
 //! Commands on the whole state: each is prepared whole, or refused; and a prepared command, before it is put in place.
 
 ghost use Rattle.std.specs.Prelude.{◌≡◌, length, option_map, IfOk};
-ghost use Rattle.acl_files.specs.Changed.{SameBut};
-ghost use Rattle.acl_files.specs.Operands.{in_region};
-ghost use Rattle.acl_tree.specs.Inner.{whole};
+ghost use Rattle.acl_tree.specs.Changed.{SameBut};
+ghost use Rattle.acl_tree.specs.Operands.{in_region};
+ghost use Rattle.acl_tree.specs.InnerCommands.{whole};
 ghost use Rattle.acl_tree.specs.State.{state_from};
-ghost use Rattle.acl_files.specs.Sound.{IsSoundTree};
+ghost use Rattle.acl_tree.specs.Sound.{IsSoundTree};
 ghost use Rattle.acl_tree.specs.Reports.{Prepares, RefusesAtOnce, memberships_moved, place_joined, place_left, staged_from};
 
 use crate::command::Command;
 use crate::creat::prepare_creat;
+use crate::differences::Differences;
 use crate::edit_command::{prepare_chmod, prepare_edit, prepare_restore};
+use crate::fault::TreeFault;
+use crate::files::Files;
 use crate::gpasswd::prepare_gpasswd;
 use crate::load::prepare_load;
+use crate::region::Region;
 use crate::rm::prepare_rm;
+use crate::selection::{Paths, Selection};
 use crate::state::BorrowedState;
 use crate::tree::Tree;
 use crate::user_change::UserChange;
@@ -21,7 +26,6 @@ use crate::useradd::prepare_useradd;
 use crate::userdel::prepare_userdel;
 use crate::usermod::prepare_usermod;
 use acl_entry::Id;
-use acl_files::{Differences, Files, Paths, Region, Selection, TreeFault};
 use acl_people::People;
 use std::alloc::{AllocError, Global};
 use std::marker::Model;
@@ -86,8 +90,8 @@ pub struct Staged {
 }
 
 impl Model for Staged {
-    ghost use Rattle.acl_files.specs.Changed.{SameBut};
-    ghost use Rattle.acl_files.specs.Operands.{in_region};
+    ghost use Rattle.acl_tree.specs.Changed.{SameBut};
+    ghost use Rattle.acl_tree.specs.Operands.{in_region};
     ghost use Rattle.acl_tree.specs.State.{state_from};
     ghost use Rattle.acl_tree.specs.Reports.{StagedState, coded_staged, staged_from};
 

@@ -4,19 +4,21 @@ ghost use Rattle.std.specs.Prelude.{◌≡◌, IfOk};
 ghost use Rattle.std.specs.FinMap.{find};
 ghost use Rattle.std.specs.Option.{option_copied};
 ghost use Rattle.acl_names.specs.Paths.{path_cmp};
-ghost use Rattle.acl_files.specs.Files.{no_files};
-ghost use Rattle.acl_files.specs.Found.{Selects};
-ghost use Rattle.acl_files.specs.Sound.{IsSoundTree};
-ghost use Rattle.acl_files.specs.Walks.{within, ancestors};
+ghost use Rattle.acl_tree.specs.Files.{no_files};
+ghost use Rattle.acl_tree.specs.Found.{Selects};
+ghost use Rattle.acl_tree.specs.Sound.{IsSoundTree};
+ghost use Rattle.acl_tree.specs.Walks.{within, ancestors};
 ghost use Rattle.acl_tree.specs.State.{state_from};
 ghost use Rattle.acl_tree.specs.Reports.{Prepares, RefusesAtOnce};
 
 use crate::command::Command;
+use crate::fault::TreeFault;
+use crate::files::{Files, FilesFinder, FilesIter};
+use crate::selection::{Found, Selection};
 use crate::state::BorrowedState;
 use crate::step::{Staged, prepare_command};
 use acl_edit::Node;
 use acl_entry::NoMemory;
-use acl_files::{Files, FilesFinder, FilesIter, Found, Selection, TreeFault};
 use acl_names::Path;
 use acl_people::People;
 use std::alloc::Global;
@@ -30,7 +32,7 @@ pub struct Tree {
 }
 
 impl Model for Tree {
-    ghost use Rattle.acl_files.specs.Files.{Recorded, coded_recorded};
+    ghost use Rattle.acl_tree.specs.Files.{Recorded, coded_recorded};
 
     ghost Value = { Recorded };
 

@@ -4,17 +4,17 @@ ghost use Rattle.std.specs.Prelude.{◌≡◌, length, Err, IfOk, IfSome};
 ghost use Rattle.acl_people.specs.KnownPeople.{persons};
 ghost use Rattle.acl_people.specs.Moves.{JoinsUser};
 ghost use Rattle.acl_tree.specs.Accounts.{useradd};
-ghost use Rattle.acl_tree.specs.Inner.{Gives, whole};
+ghost use Rattle.acl_tree.specs.InnerCommands.{Gives, whole};
 ghost use Rattle.acl_tree.specs.Reports.{Prepares, RefusesAtOnce};
 ghost use Rattle.acl_tree.specs.Step.{nameless};
 ghost use Rattle.acl_tree.specs.declared.command.Command.TheVariants.{Useradd};
 
 use crate::command::NewUser;
+use crate::fault::TreeFault;
 use crate::stage_people::{find_group, stage_people};
 use crate::state::BorrowedState;
 use crate::step::Staged;
 use crate::user_change::UserChange;
-use acl_files::TreeFault;
 use acl_people::People;
 use std::alloc::Global;
 

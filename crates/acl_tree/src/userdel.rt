@@ -1,14 +1,14 @@
 //! userdel(8): one user fewer.
 
-ghost use Rattle.acl_tree.specs.Inner.{whole};
+ghost use Rattle.acl_tree.specs.InnerCommands.{whole};
 ghost use Rattle.acl_tree.specs.Reports.{Prepares};
 ghost use Rattle.acl_tree.specs.declared.command.Command.TheVariants.{Userdel};
 
+use crate::fault::TreeFault;
 use crate::stage_people::{find_user, stage_people};
 use crate::state::BorrowedState;
 use crate::step::Staged;
 use crate::user_change::UserChange;
-use acl_files::TreeFault;
 use acl_names::Name;
 use std::alloc::Global;
 

@@ -1,13 +1,13 @@
 //! usermod(8): a user's primary group is another.
 
-ghost use Rattle.acl_tree.specs.Inner.{whole};
+ghost use Rattle.acl_tree.specs.InnerCommands.{whole};
 ghost use Rattle.acl_tree.specs.Reports.{Prepares};
 ghost use Rattle.acl_tree.specs.declared.command.Command.TheVariants.{Usermod};
 
+use crate::fault::TreeFault;
 use crate::stage_people::{find_group, find_user, stage_user_change};
 use crate::state::BorrowedState;
 use crate::step::Staged;
-use acl_files::TreeFault;
 use acl_names::Name;
 use std::alloc::Global;
 

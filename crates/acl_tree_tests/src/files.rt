@@ -2,10 +2,11 @@
 use crate::rows::{Line, after, command, paths};
 use crate::shown::{expect_text, listing};
 use crate::texts::{FOUR, PEOPLE};
-use acl_files::{Found, Paths, Selection, each_record_is_a_file};
 use acl_names::append_path;
 use acl_text::append_id;
-use acl_tree::{Staged, State, Tree, each_file_is_edited};
+use acl_tree::{
+    Found, Paths, Selection, Staged, State, Tree, each_file_is_edited, each_record_is_a_file,
+};
 use std::alloc::Global;
 use std::process::Abort;
 

@@ -4,11 +4,10 @@
 use crate::shown::{are_shown, listing, outcome};
 use acl_edit::{Change, ChangeEntries, ChangeFlags, Edit, Kind, Specs};
 use acl_entry::Id;
-use acl_files::{DumpRecords, Paths};
 use acl_names::{Name, Path, read_path};
 use acl_people::{People, UserName};
 use acl_text::{DumpUse, Sep, Want, read_dump, read_entries};
-use acl_tree::{Command, Membership, NewFile, NewUser, State, Table};
+use acl_tree::{Command, DumpRecords, Membership, NewFile, NewUser, Paths, State, Table};
 use std::alloc::Global;
 use std::process::Abort;
 

@@ -2,11 +2,10 @@
 use crate::rows::path;
 use acl_edit::{EditFault, Kind, Node};
 use acl_entry::{Acl, Id, Label, Perm, Requests, Subject, granted};
-use acl_files::{Differences, TreeFault};
 use acl_names::{Name, Path, append_path};
 use acl_people::People;
 use acl_text::{Names, TextFault, append_id, append_short};
-use acl_tree::{Command, Staged, State, Tree, UserChange};
+use acl_tree::{Command, Differences, Staged, State, Tree, TreeFault, UserChange};
 use std::alloc::Global;
 use std::process::Abort;
 

@@ -1,8 +1,7 @@
 //! A small tree, as texts and loaded.
-use acl_files::TreeFault;
 use acl_names::{Path, read_path};
 use acl_people::People;
-use acl_tree::{Command, Staged, Table, Tree};
+use acl_tree::{Command, Staged, Table, Tree, TreeFault};
 use std::alloc::Global;
 use std::process::Abort;
 

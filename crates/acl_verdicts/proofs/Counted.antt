@@ -15,8 +15,8 @@ use Rattle.path_map.specs.Below.{within, lies_in}
 use Rattle.path_map.specs.Inner.{After}
 use Rattle.path_map.proofs.Merges.{later_after}
 use Rattle.path_map.proofs.Rows.{in_order-filter}
-use Rattle.acl_files.specs.Changed.{outside, IsTop}
-use Rattle.acl_files.specs.Files.{Files}
+use Rattle.acl_tree.specs.Changed.{outside, IsTop}
+use Rattle.acl_tree.specs.Files.{Files}
 use Rattle.acl_edit.specs.declared.node.Node.{Node}
 use Rattle.kinds.specs.Kinds.{KindsOf}
 use Rattle.kinds.specs.Numbered.{Numbers, with_node, entries_by, AreUsed}

@@ -15,7 +15,7 @@ use Rattle.kinds.specs.Numbered.{Kept, entries_in, with_node}
 use Rattle.kinds.specs.Placed.{placed, given, AreGiven, ArePlaces}
 use Rattle.kinds.specs.declared.placed.GivenNode.{GivenNode}
 use Rattle.acl_verdicts.specs.declared.kind_rows.LabelRow.{LabelRow}
-use Rattle.acl_files.specs.Files.{Files}
+use Rattle.acl_tree.specs.Files.{Files}
 use Rattle.acl_entry.specs.Person.{Person}
 use Rattle.acl_entry.specs.declared.label.Label.{Label}
 use Rattle.acl_verdicts.specs.Rows.{Verdict, row_of}

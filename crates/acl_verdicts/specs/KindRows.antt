@@ -11,7 +11,7 @@ use Rattle.acl_entry.specs.Mentions.{mentions, meets}
 use Rattle.acl_entry.specs.Person.{Person}
 use Rattle.acl_entry.specs.declared.label.Label.{Label}
 use Rattle.acl_edit.specs.declared.node.Node.{Node}
-use Rattle.acl_files.specs.Files.{Files}
+use Rattle.acl_tree.specs.Files.{Files}
 use Rattle.acl_verdicts.specs.declared.kind_rows.LabelRow.{LabelRow}
 use Rattle.acl_verdicts.specs.Rows.{Verdict, Rows, row_of}
 

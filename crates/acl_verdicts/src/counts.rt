@@ -9,8 +9,8 @@ ghost use Rattle.acl_verdicts.specs.Subtrees.{covers};
 
 use crate::kind_rows::{KindRows, Mentioning};
 use acl_entry::Id;
-use acl_files::Differences;
 use acl_names::Path;
+use acl_tree::Differences;
 use path_map::PathMap;
 use std::alloc::{AllocError, Global};
 

@@ -14,9 +14,9 @@ use crate::hints::Hints;
 use crate::judge::Judge;
 use acl_edit::Node;
 use acl_entry::{Id, Label, Subject};
-use acl_files::Files;
 use acl_names::Path;
 use acl_people::Subjects;
+use acl_tree::Files;
 use kinds::{KindMap, KindTest, Renewal};
 use std::alloc::{AllocError, Global};
 

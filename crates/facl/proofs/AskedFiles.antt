@@ -10,10 +10,10 @@ use Rattle.acl_names.specs.Paths.{path_cmp, PathOf}
 use Rattle.acl_names.proofs.PathOrder.{path_total, exact_paths}
 use Rattle.acl_edit.specs.declared.node.Node.{Node}
 use Rattle.acl_names.specs.Below.{is_above, encloses}
-use Rattle.acl_files.specs.Walks.{ancestors}
-use Rattle.acl_files.specs.Files.{Files}
-use Rattle.acl_files.specs.Found.{found_in, files_found}
-use Rattle.acl_files.specs.Operands.{is_file, first_missing}
+use Rattle.acl_tree.specs.Walks.{ancestors}
+use Rattle.acl_tree.specs.Files.{Files}
+use Rattle.acl_tree.specs.Found.{found_in, files_found}
+use Rattle.acl_tree.specs.Operands.{is_file, first_missing}
 use Rattle.facl.specs.Inner.{ways, asked_paths}
 use Rattle.facl.specs.WhyText.{is_asked, files_asked}
 

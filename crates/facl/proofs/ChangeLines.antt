@@ -6,18 +6,18 @@ use Rattle.std.specs.Option.{option_map_or}
 use Rattle.std.specs.Ordering.{is_eq, is_lt}
 use Rattle.std.specs.FinMap.{find, put, is_sorted}
 use Rattle.std.specs.FinMap.Entries.{by_order, below_all}
-use Rattle.acl_files.specs.Inner.{next_file_below}
+use Rattle.acl_tree.specs.Inner.{next_file_below}
 use Rattle.acl_names.specs.Paths.{PathOf, path_cmp}
 use Rattle.path_map.specs.Entries.{IsInOrder}
 use Rattle.path_map.specs.Merged.{put_all}
 use Rattle.acl_names.specs.Names.{escaped}
 use Rattle.acl_people.specs.KnownPeople.{KnownPeople, persons, users_of}
 use Rattle.acl_people.specs.NameTables.{has_name}
-use Rattle.acl_files.specs.Files.{Files}
-use Rattle.acl_files.specs.Found.{FoundFile, found_file, found_in}
+use Rattle.acl_tree.specs.Files.{Files}
+use Rattle.acl_tree.specs.Found.{FoundFile, found_file, found_in}
 use Rattle.path_map.specs.Below.{holds_below}
 use Rattle.acl_tree.specs.State.{State}
-use Rattle.acl_files.proofs.Follows.{known_by_next}
+use Rattle.acl_tree.proofs.Follows.{known_by_next}
 use Rattle.acl_verdicts.specs.Rows.{Verdict, Rows, rows_of}
 use Rattle.acl_rights.specs.Tables.{VerdictTable, IsWhole}
 use Rattle.acl_verdicts.specs.Reach.{rows_along, reached_from}

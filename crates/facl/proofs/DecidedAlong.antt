@@ -13,9 +13,9 @@ use Rattle.acl_entry.specs.Person.{Person}
 use Rattle.acl_names.specs.Paths.{path_cmp, PathOf}
 use Rattle.acl_edit.specs.declared.node.Node.{Node}
 use Rattle.acl_names.specs.Below.{is_above, encloses}
-use Rattle.acl_files.specs.Files.{Files}
+use Rattle.acl_tree.specs.Files.{Files}
 use Rattle.path_map.specs.Entries.{IsInOrder}
-use Rattle.acl_files.specs.Found.{found_file}
+use Rattle.acl_tree.specs.Found.{found_file}
 use Rattle.path_map.specs.Below.{holds_below}
 use Rattle.acl_verdicts.specs.Reach.{execute}
 use Rattle.acl_rights.specs.Reach.{passes}

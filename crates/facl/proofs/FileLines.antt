@@ -14,12 +14,12 @@ use Rattle.acl_names.specs.Paths.{path_cmp, PathOf}
 use Rattle.acl_names.proofs.PathOrder.{path_total}
 use Rattle.acl_text.specs.declared.rows.PasswdRow.{PasswdRow}
 use Rattle.acl_edit.specs.declared.node.Node.{Node}
-use Rattle.acl_files.specs.Inner.{next_file_below}
-use Rattle.acl_files.proofs.Follows.{known_by_next}
+use Rattle.acl_tree.specs.Inner.{next_file_below}
+use Rattle.acl_tree.proofs.Follows.{known_by_next}
 use Rattle.path_map.proofs.Places.{less, above}
-use Rattle.acl_files.specs.Files.{Files}
+use Rattle.acl_tree.specs.Files.{Files}
 use Rattle.path_map.specs.Entries.{IsInOrder}
-use Rattle.acl_files.specs.Found.{FoundFile, found_file, found_in}
+use Rattle.acl_tree.specs.Found.{FoundFile, found_file, found_in}
 use Rattle.path_map.specs.Below.{holds_below}
 use Rattle.acl_tree.specs.State.{State}
 use Rattle.acl_verdicts.specs.Rows.{Verdict}

@@ -6,12 +6,12 @@ use Rattle.acl_names.specs.Names.{escaped}
 use Rattle.acl_text.specs.declared.rows.PasswdRow.{PasswdRow}
 use Rattle.acl_edit.specs.declared.node.Node.{Node}
 use Rattle.acl_people.specs.KnownPeople.{person, persons}
-use Rattle.acl_files.specs.Files.{Files}
+use Rattle.acl_tree.specs.Files.{Files}
 use Rattle.path_map.specs.Entries.{IsInOrder}
-use Rattle.acl_files.specs.Found.{FoundFile, found_file, found_in}
+use Rattle.acl_tree.specs.Found.{FoundFile, found_file, found_in}
 use Rattle.path_map.specs.Below.{holds_below}
 use Rattle.acl_tree.specs.State.{State}
-use Rattle.acl_files.proofs.Follows.{known_by_next}
+use Rattle.acl_tree.proofs.Follows.{known_by_next}
 use Rattle.acl_verdicts.specs.Rows.{Verdict, cells_of, rows_of}
 use Rattle.facl_output.specs.Listings.{path_shown}
 use Rattle.facl.specs.Answers.{verdict_line, index_text}

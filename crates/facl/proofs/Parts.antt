@@ -1,7 +1,7 @@
 -- The parts of a line, one after another: each is at fault, or the next ones decide.
 use Rattle.std.proofs.Common.{◌≡◌, ◌≤◌, ℕ, List, Result, Ok, Err, if◌then◌else◌, refl, sym, ◌∙◌, arith}
 use Rattle.std.specs.Prelude.{◌==◌}
-use Rattle.acl_files.specs.Files.{Files}
+use Rattle.acl_tree.specs.Files.{Files}
 use Rattle.facl_output.specs.declared.fault.LineFault.{LineFault}
 use Rattle.facl_script.specs.Forms.{Text}
 use Rattle.facl.specs.FirstPart.{IsRefusedForFirst}

@@ -4,13 +4,13 @@ use Rattle.std.specs.FinMap.{find}
 use Rattle.facl.specs.Requests.{requests_line}
 use Rattle.acl_edit.specs.declared.node.Node.{Node}
 use Rattle.acl_entry.specs.Person.{Person}
-use Rattle.acl_files.specs.declared.fault.TreeFault.TheVariants.{NoSuchFile, NoSuchUser}
+use Rattle.acl_tree.specs.declared.fault.TreeFault.TheVariants.{NoSuchFile, NoSuchUser}
 use Rattle.acl_names.specs.Paths.{path_cmp, PathOf}
 use Rattle.acl_people.specs.KnownPeople.{KnownPeople, users_of}
 use Rattle.acl_people.specs.NameTables.{place_of_word}
 use Rattle.acl_text.specs.declared.rows.PasswdRow.{PasswdRow}
-use Rattle.acl_files.specs.Files.{Files}
-use Rattle.acl_files.specs.Operands.{first_missing}
+use Rattle.acl_tree.specs.Files.{Files}
+use Rattle.acl_tree.specs.Operands.{first_missing}
 use Rattle.acl_tree.specs.State.{State}
 use Rattle.facl_output.specs.declared.fault.LineFault.{LineFault}
 use Rattle.facl_output.specs.declared.fault.LineFault.TheVariants.{Tree}

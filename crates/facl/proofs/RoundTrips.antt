@@ -18,8 +18,8 @@ use Rattle.acl_text.specs.declared.fault.TextFault.{TextFault}
 use Rattle.acl_text.specs.declared.fault.Which.{Which}
 use Rattle.acl_text.specs.declared.fault.Which.TheVariants.{Access, Default}
 use Rattle.acl_names.specs.Paths.{PathOf}
-use Rattle.acl_files.specs.Files.{Files}
-use Rattle.acl_files.specs.Sound.{ArePlaced}
+use Rattle.acl_tree.specs.Files.{Files}
+use Rattle.acl_tree.specs.Sound.{ArePlaced}
 use Rattle.facl_output.specs.RoundTrips.{IsAttributeAgain, AreAttributesAgain, IsShortAgain, AreListsAgain, all_entries, specs_of}
 use Rattle.facl_output.specs.ChaclListings.{default_part}
 use Rattle.facl_output.specs.Listings.{path_shown}

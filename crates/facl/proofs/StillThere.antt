@@ -13,16 +13,16 @@ use Rattle.acl_edit.specs.declared.edit.EditFault.{EditFault}
 use Rattle.acl_edit.specs.declared.node.Node.{Node}
 use Rattle.acl_names.proofs.Below.{within_itself}
 use Rattle.acl_tree.specs.EditCommand.{edit_one, edited_tree}
-use Rattle.acl_files.specs.Edits.{edit_all, unless_missing}
-use Rattle.acl_files.specs.Files.{Recorded}
+use Rattle.acl_tree.specs.Edits.{edit_all, unless_missing}
+use Rattle.acl_tree.specs.Files.{Recorded}
 use Rattle.path_map.specs.Entries.{IsInOrder}
 use Rattle.acl_tree.specs.Laws.{EditsEach, EachFileIsEdited, EachFileIsRestored}
-use Rattle.acl_files.specs.Operands.{means, is_file, first_missing}
-use Rattle.acl_files.specs.Restoring.{restore_one, paths_of, restored_tree}
+use Rattle.acl_tree.specs.Operands.{means, is_file, first_missing}
+use Rattle.acl_tree.specs.Restoring.{restore_one, paths_of, restored_tree}
 use Rattle.acl_tree.specs.State.{State, with_tree}
 use Rattle.acl_tree.specs.Step.{step}
 use Rattle.acl_tree.specs.declared.command.Command.TheVariants.{Edit as EditFiles, Restore}
-use Rattle.acl_files.specs.declared.fault.TreeFault.{TreeFault}
+use Rattle.acl_tree.specs.declared.fault.TreeFault.{TreeFault}
 use Rattle.facl_output.specs.declared.fault.LineFault.{LineFault}
 
 false_is_not_true : false ≡ true → ⊥

@@ -5,7 +5,7 @@ use Rattle.acl_edit.specs.declared.edit.Edit.TheVariants.{Put, Flatten}
 use Rattle.acl_text.specs.declared.fault.Which.TheVariants.{Access, Default}
 use Rattle.acl_tree.specs.declared.command.Command.TheVariants as commands
 use Rattle.acl_names.specs.Paths.{PathOf}
-use Rattle.acl_files.specs.Found.{files_found}
+use Rattle.acl_tree.specs.Found.{files_found}
 use Rattle.acl_tree.specs.State.{State}
 use Rattle.facl.specs.Answers.{index_text, user_line, file_line, all_files}
 use Rattle.acl_rights.specs.Verdicts.{granted}

@@ -19,8 +19,8 @@ use Rattle.acl_people.specs.Entries.{user_entry}
 use Rattle.acl_people.specs.KnownPeople.{users_of}
 use Rattle.acl_people.specs.NameTables.{Named, is_name, has_name}
 use Rattle.acl_text.specs.declared.rows.PasswdRow.{PasswdRow}
-use Rattle.acl_files.specs.Files.{Files}
-use Rattle.acl_files.specs.Found.{found_file, found_in}
+use Rattle.acl_tree.specs.Files.{Files}
+use Rattle.acl_tree.specs.Found.{found_file, found_in}
 use Rattle.path_map.specs.Below.{holds_below}
 use Rattle.acl_tree.specs.State.{State}
 use Rattle.acl_verdicts.specs.Rows.{Verdict}

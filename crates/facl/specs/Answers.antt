@@ -7,7 +7,7 @@ use Rattle.acl_entry.specs.Perms.{Perms}
 use Rattle.acl_names.specs.Names.{escaped}
 use Rattle.acl_names.specs.Paths.{path_cmp, PathOf}
 use Rattle.acl_text.specs.declared.rows.PasswdRow.{PasswdRow}
-use Rattle.acl_files.specs.Found.{FoundFile, found_in}
+use Rattle.acl_tree.specs.Found.{FoundFile, found_in}
 use Rattle.acl_tree.specs.State.{State}
 use Rattle.acl_verdicts.specs.Rows.{Verdict}
 use Rattle.acl_rights.specs.Verdicts.{granted}

@@ -1,8 +1,8 @@
 -- attr: the lists of a file as the extended attributes of acl(5).
 use Rattle.std.specs.Prelude.{[], ◌∷◌, false, codes, refl, Option, Some, Result}
 use Rattle.facl_output.specs.AttrListings.{attr_listing}
-use Rattle.acl_files.specs.Found.{files_found}
-use Rattle.acl_files.specs.Operands.{first_missing}
+use Rattle.acl_tree.specs.Found.{files_found}
+use Rattle.acl_tree.specs.Operands.{first_missing}
 use Rattle.acl_tree.specs.State.{State}
 use Rattle.facl_script.specs.Forms.{files_of}
 use Rattle.facl_script.specs.Syntax.{Syntax, one}

@@ -3,7 +3,7 @@ use Rattle.std.specs.Prelude.{ℕ, [], ◌∷◌, Bool, codes, refl, Option, Som
 use Rattle.acl_rights.specs.Verdicts.{can_requests}
 use Rattle.facl.specs.Asked.{has, operand}
 use Rattle.facl.specs.Requests.{requests_line}
-use Rattle.acl_files.specs.declared.fault.TreeFault.TheVariants.{NoSuchFile}
+use Rattle.acl_tree.specs.declared.fault.TreeFault.TheVariants.{NoSuchFile}
 use Rattle.acl_names.specs.Paths.{PathOf}
 use Rattle.acl_tree.specs.State.{State}
 use Rattle.acl_verdicts.specs.Rows.{Verdict}

@@ -3,8 +3,8 @@ use Rattle.std.specs.Prelude.{ℕ, ◌+◌, List, [], ◌∷◌, Bool, true, fal
 use Rattle.acl_edit.specs.declared.edit.Edit.TheVariants.{Put, Flatten}
 use Rattle.acl_text.specs.declared.fault.Which.TheVariants.{Access, Default}
 use Rattle.acl_people.specs.KnownPeople.{KnownPeople, naming_of}
-use Rattle.acl_files.specs.Found.{FoundFile, files_found}
-use Rattle.acl_files.specs.Operands.{first_missing}
+use Rattle.acl_tree.specs.Found.{FoundFile, files_found}
+use Rattle.acl_tree.specs.Operands.{first_missing}
 use Rattle.acl_tree.specs.State.{State}
 use Rattle.facl_script.specs.Forms.{Text, files_of}
 use Rattle.facl_script.specs.Syntax.{Syntax, by_letter, some}

@@ -3,8 +3,8 @@ use Rattle.std.specs.Prelude.{ℕ, List, [], ◌∷◌, Bool, true, false, codes
 use Rattle.acl_text.specs.declared.effective.Effective.{Effective}
 use Rattle.acl_text.specs.declared.effective.Effective.TheVariants.{WhereMasked, Always, Never}
 use Rattle.acl_people.specs.KnownPeople.{KnownPeople, naming_of}
-use Rattle.acl_files.specs.Found.{FoundFile, files_found}
-use Rattle.acl_files.specs.Operands.{first_missing}
+use Rattle.acl_tree.specs.Found.{FoundFile, files_found}
+use Rattle.acl_tree.specs.Operands.{first_missing}
 use Rattle.acl_tree.specs.State.{State}
 use Rattle.facl_output.specs.Listings.{listing}
 use Rattle.facl_output.specs.declared.listing.Options.{Options}

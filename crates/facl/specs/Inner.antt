@@ -17,15 +17,15 @@ use Rattle.acl_entry.specs.declared.entry.Key.TheVariants.{Owner, User, Other}
 use Rattle.acl_entry.specs.declared.label.Label.{Label}
 use Rattle.acl_names.specs.Paths.{path_cmp, PathOf}
 use Rattle.acl_edit.specs.declared.node.Node.{Node}
-use Rattle.acl_files.specs.Walks.{ancestors}
-use Rattle.acl_files.specs.Files.{Files}
+use Rattle.acl_tree.specs.Walks.{ancestors}
+use Rattle.acl_tree.specs.Files.{Files}
 use Rattle.acl_names.specs.Below.{is_above}
 use Rattle.path_map.specs.Entries.{first}
 use Rattle.path_map.specs.Merged.{put_all}
 use Rattle.acl_names.specs.Names.{escaped}
 use Rattle.acl_people.specs.KnownPeople.{KnownPeople, users_of}
 use Rattle.acl_people.specs.NameTables.{is_name}
-use Rattle.acl_files.specs.Found.{FoundFile, found_file}
+use Rattle.acl_tree.specs.Found.{FoundFile, found_file}
 use Rattle.acl_verdicts.specs.Rows.{Rows}
 use Rattle.facl_output.specs.Listings.{path_shown}
 use Rattle.facl.specs.Answers.{user_line, verdict_line}

@@ -3,7 +3,7 @@ use Rattle.std.specs.Prelude.{[], ◌∷◌, Bool, codes, refl, Option, Some, op
 use Rattle.facl.specs.Asked.{has, operand}
 use Rattle.facl.specs.Answers.{may_text}
 use Rattle.acl_entry.specs.Perms.{Perms}
-use Rattle.acl_files.specs.declared.fault.TreeFault.TheVariants.{NoSuchUser}
+use Rattle.acl_tree.specs.declared.fault.TreeFault.TheVariants.{NoSuchUser}
 use Rattle.acl_people.specs.KnownPeople.{users_of}
 use Rattle.acl_people.specs.NameTables.{place_of_word}
 use Rattle.acl_tree.specs.State.{State}

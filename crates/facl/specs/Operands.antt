@@ -6,7 +6,7 @@ use Rattle.acl_text.specs.Blanks.{trimmed}
 use Rattle.acl_text.specs.declared.fault.FaultKind.TheVariants.{BadPath}
 use Rattle.acl_people.specs.KnownPeople.{KnownPeople, users_of}
 use Rattle.acl_people.specs.NameTables.{place_of_word}
-use Rattle.acl_files.specs.declared.fault.TreeFault.TheVariants.{NoSuchFile, NoSuchUser}
+use Rattle.acl_tree.specs.declared.fault.TreeFault.TheVariants.{NoSuchFile, NoSuchUser}
 use Rattle.facl_script.specs.Forms.{Text}
 use Rattle.facl_output.specs.declared.fault.LineFault.{LineFault}
 use Rattle.facl_output.specs.declared.fault.LineFault.TheVariants as faults

@@ -3,13 +3,13 @@ use Rattle.std.specs.Option.{option_map_or}
 use Rattle.std.specs.Prelude.{◌≡◌, ◌≢◌, ℕ, Bool, false, List, [], Option, None, Some, Result, Ok, Err, MatchResult}
 use Rattle.acl_text.specs.InTurn.{GivesUnless}
 use Rattle.acl_tree.specs.State.{State, with_change, with_tree}
-use Rattle.acl_files.specs.Files.{Recorded}
+use Rattle.acl_tree.specs.Files.{Recorded}
 use Rattle.acl_tree.specs.Memberships.{ChangedUser}
 use Rattle.acl_tree.specs.Step.{step}
 use Rattle.acl_tree.specs.UserMoves.{change_moves, user_left}
 use Rattle.acl_tree.specs.Reports.{users_move}
 use Rattle.acl_tree.specs.declared.command.Command.{Command}
-use Rattle.acl_files.specs.declared.fault.TreeFault.{TreeFault}
+use Rattle.acl_tree.specs.declared.fault.TreeFault.{TreeFault}
 use Rattle.acl_tree.specs.declared.user_change.UserChange.{UserChange}
 use Rattle.acl_tree.specs.declared.user_change.UserChange.TheVariants.{Unchanged}
 use Rattle.acl_rights.specs.States.{IsPrepared}

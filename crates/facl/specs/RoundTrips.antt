@@ -9,7 +9,7 @@ use Rattle.acl_people.specs.KnownPeople.{KnownPeople, naming_of}
 use Rattle.acl_text.specs.declared.fault.Which.{Which}
 use Rattle.acl_text.specs.declared.fault.Which.TheVariants.{Access, Default}
 use Rattle.acl_names.specs.Paths.{PathOf}
-use Rattle.acl_files.specs.Found.{FoundFile}
+use Rattle.acl_tree.specs.Found.{FoundFile}
 use Rattle.facl_output.specs.AttrListings.{attr_line}
 use Rattle.facl_output.specs.ChaclListings.{chacl_line}
 use Rattle.facl_output.specs.Listings.{path_shown}

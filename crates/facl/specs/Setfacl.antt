@@ -15,14 +15,14 @@ use Rattle.acl_text.specs.declared.record.DumpUse.TheVariants as uses
 use Rattle.acl_edit.specs.declared.edit.Edit.{Edit as FileEdit}
 use Rattle.acl_edit.specs.declared.edit.Edit.TheVariants as edits
 use Rattle.acl_people.specs.KnownPeople.{KnownPeople, naming_of}
-use Rattle.acl_files.specs.Files.{Files}
-use Rattle.acl_files.specs.Found.{FoundFile, files_found}
-use Rattle.acl_files.specs.Restoring.{paths_of}
+use Rattle.acl_tree.specs.Files.{Files}
+use Rattle.acl_tree.specs.Found.{FoundFile, files_found}
+use Rattle.acl_tree.specs.Restoring.{paths_of}
 use Rattle.acl_tree.specs.State.{State}
 use Rattle.acl_tree.specs.Step.{step}
 use Rattle.acl_tree.specs.declared.command.Command.{Command}
 use Rattle.acl_tree.specs.declared.command.Command.TheVariants.{Chmod, Creat, Edit, Gpasswd, Load, Restore, Rm, Useradd, Userdel, Usermod}
-use Rattle.acl_files.specs.declared.fault.TreeFault.{TreeFault}
+use Rattle.acl_tree.specs.declared.fault.TreeFault.{TreeFault}
 use Rattle.facl_output.specs.Faults.{line_fault_of_tree}
 use Rattle.facl_output.specs.declared.fault.LineFault.{LineFault}
 use Rattle.facl_output.specs.declared.fault.LineFault.TheVariants as faults

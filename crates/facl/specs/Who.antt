@@ -3,7 +3,7 @@ use Rattle.std.specs.Prelude.{[], ◌∷◌, Bool, codes, refl, Option, Some, Re
 use Rattle.facl.specs.Asked.{has, operand}
 use Rattle.facl.specs.Answers.{who_text}
 use Rattle.acl_entry.specs.Perms.{Perms}
-use Rattle.acl_files.specs.declared.fault.TreeFault.TheVariants.{NoSuchFile}
+use Rattle.acl_tree.specs.declared.fault.TreeFault.TheVariants.{NoSuchFile}
 use Rattle.acl_names.specs.Paths.{PathOf}
 use Rattle.acl_tree.specs.State.{State}
 use Rattle.acl_verdicts.specs.Rows.{Verdict}

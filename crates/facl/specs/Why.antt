@@ -3,12 +3,12 @@ use Rattle.std.specs.Prelude.{List, [], ◌∷◌, Bool, codes, refl, Option, So
 use Rattle.facl.specs.Asked.{has, operand, operands_from}
 use Rattle.facl.specs.WhyText.{files_asked, why_text}
 use Rattle.acl_entry.specs.Person.{Person}
-use Rattle.acl_files.specs.declared.fault.TreeFault.TheVariants.{NoSuchUser}
+use Rattle.acl_tree.specs.declared.fault.TreeFault.TheVariants.{NoSuchUser}
 use Rattle.acl_people.specs.KnownPeople.{KnownPeople, users_of, subject, naming_of}
 use Rattle.acl_people.specs.NameTables.{place_of_word}
 use Rattle.acl_names.specs.Paths.{PathOf}
-use Rattle.acl_files.specs.Found.{FoundFile}
-use Rattle.acl_files.specs.Operands.{first_missing}
+use Rattle.acl_tree.specs.Found.{FoundFile}
+use Rattle.acl_tree.specs.Operands.{first_missing}
 use Rattle.acl_tree.specs.State.{State}
 use Rattle.facl_script.specs.Forms.{Text, files_of}
 use Rattle.facl_script.specs.Syntax.{Syntax, by_name, one, some}

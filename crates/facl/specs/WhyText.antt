@@ -18,8 +18,8 @@ use Rattle.acl_text.specs.DumpWriting.{file_text, entry_line}
 use Rattle.acl_text.specs.declared.effective.Effective.TheVariants.{WhereMasked}
 use Rattle.acl_edit.specs.declared.node.Node.{Node}
 use Rattle.acl_names.specs.Below.{encloses}
-use Rattle.acl_files.specs.Files.{Files}
-use Rattle.acl_files.specs.Found.{FoundFile, found_in}
+use Rattle.acl_tree.specs.Files.{Files}
+use Rattle.acl_tree.specs.Found.{FoundFile, found_in}
 use Rattle.acl_rights.specs.Reach.{reach}
 use Rattle.acl_verdicts.specs.Reach.{execute}
 use Rattle.facl_output.specs.Listings.{has_slash}

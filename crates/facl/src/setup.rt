@@ -4,8 +4,7 @@ ghost use Rattle.std.specs.Prelude.{◌≡◌, ◌≢◌, Ok, Err, MatchResult, 
 ghost use Rattle.acl_tree.specs.Loads.{load};
 ghost use Rattle.facl.specs.Setups.{set_up, with_text, initial_state};
 
-use acl_files::TreeFault;
-use acl_tree::{Command, Staged, State, Table};
+use acl_tree::{Command, Staged, State, Table, TreeFault};
 use facl_output::RunFault;
 use std::alloc::Global;
 

@@ -12,7 +12,7 @@ use Rattle.acl_entry.specs.Perms.{number}
 use Rattle.acl_entry.specs.declared.entry.Entry.{Entry}
 use Rattle.acl_people.specs.KnownPeople.{KnownPeople, naming_of}
 use Rattle.acl_names.specs.Paths.{PathOf}
-use Rattle.acl_files.specs.Files.{Files}
+use Rattle.acl_tree.specs.Files.{Files}
 use Rattle.hex.proofs.HexLemmas.{decode_of-encode_lower}
 use Rattle.hex.specs.Hex.{IsBytes}
 use Rattle.facl_output.specs.RoundTrips.{IsListAgain, IsReadAgain, IsAttributeAgain, AreAttributesAgain}

@@ -36,8 +36,8 @@ use Rattle.acl_text.specs.declared.fault.Which.{Which}
 use Rattle.acl_text.specs.declared.fault.Which.TheVariants.{Access, Default}
 use Rattle.acl_text.specs.Writing.{spec_of}
 use Rattle.acl_names.specs.Paths.{PathOf}
-use Rattle.acl_files.specs.Files.{Files}
-use Rattle.acl_files.specs.Sound.{ArePlaced}
+use Rattle.acl_tree.specs.Files.{Files}
+use Rattle.acl_tree.specs.Sound.{ArePlaced}
 use Rattle.facl_output.specs.RoundTrips.{IsReadAgain, IsShortAgain, entries_for, dacl_entries, all_entries, specs_of, AreSetAs, AreListsAgain}
 use Rattle.facl_output.proofs.ListsAgain.{both_again, short_is_again}
 

@@ -18,17 +18,17 @@ use Rattle.acl_text.specs.declared.record.DumpUse.TheVariants.{Load, Restore}
 use Rattle.acl_text.specs.DumpWriting.{record_text}
 use Rattle.acl_text.specs.Again.{AreApart, AreFlags, IsReadable, HasHeaders, paths, placed, dump_text, line_count}
 use Rattle.acl_text.proofs.WrittenRecords.{dump_again}
-use Rattle.acl_files.specs.declared.fault.TreeFault.{TreeFault}
-use Rattle.acl_files.specs.declared.fault.TreeFault.TheVariants.{TooMany}
+use Rattle.acl_tree.specs.declared.fault.TreeFault.{TreeFault}
+use Rattle.acl_tree.specs.declared.fault.TreeFault.TheVariants.{TooMany}
 use Rattle.acl_text.specs.Naming.{Naming}
-use Rattle.acl_files.specs.Files.{Files, no_files}
+use Rattle.acl_tree.specs.Files.{Files, no_files}
 use Rattle.path_map.specs.Entries.{IsInOrder}
 use Rattle.acl_names.specs.Below.{is_above}
-use Rattle.acl_files.specs.Loading.{node_of, has_below, as_files, files_of}
-use Rattle.acl_files.specs.Operands.{is_file}
+use Rattle.acl_tree.specs.Loading.{node_of, has_below, as_files, files_of}
+use Rattle.acl_tree.specs.Operands.{is_file}
 use Rattle.path_map.specs.Below.{holds_below}
-use Rattle.acl_files.specs.Sound.{IsPlaced, ArePlaced}
-use Rattle.acl_files.specs.Found.{FoundFile, found_in, files_found}
+use Rattle.acl_tree.specs.Sound.{IsPlaced, ArePlaced}
+use Rattle.acl_tree.specs.Found.{FoundFile, found_in, files_found}
 use Rattle.acl_tree.specs.State.{State}
 use Rattle.acl_tree.specs.Loads.{with_records}
 use Rattle.facl_output.specs.Listings.{listing, plain, has_slash, flags_shown}

@@ -11,11 +11,11 @@ use Rattle.path_map.proofs.Differences.{Leads, leads_all}
 use Rattle.path_map.proofs.Rows.{in_order-filter}
 use Rattle.acl_tree.specs.declared.command.Command.TheVariants as commands
 use Rattle.acl_names.specs.Paths.{PathOf}
-use Rattle.acl_files.specs.Files.{Files}
+use Rattle.acl_tree.specs.Files.{Files}
 use Rattle.path_map.specs.Entries.{IsInOrder}
-use Rattle.acl_files.specs.Found.{found_in, files_found}
+use Rattle.acl_tree.specs.Found.{found_in, files_found}
 use Rattle.acl_tree.specs.Laws.{IsAsRecorded}
-use Rattle.acl_files.specs.Operands.{is_file, files_meant}
+use Rattle.acl_tree.specs.Operands.{is_file, files_meant}
 use Rattle.acl_tree.specs.State.{State}
 use Rattle.acl_tree.specs.Step.{step}
 use Rattle.facl_output.specs.RoundTrips.{IsReadAgain, listing_of, IsRestoredAsItIs}

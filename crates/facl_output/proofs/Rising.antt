@@ -12,9 +12,9 @@ use Rattle.acl_edit.specs.declared.node.Node.{Node}
 use Rattle.acl_text.specs.declared.record.DumpRecord.{DumpRecord}
 use Rattle.acl_text.specs.Records.{same_path}
 use Rattle.acl_text.specs.Again.{AreApart, paths}
-use Rattle.acl_files.specs.Files.{Files}
+use Rattle.acl_tree.specs.Files.{Files}
 use Rattle.path_map.specs.Entries.{IsInOrder}
-use Rattle.acl_files.specs.Loading.{insert_record, in_path_order}
+use Rattle.acl_tree.specs.Loading.{insert_record, in_path_order}
 use Rattle.path_map.proofs.Places.{above}
 
 -- each of them comes before the path

@@ -6,7 +6,7 @@ use Rattle.acl_entry.specs.Lists.{KeyMap}
 use Rattle.acl_text.specs.Attr.{attr_bytes}
 use Rattle.acl_text.specs.DumpWriting.{file_text}
 use Rattle.acl_edit.specs.declared.node.Node.{Node}
-use Rattle.acl_files.specs.Found.{FoundFile}
+use Rattle.acl_tree.specs.Found.{FoundFile}
 use Rattle.facl_output.specs.Listings.{has_slash}
 
 -- an attribute of this name: the bytes of a list as hex digits

@@ -4,7 +4,7 @@ use Rattle.std.specs.List.{flat_map}
 use Rattle.acl_entry.specs.Lists.{KeyMap, entries}
 use Rattle.acl_text.specs.Naming.{Naming}
 use Rattle.acl_text.specs.Writing.{short}
-use Rattle.acl_files.specs.Found.{FoundFile}
+use Rattle.acl_tree.specs.Found.{FoundFile}
 use Rattle.facl_output.specs.Listings.{path_shown}
 
 module _ (naming : Naming) where

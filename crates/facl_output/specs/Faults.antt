@@ -1,8 +1,8 @@
 -- What the faults of the layers below are for a line or a run: their running out of memory is its own.
 use Rattle.acl_text.specs.declared.fault.FaultKind.TheVariants as kinds
 use Rattle.acl_text.specs.declared.fault.TextFault.{TextFault}
-use Rattle.acl_files.specs.declared.fault.TreeFault.{TreeFault}
-use Rattle.acl_files.specs.declared.fault.TreeFault.TheVariants as trees
+use Rattle.acl_tree.specs.declared.fault.TreeFault.{TreeFault}
+use Rattle.acl_tree.specs.declared.fault.TreeFault.TheVariants as trees
 use Rattle.facl_script.specs.declared.words.SplitFault.{SplitFault}
 use Rattle.facl_script.specs.declared.words.SplitFault.TheVariants as splits
 use Rattle.facl_script.specs.declared.fault.ScriptFault.{ScriptFault}

@@ -9,7 +9,7 @@ use Rattle.acl_text.specs.declared.fault.Which.TheVariants.{Access}
 use Rattle.acl_text.specs.declared.effective.Effective.TheVariants.{WhereMasked}
 use Rattle.acl_names.specs.Paths.{path_text}
 use Rattle.acl_text.specs.DumpWriting.{header_text, list_text, default_text, slash_text}
-use Rattle.acl_files.specs.Found.{FoundFile}
+use Rattle.acl_tree.specs.Found.{FoundFile}
 use Rattle.facl_output.specs.declared.listing.Options.{Options}
 
 -- a file has no more than its mode shows: a minimal access list and no default list

@@ -2,7 +2,7 @@
 use Rattle.std.specs.Prelude.{ℕ, List, [], ◌∷◌, ◌++◌, codes, decimal}
 use Rattle.acl_tree.specs.declared.command.Table.{Table}
 use Rattle.acl_tree.specs.declared.command.Table.TheVariants.{Passwd, Group, Dump}
-use Rattle.acl_files.specs.declared.fault.TreeFault.{TreeFault}
+use Rattle.acl_tree.specs.declared.fault.TreeFault.{TreeFault}
 use Rattle.facl_output.specs.declared.fault.LineFault.{LineFault}
 use Rattle.facl_output.specs.declared.fault.LineFault.TheVariants.{LineTooLong, NotUtf8, OpenQuote, UnknownTool, UnendedText, TextLineTooLong, Usage, Text, Both, Tree, NoMemory}
 use Rattle.facl_output.specs.declared.fault.RunFault.{RunFault}

@@ -20,8 +20,8 @@ use Rattle.acl_text.specs.declared.record.DumpRecord.{DumpRecord}
 use Rattle.acl_text.specs.declared.record.DumpUse.TheVariants as uses
 use Rattle.acl_text.specs.Again.{IsFound, IsList, IsListIf}
 use Rattle.acl_text.specs.Records.{dump_of}
-use Rattle.acl_files.specs.Files.{Files, no_files}
-use Rattle.acl_files.specs.Found.{FoundFile, files_found}
+use Rattle.acl_tree.specs.Files.{Files, no_files}
+use Rattle.acl_tree.specs.Found.{FoundFile, files_found}
 use Rattle.acl_tree.specs.State.{State}
 use Rattle.acl_tree.specs.Loads.{load}
 use Rattle.acl_tree.specs.Step.{step}

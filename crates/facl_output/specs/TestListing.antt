@@ -7,7 +7,7 @@ use Rattle.acl_edit.specs.declared.node.Node.{Node}
 use Rattle.acl_text.specs.Naming.{Naming}
 use Rattle.acl_text.specs.declared.entries.Form.TheVariants.{Short}
 use Rattle.acl_text.specs.Writing.{entry_text, short}
-use Rattle.acl_files.specs.Found.{FoundFile}
+use Rattle.acl_tree.specs.Found.{FoundFile}
 use Rattle.facl_output.specs.Listings.{path_shown}
 
 module _ (naming : Naming) where

@@ -14,8 +14,8 @@ use Rattle.acl_text.specs.declared.fault.TextFault.{TextFault}
 use Rattle.acl_text.specs.declared.fault.Which.{Which}
 use Rattle.acl_text.specs.declared.fault.Which.TheVariants.{Access, Default}
 use Rattle.acl_text.specs.Writing.{tag_text}
-use Rattle.acl_files.specs.declared.fault.TreeFault.{TreeFault}
-use Rattle.acl_files.specs.declared.fault.TreeFault.TheVariants as trees
+use Rattle.acl_tree.specs.declared.fault.TreeFault.{TreeFault}
+use Rattle.acl_tree.specs.declared.fault.TreeFault.TheVariants as trees
 use Rattle.facl_output.specs.declared.fault.Source.{Source}
 use Rattle.facl_output.specs.declared.fault.Source.TheVariants.{Entry, DefaultEntry, TextLine, AttributeEntry, Operand}
 

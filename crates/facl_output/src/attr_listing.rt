@@ -11,8 +11,8 @@ ghost use Rattle.facl_output.specs.AttrListings.{attr_line, default_line, attr_l
 use crate::listing::has_slash;
 use acl_edit::Node;
 use acl_entry::Acl;
-use acl_files::Found;
 use acl_text::{Header, NoNames, append_header, encode_attr};
+use acl_tree::Found;
 use std::alloc::{AllocError, Global};
 
 /// The bytes of a list as hex digits.

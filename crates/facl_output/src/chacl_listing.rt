@@ -6,8 +6,8 @@ ghost use Rattle.facl_output.specs.ChaclListings.{default_part, chacl_line, chac
 
 use crate::listing::push_path_shown;
 use acl_entry::Acl;
-use acl_files::Found;
 use acl_text::{Names, append_short};
+use acl_tree::Found;
 use std::alloc::{AllocError, Global};
 
 /// Adds a slash and the default list, if there is one.

@@ -6,9 +6,8 @@ ghost use Rattle.facl_output.specs.Faults.{line_fault_of_split, line_fault_of_te
 ghost use Rattle.facl_output.specs.declared.fault.LineFault.{LineFault};
 ghost use Rattle.facl_output.specs.declared.fault.RunFault.{RunFault};
 
-use acl_files::TreeFault;
 use acl_text::{FaultKind, TextFault};
-use acl_tree::Table;
+use acl_tree::{Table, TreeFault};
 use facl_script::{ScriptFault, SplitFault, WordsFault};
 use std::alloc::{AllocError, AllocFailed};
 use thiserror::Error;

@@ -3,7 +3,7 @@
 ghost use Rattle.std.specs.Prelude.{List, Bool};
 ghost use Rattle.std.specs.List.{AllByRecursion};
 ghost use Rattle.acl_names.specs.Paths.{PathOf};
-ghost use Rattle.acl_files.specs.Found.{files_found};
+ghost use Rattle.acl_tree.specs.Found.{files_found};
 ghost use Rattle.acl_tree.specs.State.{state_from};
 ghost use Rattle.facl_output.specs.RoundTrips.{listing_of, all_paths_listing, root_listing, IsLoadedAs, IsRestoredAsItIs, AreAttributesAgain, AreListsAgain};
 

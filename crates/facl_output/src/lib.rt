@@ -29,8 +29,7 @@ pub use test_listing::append_test_listing;
 // The public calls take and give these values of the crates below.
 pub use acl_edit::EditFault;
 pub use acl_entry::{Id, Key, ListFault};
-pub use acl_files::TreeFault;
 pub use acl_names::{Name, Path};
 pub use acl_text::{FaultKind, TextFault, Which};
-pub use acl_tree::Table;
+pub use acl_tree::{Table, TreeFault};
 pub use facl_script::{ScriptFault, WordsFault};

@@ -6,9 +6,9 @@ ghost use Rattle.acl_names.specs.Appends.{Appends, AppendsWhole};
 ghost use Rattle.facl_output.specs.Listings.{has_base_alone, is_listed, has_slash, path_shown, flags_shown, headers, default_entries, file_text, files_text, listing};
 
 use acl_edit::{Kind, Node};
-use acl_files::Found;
 use acl_names::append_path;
 use acl_text::{Effective, Header, Names, NoNames, Which, append_header, append_list};
+use acl_tree::Found;
 use std::alloc::AllocError;
 
 /// Whether a file has base entries alone, and no default list.

@@ -12,9 +12,9 @@ ghost use Rattle.acl_names.specs.Paths.{path_text};
 use crate::fault::{LineFault, Source};
 use acl_edit::EditFault;
 use acl_entry::{Id, Key, ListFault};
-use acl_files::TreeFault;
 use acl_names::{Name, Path, append_name, append_path};
 use acl_text::{FaultKind, TextFault, Which};
+use acl_tree::TreeFault;
 use itoa::Buffer;
 use std::alloc::AllocError;
 

@@ -6,8 +6,7 @@ ghost use Rattle.facl_output.specs.Messages.{run_fault_text, setup_text, table_n
 
 use crate::fault::RunFault;
 use crate::message::push_tree_fault;
-use acl_files::TreeFault;
-use acl_tree::Table;
+use acl_tree::{Table, TreeFault};
 use std::alloc::AllocError;
 
 /// The name of a text of the setup.

@@ -8,8 +8,8 @@ ghost use Rattle.facl_output.specs.TestListing.{default_entry, default_entries, 
 use crate::listing::{end_line, push_path_shown};
 use acl_edit::Node;
 use acl_entry::{Acl, Entry};
-use acl_files::Found;
 use acl_text::{Form, Names, append_entry, append_short};
+use acl_tree::Found;
 use std::alloc::AllocError;
 
 /// Adds an entry of the default list, a comma before it.

@@ -1,9 +1,9 @@
 //! The messages of refused commands.
 use acl_edit::EditFault;
 use acl_entry::{Id, Key, ListFault};
-use acl_files::TreeFault;
 use acl_names::{Name, Path, read_path};
 use acl_text::{FaultKind, TextFault, Which};
+use acl_tree::TreeFault;
 use facl_output::{LineFault, push_message};
 use std::alloc::Global;
 use std::process::Abort;

@@ -1,6 +1,5 @@
 //! The messages of lines and of runs, but for those of texts and commands.
-use acl_files::TreeFault;
-use acl_tree::Table;
+use acl_tree::{Table, TreeFault};
 use facl_output::{LineFault, ReservedMessage, RunFault, push_message, push_run_fault};
 use std::alloc::Global;
 use std::process::Abort;

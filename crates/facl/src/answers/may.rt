@@ -3,17 +3,16 @@
 ghost use Rattle.std.specs.Prelude.{◌≡◌, map, IfOk, option_map};
 ghost use Rattle.acl_names.specs.Appends.{Appends};
 ghost use Rattle.std.specs.List.{flat_map};
-ghost use Rattle.acl_files.specs.Inner.{next_file_below};
-ghost use Rattle.acl_files.specs.Found.{found_file, found_in};
+ghost use Rattle.acl_tree.specs.Inner.{next_file_below};
+ghost use Rattle.acl_tree.specs.Found.{found_file, found_in};
 ghost use Rattle.facl.specs.Answers.{file_line, may_text};
 ghost use Rattle.facl.specs.Inner.{is_first, in_step};
 
 use acl_edit::Node;
 use acl_entry::Perm;
-use acl_files::{FilesIter, Found};
 use acl_names::Path;
 use acl_rights::Verdicts;
-use acl_tree::Tree;
+use acl_tree::{FilesIter, Found, Tree};
 use acl_verdicts::Judge;
 use facl_output::push_path_shown;
 use std::alloc::{AllocError, Global};

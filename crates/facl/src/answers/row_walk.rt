@@ -2,15 +2,14 @@
 
 ghost use Rattle.std.specs.Prelude.{◌≡◌, drop, option_map, IfOk, OnOk};
 ghost use Rattle.path_map.specs.Entries.{first, IsInOrder};
-ghost use Rattle.acl_files.specs.Found.{found_file};
+ghost use Rattle.acl_tree.specs.Found.{found_file};
 ghost use Rattle.facl.specs.Inner.{has_next_below, walk_of, shown_row};
 ghost use Rattle.acl_rights.specs.Verdicts.{rows_granted};
 
 use acl_edit::Node;
-use acl_files::{FilesIter, Found};
 use acl_names::Path;
 use acl_rights::Verdicts;
-use acl_tree::Tree;
+use acl_tree::{FilesIter, Found, Tree};
 use acl_verdicts::{Cells, FileRows, Judge};
 use std::alloc::{AllocError, Global};
 use std::marker::Model;

@@ -4,10 +4,10 @@ ghost use Rattle.std.specs.Prelude.{◌≡◌, IfOk};
 ghost use Rattle.facl.specs.Replies.{Gives};
 ghost use Rattle.facl.specs.Operands.{path_at, paths_from, name_meant, user_or_fault};
 
-use acl_files::{Paths, TreeFault};
 use acl_names::{Name, Path, read_name, read_path};
 use acl_people::People;
 use acl_text::{FaultKind, TextFault, trim};
+use acl_tree::{Paths, TreeFault};
 use facl_output::{LineFault, Source};
 use facl_script::{Word, WordRef};
 use std::alloc::{AllocError, Global};

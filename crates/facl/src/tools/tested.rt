@@ -3,16 +3,17 @@
 ghost use Rattle.std.specs.Prelude.{◌≡◌, false, None, Ok, IfOk};
 ghost use Rattle.facl.specs.Replies.{Replies, Gives};
 ghost use Rattle.facl.specs.Setfacl.{command_files, done_or_tested, tested, tested_or_fault};
-ghost use Rattle.acl_files.specs.Found.{files_found};
-ghost use Rattle.acl_files.specs.Operands.{first_missing};
-ghost use Rattle.acl_files.specs.Restoring.{paths_of};
+ghost use Rattle.acl_tree.specs.Found.{files_found};
+ghost use Rattle.acl_tree.specs.Operands.{first_missing};
+ghost use Rattle.acl_tree.specs.Restoring.{paths_of};
 ghost use Rattle.acl_tree.specs.Step.{step};
 
 use crate::tools::effect::{Effect, prepared};
-use acl_files::{DumpRecords, Found, Paths, Selection};
 use acl_names::Path;
 use acl_text::DumpRecord;
-use acl_tree::{Command, Staged, State, Tree, each_file_is_edited};
+use acl_tree::{
+    Command, DumpRecords, Found, Paths, Selection, Staged, State, Tree, each_file_is_edited,
+};
 use facl_output::{LineFault, append_test_listing};
 use std::alloc::{AllocError, Global};
 

@@ -4,7 +4,7 @@ use Rattle.std.specs.Prelude.{count_by}
 use Rattle.path_map.specs.Below.{lies_in}
 use Rattle.kinds.specs.Numbered.{entries_in}
 use Rattle.acl_people.specs.KnownPeople.{KnownPeople, persons}
-use Rattle.acl_files.specs.Files.{Files, Recorded, max_files}
+use Rattle.acl_tree.specs.Files.{Files, Recorded, max_files}
 use Rattle.acl_tree.specs.declared.user_change.UserChange.{UserChange}
 use Rattle.acl_rights.specs.Stages.{moves_looked}
 use Rattle.acl_rights.proofs.NextRows.{order_changed, walked_after}

@@ -1,7 +1,7 @@
 use Rattle.std.proofs.Common.{subst, ◌∙◌}
 use Rattle.path_map.specs.Entries.{IsInOrder}
 use Rattle.kinds.specs.Numbered.{entries_in}
-use Rattle.acl_files.specs.Files.{Recorded}
+use Rattle.acl_tree.specs.Files.{Recorded}
 use Rattle.acl_rights.proofs.NextRows.{rows_after_leave, looked_left, refreshed_left}
 use Rattle.acl_rights.proofs.stage.after_leave.Goals as goal
 

@@ -1,6 +1,6 @@
 use Rattle.std.proofs.Common.{◌≤◌, mul-le-mul_right, length, subst, arith}
 use Rattle.acl_people.specs.KnownPeople.{KnownPeople}
-use Rattle.acl_files.specs.Files.{Recorded}
+use Rattle.acl_tree.specs.Files.{Recorded}
 use Rattle.acl_rights_tests.proofs.asked.is_accepted.Goals as goal
 
 pub after-requires-clause-room : goal.after-requires-clause-room

@@ -1,7 +1,7 @@
 use Rattle.std.proofs.Common.{◌≤◌, length, subst, sym, arith}
 use Rattle.acl_entry.specs.Check.{rights}
 use Rattle.acl_people.specs.KnownPeople.{KnownPeople}
-use Rattle.acl_files.specs.Files.{Recorded}
+use Rattle.acl_tree.specs.Files.{Recorded}
 use Rattle.acl_tree.specs.State.{State}
 use Rattle.acl_rights.specs.Tables.{VerdictTable, IsWhole}
 use native.Mathlib.Nat.{mul-le-mul_right}

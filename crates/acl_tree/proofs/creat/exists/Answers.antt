@@ -1,5 +1,5 @@
 use Rattle.std.proofs.Common.{ap, ◌∙◌}
-use Rattle.acl_files.specs.Files.{Files}
+use Rattle.acl_tree.specs.Files.{Files}
 use Rattle.acl_tree.specs.Creat.{exists}
 use Rattle.acl_tree.proofs.creat.exists.Goals as goal
 

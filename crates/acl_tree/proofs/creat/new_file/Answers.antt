@@ -1,6 +1,6 @@
 use Rattle.std.proofs.Common.{◌<◌, length, arith, ap, sym, subst, ◌∙◌}
 use Rattle.acl_edit.specs.Nodes.{IsSound}
-use Rattle.acl_files.specs.Files.{Files, max_files}
+use Rattle.acl_tree.specs.Files.{Files, max_files}
 use Rattle.acl_tree.proofs.NewFiles.{made_new, is_new}
 use Rattle.acl_tree.proofs.creat.new_file.Goals as goal
 

@@ -5,8 +5,8 @@ use Rattle.std.specs.FinMap.Entries.{find-put}
 use Rattle.acl_names.specs.Paths.{path_cmp, PathOf}
 use Rattle.acl_names.proofs.PathOrder.{path_total}
 use Rattle.acl_edit.specs.declared.node.Node.{Node}
-use Rattle.acl_files.specs.Files.{Files, Recorded}
-use Rattle.acl_files.specs.Sound.{IsSoundTree}
+use Rattle.acl_tree.specs.Files.{Files, Recorded}
+use Rattle.acl_tree.specs.Sound.{IsSoundTree}
 use Rattle.acl_tree.specs.Creat.{creat_by}
 use Rattle.acl_tree.specs.State.{State, state_from, with_tree}
 use Rattle.acl_tree.specs.Reports.{staged_from}

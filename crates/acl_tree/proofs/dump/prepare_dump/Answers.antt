@@ -1,14 +1,14 @@
 use Rattle.std.proofs.Common.{◌≡◌, List, length, nat_lt, if◌then◌else◌, true, false, Ok, Err, arith, refl, sym, ap, subst, ◌∙◌, true≢false}
 use Rattle.std.proofs.lemmas.Grind.{common_steps}
 use Rattle.acl_text.specs.declared.record.DumpRecord.{DumpRecord}
-use Rattle.acl_files.specs.Files.{Files, Recorded, max_files}
-use Rattle.acl_files.specs.Loading.{files_of}
-use Rattle.acl_files.specs.declared.fault.TreeFault.TheVariants.{TooMany}
-use Rattle.acl_files.specs.Changed.{gone_between}
-use Rattle.acl_files.specs.Sound.{IsSoundTree}
+use Rattle.acl_tree.specs.Files.{Files, Recorded, max_files}
+use Rattle.acl_tree.specs.Loading.{files_of}
+use Rattle.acl_tree.specs.declared.fault.TreeFault.TheVariants.{TooMany}
+use Rattle.acl_tree.specs.Changed.{gone_between}
+use Rattle.acl_tree.specs.Sound.{IsSoundTree}
 use Rattle.acl_tree.specs.State.{State, state_from}
 use Rattle.acl_tree.specs.Loads.{with_records}
-use Rattle.acl_files.proofs.Kept.{loaded_sound}
+use Rattle.acl_tree.proofs.Kept.{loaded_sound}
 use Rattle.acl_tree.proofs.Reported.{reported_files}
 use Rattle.acl_tree.proofs.dump.prepare_dump.Goals as goal
 

@@ -1,8 +1,8 @@
 use Rattle.std.proofs.Common.{◌≡◌, Ok, sym, ap, ◌∙◌}
 use Rattle.acl_edit.specs.Nodes as nodes
-use Rattle.acl_files.specs.Files.{Recorded}
-use Rattle.acl_files.specs.Operands.{first_missing}
-use Rattle.acl_files.proofs.Edits.{never_fails}
+use Rattle.acl_tree.specs.Files.{Recorded}
+use Rattle.acl_tree.specs.Operands.{first_missing}
+use Rattle.acl_tree.proofs.Edits.{never_fails}
 use Rattle.acl_tree.specs.State.{State}
 use Rattle.acl_tree.specs.Chmod.{chmod_all, or_missing}
 use Rattle.acl_tree.proofs.edit_command.prepare_chmod.Goals as goal

@@ -1,6 +1,6 @@
 use Rattle.std.proofs.Common.{Ok, refl, ap, sym, ◌∙◌}
-use Rattle.acl_files.specs.Files.{Recorded}
-use Rattle.acl_files.specs.Edits.{of_each}
+use Rattle.acl_tree.specs.Files.{Recorded}
+use Rattle.acl_tree.specs.Edits.{of_each}
 use Rattle.acl_tree.specs.State.{State, state_from}
 use Rattle.acl_tree.proofs.Each.{edits_each, edit_alike, kept_edited}
 use Rattle.acl_tree.proofs.Reported.{reported_files}

@@ -2,15 +2,15 @@ use Rattle.std.proofs.Common.{◌≡◌, false, None, Ok, not, filter, refl, ap,
 use Rattle.std.specs.List.{AllByRecursion}
 use Rattle.std.specs.FinMap.{find}
 use Rattle.acl_names.specs.Paths.{path_cmp}
-use Rattle.acl_files.specs.Files.{Files, Recorded}
-use Rattle.acl_files.specs.Operands.{is_file, in_region}
+use Rattle.acl_tree.specs.Files.{Files, Recorded}
+use Rattle.acl_tree.specs.Operands.{is_file, in_region}
 use Rattle.acl_tree.specs.Rm.{first_refused, without_files, or_refused}
 use Rattle.path_map.specs.Below.{holds_below}
-use Rattle.acl_files.specs.Sound.{IsSoundTree}
+use Rattle.acl_tree.specs.Sound.{IsSoundTree}
 use Rattle.acl_tree.specs.State.{State, state_from, with_tree}
 use Rattle.acl_tree.specs.Reports.{staged_from}
 use Rattle.acl_tree.specs.declared.user_change.UserChange.TheVariants.{Unchanged}
-use Rattle.acl_files.proofs.Selected.{filter_alike}
+use Rattle.acl_tree.proofs.Selected.{filter_alike}
 use Rattle.acl_tree.proofs.Removals.{gone_from, sound_left, apart_all}
 use Rattle.acl_tree.proofs.Reported.{reported_removal}
 use Rattle.acl_tree.proofs.Unnamed.{not_removed}

@@ -1,8 +1,8 @@
 use Rattle.std.proofs.Common.{◌≡◌, refl, ap, sym, subst, ◌∙◌}
 use Rattle.std.specs.FinMap.{find}
 use Rattle.acl_names.specs.Paths.{path_cmp}
-use Rattle.acl_files.specs.Files.{Recorded}
-use Rattle.acl_files.specs.Sound.{IsSoundTree}
+use Rattle.acl_tree.specs.Files.{Recorded}
+use Rattle.acl_tree.specs.Sound.{IsSoundTree}
 use Rattle.acl_tree.specs.State.{state_from}
 use Rattle.acl_tree.specs.Reports.{staged_from}
 use Rattle.acl_tree.proofs.Reported.{reported_people}

@@ -1,7 +1,7 @@
 use Rattle.std.proofs.Common.{sym, subst}
-use Rattle.acl_files.specs.declared.selection.Selection.{Selection}
+use Rattle.acl_tree.specs.declared.selection.Selection.{Selection}
 use Rattle.acl_tree.specs.declared.command.Command.TheVariants as commands
-use Rattle.acl_tree.specs.Inner.{whole}
+use Rattle.acl_tree.specs.InnerCommands.{whole}
 use Rattle.acl_tree.specs.Reports.{Prepares, RefusesAtOnce}
 use Rattle.acl_tree.proofs.AtOnce.{loaded_at_once}
 use Rattle.acl_tree.proofs.step.prepare_command.Goals as goal

@@ -1,10 +1,10 @@
 use Rattle.std.proofs.Common.{◌≡◌, ◌≢◌, length, Err, arith, ap, sym, subst, ◌∙◌}
 use Rattle.std.proofs.lemmas.Grind.{common_steps}
 use Rattle.std.proofs.lemmas.Result.{err_from_is_err_and}
-use Rattle.acl_files.specs.declared.fault.TreeFault.{TreeFault}
-use Rattle.acl_files.specs.declared.fault.TreeFault.TheVariants.{NoMemory}
+use Rattle.acl_tree.specs.declared.fault.TreeFault.{TreeFault}
+use Rattle.acl_tree.specs.declared.fault.TreeFault.TheVariants.{NoMemory}
 use Rattle.acl_tree.specs.Accounts.{useradd}
-use Rattle.acl_tree.specs.Inner.{Gives}
+use Rattle.acl_tree.specs.InnerCommands.{Gives}
 use Rattle.acl_tree.proofs.useradd.add_user.Goals as goal
 
 pub returns-in_err-group-clause-made : goal.returns-in_err-group-clause-made

@@ -1,6 +1,6 @@
 use Rattle.acl_text.specs.declared.record.DumpUse.TheVariants.{Restore}
 use Rattle.acl_people.specs.KnownPeople.{naming_of}
-use Rattle.acl_files.specs.Operands.{files_meant}
+use Rattle.acl_tree.specs.Operands.{files_meant}
 use Rattle.acl_tree.specs.State.{State, state_from}
 use Rattle.facl_output.proofs.Reloaded.{records_of}
 use Rattle.facl_output.proofs.RestoredAgain.{restored_again}

@@ -3,7 +3,7 @@ use Rattle.acl_names.specs.Paths.{PathOf}
 use Rattle.path_map.specs.Entries.{IsInOrder}
 use Rattle.kinds.specs.Numbered.{entries_in}
 use Rattle.acl_people.specs.KnownPeople.{KnownPeople, persons}
-use Rattle.acl_files.specs.Files.{Files, Recorded}
+use Rattle.acl_tree.specs.Files.{Files, Recorded}
 use Rattle.acl_verdicts.specs.declared.kind_rows.LabelRow.{LabelRow}
 use Rattle.acl_verdicts.proofs.Orders.{in_order-values}
 use Rattle.acl_rights.specs.Tables.{VerdictTable}

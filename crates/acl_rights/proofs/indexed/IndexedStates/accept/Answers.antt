@@ -1,7 +1,7 @@
 use Rattle.std.proofs.Common.{◌≤◌, length, subst, arith}
 use Rattle.std.proofs.Math.Nat.{mul-le-mul_left, mul-le-mul_right}
 use Rattle.std.proofs.lemmas.Grind.{common_steps}
-use Rattle.acl_files.specs.Files.{Recorded}
+use Rattle.acl_tree.specs.Files.{Recorded}
 use Rattle.acl_people.specs.KnownPeople.{KnownPeople}
 use Rattle.acl_rights.proofs.indexed.IndexedStates.accept.Goals as goal
 

@@ -1,4 +1,4 @@
-use Rattle.acl_tree.proofs.Placed.{edit_keeps}
+use Rattle.acl_tree.proofs.PlacedNodes.{edit_keeps}
 use Rattle.acl_tree.proofs.edit_command.EachFileNodeEdit.keeps_place.Goals as goal
 
 pub returns : goal.returns

@@ -1,5 +1,5 @@
 use Rattle.std.proofs.Common.{subst}
-use Rattle.acl_files.specs.Files.{Recorded}
+use Rattle.acl_tree.specs.Files.{Recorded}
 use Rattle.path_map.specs.Entries.{IsInOrder}
 use Rattle.facl.proofs.Unchanged.{none_differs, nothing_printed}
 use Rattle.facl.proofs.answers.laws.changes_print_all_that_differs.Goals as goal

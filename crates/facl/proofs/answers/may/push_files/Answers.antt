@@ -1,10 +1,10 @@
 use Rattle.std.proofs.Common.{◌≡◌, true, false, map, refl, sym, ap, ◌∙◌, arith}
 use Rattle.facl_output.proofs.Parts.{begins_later}
 use Rattle.std.proofs.lemmas.Grind.{common_steps}
-use Rattle.acl_files.specs.Inner.{next_file_below}
+use Rattle.acl_tree.specs.Inner.{next_file_below}
 use Rattle.acl_edit.specs.declared.node.Node.{Node}
 use Rattle.acl_names.specs.Paths.{PathOf}
-use Rattle.acl_files.specs.Found.{found_file}
+use Rattle.acl_tree.specs.Found.{found_file}
 use Rattle.facl.specs.Inner.{is_first}
 use Rattle.facl.proofs.FileLines.{rest_is, map_drop, step_taken, step_left, step_ends}
 use Rattle.facl.proofs.answers.may.push_files.Goals as goal

@@ -1,9 +1,9 @@
 use Rattle.std.proofs.Common.{◌≡◌, ◌++◌, Some, map, sym, ap, subst, ◌∙◌}
 use Rattle.std.specs.Prelude.{option_map}
 use Rattle.std.specs.List.{flat_map}
-use Rattle.acl_files.specs.Files.{Recorded}
+use Rattle.acl_tree.specs.Files.{Recorded}
 use Rattle.path_map.specs.Entries.{IsInOrder}
-use Rattle.acl_files.specs.Found.{found_in}
+use Rattle.acl_tree.specs.Found.{found_in}
 use Rattle.acl_tree.specs.State.{State}
 use Rattle.facl.specs.Answers.{file_line}
 use Rattle.facl.specs.Inner.{in_step}

@@ -1,8 +1,8 @@
 use Rattle.std.proofs.Common.{◌≢◌, Option, IfErr, rules, sym, ap, subst, ◌∙◌, false}
-use Rattle.acl_files.specs.declared.fault.TreeFault.TheVariants.{NoMemory}
+use Rattle.acl_tree.specs.declared.fault.TreeFault.TheVariants.{NoMemory}
 use Rattle.acl_names.specs.Paths.{PathOf}
-use Rattle.acl_files.specs.Found.{files_found}
-use Rattle.acl_files.specs.Operands.{first_missing, IsMissing}
+use Rattle.acl_tree.specs.Found.{files_found}
+use Rattle.acl_tree.specs.Operands.{first_missing, IsMissing}
 use Rattle.facl.proofs.AskedFiles.{all_asked, first_asked}
 use Rattle.facl.proofs.answers.why.files_asked.Goals as goal
 

@@ -1,7 +1,7 @@
 use Rattle.std.proofs.Common.{◌++◌, ◌∷◌, [], List, ap, ◌∙◌}
-use Rattle.acl_files.specs.Walks.{ancestors}
+use Rattle.acl_tree.specs.Walks.{ancestors}
 use Rattle.acl_names.specs.Paths.{PathOf}
-use Rattle.acl_files.specs.Files.{Files}
+use Rattle.acl_tree.specs.Files.{Files}
 use Rattle.facl.specs.Inner.{ways}
 use Rattle.facl_output.proofs.Loops.{item_added, all_added}
 use Rattle.facl.proofs.answers.why.with_ways.Goals as goal

@@ -1,7 +1,7 @@
 use Rattle.std.proofs.Common.{◌≡◌, sym, None, Ok, subst}
 use Rattle.path_map.specs.Entries.{IsInOrder}
-use Rattle.acl_files.specs.Operands.{first_missing}
-use Rattle.acl_files.specs.Restoring.{paths_of}
+use Rattle.acl_tree.specs.Operands.{first_missing}
+use Rattle.acl_tree.specs.Restoring.{paths_of}
 use Rattle.acl_tree.specs.Step.{step}
 use Rattle.facl.proofs.StillThere.{edited_are_there, restored_are_there}
 use Rattle.facl.proofs.tools.tested.files_after.Goals as goal

@@ -1,6 +1,6 @@
 use Rattle.std.proofs.Common.{◌∙◌, ap, false, Ok, subst}
-use Rattle.acl_files.specs.Found.{files_found}
-use Rattle.acl_files.specs.Restoring.{paths_of}
+use Rattle.acl_tree.specs.Found.{files_found}
+use Rattle.acl_tree.specs.Restoring.{paths_of}
 use Rattle.facl.specs.Replies.{Gives}
 use Rattle.facl.proofs.tools.tested.files_of_records.Goals as goal
 

@@ -1,5 +1,5 @@
 use Rattle.std.proofs.Common.{◌≡◌, take}
-use Rattle.acl_files.specs.Restoring.{paths_of}
+use Rattle.acl_tree.specs.Restoring.{paths_of}
 use Rattle.facl.proofs.tools.tested.paths_of.Given as goal
 
 abbrev pub invariant-loop-record : goal.invariant-loop-record

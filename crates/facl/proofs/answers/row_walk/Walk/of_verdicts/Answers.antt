@@ -1,6 +1,6 @@
 use Rattle.std.proofs.Common.{subst, sym, ap, ◌∙◌}
 use Rattle.path_map.specs.Entries.{IsInOrder}
-use Rattle.acl_files.specs.Files.{Recorded}
+use Rattle.acl_tree.specs.Files.{Recorded}
 use Rattle.acl_tree.specs.State.{State}
 use Rattle.facl.specs.Inner.{walk_of}
 use Rattle.acl_rights.specs.Verdicts.{rows_granted}

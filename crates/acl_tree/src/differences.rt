@@ -1,0 +1,149 @@
+//! What changed from one state of the files to another: where the check of access may answer otherwise.
+
+ghost use Rattle.std.specs.Prelude.{◌≡◌, [], ◌∷◌, true, false, IfSome, MatchOption};
+ghost use Rattle.std.specs.Iterator.{YieldsFirstBy, item_count};
+ghost use Rattle.std.specs.Option.{option_copied};
+ghost use Rattle.path_map.specs.Inner.{From};
+ghost use Rattle.kinds.specs.Numbered.{entries_by, AreUsed};
+ghost use Rattle.kinds.specs.Puts.{borrowed};
+ghost use Rattle.acl_tree.specs.Changed.{same_label, differs, differing, changed_between, gone_between, SameBut, IsTop};
+ghost use Rattle.acl_tree.specs.Operands.{in_region};
+
+use crate::files::{Files, FilesFinder};
+use crate::region::Region;
+use crate::walk::Walk;
+use acl_edit::Node;
+use acl_names::Path;
+use kinds::Kinds;
+use std::marker::Model;
+
+/// Whether both nodes have the same owner, group and access list.
+fn is_same_label(old: &Node, new: &Node) -> bool
+    ensures { result ≡ same_label old.now.label new.now.label }
+{
+    old.same_label(new)
+}
+
+/// Whether a file is another one than what the other state has at its path.
+fn differs(by_label: bool, other: Option<&Node>, node: &Node) -> bool
+    ensures { result ≡ differs by_label (option_copied other.entry) node.now }
+{
+    match other {
+        Some(other) => by_label && !is_same_label(other, node),
+        None => true,
+    }
+}
+
+/// The next entry of a walk whose node is another one than what the other state has at its path.
+fn next_differing<'a>(
+    walk: &mut Walk<'a, 'a>,
+    kinds: &'a Kinds<Node>,
+    other: &mut FilesFinder<'a>,
+    by_label: bool,
+) -> Option<(&'a Path, &'a Node)>
+    requires { AreUsed kinds.now walk.old.0 }
+    ensures other { other.new ≡ other.old }
+    ensures used { AreUsed kinds.now walk.new.0 }
+    ensures first { MatchOption result
+        ((differing by_label other.old (entries_by kinds.now walk.old.0) ≡ []) × (differing by_label other.old (entries_by kinds.now walk.new.0) ≡ []))
+        (λ file. differing by_label other.old (entries_by kinds.now walk.old.0) ≡ borrowed file ∷ differing by_label other.old (entries_by kinds.now walk.new.0)) }
+    ensures from { IfSome result (λ file. From file.0.now walk.new.1) }
+{
+    walk.order_law();
+    while let Some(entry) = walk.next() {
+        let node = kinds.node(entry.1);
+        if differs(by_label, other.get(entry.0), node) {
+            return Some((entry.0, node));
+        }
+    }
+    None
+}
+
+/// A cursor over files of a state that are others in another state: those that are still to come, in path order.
+#[derive(Drop)]
+pub struct Differences<'a> {
+    walk: Walk<'a, 'a>,
+    kinds: &'a Kinds<Node>,
+    other: FilesFinder<'a>,
+    by_label: bool,
+}
+
+impl<'a> Model for Differences<'a> {
+    ghost use Rattle.kinds.specs.Numbered.{entries_by, AreUsed};
+    ghost use Rattle.acl_tree.specs.Changed.{differing};
+    ghost use Rattle.acl_tree.specs.Files.{Files, coded_files};
+
+    ghost Value = { Files };
+
+    ghost coded = { coded_files };
+
+    ghost view = { λ d. differing d.by_label d.other (entries_by d.kinds.now d.walk.0) };
+
+    ghost invariant = { λ d. AreUsed d.kinds.now d.walk.0 };
+}
+
+impl<'a> Iterator for Differences<'a> {
+    type Item = (&'a Path, &'a Node);
+
+    ghost next_gives = { YieldsFirstBy borrowed (λ files. files) };
+
+    ghost remaining = { item_count (λ files. files) };
+
+    /// The next file in path order. Allocates nothing.
+    fn next(&mut self) -> Option<(&'a Path, &'a Node)> {
+        next_differing(&mut self.walk, self.kinds, &mut self.other, self.by_label)
+    }
+}
+
+impl<'a> Differences<'a> {
+    /// The next file in path order. Those below it are passed over, by search. Allocates nothing.
+    pub fn next_top(&mut self) -> Option<(&'a Path, &'a Node)>
+        ensures { MatchOption result ((self.old ≡ []) × (self.new ≡ [])) (λ top. IsTop (borrowed top) self.old self.new) }
+    {
+        let Some(top) = next_differing(&mut self.walk, self.kinds, &mut self.other, self.by_label)
+        else {
+            return None;
+        };
+        self.walk.pass_within(top.0);
+        Some(top)
+    }
+}
+
+impl Files {
+    /// The files that are others in another state, where both are the same outside a region.
+    fn differing<'a>(
+        &'a self,
+        other: &'a Files,
+        region: &'a Region,
+        by_label: bool,
+    ) -> Differences<'a>
+        requires { SameBut (in_region region.now) self.now.files other.now.files }
+        ensures { result ≡ differing by_label other.now.files self.now.files }
+    {
+        let files = self.files_by_path();
+        Differences {
+            walk: region.walk(files.numbers()),
+            kinds: files.kinds(),
+            other: other.finder(),
+            by_label,
+        }
+    }
+
+    /// The files that are new, or whose owner, group or access list is another than before, where no other files than
+    /// those of a region changed. Allocates nothing.
+    pub fn changed_from<'a>(&'a self, before: &'a Files, region: &'a Region) -> Differences<'a>
+        requires { SameBut (in_region region.now) before.now.files self.now.files }
+        ensures { result ≡ changed_between before.now.files self.now.files }
+    {
+        self.differing(before, region, true)
+    }
+
+    /// The files that are recorded no more in a later state, where no other files than those of a region changed.
+    /// Allocates nothing.
+    pub fn gone_in<'a>(&'a self, after: &'a Files, region: &'a Region) -> Differences<'a>
+        requires { SameBut (in_region region.now) self.now.files after.now.files }
+        ensures { result ≡ gone_between self.now.files after.now.files }
+    {
+        self.differing(after, region, false)
+    }
+}

@@ -1,0 +1,213 @@
+//! setfacl(1) --restore: files get back what their records contain.
+
+ghost use Rattle.std.specs.Prelude.{◌≡◌, ◌≢◌, true, map, false, IfOk, IfErr, OnOk, Err, List};
+ghost use Rattle.std.specs.List.Sorted.{IsPermutation};
+ghost use Rattle.std.specs.Coded.{coded_list};
+ghost use Rattle.kinds.specs.Numbered.{entries_in};
+ghost use Rattle.acl_text.specs.InTurn.{GivesUnless};
+ghost use Rattle.acl_text.specs.OwnPaths.{have_own_paths};
+ghost use Rattle.acl_edit.specs.Edits.{Gives, allowed};
+ghost use Rattle.acl_tree.specs.Loading.{in_path_order};
+ghost use Rattle.acl_tree.specs.Inner.{AreFilesOf, restore_each, RestoredFile, coded_restored, restored_by, restored, SomeEdited, PutsOrLeaves};
+ghost use Rattle.acl_names.specs.Paths.{PathOf};
+ghost use Rattle.acl_tree.specs.Operands.{LooksUp, first_missing, is_file, in_region};
+ghost use Rattle.acl_tree.specs.Restoring.{paths_of, restored_tree};
+ghost use Rattle.acl_text.specs.contracts.record.DumpRecord as record_contracts;
+ghost use Rattle.acl_text.specs.declared.record.DumpRecord.{DumpRecord as Whole};
+
+use crate::alike::AlikeNodes;
+use crate::edit::{FileFault, NodeEdit, edit_one};
+use crate::fault::TreeFault;
+use crate::files::Files;
+use crate::region::Region;
+use acl_edit::{EditFault, Kind, Node};
+use acl_entry::{Acl, Label};
+use acl_names::Path;
+use acl_text::DumpRecord;
+use kinds::{KindMap, KindPuts, Likeness};
+use std::alloc::{AllocError, Global};
+use std::marker::Model;
+
+/// Records of a dump, no two of one path.
+#[derive(Drop)]
+pub struct DumpRecords {
+    list: Vec<DumpRecord>,
+}
+
+impl Model for DumpRecords {
+    ghost Value = { List Whole };
+
+    ghost coded = { coded_list record_contracts.the_row.coded };
+
+    ghost view = { λ r. r.list.items };
+
+    ghost invariant = { λ r. have_own_paths r.list.items ≡ true };
+}
+
+impl DumpRecords {
+    /// The records, in their order.
+    pub fn new(list: Vec<DumpRecord>) -> DumpRecords
+        requires { have_own_paths list.items ≡ true }
+        ensures { result ≡ list.items }
+    {
+        DumpRecords { list }
+    }
+
+    /// The records, in their order.
+    pub fn as_slice(&self) -> &[DumpRecord]
+        ensures all { result.now ≡ self.now }
+        ensures apart { have_own_paths self.now ≡ true }
+    {
+        &self.list
+    }
+
+    /// The files at the paths of the records. Fails only if memory runs out.
+    pub fn region(&self, alloc: Global) -> Result<Region, AllocError>
+        ensures { IfOk result (λ region. (q : PathOf) → in_region region q ≡ is_file false (paths_of self.now) q) }
+    {
+        let mut paths = Vec::with_capacity(alloc, self.list.len())?;
+        for entry in &self.list {
+            paths.push(entry.path.try_clone(alloc)?)?;
+        }
+        Ok(Region::new(paths, false))
+    }
+}
+
+/// A recorded file, and the record that it is restored from.
+#[derive(Drop)]
+struct Restored<'a> {
+    node: &'a Node,
+    entry: &'a DumpRecord,
+}
+
+impl<'a> Model for Restored<'a> {
+    ghost Value = { RestoredFile };
+
+    ghost coded = { coded_restored };
+
+    ghost view = { λ r. ((r.entry.now.path, r.node.now), r.entry.now) };
+}
+
+/// The default list of a record, where its file may have one.
+fn default_of(alloc: Global, kind: Kind, entry: &DumpRecord) -> Result<Option<Acl>, EditFault>
+    ensures { Gives (λ x. x) result (allowed kind false entry.now.dacl) }
+{
+    match kind {
+        Kind::Directory => match &entry.dacl {
+            Some(dacl) => Ok(Some(dacl.try_clone(alloc)?)),
+            None => Ok(None),
+        },
+        Kind::Plain if entry.dacl.is_none() => Ok(None),
+        Kind::Plain => Err(EditFault::DefaultOnFile),
+    }
+}
+
+/// The record is for its file alone.
+impl NodeEdit for Restored<'_> {
+    ghost edited = { λ restored n. restored_by restored.1 n };
+
+    #[tactic(auto, unfolding(acl_edit::specs::Edits::restore))]
+    fn edited(&self, alloc: Global, node: &Node) -> Result<Node, EditFault> {
+        let entry = self.entry;
+        let acl = entry.access.try_clone(alloc)?;
+        let dacl = default_of(alloc, node.kind, entry)?;
+        Ok(Node {
+            kind: node.kind,
+            label: Label {
+                owner: entry.owner.unwrap_or(node.label.owner),
+                group: entry.group.unwrap_or(node.label.group),
+                acl,
+            },
+            flags: entry.flags.unwrap_or([false; 3]),
+            dacl,
+        })
+    }
+
+    /// Proof only: a directory stays one, and only directories have default lists.
+    fn keeps_place(&self) {}
+}
+
+/// The files of records, in the order of the records; or the first path that is not recorded.
+fn files_of<'a>(
+    alloc: Global,
+    tree: &'a Files,
+    records: &'a [DumpRecord],
+) -> Result<Vec<Restored<'a>>, TreeFault>
+    ensures found { IfOk result (λ found. AreFilesOf tree.now.files records.now found.items) }
+    ensures there { LooksUp result (first_missing (paths_of records.now) tree.now.files) }
+{
+    let mut found = Vec::with_capacity(alloc, records.len())?;
+    let mut finder = tree.finder();
+    let mut rest = records;
+    while let [entry, more @ ..] = rest {
+        let Some(node) = finder.get(&entry.path) else {
+            return Err(TreeFault::NoSuchFile {
+                path: entry.path.try_clone(alloc)?,
+            });
+        };
+        found.push(Restored { node, entry })?;
+        rest = more;
+    }
+    Ok(found)
+}
+
+/// The files in path order.
+fn in_path_order(found: Vec<Restored<'_>>) -> Vec<Restored<'_>>
+    requires { have_own_paths (map (λ x. x.1) found.items) ≡ true }
+    ensures order { map (λ x. x.1) result.items ≡ in_path_order (map (λ x. x.1) found.entry.items) }
+    ensures same { IsPermutation found.entry.items result.items }
+{
+    let mut sorted = found;
+    sorted.sort_unstable_by(|a, b| a.entry.path.order(&b.entry.path));
+    sorted
+}
+
+/// A file with its edited node more to be put, unless it stays as it is.
+fn push_restored<'a>(
+    alloc: Global,
+    puts: KindPuts<'a, Node>,
+    path: &'a Path,
+    old: &Node,
+    node: Node,
+) -> Result<KindPuts<'a, Node>, AllocError>
+    ensures { IfOk result (λ new. (new.0 ≡ puts.entry.0) × PutsOrLeaves puts.entry.1 (path.now, old.now) node new.1) }
+{
+    if AlikeNodes.is_same(old, &node) {
+        return Ok(puts);
+    }
+    let puts = puts.push(alloc, path, node, &AlikeNodes)?;
+    Ok(puts)
+}
+
+/// The files as their records have them, to be put among those of a map, but for those that stay as they are.
+fn restore_each<'a>(
+    alloc: Global,
+    files: &'a KindMap<Node>,
+    found: &[Restored<'a>],
+) -> Result<KindPuts<'a, Node>, FileFault>
+    ensures before { IfOk result (λ puts. puts.0 ≡ entries_in files.now) }
+    ensures made { IfOk result (λ puts. SomeEdited (λ x. x.0) restored found.now puts.1) }
+    ensures refused { IfErr result (λ fault. fault ≢ FileFault.NoMemory → restore_each found.now ≡ Err fault) }
+{
+    let mut puts = KindPuts::new(alloc, files)?;
+    let mut rest = found;
+    while let [restored, more @ ..] = rest {
+        let (path, old) = (&restored.entry.path, restored.node);
+        let node = edit_one(alloc, restored, path, old)?;
+        puts = push_restored(alloc, puts, path, old, node)?;
+        rest = more;
+    }
+    Ok(puts)
+}
+
+/// The tree with the files of records restored.
+pub fn restore_files(alloc: Global, tree: &Files, records: &DumpRecords) -> Result<Files, TreeFault>
+    ensures { GivesUnless TreeFault.NoMemory (λ t. t) result (restored_tree records.now tree.now) }
+{
+    tree.soundness_law();
+    let found = files_of(alloc, tree, records.as_slice())?;
+    let sorted = in_path_order(found);
+    let puts = restore_each(alloc, tree.files_by_path(), &sorted)?;
+    let by_path = puts.finish(alloc)?;
+    Ok(Files::of(by_path, tree.is_loaded()))
+}
