@@ -14,11 +14,11 @@ use Rattle.acl_names.proofs.PathOrder.{path_total, exact_paths}
 use Rattle.acl_names.specs.Below.{is_above}
 use Rattle.path_map.proofs.Places.{above}
 use Rattle.path_map.specs.Entries.{IsInOrder}
-use Rattle.acl_verdicts.specs.Rows.{Rows}
-use Rattle.acl_verdicts.specs.Reach.{reached_from}
-use Rattle.acl_verdicts.specs.Differing.{fails_from}
-use Rattle.acl_verdicts.proofs.Maps.{map_filter, find-values, find-filter, same_found}
-use Rattle.acl_verdicts.proofs.Orders.{in_order-values}
+use Rattle.acl_rights.specs.Rows.{Rows}
+use Rattle.acl_rights.specs.ReachedRows.{reached_from}
+use Rattle.acl_rights.specs.Differing.{fails_from}
+use Rattle.acl_rights.proofs.Maps.{map_filter, find-values, find-filter, same_found}
+use Rattle.acl_rights.proofs.Orders.{in_order-values}
 
 pub clash : (b : Bool) → b ≡ true → b ≡ false → ⊥
 clash b h k = cc

@@ -14,7 +14,7 @@ use Rattle.acl_names.specs.Paths.{PathOf}
 use Rattle.acl_tree.specs.Files.{Files}
 use Rattle.acl_people.specs.GroupsOfOne.{in_just_one}
 use Rattle.acl_people.specs.Moves.{MovesUser}
-use Rattle.acl_verdicts.specs.Rows.{Verdict, cells_of, rows_of}
+use Rattle.acl_rights.specs.Rows.{Verdict, cells_of, rows_of}
 
 -- ---- a user who moves
 

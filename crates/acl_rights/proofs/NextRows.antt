@@ -18,13 +18,13 @@ use Rattle.acl_tree.specs.declared.user_change.UserChange.TheVariants.{Unchanged
 use Rattle.path_map.specs.Entries.{IsInOrder, seen}
 use Rattle.path_map.specs.Merged.{merged}
 use Rattle.path_map.specs.Below.{lies_in}
-use Rattle.acl_verdicts.specs.declared.kind_rows.LabelRow.{LabelRow}
-use Rattle.acl_verdicts.specs.KindRows.{RowedPaths, AreRowsOf, with_label, rowed, rowed_labels, each_row, with_last, without_at, with_again, mentions_any, rows_at}
-use Rattle.acl_verdicts.proofs.Counted.{no_length}
-use Rattle.acl_verdicts.proofs.RowsOfKinds.{rowed_rows}
-use Rattle.acl_verdicts.proofs.Maps.{map_filter, map_twice, times_le}
-use Rattle.acl_verdicts.proofs.Orders.{same_order}
-use Rattle.acl_verdicts.specs.Rows.{Verdict}
+use Rattle.acl_rights.specs.declared.kind_rows.LabelRow.{LabelRow}
+use Rattle.acl_rights.specs.KindRows.{RowedPaths, AreRowsOf, with_label, rowed, rowed_labels, each_row, with_last, without_at, with_again, mentions_any, rows_at}
+use Rattle.acl_rights.proofs.Counted.{no_length}
+use Rattle.acl_rights.proofs.RowsOfKinds.{rowed_rows}
+use Rattle.acl_rights.proofs.Maps.{map_filter, map_twice, times_le}
+use Rattle.acl_rights.proofs.Orders.{same_order}
+use Rattle.acl_rights.specs.Rows.{Verdict}
 use Rattle.acl_rights.specs.Groups.{mentions_one}
 use Rattle.acl_rights.specs.Stages.{moves_looked, most_asked}
 use Rattle.acl_rights.specs.Reach.{moves_refreshed, verdicts_refreshed}

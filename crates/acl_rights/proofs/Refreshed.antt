@@ -24,17 +24,17 @@ use Rattle.acl_tree.specs.declared.user_change.UserChange.{UserChange}
 use Rattle.acl_tree.specs.declared.user_change.UserChange.TheVariants.{Unchanged, Loaded, Memberships, Added, Removed}
 use Rattle.acl_tree.proofs.Changes.{label_is_same}
 use Rattle.path_map.specs.Entries.{IsInOrder}
-use Rattle.acl_verdicts.specs.Rows.{Verdict, Rows, cells_of, rows_of}
+use Rattle.acl_rights.specs.Rows.{Verdict, Rows, cells_of, rows_of}
 use Rattle.acl_rights.specs.Groups.{mentions_one}
-use Rattle.acl_verdicts.specs.Reach.{execute, reached_from, reached_rows}
+use Rattle.acl_rights.specs.ReachedRows.{execute, reached_from, reached_rows}
 use Rattle.acl_rights.specs.Reach.{passes, reach, moves_refreshed, verdicts_refreshed}
-use Rattle.acl_verdicts.specs.Differing.{place_before, is_as_before, is_as_in, fails_from, differing}
+use Rattle.acl_rights.specs.Differing.{place_before, is_as_before, is_as_in, fails_from, differing}
 use Rattle.acl_rights.specs.Kept.{GoesFrom}
 use Rattle.acl_rights.proofs.Lines.{agree, got_in, set_here}
 use Rattle.acl_rights.proofs.Reached.{reached_is, cell_reached}
 use Rattle.acl_rights.proofs.Goes.{moves, joins, leaves, old_order}
 use Rattle.acl_names.proofs.Below.{below_within, within_cases, within_itself}
-use Rattle.acl_verdicts.proofs.Maps.{map_twice}
+use Rattle.acl_rights.proofs.Maps.{map_twice}
 use Rattle.acl_rights.proofs.Counts.{clash, false_from, missed_most, missed_none, missed_one, any_found, any_filter, each_found, alike_above, some_same, long_row, sum_le, finds, times_one, times_none, sum_parts, set_other, joined_was, left_was, person_same}
 
 module _ (V : Verdict) (us ws : List Person) (fs gs : Files) (fo : IsInOrder fs) (go : IsInOrder gs) where

@@ -11,7 +11,7 @@ use Rattle.acl_tree.specs.Reports.{StagedState}
 use Rattle.acl_tree.specs.declared.user_change.UserChange.TheVariants.{Unchanged}
 use Rattle.path_map.specs.Below.{lies_in}
 use Rattle.acl_rights.specs.Reach.{moves_refreshed, verdicts_refreshed}
-use Rattle.acl_verdicts.proofs.Maps.{times_le}
+use Rattle.acl_rights.proofs.Maps.{times_le}
 
 -- paths alone decide
 pub count_paths : {A B : Type 0} (f : PathOf → Bool) (es : List (PathOf × A)) (fs : List (PathOf × B)) → map (λ (e : PathOf × A). e.0) es ≡ map (λ (e : PathOf × B). e.0) fs

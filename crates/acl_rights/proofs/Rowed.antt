@@ -20,10 +20,10 @@ use Rattle.acl_tree.proofs.Changes.{label_is_same}
 use Rattle.path_map.specs.Entries.{IsInOrder}
 use Rattle.path_map.specs.Merged.{has, merged, put_all}
 use Rattle.path_map.proofs.Rows.{rows_merged}
-use Rattle.acl_verdicts.specs.declared.kind_rows.LabelRow.{LabelRow}
-use Rattle.acl_verdicts.specs.KindRows.{RowedPaths, label_row, rowed, rowed_labels, each_row, with_last, without_at, with_again, mentions_any, rows_at}
-use Rattle.acl_verdicts.proofs.Maps.{map_twice}
-use Rattle.acl_verdicts.specs.Rows.{Verdict, cells_of, rows_of}
+use Rattle.acl_rights.specs.declared.kind_rows.LabelRow.{LabelRow}
+use Rattle.acl_rights.specs.KindRows.{RowedPaths, label_row, rowed, rowed_labels, each_row, with_last, without_at, with_again, mentions_any, rows_at}
+use Rattle.acl_rights.proofs.Maps.{map_twice}
+use Rattle.acl_rights.specs.Rows.{Verdict, cells_of, rows_of}
 use Rattle.acl_rights.specs.Groups.{mentions_one}
 use Rattle.acl_rights.specs.Lines.{labels_of, HaveLabels}
 use Rattle.acl_rights.proofs.Lines.{moved_in, cells_again, cells_kept, longer, remove_seen}

@@ -7,3 +7,10 @@ pub mod Verdicts
 pub mod Kept
 pub mod Groups
 pub mod Lines
+pub mod Rows
+pub mod ReachedRows
+pub mod Differing
+pub mod Walks
+pub mod Subtrees
+pub mod KindRows
+pub mod RowsLeft

@@ -6,9 +6,9 @@ use Rattle.acl_people.specs.KnownPeople.{persons}
 use Rattle.acl_names.specs.Paths.{PathOf}
 use Rattle.acl_tree.specs.Files.{Files}
 use Rattle.acl_tree.specs.Reports.{StagedState}
-use Rattle.acl_verdicts.specs.KindRows.{RowedPaths, rowed, rows_at}
-use Rattle.acl_verdicts.specs.declared.kind_rows.KindRows.{KindRows}
-use Rattle.acl_verdicts.specs.Rows.{Verdict}
+use Rattle.acl_rights.specs.KindRows.{RowedPaths, rowed, rows_at}
+use Rattle.acl_rights.specs.declared.kind_rows.KindRows.{KindRows}
+use Rattle.acl_rights.specs.Rows.{Verdict}
 use Rattle.acl_rights.specs.Tables.{VerdictTable}
 use Rattle.acl_rights.specs.Stages.{moves_looked}
 use Rattle.acl_rights.specs.Reach.{verdicts_refreshed}

@@ -4,16 +4,17 @@ ghost use Rattle.std.specs.Prelude.{◌≡◌, ◌+◌, ◌<◌, ◌≤◌, ◌^
 ghost use Rattle.kinds.specs.Numbered.{entries_in};
 ghost use Rattle.acl_people.specs.KnownPeople.{persons};
 ghost use Rattle.acl_tree.specs.State.{state_from};
-ghost use Rattle.acl_verdicts.specs.Rows.{Asks};
-ghost use Rattle.acl_verdicts.specs.KindRows.{rowed};
+ghost use Rattle.acl_rights.specs.Rows.{Asks};
+ghost use Rattle.acl_rights.specs.KindRows.{rowed};
 ghost use Rattle.acl_rights.specs.Costs.{all_pairs};
 ghost use Rattle.acl_rights.specs.Lines.{HaveLabels, AreBefore, table_of};
 
+use crate::judge::Judge;
+use crate::kind_rows::KindRows;
 use crate::stage::{NextRows, after_line};
 use acl_entry::NoMemory;
 use acl_people::People;
 use acl_tree::{Staged, Tree};
-use acl_verdicts::{Judge, KindRows};
 use std::alloc::{AllocError, Global};
 use std::marker::{Model, PhantomData};
 use std::mem;

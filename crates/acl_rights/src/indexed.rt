@@ -4,17 +4,18 @@
 ghost use Rattle.std.specs.Prelude.{◌≡◌, ◌+◌, ◌<◌, ◌≤◌, ◌^◌, IfOk, OnOk, OnErr};
 ghost use Rattle.acl_tree.specs.Reports.{Reports};
 ghost use Rattle.acl_rights.specs.Stages.{most_asked};
-ghost use Rattle.acl_verdicts.specs.Rows.{Asks};
+ghost use Rattle.acl_rights.specs.Rows.{Asks};
 ghost use Rattle.acl_rights.specs.Costs.{all_pairs, most_pairs, most_between};
 ghost use Rattle.acl_rights.specs.Tables.{IsWhole, FindsUsers, FindsFiles};
 ghost use Rattle.acl_rights.specs.Verdicts.{can_requests, users_granted, paths_granted, rows_granted};
 ghost use Rattle.acl_rights.specs.States.{IsPrepared, from_start, loaded_state, states_after, states_in, state_after, most_after};
 
+use crate::file_rows::FileRows;
 use crate::index::Index;
+use crate::judge::Judge;
 use acl_entry::{Perm, Requests};
 use acl_names::Path;
 use acl_tree::{Staged, State};
-use acl_verdicts::{FileRows, Judge};
 use std::alloc::{AllocError, Global};
 use std::marker::Model;
 use std::mem;

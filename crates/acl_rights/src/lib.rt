@@ -19,15 +19,35 @@
 //! - A question on a file is a look-up of its row; one on all files is a walk over them in path order.
 //! - A question along paths looks at the rows of the directories above the file too: a verdict counts only where each of
 //!   them grants the user search.
+//!
+//! Verdicts on users and files: who decides, how often, the verdicts of all users on one file, rows of them by kinds of files,
+//! and those that are left where each directory above has to grant search.
 #![tactic(auto)]
 
+mod answers;
+mod cells;
+mod changed_rows;
+mod counts;
+mod file_rows;
+mod hash;
+mod hints;
 mod index;
 mod indexed;
+mod judge;
+mod kind_rows;
+mod many_rows;
 mod questions;
+mod reached_paths;
+mod search;
+mod stack;
 mod stage;
 
+pub use cells::{Cells, same_row};
+pub use file_rows::{FileRow, FileRows};
 pub use index::{Index, Rows};
 pub use indexed::{IndexedState, IndexedStates, States, Verdicts};
+pub use judge::{Judge, Posix};
+pub use kind_rows::{KindRows, LabelRow};
 
 // The public calls take and give these values of the crates below.
 pub use acl_edit::{Change, ChangeEntries, ChangeFlags, Edit, Kind, Specs};
@@ -38,4 +58,3 @@ pub use acl_text::Spec;
 pub use acl_tree::{
     Command, DumpRecords, Membership, NewFile, NewUser, Paths, Staged, State, Table, Tree,
 };
-pub use acl_verdicts::{Cells, FileRow, FileRows, Judge, Posix};

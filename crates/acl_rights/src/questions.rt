@@ -6,15 +6,17 @@ ghost use Rattle.std.specs.FinMap.{find};
 ghost use Rattle.acl_names.specs.Paths.{path_cmp};
 ghost use Rattle.acl_tree.specs.State as states;
 
+use crate::answers::granted_users;
+use crate::file_rows::FileRows;
 use crate::index::Index;
+use crate::judge::Judge;
 use acl_entry::{NoMemory, Perm, Requests};
 use acl_names::Path;
-use acl_verdicts::{FileRows, Judge, granted_users};
 use std::alloc::Global;
 
 impl<J: Judge> Index<J> {
     ghost use Rattle.acl_rights.specs.Tables.{IsWhole, FindsUsers, FindsFiles, cell_at, users_at, files_at, verdict_at, row_at, users_granted, files_granted};
-    ghost use Rattle.acl_verdicts.specs.Reach.{rows_along, reached_rows, reached_at};
+    ghost use Rattle.acl_rights.specs.ReachedRows.{rows_along, reached_rows, reached_at};
     ghost use Rattle.acl_rights.specs.Reach.{reach_at, users_reaching, files_reached};
 
     /// The verdict on a user and a file.

@@ -4,15 +4,16 @@ ghost use Rattle.std.specs.Prelude.{◌≡◌, ◌+◌, ◌-◌, ◌<◌, ◌≤
 ghost use Rattle.acl_tree.specs.Files.{Files};
 ghost use Rattle.kinds.specs.Numbered.{entries_in};
 ghost use Rattle.acl_people.specs.KnownPeople.{persons};
-ghost use Rattle.acl_verdicts.specs.KindRows.{rowed, with_label};
+ghost use Rattle.acl_rights.specs.KindRows.{rowed, with_label};
 ghost use Rattle.acl_rights.specs.Costs.{all_pairs};
 ghost use Rattle.acl_rights.specs.Stages.{most_asked, moves_groups};
 ghost use Rattle.acl_rights.specs.Lines.{labels_of, AreBefore, IsAfter};
 
+use crate::judge::Judge;
+use crate::kind_rows::KindRows;
 use acl_entry::{Label, Subject};
 use acl_names::Path;
 use acl_tree::{Differences, GroupIds, Staged, UserChange};
-use acl_verdicts::{Judge, KindRows};
 use std::alloc::{AllocError, Global};
 
 /// The rows after a line, how many labels were fetched for it, and how many verdicts along paths may be other ones.

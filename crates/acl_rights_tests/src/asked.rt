@@ -7,9 +7,8 @@ ghost use Rattle.acl_tree.specs.Reports.{Reports};
 
 use crate::lines::{Line, command, path, paths};
 use acl_entry::Perm;
-use acl_rights::{IndexedState, Verdicts};
+use acl_rights::{IndexedState, Judge, Posix, Verdicts};
 use acl_tree::{Staged, State};
-use acl_verdicts::{Judge, Posix};
 use facl::{files_asked, write_changes, write_index, write_may, write_who, write_why};
 use std::alloc::Global;
 use std::mem;

@@ -6,9 +6,8 @@ ghost use Rattle.acl_rights_tests.specs.Verdicts.{owner_alone};
 
 use crate::judge::OwnerAlone;
 use acl_people::People;
-use acl_rights::{Index, Rows};
+use acl_rights::{Index, Judge, Rows};
 use acl_tree::{Command, Staged, Tree};
-use acl_verdicts::Judge;
 use std::alloc::Global;
 
 /// What a command costs the index: verdicts asked for, labels fetched, and verdicts along paths that are new or other

@@ -4,7 +4,7 @@ ghost use Rattle.std.specs.Prelude.{◌≡◌};
 ghost use Rattle.acl_rights_tests.specs.Verdicts.{owner_alone, owner_alone_local};
 
 use acl_entry::{Label, Requests, Subject};
-use acl_verdicts::Judge;
+use acl_rights::Judge;
 
 /// Grants the owner all requests, and nobody else any.
 #[derive(Drop)]

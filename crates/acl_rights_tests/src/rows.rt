@@ -4,7 +4,7 @@ use crate::lines::Line;
 use crate::world::Row;
 use acl_entry::Requests;
 use acl_names::read_path;
-use acl_verdicts::{FileRow, FileRows};
+use acl_rights::{FileRow, FileRows};
 use std::alloc::Global;
 use std::cmp::Ordering;
 

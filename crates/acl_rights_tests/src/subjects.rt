@@ -3,7 +3,7 @@ ghost use Rattle.std.specs.Prelude.{◌≡◌, IfSome};
 
 use acl_entry::{Acl, Entry, Id, Key, Label, Perm, Requests, Subject};
 use acl_people::Subjects;
-use acl_verdicts::{Judge, Posix};
+use acl_rights::{Judge, Posix};
 use std::alloc::Global;
 use std::rc::Rc;
 

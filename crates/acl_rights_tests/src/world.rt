@@ -6,9 +6,8 @@ ghost use Rattle.acl_rights.specs.Tables.{IsWhole};
 
 use crate::lines::{Line, command};
 use acl_names::read_path;
-use acl_rights::Index;
+use acl_rights::{Index, Judge, Posix};
 use acl_tree::{Command, State};
-use acl_verdicts::{Judge, Posix};
 use std::alloc::Global;
 
 /// A state, its index, and the judge of the index.

@@ -9,7 +9,7 @@ use Rattle.facl_script.specs.declared.fault.ScriptFault.TheVariants.{Read, Write
 use Rattle.facl_script.specs.TextWords.{line_asks}
 use Rattle.facl_output.specs.Faults.{run_fault_of_script}
 use Rattle.facl_output.specs.declared.fault.RunFault.{RunFault}
-use Rattle.acl_verdicts.specs.Rows.{Verdict}
+use Rattle.acl_rights.specs.Rows.{Verdict}
 use Rattle.acl_rights.specs.Costs.{all_pairs}
 use Rattle.acl_rights.specs.declared.indexed.States.{States}
 use Rattle.acl_rights.specs.States.{from_start}

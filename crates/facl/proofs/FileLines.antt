@@ -22,7 +22,7 @@ use Rattle.path_map.specs.Entries.{IsInOrder}
 use Rattle.acl_tree.specs.Found.{FoundFile, found_file, found_in}
 use Rattle.path_map.specs.Below.{holds_below}
 use Rattle.acl_tree.specs.State.{State}
-use Rattle.acl_verdicts.specs.Rows.{Verdict}
+use Rattle.acl_rights.specs.Rows.{Verdict}
 use Rattle.facl.specs.Answers.{all_files, file_line, may_text}
 use Rattle.acl_rights.specs.Verdicts.{granted, paths_granted}
 use Rattle.facl.specs.Inner.{is_first, in_step}

@@ -12,7 +12,7 @@ use Rattle.acl_tree.specs.Found.{FoundFile, found_file, found_in}
 use Rattle.path_map.specs.Below.{holds_below}
 use Rattle.acl_tree.specs.State.{State}
 use Rattle.acl_tree.proofs.Follows.{known_by_next}
-use Rattle.acl_verdicts.specs.Rows.{Verdict, cells_of, rows_of}
+use Rattle.acl_rights.specs.Rows.{Verdict, cells_of, rows_of}
 use Rattle.facl_output.specs.Listings.{path_shown}
 use Rattle.facl.specs.Answers.{verdict_line, index_text}
 use Rattle.acl_rights.specs.Verdicts.{granted, rows_granted}

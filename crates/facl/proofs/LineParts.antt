@@ -17,7 +17,7 @@ use Rattle.facl.specs.ToolParts.{Part, in_first_text, in_second_text, in_third_t
 use Rattle.facl.specs.FirstPart.{IsNotAfter, IsFirst, IsRefusedForFirst}
 use Rattle.facl.specs.Replies.{Reply, after, or_fault}
 use Rattle.facl.specs.Tools as tools
-use Rattle.acl_verdicts.specs.Rows.{Verdict}
+use Rattle.acl_rights.specs.Rows.{Verdict}
 use Rattle.facl.specs.Tools.{tool_named, tool_line}
 use Rattle.facl.specs.declared.tools.Tool.{Tool}
 use Rattle.facl.specs.declared.tools.ToolLine.{ToolLine}

@@ -1,6 +1,6 @@
 -- Lines that are refused, and units that are not silent.
 use Rattle.std.proofs.Common.{◌≡◌, ◌≢◌, ◌+◌, ◌≤◌, ℕ, List, Bool, true, false, [], Err, ap, sym, subst, refl, arith, true≢false}
-use Rattle.acl_verdicts.specs.Rows.{Verdict}
+use Rattle.acl_rights.specs.Rows.{Verdict}
 use Rattle.acl_rights.specs.declared.indexed.States.{States}
 use Rattle.facl_script.specs.Play.{Answer}
 use Rattle.facl_script.specs.Run.{IsAnswer}

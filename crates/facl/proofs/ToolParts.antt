@@ -35,7 +35,7 @@ use Rattle.facl.specs.Replies.{Reply, after, done, printed}
 use Rattle.facl.specs.Setattr as setattr
 use Rattle.facl.specs.Setfacl as setfacl_line
 use Rattle.facl.specs.Setfacl.{records_or_fault, done_or_tested}
-use Rattle.acl_verdicts.specs.Rows.{Verdict}
+use Rattle.acl_rights.specs.Rows.{Verdict}
 use Rattle.facl.specs.Tools.{answered}
 use Rattle.facl.specs.Useradd.{new_user}
 use Rattle.facl.specs.Who as who

@@ -23,7 +23,7 @@ use Rattle.acl_tree.specs.Files.{Files}
 use Rattle.acl_tree.specs.Found.{found_file, found_in}
 use Rattle.path_map.specs.Below.{holds_below}
 use Rattle.acl_tree.specs.State.{State}
-use Rattle.acl_verdicts.specs.Rows.{Verdict}
+use Rattle.acl_rights.specs.Rows.{Verdict}
 use Rattle.acl_names.proofs.PathOrder.{exact_paths}
 use Rattle.path_map.proofs.Rows.{find_put_all}
 use Rattle.facl_output.specs.Listings.{path_shown}

@@ -11,7 +11,7 @@ use Rattle.acl_people.specs.NameTables.{is_name, has_name}
 use Rattle.acl_text.specs.declared.rows.PasswdRow.{PasswdRow}
 use Rattle.acl_names.specs.Paths.{PathOf}
 use Rattle.acl_tree.specs.State.{State}
-use Rattle.acl_verdicts.specs.Rows.{Verdict}
+use Rattle.acl_rights.specs.Rows.{Verdict}
 use Rattle.facl_output.specs.Listings.{path_shown}
 use Rattle.facl.specs.Requests.{requests_granted}
 use Rattle.facl.specs.Answers.{line, all_files}

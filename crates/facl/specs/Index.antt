@@ -2,7 +2,7 @@
 use Rattle.std.specs.Prelude.{[], Result, Ok}
 use Rattle.facl.specs.Answers.{index_text}
 use Rattle.acl_tree.specs.State.{State}
-use Rattle.acl_verdicts.specs.Rows.{Verdict}
+use Rattle.acl_rights.specs.Rows.{Verdict}
 use Rattle.facl_script.specs.Syntax.{Syntax}
 use Rattle.facl_output.specs.declared.fault.LineFault.{LineFault}
 use Rattle.facl.specs.Replies.{Reply, printed}

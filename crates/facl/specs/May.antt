@@ -7,7 +7,7 @@ use Rattle.acl_tree.specs.declared.fault.TreeFault.TheVariants.{NoSuchUser}
 use Rattle.acl_people.specs.KnownPeople.{users_of}
 use Rattle.acl_people.specs.NameTables.{place_of_word}
 use Rattle.acl_tree.specs.State.{State}
-use Rattle.acl_verdicts.specs.Rows.{Verdict}
+use Rattle.acl_rights.specs.Rows.{Verdict}
 use Rattle.facl_script.specs.Forms.{Text}
 use Rattle.facl_script.specs.Syntax.{Syntax, by_name, one}
 use Rattle.facl_script.specs.declared.tool_words.Words.{Words}

@@ -13,7 +13,7 @@ use Rattle.facl_output.specs.declared.fault.RunFault.{RunFault}
 use Rattle.facl_output.specs.declared.fault.RunFault.TheVariants.{Read, Write, Setup, ScriptTooLong, NoMemory}
 use Rattle.facl.specs.declared.status.Status.{Status}
 use Rattle.facl.specs.declared.status.Status.TheVariants.{Accepted, Refused}
-use Rattle.acl_verdicts.specs.Rows.{Verdict}
+use Rattle.acl_rights.specs.Rows.{Verdict}
 use Rattle.acl_rights.specs.Costs.{all_pairs}
 use Rattle.acl_rights.specs.declared.indexed.States.{States}
 use Rattle.acl_rights.specs.States.{from_start}

@@ -2,7 +2,7 @@
 use Rattle.std.specs.Prelude.{ℕ, Bool, true, false, List, [], ◌∷◌, Option, Some, option_map, unwrap_or, codes, Result, Ok}
 use Rattle.std.specs.List.{find}
 use Rattle.std.specs.Str.{bytes_eq}
-use Rattle.acl_verdicts.specs.Rows.{Verdict}
+use Rattle.acl_rights.specs.Rows.{Verdict}
 use Rattle.acl_tree.specs.State.{State}
 use Rattle.facl_script.specs.Forms.{Text}
 use Rattle.facl_script.specs.Rows.{syntax_view}

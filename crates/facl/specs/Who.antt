@@ -6,7 +6,7 @@ use Rattle.acl_entry.specs.Perms.{Perms}
 use Rattle.acl_tree.specs.declared.fault.TreeFault.TheVariants.{NoSuchFile}
 use Rattle.acl_names.specs.Paths.{PathOf}
 use Rattle.acl_tree.specs.State.{State}
-use Rattle.acl_verdicts.specs.Rows.{Verdict}
+use Rattle.acl_rights.specs.Rows.{Verdict}
 use Rattle.facl_script.specs.Forms.{Text, file_of}
 use Rattle.facl_script.specs.Syntax.{Syntax, by_name, one}
 use Rattle.facl_script.specs.declared.tool_words.Words.{Words}

@@ -2,7 +2,7 @@
 
 ghost use Rattle.std.specs.Prelude.{◌≡◌, false};
 ghost use Rattle.facl_script.specs.Units.{ScriptUnit};
-ghost use Rattle.acl_verdicts.specs.Rows.{Verdict};
+ghost use Rattle.acl_rights.specs.Rows.{Verdict};
 ghost use Rattle.facl.specs.LineParts.{IsAnsweredByFirst};
 ghost use Rattle.acl_rights.specs.declared.indexed.States.{States};
 ghost use Rattle.facl.specs.Units.{is_silent};

@@ -44,9 +44,8 @@ pub use words::read_args;
 
 // The public calls take and give these values of the crates below.
 pub use acl_entry::{Label, Perm, Requests, Subject};
-pub use acl_rights::{IndexedState, Verdicts};
+pub use acl_rights::{IndexedState, Judge, Verdicts};
 pub use acl_tree::State;
-pub use acl_verdicts::Judge;
 pub use facl_output::{LineFault, RunFault, Source, push_run_fault};
 pub use facl_script::{
     Feed, Flags, OperandRow, Operands, OptionRow, Sink, StdFeed, StdSink, Syntax, Values, Words,

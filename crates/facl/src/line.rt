@@ -10,8 +10,7 @@ ghost use Rattle.facl.specs.Units.{is_silent, words_of_line, text_or_fault, tool
 
 use crate::tools::effect::Effect;
 use crate::tools::{Tool, tool_line};
-use acl_rights::IndexedStates;
-use acl_verdicts::Judge;
+use acl_rights::{IndexedStates, Judge};
 use facl_output::LineFault;
 use facl_script::{HeldLine, HeldText, split_words};
 use std::alloc::Global;

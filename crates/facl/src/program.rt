@@ -10,7 +10,7 @@ ghost use Rattle.facl.specs.Runs.{RunsTo, EndsBy, devices};
 use crate::session::{FaclSession, JudgedSession};
 use crate::setup::{Setup, start};
 use crate::status::Status;
-use acl_verdicts::{Judge, Posix};
+use acl_rights::{Judge, Posix};
 use facl_output::RunFault;
 use facl_script::{Feed, Sink, run_session};
 use std::alloc::Global;

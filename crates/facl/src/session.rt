@@ -17,9 +17,8 @@ ghost use Rattle.facl.specs.Sessions.{states_of, out_of, err_of, ran_out_of_memo
 use crate::line::{is_silent, tool_reply, words_of_line};
 use crate::tools::Tool;
 use crate::tools::effect::Effect;
-use acl_rights::{IndexedStates, States};
+use acl_rights::{IndexedStates, Judge, States};
 use acl_tree::State;
-use acl_verdicts::Judge;
 use facl_output::{LineFault, ReservedMessage, push_message, push_warning};
 use facl_script::{HeldLine, HeldUnit, Session, asks_for_text};
 use std::alloc::{AllocError, Global};

@@ -40,8 +40,7 @@ ghost use Rattle.facl.specs.Tools.{answered, line_or_fault, loads, read_line, ro
 ghost use Rattle.facl.specs.contracts.tools.ToolPartialEq.TheImpl.{ghosts as equality};
 
 use crate::tools::effect::Effect;
-use acl_rights::IndexedState;
-use acl_verdicts::Judge;
+use acl_rights::{IndexedState, Judge};
 use facl_output::LineFault;
 use facl_script::{Syntax, Words, read_by};
 use std::alloc::{AllocError, Global};

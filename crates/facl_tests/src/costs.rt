@@ -2,7 +2,7 @@
 //! a time.
 
 use crate::played::play;
-use acl_verdicts::Posix;
+use acl_rights::Posix;
 use facl::Setup;
 use std::process::Abort;
 

@@ -7,7 +7,7 @@ ghost use Rattle.facl_tests.specs.Verdicts.{class_set, owner_alone, owner_alone_
 
 use acl_entry::{Key, Label, Perm, Requests, Subject};
 use acl_people::Subjects;
-use acl_verdicts::Judge;
+use acl_rights::Judge;
 
 fn set_of(label: &Label, key: Key) -> Perm
     ensures { result ≡ perm_at label.now.acl key }

@@ -2,7 +2,7 @@
 
 ghost use Rattle.std.specs.Prelude.{◌≡◌};
 
-use acl_verdicts::Judge;
+use acl_rights::Judge;
 use facl::{Setup, Status, run_judged};
 use facl_script::{StdFeed, StdSink};
 use std::alloc::Global;

@@ -4,7 +4,7 @@
 use crate::judged_rows::{Row, expect};
 use crate::played::play;
 use crate::texts::NOTHING;
-use acl_verdicts::Posix;
+use acl_rights::Posix;
 
 /// Then a has the label of b, and its own again, which c had meanwhile.
 static ROW: Row = Row {

@@ -13,8 +13,7 @@ use crate::answers::placed_users::{PlacedUser, keep_places, users_of_both};
 use crate::answers::requests::NUMBERS;
 use crate::answers::row_walk::{FileWithRow, Walk};
 use acl_entry::{Perm, Requests};
-use acl_rights::{IndexedState, Verdicts};
-use acl_verdicts::{Judge, same_row};
+use acl_rights::{IndexedState, Judge, Verdicts, same_row};
 use std::alloc::{AllocError, Global};
 use std::cmp::Ordering;
 

@@ -11,9 +11,8 @@ use crate::answers::row_walk::{FileWithRow, Walk};
 use acl_entry::Requests;
 use acl_names::write_name;
 use acl_people::People;
-use acl_rights::IndexedState;
+use acl_rights::{IndexedState, Judge};
 use acl_tree::Found;
-use acl_verdicts::Judge;
 use facl_output::push_path_shown;
 use std::alloc::{AllocError, Global};
 

@@ -7,7 +7,7 @@ ghost use Rattle.acl_edit.specs.declared.node.Node.{Node};
 ghost use Rattle.acl_entry.specs.Check.{check};
 ghost use Rattle.acl_entry.specs.Perms.{Perms};
 ghost use Rattle.acl_names.specs.Paths.{path_cmp, PathOf};
-ghost use Rattle.acl_verdicts.specs.Rows.{Verdict};
+ghost use Rattle.acl_rights.specs.Rows.{Verdict};
 ghost use Rattle.facl.specs.ChangesText.{changes_text, IsUnchanged};
 ghost use Rattle.facl.specs.Inner.{HasValidList};
 ghost use Rattle.facl.specs.WhyText.{some_decides, IsDecidedAlong};

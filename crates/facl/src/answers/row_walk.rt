@@ -8,9 +8,8 @@ ghost use Rattle.acl_rights.specs.Verdicts.{rows_granted};
 
 use acl_edit::Node;
 use acl_names::Path;
-use acl_rights::Verdicts;
+use acl_rights::{Cells, FileRows, Judge, Verdicts};
 use acl_tree::{FilesIter, Found, Tree};
-use acl_verdicts::{Cells, FileRows, Judge};
 use std::alloc::{AllocError, Global};
 use std::marker::Model;
 

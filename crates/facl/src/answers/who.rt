@@ -9,8 +9,7 @@ ghost use Rattle.facl.specs.Inner.{line_at};
 use acl_entry::Perm;
 use acl_names::{Path, append_name};
 use acl_people::People;
-use acl_rights::Verdicts;
-use acl_verdicts::Judge;
+use acl_rights::{Judge, Verdicts};
 use std::alloc::{AllocError, Global};
 
 /// Adds the line of a user.

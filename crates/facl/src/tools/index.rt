@@ -5,8 +5,7 @@ ghost use Rattle.facl.specs.Replies.{Replies};
 
 use crate::answers::index::write_index;
 use crate::tools::effect::Effect;
-use acl_rights::IndexedState;
-use acl_verdicts::Judge;
+use acl_rights::{IndexedState, Judge};
 use facl_output::LineFault;
 use facl_script::Syntax;
 use std::alloc::Global;

@@ -5,7 +5,7 @@ ghost use Rattle.std.specs.Prelude.{◌≡◌, ℕ, List, Some, is_some, true};
 ghost use Rattle.acl_tree.specs.State.{State};
 ghost use Rattle.facl.specs.ToolParts.{IsAtFault, place, rank};
 ghost use Rattle.facl.specs.FirstPart.{IsRefusedForFirst};
-ghost use Rattle.acl_verdicts.specs.Rows.{Verdict};
+ghost use Rattle.acl_rights.specs.Rows.{Verdict};
 ghost use Rattle.facl.specs.Tools.{answered, row_for, tool_name, tool_named};
 ghost use Rattle.facl.specs.declared.tools.Tool.{Tool};
 ghost use Rattle.facl.specs.declared.tools.ToolLine.{ToolLine};

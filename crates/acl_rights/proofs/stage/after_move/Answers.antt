@@ -3,7 +3,7 @@ use Rattle.path_map.specs.Entries.{IsInOrder}
 use Rattle.kinds.specs.Numbered.{Kept, entries_in}
 use Rattle.acl_tree.specs.Files.{Recorded}
 use Rattle.acl_tree.specs.declared.user_change.UserChange.TheVariants.{Memberships}
-use Rattle.acl_verdicts.specs.declared.kind_rows.LabelRow.{LabelRow}
+use Rattle.acl_rights.specs.declared.kind_rows.LabelRow.{LabelRow}
 use Rattle.acl_rights.proofs.NextRows.{looked_cost, looked_moved, refreshed_moved, refreshed_unmoved, rows_after_move, rows_unchanged}
 use Rattle.acl_rights.proofs.stage.after_move.Goals as goal
 

@@ -1,5 +1,5 @@
 use Rattle.std.proofs.Common.{◌≡◌, ◌+◌, ◌++◌, map, length}
-use Rattle.acl_verdicts.specs.KindRows.{with_label}
+use Rattle.acl_rights.specs.KindRows.{with_label}
 use Rattle.acl_rights.specs.Lines.{labels_of}
 use Rattle.acl_rights.proofs.stage.fewer_labels.Given as goal
 

@@ -5,7 +5,7 @@ use Rattle.acl_entry.specs.declared.label.Label.{Label}
 use Rattle.kinds.specs.Numbered.{entries_in}
 use Rattle.acl_people.specs.KnownPeople.{persons}
 use Rattle.acl_tree.specs.Files.{Recorded}
-use Rattle.acl_verdicts.specs.KindRows.{with_label}
+use Rattle.acl_rights.specs.KindRows.{with_label}
 use Rattle.acl_rights.specs.Lines.{labels_of}
 use Rattle.acl_rights.proofs.NextRows.{rows_known, seen_paths, files_cost, changed_order, gone_order, rows_after}
 use Rattle.acl_rights.proofs.stage.with_changed.Goals as goal

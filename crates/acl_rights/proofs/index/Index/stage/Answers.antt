@@ -4,10 +4,10 @@ use Rattle.path_map.specs.Entries.{IsInOrder}
 use Rattle.kinds.specs.Numbered.{entries_in}
 use Rattle.acl_people.specs.KnownPeople.{KnownPeople, persons}
 use Rattle.acl_tree.specs.Files.{Files, Recorded}
-use Rattle.acl_verdicts.specs.declared.kind_rows.LabelRow.{LabelRow}
-use Rattle.acl_verdicts.proofs.Orders.{in_order-values}
+use Rattle.acl_rights.specs.declared.kind_rows.LabelRow.{LabelRow}
+use Rattle.acl_rights.proofs.Orders.{in_order-values}
 use Rattle.acl_rights.specs.Tables.{VerdictTable}
-use Rattle.acl_verdicts.specs.Rows.{Rows, rows_of}
+use Rattle.acl_rights.specs.Rows.{Rows, rows_of}
 use Rattle.acl_rights.specs.Reach.{unlike}
 use Rattle.acl_rights.specs.Kept.{GoesFrom}
 use Rattle.acl_rights.specs.Lines.{HaveLabels}

@@ -1,0 +1,211 @@
+//! Rows of verdicts by kinds after some files changed: of labels that differ each is asked for once.
+
+ghost use Rattle.std.specs.Prelude.{◌≡◌, ◌+◌, ◌*◌, ◌<◌, ◌≤◌, ◌^◌, Some, true, length, map, slice_get, IfOk, IfSome, OnOk};
+ghost use Rattle.path_map.specs.Entries.{IsInOrder, seen};
+ghost use Rattle.path_map.specs.Merged.{merged};
+ghost use Rattle.kinds.specs.Numbered.{entries_in};
+ghost use Rattle.kinds.specs.Placed.{given};
+ghost use Rattle.acl_rights.specs.KindRows.{label_row, some_row, rowed_labels, with_label, borrowed_labels, AreRowsOf, HasLabel, IsPlaced, ArePlaced};
+
+use crate::cells::judged;
+use crate::hash::hash_of;
+use crate::hints::Hints;
+use crate::judge::Judge;
+use crate::kind_rows::{KindRows, LabelRow, with_row};
+use acl_entry::Label;
+use acl_names::Path;
+use acl_people::Subjects;
+use kinds::{GivenNode, KindMap};
+use std::alloc::{AllocError, Global};
+use std::collections::BTreeMap;
+use std::rc::Rc;
+
+/// Whether owner, group and access list are the same.
+pub(crate) fn is_same_label(one: &Label, other: &Label) -> bool
+    ensures { result ≡ true → one.now ≡ other.now }
+{
+    one.owner == other.owner && one.group == other.group && one.acl.same(&other.acl)
+}
+
+/// A place, if it has this label.
+fn place_if(labels: &[&Label], at: usize, label: &Label) -> Option<usize>
+    ensures { IfSome result (λ n. slice_get (borrowed_labels labels.now) n ≡ Some label.now) }
+{
+    let other = labels.get(at)?;
+    if is_same_label(other, label) {
+        Some(at)
+    } else {
+        None
+    }
+}
+
+/// The place of a label, if it is the last one of its hash.
+fn place_by_hash(
+    labels: &[&Label],
+    by_hash: &BTreeMap<u64, usize>,
+    hash: u64,
+    label: &Label,
+) -> Option<usize>
+    ensures { IfSome result (λ n. slice_get (borrowed_labels labels.now) n ≡ Some label.now) }
+{
+    let at = *by_hash.get(&hash)?;
+    place_if(labels, at, label)
+}
+
+/// The place of a label among those that differ: the last one, or one by its hash; or it is added. The last place is `last`.
+fn place_of<'a>(
+    labels: &mut Vec<&'a Label>,
+    by_hash: &mut BTreeMap<u64, usize>,
+    last: usize,
+    label: &'a Label,
+) -> Result<usize, AllocError>
+    ensures { IfOk result (λ at. IsPlaced label.now (borrowed_labels labels.old.items) (borrowed_labels labels.new.items) at) }
+{
+    if let Some(at) = place_if(labels, last, label) {
+        return Ok(at);
+    }
+    let hash = hash_of(label);
+    if let Some(at) = place_by_hash(labels, by_hash, hash, label) {
+        return Ok(at);
+    }
+    let at = labels.len();
+    by_hash.insert(hash, at)?;
+    labels.push(label)?;
+    Ok(at)
+}
+
+/// Labels that differ, and for each path the place of its label; and places of labels by their hashes.
+#[derive(Drop)]
+struct LabelPlaces<'a> {
+    labels: Vec<&'a Label>,
+    places: Vec<(&'a Path, usize)>,
+    by_hash: BTreeMap<u64, usize>,
+}
+
+/// The labels of some paths, each once, and for each path the place of its label.
+fn places_of<'a>(
+    alloc: Global,
+    paths: &[(&'a Path, &'a Label)],
+) -> Result<LabelPlaces<'a>, AllocError>
+    ensures { IfOk result (λ new. ArePlaced (map with_label paths.now) (borrowed_labels new.labels.items) (map seen new.places.items)) }
+{
+    let mut labels = Vec::new(alloc);
+    let mut by_hash = BTreeMap::new(alloc);
+    let mut places = Vec::with_capacity(alloc, paths.len())?;
+    let mut last = 0;
+    for path in paths {
+        last = place_of(&mut labels, &mut by_hash, last, path.1)?;
+        places.push((path.0, last))?;
+    }
+    Ok(LabelPlaces {
+        labels,
+        places,
+        by_hash,
+    })
+}
+
+/// A label with its row, asked for once.
+pub(crate) fn judged_row<J: Judge>(
+    alloc: Global,
+    judge: &mut J,
+    users: &Subjects,
+    label: &Label,
+) -> Result<Rc<LabelRow>, AllocError>
+    requires { J.asked_of judge.old + length users.now < 2 ^ 64 }
+    ensures row { IfOk result (λ new. new.value ≡ label_row J.verdict_of users.now label.now) }
+    ensures at_most { J.asked_of judge.new ≤ J.asked_of judge.old + length users.now }
+{
+    let row = judged(alloc, judge, users, label, 1, None)?;
+    let new = with_row(alloc, label, row)?;
+    Ok(Rc::new(alloc, new)?)
+}
+
+/// The number that hints give for a label, if a file has this number and its label is this one.
+fn known_number(rows: &KindMap<LabelRow>, hints: &Hints, label: &Label) -> Option<usize>
+    ensures { IfSome result (λ number. HasLabel label.now number rows.now) }
+{
+    let number = hints.get(hash_of(label))?;
+    let row = rows.used(number)?;
+    if is_same_label(&row.label, label) {
+        Some(number)
+    } else {
+        None
+    }
+}
+
+/// The row of a label: that of a file that has it, or one that is asked for once.
+fn given_row<J: Judge>(
+    alloc: Global,
+    judge: &mut J,
+    users: &Subjects,
+    rows: &KindMap<LabelRow>,
+    hints: &Hints,
+    label: &Label,
+) -> Result<GivenNode<LabelRow>, AllocError>
+    requires room { J.asked_of judge.old + length users.now < 2 ^ 64 }
+    requires known { AreRowsOf J.verdict_of users.now (entries_in rows.now) }
+    ensures row { IfOk result (λ node. given rows.now.0 node ≡ Some (label_row J.verdict_of users.now label.now)) }
+    ensures at_most { J.asked_of judge.new ≤ J.asked_of judge.old + length users.now }
+{
+    if let Some(number) = known_number(rows, hints, label) {
+        return Ok(GivenNode::Known(number));
+    }
+    let row = judged_row(alloc, judge, users, label)?;
+    Ok(GivenNode::New(row))
+}
+
+/// The rows of labels, each asked for at most once.
+fn given_rows<J: Judge>(
+    alloc: Global,
+    judge: &mut J,
+    users: &Subjects,
+    rows: &KindMap<LabelRow>,
+    hints: &Hints,
+    labels: &[&Label],
+) -> Result<Vec<GivenNode<LabelRow>>, AllocError>
+    requires room { J.asked_of judge.old + length labels.now * length users.now < 2 ^ 64 }
+    requires known { AreRowsOf J.verdict_of users.now (entries_in rows.now) }
+    ensures rows { IfOk result (λ nodes. map (given rows.now.0) nodes.items ≡ map (some_row J.verdict_of users.now) (borrowed_labels labels.now)) }
+    ensures at_most { J.asked_of judge.new ≤ J.asked_of judge.old + length labels.now * length users.now }
+{
+    let mut nodes: Vec<GivenNode<LabelRow>> = Vec::with_capacity(alloc, labels.len())?;
+    for at in 0..labels.len() {
+        let node = given_row(alloc, judge, users, rows, hints, labels[at])?;
+        nodes.push(node)?;
+    }
+    Ok(nodes)
+}
+
+impl KindRows {
+    /// The rows after some files have other labels and others are gone. Each different label is asked for at most once, and not
+    /// where hints find a file that has it. Fails only if memory, or the numbers, run out.
+    pub fn with_files<'a, J: Judge, W>(
+        &self,
+        alloc: Global,
+        judge: &mut J,
+        users: &Subjects,
+        changed: &[(&'a Path, &'a Label)],
+        gone: &[(&Path, W)],
+    ) -> Result<KindRows, AllocError>
+        requires room { J.asked_of judge.old + length changed.now * length users.now < 2 ^ 64 }
+        requires known { AreRowsOf J.verdict_of users.now (entries_in self.now.rows) }
+        requires changed { IsInOrder (map with_label changed.now) }
+        requires gone { IsInOrder (map seen gone.now) }
+        ensures rows { IfOk result (λ new. entries_in new.rows
+            ≡ merged (rowed_labels J.verdict_of users.now (map with_label changed.now)) (map seen gone.now) (entries_in self.now.rows)) }
+        ensures at_most { J.asked_of judge.new ≤ J.asked_of judge.old + length changed.now * length users.now }
+    {
+        let left = self.rows.without_all(alloc, gone)?;
+        let new = places_of(alloc, changed)?;
+        let LabelPlaces {
+            labels,
+            places,
+            by_hash,
+        } = new;
+        let nodes = given_rows(alloc, judge, users, &left, &self.hints, &labels)?;
+        let put = left.put_placed(alloc, &places, &nodes)?;
+        let (rows, numbers) = put;
+        let hints = self.hints.with(alloc, &by_hash, &numbers)?;
+        Ok(KindRows { rows, hints })
+    }
+}

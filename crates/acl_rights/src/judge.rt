@@ -1,0 +1,88 @@
+//! Who decides on a user and a file; and the access check of acl(5) as a judge.
+
+ghost use Rattle.std.specs.Prelude.{◌≡◌, ◌+◌, ◌*◌, ◌<◌, ◌^◌, ℕ, length};
+ghost use Rattle.acl_entry.specs.Mentions.{rights_local};
+ghost use Rattle.acl_entry.specs.Check.{rights};
+ghost use Rattle.acl_rights.specs.Rows.{Verdict, row_of, IsLocal};
+
+use acl_entry::{Label, Requests, Subject, granted};
+use acl_people::{Subjects, granted_to_all};
+
+/// Decides what a user may do with a file, by one definition for all values of the type, and counts its
+/// verdicts.
+pub trait Judge {
+    /// The verdict on a user and a label.
+    ghost verdict_of: { Verdict };
+
+    /// How many verdicts were asked for.
+    ghost asked_of: { Self → ℕ };
+
+    /// The verdict on a user and a label. Allocates nothing.
+    fn verdict(&mut self, subject: &Subject, label: &Label) -> Requests
+        requires { asked_of self.old + 1 < 2 ^ 64 }
+        ensures verdict { result ≡ verdict_of subject.now label.now }
+        ensures asked { asked_of self.new ≡ asked_of self.old + 1 };
+
+    /// The verdicts on all users and a label, in the order of the users, for so many files that have this label.
+    ///
+    /// One verdict counts for each user and each of these files, however they are found. A judge that has no
+    /// quicker way asks for them one by one, as this body does. Allocates nothing.
+    fn verdicts(&mut self, users: &Subjects, label: &Label, files: u64, row: &mut [Requests])
+        requires room { asked_of self.old + files * length users.now < 2 ^ 64 }
+        requires some { 0 < files }
+        requires length { length row.old ≡ length users.now }
+        ensures row { row.new ≡ row_of verdict_of users.now label.now }
+        ensures asked { asked_of self.new ≡ asked_of self.old + files * length users.now }
+    {
+        for _ in 0..files {
+            for (at, user) in users.as_slice().iter().enumerate() {
+                row[at] = self.verdict(user, label);
+            }
+        }
+    }
+
+    /// How many verdicts were asked for.
+    fn asked(&self) -> u64
+        ensures { result ≡ asked_of self.now };
+
+    /// Locality: the verdicts on two users of one id are the same where their groups agree on those that the
+    /// label mentions.
+    ghost local: { IsLocal verdict_of };
+}
+
+/// The access check of acl(5).
+#[derive(Drop)]
+pub struct Posix {
+    asked: u64,
+}
+
+impl Posix {
+    /// No verdict was asked for yet.
+    pub fn new() -> Posix
+        ensures { result.asked ≡ 0 }
+    {
+        Posix { asked: 0 }
+    }
+}
+
+impl Judge for Posix {
+    ghost verdict_of = { rights };
+
+    ghost asked_of = { λ judge. judge.asked };
+
+    fn verdict(&mut self, subject: &Subject, label: &Label) -> Requests {
+        self.asked += 1;
+        granted(subject, label)
+    }
+
+    fn verdicts(&mut self, users: &Subjects, label: &Label, files: u64, row: &mut [Requests]) {
+        self.asked += files * users.len() as u64;
+        granted_to_all(users, label, row);
+    }
+
+    fn asked(&self) -> u64 {
+        self.asked
+    }
+
+    ghost local = { rights_local };
+}
