@@ -27,8 +27,8 @@ import script  # noqa: E402
 
 PROGRAM = "facl_cli"
 ROWS = os.path.join(script.TOP, "crates.txt")
-MAX_WAYS = 105
-MAX_CHAIN = 10
+MAX_WAYS = 160
+MAX_CHAIN = 8
 
 
 class Crates:
