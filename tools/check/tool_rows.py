@@ -17,6 +17,7 @@ NAMED = re.compile(r'\brow!\(\w+, "(\w+)"')
 SWITCHES = re.compile(r"\b(flags|options): &\[(.*?)\]", re.S)
 SWITCH = re.compile(r"\b(both|by_letter|by_name)!\((?:'(\w)', )?\"([\w-]+)\"(, of_text)?")
 NOTHING, VALUE, TEXT = "no value", "a value", "a text"
+NO_TOOLS = {"UNKNOWN", "UNKNOWN_TOOL"}  # What rows of words that are no tools name.
 ROW_PLACE = 5  # Of the refused line among the words of a cause's row.
 Fault = Tuple[str, int, str]
 
@@ -58,9 +59,19 @@ def records_of(path: str) -> Tuple[Dict[str, List[Switch]], List[str]]:
     return {name: rows for name, rows in found.items() if name not in of_plans}, of_plans
 
 
+def calls_of_tools(tree: ast.AST) -> Iterator[ast.AST]:
+    """The parts of a table of causes, but for the rows of first words that are no tools."""
+    for part in ast.iter_child_nodes(tree):
+        names = {name.id for name in ast.walk(part) if isinstance(name, ast.Name)}
+        is_row = isinstance(part, ast.Call) and isinstance(part.func, ast.Name) and part.func.id == "row"
+        if not (is_row and names & NO_TOOLS):
+            yield part
+            yield from calls_of_tools(part)
+
+
 def tools_of_causes(text: str) -> Iterator[str]:
     """The words by which rows of the table of causes name tools: in their tests, and first in a refused line."""
-    for call in ast.walk(ast.parse(text)):
+    for call in calls_of_tools(ast.parse(text)):
         if isinstance(call, ast.Call) and isinstance(call.func, ast.Name) and call.args:
             place = ROW_PLACE if call.func.id == "row" else 0
             word = call.args[place] if len(call.args) > place else None

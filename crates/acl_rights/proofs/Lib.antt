@@ -4,7 +4,7 @@ pub mod Costs
 pub mod Asked
 pub mod AskedAlong
 pub mod Reached
-pub mod Counts
+pub mod RowCounts
 pub mod Refreshed
 pub mod Mentions
 pub mod Refreshing

@@ -30,7 +30,7 @@ use Rattle.acl_rights.specs.Stages.{moves_looked, most_asked}
 use Rattle.acl_rights.specs.Reach.{moves_refreshed, verdicts_refreshed}
 use Rattle.acl_rights.specs.Lines.{labels_of, AreBefore}
 use Rattle.acl_rights.proofs.Costs.{all_users, within, nothing_changed, moved_cost}
-use Rattle.acl_rights.proofs.Counts.{person_same}
+use Rattle.acl_rights.proofs.RowCounts.{person_same}
 use Rattle.acl_rights.proofs.Goes.{moves, joins, leaves}
 use Rattle.acl_rights.proofs.Refreshing.{count_paths, count_lying, users_refreshed, count_none}
 use Rattle.acl_rights.proofs.Rowed.{rowed_paths, rowed_long, rows_changed, rows_moved, rows_unmoved, rows_joined, rows_left, rows_mentioning, paths_mentioning}

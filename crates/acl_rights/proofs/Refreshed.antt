@@ -35,7 +35,7 @@ use Rattle.acl_rights.proofs.Reached.{reached_is, cell_reached}
 use Rattle.acl_rights.proofs.Goes.{moves, joins, leaves, old_order}
 use Rattle.acl_names.proofs.Below.{below_within, within_cases, within_itself}
 use Rattle.acl_rights.proofs.Maps.{map_twice}
-use Rattle.acl_rights.proofs.Counts.{clash, false_from, missed_most, missed_none, missed_one, any_found, any_filter, each_found, alike_above, some_same, long_row, sum_le, finds, times_one, times_none, sum_parts, set_other, joined_was, left_was, person_same}
+use Rattle.acl_rights.proofs.RowCounts.{clash, false_from, missed_most, missed_none, missed_one, any_found, any_filter, each_found, alike_above, some_same, long_row, sum_le, finds, times_one, times_none, sum_parts, set_other, joined_was, left_was, person_same}
 
 module _ (V : Verdict) (us ws : List Person) (fs gs : Files) (fo : IsInOrder fs) (go : IsInOrder gs) where
   -- a user's answer at a file was there before

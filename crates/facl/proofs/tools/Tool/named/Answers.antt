@@ -1,7 +1,7 @@
 use Rattle.std.proofs.Common.{option_map, ap, sym, ◌∙◌}
 use Rattle.std.specs.List.{find}
 use Rattle.std.specs.Str.{bytes_eq}
-use Rattle.facl.specs.Tools.{ToolRow, row_view, table, tool_named}
+use Rattle.facl.specs.Tools.{ToolRow, row_view, tool_named}
 use Rattle.facl.proofs.ToolTable.{found_view}
 use Rattle.facl.proofs.tools.Tool.named.Goals as goal
 
