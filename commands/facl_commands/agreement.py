@@ -6,6 +6,7 @@ each file in it. Only the lines of directories that several have are read.
 """
 from __future__ import annotations
 
+from collections import Counter
 from hashlib import blake2b
 from typing import Dict, Iterable, Iterator, List, NamedTuple, Optional, Tuple
 
@@ -70,6 +71,19 @@ def differences_in(above: bytes, shared: List[Tuple[bytes, OutputSlice]]) -> Ite
             first = known.setdefault(name, (checksum, label))
             if first[0] != checksum:
                 yield read_path(above + b"/" + name), first[1], label
+
+
+def files_of_several(parts: List[Recorded]) -> List[bytes]:
+    """The paths that several of some snapshots of one tree record, in path order."""
+    lines: Dict[bytes, List[OutputSlice]] = {}
+    for part in parts:
+        for above, line in directories_of(part.files):
+            lines.setdefault(above, []).append(line)
+    found: List[bytes] = []
+    for above, shared in lines.items():
+        names = Counter(file[SIZE:] for line in shared if len(shared) > 1 for file in line.read().split(b"\0")[1:])
+        found += [read_path(above + b"/" + name) for name, count in names.items() if count > 1]
+    return sorted(found, key=path_order)
 
 
 def differing_id(parts: List[Recorded]) -> Optional[bytes]:

@@ -58,6 +58,8 @@ def parse(words: List[str]) -> argparse.Namespace:
     parser.add_argument("--hosts", action="store_true",
                         help="answer standard input over the snapshots of several servers, NAME:DIR")
     parser.add_argument("--records", action="store_true", help=argparse.SUPPRESS)  # With --part: what it records, too.
+    # With --part: a file that other snapshots have too.
+    parser.add_argument("--shared", action="append", default=[], help=argparse.SUPPRESS)
     parser.add_argument("--part", action="store_true", help=argparse.SUPPRESS)  # What --each runs for each of them.
     texts.add_source(parser, words)
     parser.add_argument("scripts", metavar="SCRIPT", nargs="*")
@@ -220,7 +222,8 @@ def answer_one(command: Command, given: argparse.Namespace, source: Source) -> i
     if given.part:
         from . import shard_worker
 
-        return shard_worker.write_part(command, program, source.folder, read_text("-"), given.records)
+        return shard_worker.write_part(command, program, source.folder, read_text("-"), given.records,
+                                           list(map(os.fsencode, given.shared)))
     if not given.scripts and os.isatty(0) and os.isatty(1):
         return run_prompt(command, program, source, given.with_root)
     if len(given.scripts) > 1 or given.headings:

@@ -11,8 +11,8 @@ from .protocol import (
 from .refused_line import Line
 from .remedies import Remedy, as_written, none
 from .tools import (
-    ENTRIES, EXCLUDED, LOADERS, OPTIONS, PART, RECORDS, TEXT, VALUES, WHOLE, WITH_ENTRIES, letters_of, operand_kinds,
-    operands_of, options_that, options_with,
+    ALL, ENTRIES, EXCLUDED, LOADERS, OPTIONS, PART, RECORDS, TEXT, VALUES, WHOLE, WITH_ENTRIES, letters_of,
+    operand_kinds, operands_of, options_that, options_with,
 )
 
 NO_NAME = of_name(ANY_TOOL, NO_USER, NO_GROUP)
@@ -176,11 +176,17 @@ def has_too_few_words(line: Line) -> bool:
     return len(line.operands) < len(operands_of(line.tool(), line.split))
 
 
+def has_permissions_and_more(line: Line) -> bool:
+    """Whether a question has as many words as it takes, of which one is PERMS."""
+    several = ALL[line.tool()].operands.endswith("..")
+    return len(line.operands) >= 2 if several else len(line.operands) == 2
+
+
 def has_words_for_permissions(line: Line) -> bool:
     """Whether a question has its PERMS in capital letters or in words."""
     word = line.operand(operands_of(line.tool(), line.split).index("PERMS"), b"")
-    return len(line.operands) == 2 and re.fullmatch(rb"[rwxRWX-]+|read|write|exec|execute|search|all|full",
-                                                    word) is not None
+    return has_permissions_and_more(line) and re.fullmatch(rb"[rwxRWX-]+|read|write|exec|execute|search|all|full",
+                                                           word) is not None
 
 
 def has_too_many_files(line: Line) -> bool:

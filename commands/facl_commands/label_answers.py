@@ -6,6 +6,7 @@ with a short name, in a session over these files: neither names nor depths of th
 from __future__ import annotations
 
 import re
+import struct
 from typing import Dict, Iterable, List, NamedTuple
 
 from .names import script_word
@@ -81,6 +82,36 @@ def vectors_of(table: OutputSlice, count: int, users: List[bytes]) -> List[bytes
     text = table.read()
     assert len(text) == count * size
     return [b"".join([text[place + k * size : place + k * size + 2] for place in places]) for k in range(count)]
+
+
+class Vectors(NamedTuple):
+    """What the program answers of each record, by its lines after the first: a byte of `index` for each user."""
+
+    users: List[bytes]
+    of_body: Dict[bytes, bytes]
+
+
+def bytes_of(table: OutputSlice, bodies: List[bytes]) -> Vectors:
+    """What an index of bodies has."""
+    users = users_of(table)
+    form = struct.Struct("".join("2s%dx" % len(b" " + user + b" " + WORD % 0 + b"\n") for user in users))
+    assert table.end - table.start == len(bodies) * form.size
+    found: Dict[bytes, bytes] = {}
+    for number, body in enumerate(bodies):
+        start = table.start + number * form.size
+        text = table._replace(start=start, end=start + form.size).read()
+        found[body] = bytes.fromhex(b"".join(form.unpack(text)).decode())
+    return Vectors(users, found)
+
+
+def ask_vectors(program: str, people: People, bodies: List[bytes]) -> List[Vectors]:
+    """Asks what all users may do with files that have these bodies, before the lines of people and after them."""
+    with session_over(program, people.passwd, people.group, dump_of(bodies)) as session:
+        found = [bytes_of(session.ask_accepted(INDEX), bodies)]
+        if people.lines:
+            session.ask_accepted(people.lines.rstrip(b"\n"))
+            found.append(bytes_of(session.ask_accepted(INDEX), bodies))
+        return [found[0], found[-1]]
 
 
 def ask_some(program: str, people: People, bodies: List[bytes]) -> Answers:

@@ -154,6 +154,30 @@ class Tally:
         return ((order, place, self.totals[place]) for order, new in self.first for place in places_in(new))
 
 
+def has_joined(old: People, new: People) -> bool:
+    """Whether somebody is in a group in which the user was not."""
+    before, now = groups_by_user(old), groups_by_user(new)
+    return any(now[name] - before[name] for name in now if name in before)
+
+
+def bodies_to_judge(old: Files, new: Files, has_joined_some: bool) -> List[bytes]:
+    """The records of whose files one has to know what is granted: of each directory that has others below, and of files
+    that name somebody otherwise than before."""
+    above: Set[bytes] = {b""}
+    for path in (*old, *new):
+        above.update(directories_to_find(directory_of(path), above))
+    found = {files[it[:-1]].body for files in (old, new) for it in above if it[:-1] in files}
+    known: Set[Pair] = set()
+    for path, file in new.items():
+        pair = old[path].body if path in old else b"", file.body
+        if pair in known or pair[0] == pair[1] and not has_joined_some:
+            continue
+        known.add(pair)
+        if has_joined_some or any(named_ids(*pair)):
+            found.update(filter(None, pair))
+    return list(found)
+
+
 class Finder:
     """Finds files that grant a user more than before, where an edit names the user."""
 

@@ -5,9 +5,9 @@ import argparse
 import grp
 import os
 import re
-from typing import Dict, List, Union
+from typing import Dict, List, Set, Union
 
-from . import meta, no_gain, overview, owners, people, plan_folder, planned, rights, texts
+from . import label_answers, meta, no_gain, overview, owners, people, plan_folder, planned, rights, texts
 from .answering import answer_unit
 from .links import Links
 from .messages import Command, Failure, counted, parser_of
@@ -78,6 +78,7 @@ class Run:
         self.asked: List[Asked] = []
         self.messages: List[Message] = []
         self.commands: List[people.PeopleChange] = []
+        self.changes_of_people = b""  # The lines that were accepted.
 
     def answer_all(self, units: List[Unit]) -> None:
         """Answers lines, and keeps what they printed."""
@@ -106,6 +107,7 @@ class Run:
     def follow(self, unit: Unit) -> None:
         """What an accepted line means for other names of its files, and for the system's users."""
         if unit.is_of(*CHANGES_OF_PEOPLE):
+            self.changes_of_people += unit.text()
             self.commands += filter(None, [self.people.change(unit.words)])
         elif unit.is_of(*EDITS):
             names = self.links.follow(self.session, unit)
@@ -119,24 +121,44 @@ def list_below(session: Session, tops: List[bytes]) -> Listing:
     return list_files(b"".join(output.read() for output in texts.list_below(session, tops)))
 
 
-def answer_scripts(given: argparse.Namespace, snapshot: Snapshot, units: List[Unit], is_whole: bool = True) -> Outcome:
-    with Session(find_program(given.program), snapshot.folder) as session:
+def users_of_id_0(*sides: people.People) -> Set[bytes]:
+    return {no_gain.name_in_index(user.name) for side in sides for user in side.users if user.uid == 0}
+
+
+def find_no_gain(session: Session, program: str, snapshot: Snapshot, old: Listing, new: Listing,
+                 people_before: people.People, run: Run, left_out: Set[bytes]) -> List[no_gain.NoGain]:
+    """Asks what is granted by the records that come into it, by files of their own."""
+    bodies = no_gain.bodies_to_judge(old.files, new.files, no_gain.has_joined(people_before, run.people))
+    lines = label_answers.People(snapshot.passwd, snapshot.group, run.changes_of_people)
+    before, after = label_answers.ask_vectors(program, lines, bodies)
+    sides = [no_gain.Side(listing.files, rights.answers_of(listing, *its), who) for listing, its, who in
+             ((old, before, people_before), (new, after, run.people))]
+    return no_gain.find(session, sides[0], sides[1], left_out)
+
+
+def answer_scripts(given: argparse.Namespace, snapshot: Snapshot, units: List[Unit], is_whole: bool = True,
+                   is_full: bool = False) -> Outcome:
+    program, along_paths = find_program(given.program), not given.file_alone
+    changes = rights.Changes([], [])
+    with Session(program, snapshot.folder) as session:
         tops = texts.find_tops(session, snapshot.folder)
         old = list_below(session, tops)
-        before = rights.ask_rights(session, old, not given.file_alone)
+        before = rights.ask_rights(session, old) if is_full else None
         run = Run(session, snapshot, old.files)
         people_before = people.People(snapshot.passwd, snapshot.group)
         run.answer_all(units)
         new = list_below(session, tops)
-        after = rights.ask_rights(session, new, not given.file_alone)
-        sides = no_gain.Side(old.files, before, people_before), no_gain.Side(new.files, after, run.people)
-        users = [] if given.with_root else people_before.users + run.people.users
-        left_out = {no_gain.name_in_index(user.name) for user in users if user.uid == 0}
-        closed = [] if given.file_alone else no_gain.find(session, *sides, left_out)
-    changes = rights.changes(before, after, left_out)
+        left_out = set() if given.with_root else users_of_id_0(people_before, run.people)
+        names = [no_gain.name_in_index(user.name) for side in (people_before, run.people) for user in side.users]
+        users = list(dict.fromkeys(names))
+        kinds = rights.ask_kinds(session, along_paths, users, left_out)
+        if before is not None:
+            changes = rights.changes(before, rights.ask_rights(session, new), along_paths, left_out)
+        closed = find_no_gain(session, program, snapshot, old, new, people_before, run,
+                              left_out) if along_paths else []
     left = owners.left_behind(people_before, run.people, new.files)
-    return Outcome(old.files, new.files, changes, closed, list(dict.fromkeys([*before.users, *after.users])), run.asked,
-                   run.messages, run.commands, left, is_whole, meta.meta_of(snapshot.folder))
+    return Outcome(old.files, new.files, kinds, changes, closed, users, run.asked, run.messages, run.commands, left,
+                   is_whole, meta.meta_of(snapshot.folder))
 
 
 def say_messages(command: Command, outcome: Outcome, scripts: List[Script]) -> None:
@@ -236,7 +258,7 @@ def plan_over(command: Command, given: argparse.Namespace, source: texts.Source)
     scripts = list(map(read_text, given.scripts))
     units = [unit for script in scripts for unit in script.units()]
     is_whole = say_unknown(command, source)
-    outcome = answer_scripts(given, snapshot, units, is_whole)
+    outcome = answer_scripts(given, snapshot, units, is_whole, given.full)
     changes = compare(outcome.old, outcome.new)
     commands = commands_by_hand(outcome, changes if is_whole else Changes([], [], []))
     say_messages(command, outcome, scripts)

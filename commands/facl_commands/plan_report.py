@@ -48,7 +48,8 @@ class Outcome(NamedTuple):
 
     old: Files
     new: Files
-    rights: rights.Changes
+    kinds: rights.Kinds
+    rights: rights.Changes  # Of each file, where these are asked for.
     no_gain: List[no_gain.NoGain]
     users: List[bytes]
     asked: List[Asked]
@@ -110,11 +111,11 @@ def summary(changes: Changes, commands: List[bytes], outcome: Outcome) -> bytes:
         parts.append(counted(len(changes.made), "file is", "files are") + b" made, %d removed" % len(changes.removed))
     if commands:
         parts.append(counted(len(commands), "command has to be run", "commands have to be run") + b" by hand")
-    if not outcome.rights.files:
+    if not outcome.kinds.kinds:
         parts.append(b"nobody may do anything else than before")
-    if outcome.rights.left_out:
-        verb = b" is" if len(outcome.rights.left_out) == 1 else b" are"
-        parts.append(b" and ".join(sorted(outcome.rights.left_out)) + verb
+    if outcome.kinds.left_out:
+        verb = b" is" if len(outcome.kinds.left_out) == 1 else b" are"
+        parts.append(b" and ".join(sorted(outcome.kinds.left_out)) + verb
                      + b" left out, whom the kernel grants nearly everything (--with-root)")
     return shown(b"; ".join(parts)) + b"\n"
 
@@ -123,7 +124,7 @@ def text_report(given: argparse.Namespace, outcome: Outcome, changes: Changes, c
                 target: Optional[bytes]) -> Iterator[bytes]:
     if given.full:
         yield from full_lines(outcome)
-    yield from short_lines(outcome, [] if given.full else rights.kinds(outcome.rights, outcome.users))
+    yield from short_lines(outcome, [] if given.full else outcome.kinds.kinds)
     yield summary(changes, commands, outcome)
     if target is not None:
         yield shown(target + b": is written" + (b"; next: facl-apply " + shell_word(target) if changes.changed
@@ -150,7 +151,7 @@ def rights_json(outcome: Outcome, is_full: bool) -> List[Dict[str, object]]:
         return [{"user": users[it.user], "from": it.old, "to": it.new, "file": name}
                 for file, group in outcome.rights.files for name in [json_text(file)] for it in group.differences]
     return [{"user": json_text(user), "from": old, "to": new, "files": count, "first": json_text(first)}
-            for user, old, new, count, first in rights.kinds(outcome.rights, outcome.users)]
+            for user, old, new, count, first in outcome.kinds.kinds]
 
 
 def no_gain_json(it: no_gain.NoGain) -> Dict[str, object]:
@@ -173,7 +174,7 @@ def json_report(outcome: Outcome, is_full: bool, changes: Changes, commands: Lis
         "plan": None if plan is None else json_text(plan),
         "changes": rights_json(outcome, is_full),
         "no_gain": list(map(no_gain_json, outcome.no_gain)),
-        "left_out": texts(sorted(outcome.rights.left_out)),
+        "left_out": texts(sorted(outcome.kinds.left_out)),
         **dict(zip(("records", "made", "removed"), names)),
         "by_hand": texts(commands),
         "left_behind": [

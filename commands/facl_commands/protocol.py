@@ -119,6 +119,7 @@ RESTORE = b"setfacl --restore=-"  # The records are its text.
 SET_LIST = b"setfacl -n --set=%s --"
 SET_DEFAULT = b"setfacl --test -m d:u::rwx --"  # Whether a file is taken for a directory.
 ENTRIES_OF, INDEX, ATTRIBUTES_OF = b"why --", b"index", b"attr %d"
+GAINS, GAINS_ALONG_PATHS = b"gains", b"gains --reach"
 ADD_USER_WITH = b"useradd -u %d -g %s -- %s"
 # A line of a word that nobody can guess, and its refusal, which shows that all lines before it are answered.
 PROBE, PROBE_REFUSED = b"getfacl %s", b"getfacl: %s: " + NO_FILE

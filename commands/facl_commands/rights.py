@@ -1,20 +1,21 @@
 """Who may do what: what the program answers before the edits and after them, and what differs.
 
-What a user may do with a file depends on its owner, group and list alone, which are lines of its record: files with one
-record are judged alike, so that of each of these one block of `index` is read. Along a path, what is in one directory
-is reached by the same users: those who have search on it, and on each recorded directory above.
+What differs by users and kinds of change is what `gains` prints. Where the files are listed too, all that is granted is
+read of `index`: what a user may do with a file depends on its owner, group and list alone, which are lines of its
+record, so that of the files with one record one block is read. Along a path, what is in one directory is reached by the
+same users: those who have search on it, and on each recorded directory above.
 """
 from __future__ import annotations
 
 import re
 import struct
-from typing import Collection, Container, Dict, Iterator, List, NamedTuple, Optional, Set, Tuple
+from typing import Collection, Container, Dict, Iterable, Iterator, List, NamedTuple, Optional, Set, Tuple
 
 from .messages import Failure
 from .program import OutputSlice, Session
-from .protocol import INDEX
+from .protocol import GAINS, GAINS_ALONG_PATHS, INDEX
 from .names import sorting_key
-from .records import Listing
+from .records import Listing, path_of
 
 ABSENT = "absent"  # Of a file or a user that is not there.
 REQUESTS = ["---", "--x", "-w-", "-wx", "r--", "r-x", "rw-", "rwx"]
@@ -27,14 +28,13 @@ Vector = bytes  # A byte of `index` for each user, on one file.
 
 
 class Answers(NamedTuple):
-    """What was asked of the program at one time."""
+    """What was asked of the program at one time, of all files or of some."""
 
     names: Dict[bytes, bytes]  # By path: the name as the program prints it.
     users: List[bytes]
     alone: Dict[bytes, Vector]  # By path, in path order: on each file alone.
     reached: Dict[bytes,
                   bytes]  # By directory, as directory_of has it: for each user 1 who can get to what is in it, else 0.
-    vectors: Dict[bytes, Vector]  # By path: what counts, along paths or on each file alone.
 
 
 class Difference(NamedTuple):
@@ -54,12 +54,10 @@ class Group:
 
 
 class Changes(NamedTuple):
-    """The groups, in the order of their first files; each file with its group, in path order; and those users of whom
-    there would be more, but that they are left out."""
+    """The groups, in the order of their first files; each file with its group, in path order."""
 
     groups: List[Group]
     files: List[Tuple[bytes, Group]]
-    left_out: Set[bytes]
 
 
 class Kind(NamedTuple):
@@ -70,6 +68,14 @@ class Kind(NamedTuple):
     new: str
     files: int
     first: bytes
+
+
+class Kinds(NamedTuple):
+    """The kinds of change, by users in their order; and those users of whom there would be more, but that they are left
+    out."""
+
+    kinds: List[Kind]
+    left_out: Set[bytes]
 
 
 def granted(byte: int) -> str:
@@ -135,11 +141,11 @@ def directory_of(path: bytes) -> bytes:
     return path.rpartition(b"/")[0] + b"/" if path else b""
 
 
-def reached_of(vectors: Dict[bytes, Vector], users: int) -> Dict[bytes, bytes]:
-    """By directory: for each user 1 who can get to what is in it, else 0."""
+def reached_of(paths: Iterable[bytes], vectors: Dict[bytes, Vector], users: int) -> Dict[bytes, bytes]:
+    """By directory of some paths: for each user 1 who can get to what is in it, else 0."""
     found = {b"": b"\1" * users}
     known: Dict[Tuple[bytes, Vector], bytes] = {}
-    for path in vectors:
+    for path in paths:
         for directory in directories_to_find(directory_of(path), found):
             above, vector = found[directory_of(directory[:-1])], vectors.get(directory[:-1])
             if vector is None:  # It is not recorded, and asks for nothing.
@@ -160,15 +166,18 @@ def directories_to_find(directory: bytes, found: Container[bytes]) -> List[bytes
     return wanted[::-1]
 
 
-def ask_rights(session: Session, listing: Listing, along_paths: bool) -> Answers:
+def ask_rights(session: Session, listing: Listing) -> Answers:
     """Asks what all users may do with all files that are listed."""
     table = session.ask_accepted(INDEX)
     users = users_of(table)
-    of_record = read_table(table, users, listing)
+    return answers_of(listing, users, read_table(table, users, listing))
+
+
+def answers_of(listing: Listing, users: List[bytes], of_record: Dict[bytes, Vector]) -> Answers:
+    """What is known where it is known of some records: at least of each directory that has others below."""
     names = dict(zip(listing.files, listing.names))
-    alone = {path: of_record[file.body] for path, file in listing.files.items()}
-    reached = reached_of(alone, len(users))
-    return Answers(names, users, alone, reached, along_paths_of(alone, reached) if along_paths else alone)
+    alone = {path: of_record[file.body] for path, file in listing.files.items() if file.body in of_record}
+    return Answers(names, users, alone, reached_of(listing.files, alone, len(users)))
 
 
 def along_paths_of(alone: Dict[bytes, Vector], reached: Dict[bytes, bytes]) -> Dict[bytes, Vector]:
@@ -210,19 +219,18 @@ def paths_of(old: Answers, new: Answers) -> List[bytes]:
     return first if first == list(new.names) else sorted({**old.names, **new.names}, key=sorting_key)
 
 
-def changes(old: Answers, new: Answers, left_out: Collection[bytes] = ()) -> Changes:
-    """What differs, for all users but those who are left out. Two files with the same rights before and after are
-    alike."""
-    found = Changes([], [], set())
+def changes(old: Answers, new: Answers, along_paths: bool, left_out: Collection[bytes] = ()) -> Changes:
+    """What differs on each file, for all users but those who are left out. Two files with the same rights before and
+    after are alike."""
+    found = Changes([], [])
     known: Dict[Tuple[Optional[Vector], Optional[Vector]], Group] = {}
-    before_of, after_of = old.vectors.get, new.vectors.get
+    vectors = [along_paths_of(it.alone, it.reached) if along_paths else it.alone for it in (old, new)]
+    before_of, after_of = vectors[0].get, vectors[1].get
     for path in paths_of(old, new):
         pair = before_of(path), after_of(path)
         group = known.get(pair)
         if group is None:
-            its = differences(old, new, *pair)
-            found.left_out.update(it.user for it in its if it.user in left_out)
-            group = known[pair] = Group([it for it in its if it.user not in left_out])
+            group = known[pair] = Group([it for it in differences(old, new, *pair) if it.user not in left_out])
             found.groups.append(group)
         if group.differences:
             name = new.names.get(path) or old.names[path]
@@ -231,13 +239,32 @@ def changes(old: Answers, new: Answers, left_out: Collection[bytes] = ()) -> Cha
     return found
 
 
-def kinds(found: Changes, users: List[bytes]) -> List[Kind]:
-    """The changes by user and kind, in the order of the users."""
-    place = {user: k for k, user in enumerate(users)}
+def text_of(side: bytes) -> str:
+    """What `gains` has for before or now, as it is reported."""
+    return ABSENT if side == b"--" else GRANTED[int(side, 16)]
+
+
+def ask_kinds(session: Session, along_paths: bool, users: List[bytes], left_out: Collection[bytes] = ()) -> Kinds:
+    """Asks what differs from before the lines of the session, by user and kind, in the order of the users. Who is
+    absent, or to whom the file is, has nothing; neither has who is granted the request for nothing alone, or not even
+    that."""
     counts: Dict[Difference, Kind] = {}
-    for group in found.groups:
-        for it in group.differences:
-            before = counts.get(it)
-            files, first = (before.files, before.first) if before else (0, group.files[0])
-            counts[it] = Kind(*it, files + len(group.files), first)
-    return sorted(counts.values(), key=lambda kind: (place.get(kind.user, len(place)), kind.old, kind.new))
+    found: Set[bytes] = set()
+    for line in session.ask_accepted(GAINS_ALONG_PATHS if along_paths else GAINS).lines():
+        old, new, count, user, first = line.split(b" ", 4)
+        kind = Kind(user, text_of(old), text_of(new), int(count), first)
+        if {kind.old, kind.new} <= {ABSENT, "none"}:
+            continue
+        if user in left_out:
+            found.add(user)
+            continue
+        key = Difference(*kind[:3])
+        counts[key] = joined(counts[key], kind) if key in counts else kind
+    place = {user: k for k, user in enumerate(users)}
+    return Kinds(sorted(counts.values(), key=lambda it: (place.get(it.user, len(place)), it.old, it.new)), found)
+
+
+def joined(one: Kind, other: Kind) -> Kind:
+    """Two kinds that are reported as one."""
+    first = min(one.first, other.first, key=lambda name: sorting_key(path_of(name)))
+    return one._replace(files=one.files + other.files, first=first)

@@ -13,16 +13,18 @@ from typing import Dict, List, NamedTuple, Optional
 
 from . import agreement, overview, texts
 from .answering import answer_unit
+from .counts import SharedFiles, of_some_files
 from .messages import Command
 from .names import read_name, script_word
 from .people import rows_of
-from .program import Session
-from .protocol import FREE_FILE_LINE, LIST, lacks_file
+from .program import Answer, Session
+from .protocol import FREE_FILE_LINE, LIST, is_refused, lacks_file
 from .scripts import Script, Unit
-from .tools import EDITS, FILE, MAKERS, OF_RECORDS, RESTORING, operand_kinds, split
+from .tools import COUNTING, EDITS, FILE, MAKERS, OF_RECORDS, RESTORING, WITH_FILES, operand_kinds, split
 from .trusted import read_trusted
 
-OF_FILES = (*EDITS, *OF_RECORDS)  # Tools that take several FILEs, or edit one.
+COUNTING_SOME = tuple(tool for tool in COUNTING if tool in WITH_FILES)
+OF_FILES = (*EDITS, *OF_RECORDS, *COUNTING_SOME)  # Tools that take several FILEs, or edit one.
 RECORD = re.compile(b"^" + FREE_FILE_LINE + b"$", re.MULTILINE)
 
 
@@ -43,6 +45,7 @@ class Header(NamedTuple):
     messages: List[bytes]
     lacks: List[bytes]  # Which FILEs are not recorded here,
     has: List[bytes]  # and which are.
+    shared: List[bytes]  # Of a line that counts: files that others may have, with what it counts them for (counts.py).
 
 
 def line_of(value: NamedTuple) -> bytes:
@@ -86,12 +89,24 @@ def is_recorded(session: Session, name: bytes) -> Optional[bool]:
     return True if not messages else False if lacks_file(messages) else None
 
 
-def answer(command: Command, session: Session, unit: Unit) -> None:
+def answer_here(session: Session, unit: Unit, has: List[bytes]) -> Answer:
+    """Answers a line; one that counts below some FILEs by those that are recorded here."""
+    answered = answer_unit(session, unit)
+    if unit.is_of(*COUNTING_SOME) and lacks_file(answered.messages) and has:
+        return session.ask(of_some_files(unit, has) + b"\n")
+    return answered
+
+
+def answer(command: Command, session: Session, unit: Unit, shared: SharedFiles) -> None:
     """Answers a line, after a look at its files."""
     found = [(name, is_recorded(session, name)) for name in files_of(unit)]
-    output, messages = answer_unit(session, unit)
     lacks, has = ([name for name, is_there in found if is_there is wanted] for wanted in (False, True))
-    command.write(line_of(Header(unit.number, output.end - output.start, messages, lacks, has)))
+    output, messages = answer_here(session, unit, has)
+    is_taken = not is_refused(messages)
+    counted = shared.counted(unit) if is_taken and unit.is_of(*COUNTING) else []
+    if is_taken:
+        shared.follow(unit)
+    command.write(line_of(Header(unit.number, output.end - output.start, messages, lacks, has, counted)))
     for piece in output.pieces():
         command.write(piece)
     command.write(b"\n")
@@ -104,14 +119,18 @@ def head_of(folder: bytes, size: int) -> Head:
                 size)
 
 
-def write_part(command: Command, program: str, folder: bytes, script: Script, has_records: bool) -> int:
-    """Answers a script over one snapshot, between a first and a last line of our own."""
+def write_part(command: Command, program: str, folder: bytes, script: Script, has_records: bool,
+               names: List[bytes]) -> int:
+    """Answers a script over one snapshot, between a first and a last line of our own; with the names of files that
+    others have too."""
     with Session(program, folder) as session:
         session.ask(b"")
         listings = texts.list_below(session, texts.find_tops(session, folder)) if has_records else []
         files = b"".join(agreement.blocks_of(listings))
         command.write(line_of(head_of(folder, len(files))) + files)
-        for unit in script.units():
-            answer(command, session, unit)
+        units = script.units()
+        shared = SharedFiles(session, names, units)
+        for unit in units:
+            answer(command, session, unit, shared)
         command.write(b"end\n")
     return 0

@@ -13,7 +13,7 @@ import os
 import tempfile
 from typing import Dict, Iterator, List, NamedTuple, Optional, Set, Tuple
 
-from . import agreement, overview
+from . import agreement, counts, overview
 from .answering import below_heading, write_messages
 from .messages import Command, Failure
 from .names import path_order, read_path, sorting_key, write_name
@@ -24,7 +24,9 @@ from .scripts import Unit, read_text
 from .side_by_side import HERE, Answered, Part, program_option, run_hosts
 from .side_by_side import hosts_of as hosts_of
 from .superuser import Superusers
-from .tools import ALL, CHANGES_OF_PEOPLE, DEEP, EDITS, LOOK, OF_RECORDS, TEST, options_that, path_in, split
+from .tools import (
+    ALL, CHANGES_OF_PEOPLE, COUNTING, DEEP, EDITS, LOOK, OF_RECORDS, TEST, options_that, path_in, split,
+)
 
 SEVERAL = b"its files lie in several snapshots; name those of one in a line of its own"
 Item = Tuple[bytes, int, bytes]  # A path, the number of its snapshot, and what is printed for it.
@@ -80,6 +82,43 @@ def join_accepted(unit: Unit, accepted: List[Answered]) -> Joined:
     if unit.is_of(*OF_RECORDS) and len(outputs) > 1 and is_recursive(unit):
         return refused(unit, b"a listing of several snapshots is joined by its headers; omit -c")
     return Joined(outputs[0].pieces(), messages)
+
+
+class Counts(NamedTuple):
+    """What the joining of lines that count needs."""
+
+    users: counts.Users
+    fault: bytes  # Why there are no sums; empty where there are.
+
+
+def join_counts(unit: Unit, answers: List[Answered], joining: Counts) -> Joined:
+    """The sums of the snapshots that have some of the files of a line that counts."""
+    headers = [it.header for it in answers]
+    refusal = counts.refusal(unit, [it.messages for it in headers], [it.lacks for it in headers])
+    accepted = [it for it in answers if not it.is_refused()]
+    if refusal or not accepted:
+        return Joined(iter(()), refusal or headers[0].messages)
+    if joining.fault and len(accepted) > 1:
+        return refused(unit, joining.fault)
+    sums = counts.sums_of(unit, [(it.output.lines(), it.header.shared) for it in accepted])
+    return Joined(iter(counts.lines_of_sums(unit, sums, joining.users)), [])
+
+
+def join_all(units: List[Unit], parts: List[Part], dropped: Dict[int, Joined], fault: bytes) -> Dict[int, Joined]:
+    """The answers to all lines, of which some are dropped."""
+    users = {name: number for part in parts for name, number in part.head.users.items()}
+    groups = {name: number for part in parts for name, number in part.head.groups.items()}
+    joining = Counts(counts.Users(users, groups), fault)
+    joined: Dict[int, Joined] = {}
+    for unit in units:
+        answer = dropped.get(unit.number)
+        if answer is None:
+            answers = [part.answers[unit.number] for part in parts]
+            answer = join_counts(unit, answers, joining) if unit.is_of(*COUNTING) else join(unit, answers)
+        if not is_refused(answer.messages):
+            joining.users.follow(unit)
+        joined[unit.number] = answer
+    return joined
 
 
 def join(unit: Unit, answers: List[Answered]) -> Joined:
@@ -146,10 +185,13 @@ def say_notices(command: Command, parts: List[Part]) -> None:
         command.say(overview.warning_of(overview.EMPTY_MASKS, names))
 
 
+def recorded_in(parts: List[Part]) -> List[agreement.Recorded]:
+    return [agreement.Recorded(it.label, it.head.users, it.head.groups, it.files) for it in parts]
+
+
 def check_agreement(parts: List[Part]) -> None:
     """Fails where snapshots are not parts of one tree."""
-    fault = agreement.disagreement([agreement.Recorded(it.label, it.head.users, it.head.groups, it.files)
-                                    for it in parts])
+    fault = agreement.disagreement(recorded_in(parts))
     if fault is not None:
         raise Failure(fault + b", so they are no parts of one tree: ask servers by --hosts NAME:DIR..")
 
@@ -176,23 +218,24 @@ def body(command: Command, folders: List[str], given: argparse.Namespace) -> int
     script = read_text("-")
     units = script.units()
     dropped: Dict[int, Joined] = {}
-    options = [b"--records"] if len(folders) > 1 else []
+    program = program_option(given.program)
     with tempfile.TemporaryDirectory(prefix="facl-ask.") as work:
+        parts = run_parts(hosts, [*[b"--records"] * (len(folders) > 1), *program], script.text, work)
+        check_agreement(parts)
+        say_notices(command, parts)
+        is_counting = any(unit.is_of(*COUNTING) for unit in units)
+        shared = agreement.files_of_several(recorded_in(parts)) if is_counting else []
+        options = counts.shared_options(shared)
+        fault = counts.too_many(shared) if options is None else b""
+        is_answered = not options  # Else they answer again, and say what they count of the files that several have.
         while True:
-            text = without(script.text, units, set(dropped))
-            parts = run_parts(hosts, [*options, *program_option(given.program)], text, work)
-            check_agreement(parts)
-            if not dropped:
-                say_notices(command, parts)
-            options = []
-            joined: Dict[int, Joined] = {
-                unit.number: dropped.get(unit.number) or join(unit, [part.answers[unit.number] for part in parts])
-                for unit in units
-            }
+            if not is_answered:
+                parts = run_parts(hosts, [*(options or []), *program], without(script.text, units, set(dropped)), work)
+            joined = join_all(units, parts, dropped, fault)
             new = next((number for number, it in joined.items() if it.is_dropped and number not in dropped), None)
             if new is None:
                 return write(command, units, joined, superusers_of(parts, given.with_root), given.headings)
-            dropped[new] = joined[new]
+            dropped[new], is_answered = joined[new], False
 
 
 def pieces_of(unit: Unit, answer: Joined, superusers: Superusers, has_headings: bool) -> Iterator[bytes]:

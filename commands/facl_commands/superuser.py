@@ -8,7 +8,8 @@ from .people import ADD_USER, rows_of
 from .scripts import Unit
 from .tools import ABOUT_USERS, split, user_in
 
-NOTE = b"left out of who, index and changes: %s, to whom the kernel grants nearly everything; --with-root for all"
+NOTE = (b"left out of who, below, changes, gains and index: %s, to whom the kernel grants nearly everything; "
+        b"--with-root for all")
 
 
 class Superusers:

@@ -60,8 +60,10 @@ ROWS = (
     Tool(b"can", QUESTION, "USER FILE", BY_REACH, is_request=True),
     Tool(b"who", QUESTION, "PERMS FILE", BY_REACH, "USER", b"(nobody)\n", is_request=True),
     Tool(b"may", QUESTION, "USER PERMS", BY_REACH, "PATH", b"(nothing)\n", is_request=True),
+    Tool(b"below", QUESTION, "PERMS FILE..", BY_REACH, "COUNT USER PATH", b"(nobody)\n", is_request=True),
     Tool(b"why", QUESTION, "USER FILE..", BY_REACH, FILE_RECORDS),
     Tool(b"changes", QUESTION, "", BY_REACH, "USER HOW REQUESTS PATH", b"(nothing)\n"),
+    Tool(b"gains", QUESTION, "", BY_REACH, "BEFORE AFTER COUNT USER PATH", b"(nothing)\n"),
     Tool(b"index", QUESTION, "", (), "RIGHTS USER PATH", b"(nothing)\n"),
     Tool(
         b"getfacl", QUESTION, "FILE..",
@@ -150,6 +152,7 @@ TOOLS = tuple(name for name in ALL if name not in TOOLS_OF_PLANS)
 WITH_FILES = tuple(name for name in TOOLS if "FILE" in ALL[name].operands)
 WITH_ENTRIES = tuple(name for name in TOOLS if "LIST" in ALL[name].operands or options_with(name, ENTRIES))
 ABOUT_USERS = tuple(name for name in TOOLS if "USER" in ALL[name].prints.split())  # The names of users are in answers.
+COUNTING = tuple(name for name in TOOLS if "COUNT" in ALL[name].prints.split())  # Their answers count files.
 OF_RECORDS = tuple(name for name in TOOLS if ALL[name].prints == FILE_RECORDS)
 REQUESTS = tuple(name for name in TOOLS if ALL[name].is_request)
 MAKERS, REMOVERS = (tuple(name for name in TOOLS if ALL[name].files == how) for how in (MAKES, REMOVES))

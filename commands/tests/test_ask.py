@@ -303,6 +303,13 @@ class Completion(unittest.TestCase):
         self.expect("wh", "who ", "why ")
         self.expect("ch", "changes ", "chacl ", "chmod ")
         self.expect("changes --", "changes --reach")
+        self.expect("g", "gains ", "getfacl ", "gpasswd ")
+        self.expect("gains -", "gains --reach")
+        self.expect("b", "below ")
+        self.expect("below --", "below --reach")
+        self.expect("below r srv/share/tw", "below r srv/share/two ")
+        self.expect("below r srv/share/two srv/share/draf", "below r srv/share/two srv/share/drafts/")
+        self.expect("help bel", "help below")
         self.expect("why m", "why mara ")
         self.expect("why mara srv/share/one srv/share/tw", "why mara srv/share/one srv/share/two ")
         self.expect("set", "setfacl ", "setattr ")
@@ -420,6 +427,16 @@ class Prompts(unittest.TestCase):
                          b"mara gains -w-,rw- srv/share/notes\nguest gains r-- srv/share/notes\n"
                          b"# file: srv/share/notes\nuser:mara:rw-\n\n(nothing)\n(nothing)\n\n")
 
+    def test_counts(self) -> None:
+        # The owner of the notes is ines, and ben is of their group; what mara has is cut by the mask.
+        self.assertEqual(self.ask("below w srv/share/notes", "below x srv/share/notes", "gains", "setfacl -m u:guest:r srv/share/notes", "gains",
+                                  "gains --reach", "below q srv", "below r", "below r srv/none"),
+                         b"1 ines srv/share/notes\n(nobody)\n(nothing)\n11 55 1 mara srv/share/notes\n01 11 1 guest srv/share/notes\n"
+                         b"(nothing)\nline 7: below: usage\n    below [--reach] PERMS FILE..\n    PERMS are letters of rwx, or "
+                         b"one digit 0 to 7.\nline 8: below: usage\n    below [--reach] PERMS FILE..\n    A word is missing.\n"
+                         b"line 9: below: srv/none: no such file\n    Paths start at the root of the file system. A symbolic link, and what is "
+                         b"reached by one, is not recorded.\n\n")
+
     def test_what_is_said_once(self) -> None:
         self.noted = []
         self.assertEqual(self.ask("who --reach r srv/share/one", "can ines srv", "getfacl -s srv", "who", "who w srv", "may guest w"),
@@ -428,7 +445,7 @@ class Prompts(unittest.TestCase):
 
     def test_the_superuser(self) -> None:
         self.without = {b"root": 0, b"ines": 1001}
-        note = b"~(left out of who, index and changes: root, to whom the kernel grants nearly everything; --with-root for all)\n"
+        note = b"~(left out of who, below, changes, gains and index: root, to whom the kernel grants nearly everything; --with-root for all)\n"
         self.assertEqual(self.ask("who w srv/share/one", "can root srv", "who w srv", "who r srv", "setfacl -m u:ines:- srv", "changes"),
                          b"ines\n--x -w- -wx r-- r-x rw- rwx\n(nobody)\n" + note + b"ines\nben\nmara\nguest\nines loses --x,r--,r-x srv\n\n")
 

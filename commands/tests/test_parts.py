@@ -130,9 +130,11 @@ class Tools(unittest.TestCase):
 
     def test_users_and_files_of_answers(self) -> None:
         for tool, line, path in ((b"may", b"a b", b"a b"), (b"index", b"ff joe a b", b"a b"), (b"chacl", b"a [b [u::r]", b"a [b"),
-                                 (b"changes", b"joe gains r--,-w- a b", b"a b"), (b"setfacl", b"a: b: u::r", b"a: b")):
+                                 (b"changes", b"joe gains r--,-w- a b", b"a b"), (b"below", b"12 joe a b", b"a b"),
+                                 (b"gains", b"-- 01 1 joe a b", b"a b"), (b"setfacl", b"a: b: u::r", b"a: b")):
             self.assertEqual(tools.path_in(tool, line), path)
-        for tool, line in ((b"who", b"joe"), (b"index", b"ff joe a b"), (b"changes", b"joe loses r-- a b")):
+        for tool, line in ((b"who", b"joe"), (b"index", b"ff joe a b"), (b"changes", b"joe loses r-- a b"), (b"below", b"12 joe a b"),
+                           (b"gains", b"11 -- 30 joe a b")):
             self.assertEqual(tools.user_in(tool, line), b"joe")
         self.assertEqual([name for name in tools.ABOUT_USERS if name not in superuser.NOTE], [])
 

@@ -129,6 +129,8 @@ SETFACL = Step("`setfacl -m` of one file", "setfacl -m u:u{user}:rwx {file}", "4
 DIRECTORY = Step("`chmod` of a directory", "chmod 751 {directory}")
 FIRST = Step("`chmod` of the first file", "chmod 000 d00000/f000")
 CHANGES = Step("`changes` of one file", "changes", "50 ms", "50 ms")
+BELOW = (Step("`below` of all files", "below r ."), Step("`below --reach` of all files", "below --reach r ."))
+GAINS = (Step("`gains` of one file", "gains"), Step("`gains --reach` of one file", "gains --reach"))
 NEW = (Step("`creat`", "creat --user=u1 --mode=640 {file}.{k}", "40 us", "40 us"),
        Step("`rm` of one file", "rm {file}.{k}", "40 us", "40 us"))
 MEMBERS = (Step("`gpasswd -a` of `few`", "gpasswd -a u{k} few", "20 ms", "60 ms"),
@@ -145,12 +147,12 @@ OF_TOOLS = (
     Step("`can`", "can u{user} {file}"), Step("`can --reach`", "can --reach u{user} {file}"), *QUESTIONS,
     CHMOD, SETFACL, DIRECTORY, Step("`gpasswd -a`", "gpasswd -a u{seventh} g{group}"), *OF_ALL, *NEW, *USERS)
 OF_INDEX = (
-    *QUESTIONS, FIRST, CHANGES, Step("`changes --reach` of one file", "changes --reach"), CHMOD, SETFACL, *NEW,
-    DIRECTORY, *MEMBERS, *USERS, NO_SEARCH, Step("`chmod 755 .`", "chmod 755 ."), *OF_ALL)
+    *QUESTIONS, *BELOW, FIRST, CHANGES, Step("`changes --reach` of one file", "changes --reach"), *GAINS, CHMOD,
+    SETFACL, *NEW, DIRECTORY, *MEMBERS, *USERS, NO_SEARCH, Step("`chmod 755 .`", "chmod 755 ."), *OF_ALL)
 OF_LIMITS = (
     WHO, Step("`can`", "can u1 {file}"), Step("`why --reach`", "why --reach u1 {file}"), Step("`may`", "may u1 w"),
     Step("`getfacl`", "getfacl {file}"), CHMOD, CHANGES, SETFACL, *NEW, Step("`usermod -g`", "usermod -g g1 u2"),
-    *MEMBERS, NO_SEARCH)
+    *MEMBERS, NO_SEARCH, *GAINS)
 
 
 def session_times(program: str, tree: Tree, steps: Iterable[Step]) -> Figures:

@@ -33,8 +33,9 @@ from texts import write_tree  # noqa: E402
 
 QUESTIONS = (b"may u3 w\n", b"may --reach u5 r\n", b"who r d00001/f001\n", b"can u1 d00000/f000\n",
              b"getfacl -R d00002\n", b"why --reach u1 d00000/f000\n", b"gpasswd -a u9 g0\nmay u9 r\nchanges --reach\n",
-             b"setfacl -m u:u7:rwx d00003/f001\nwho w d00003/f001\nchanges\n")
-OF_REAL_TREE = b"""index\ngetfacl -R .\nmay --reach nobody r\nmay --reach nobody 0\nwho x .
+             b"setfacl -m u:u7:rwx d00003/f001\nwho w d00003/f001\nchanges\n", b"below r .\n",
+             b"below --reach w d00000 d00001/f001 d00002\n", b"chmod -R 750 d00001\ngains\ngains --reach\n")
+OF_REAL_TREE = b"""index\ngetfacl -R .\nmay --reach nobody r\nmay --reach nobody 0\nwho x .\nbelow --reach r .
 getfacl -R -n -s .\ngpasswd -a nobody root\nindex\n"""
 
 

@@ -84,7 +84,7 @@ rm -r pub
 useradd -u 7 -g adm kim
 userdel ann
 getfacl -R .
-index\nchanges\nchanges --reach"""
+index\nchanges\nchanges --reach\ngains\ngains --reach\nbelow r ."""
 # The tools that these leave out.
 SET = "setattr system.posix_acl_access=0x02000000"
 ATTRIBUTES = f"""attr f
@@ -131,14 +131,17 @@ who rx run
 who --reach 0 run
 may joe rx
 may --reach ann 0
+below r .
+below --reach rx pub f run
 why joe pub run
 why --reach joe pub run
 chmod 700 .
 may --reach lisa x
 who --reach r run
-who w nosuch\nmay nosuch w\nwhy nosuch f
+below --reach 0 .
+who w nosuch\nmay nosuch w\nbelow w f nosuch\nwhy nosuch f
 why --reach joe f nosuch
-index\nchanges\nchanges --reach"""
+index\nchanges\nchanges --reach\ngains\ngains --reach"""
 LOADS = f"load passwd\n{PASSWD.decode()}.\nload group\n{GROUP.decode()}.\nload dump\n{DUMP.decode()}.\n"
 SESSIONS = [
     ("texts as files", DUMP, QUESTIONS),

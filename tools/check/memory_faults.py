@@ -38,6 +38,11 @@ EXCEPTIONS: Dict[Tuple[str, str], str] = {
     ("crates/acl_tree/src/edit_command.rt", "prepare_chmod"):
         "the operands were looked up before, and a mode is put into each file that is found",
     ("crates/acl_tree/src/creat.rt", "node_of"): ALONE,
+    ("crates/facl/src/answers/below.rt", "push_file_at"): "the path is that of a file that was counted",
+    ("crates/facl/src/answers/gains.rt", "with_count"): COUNT,
+    ("crates/facl/src/answers/path_texts.rt", "files_at"): "the path was looked up before",
+    ("crates/facl/src/answers/sums.rt", "UserSum::add"): COUNT,
+    ("crates/facl/src/answers/tallies.rt", "Tallies::add"): COUNT,
     ("crates/facl/src/session.rt", "FaclSession::finish_line"): ALONE,
     ("crates/facl/src/line.rt", "text_of_unit"): "TextFound::Lost: the room for the line's text was refused",
     ("crates/facl_cli/src/args.rt", "words_fault"): KIND,

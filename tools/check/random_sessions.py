@@ -13,8 +13,8 @@ each, and the script their lines in turn. Of each batch, with no second implemen
 - the listing of all files (`getfacl -R .`), loaded by the same users or restored, gives the same listing;
 - `index`, which the lines kept current, is the same where it is rebuilt, of that listing and of texts of the users and
   groups after the lines (not where a user was added whose name starts with `#`, as no row of a text does);
-- `index`, `changes` and random questions of can, who, may and why, half of them with `--reach`, are answered as the
-  check of acl(5) has it, from that listing and the users (tools/lib/answers.py).
+- `index`, `changes`, `gains` and random questions of can, who, may, below and why, half of them with `--reach`, are
+  answered as the check of acl(5) has it, from that listing and the users (tools/lib/answers.py).
 
 A batch that breaks one is cut down to as few lines as do, which are printed. --verbose counts the refusals by texts.
 
@@ -24,10 +24,10 @@ each user and request, `can --reach` and `who --reach` of each file.
 
 With --memory the tree of tools/lib/texts.py, --files (100,000) and --users (1,000), gets --lines (20,000) that are all
 accepted: most change one file or one user or ask something, one of 50 a directory with its hundred files, one of 1,000
-all files. After each --report (2,000) it prints the memory that the program has and the most that it had. A session keeps
-two states: the one after the load, of which `changes` tells what differs, and the present one. So at the end it has to
-have at most a tenth more than it had after the load and a new session on the present state has, together; and to answer
-the same.
+all files. After each --report (2,000) it prints the memory that the program has and the most that it had. A session
+keeps two states: the one after the load, of which `changes` and `gains` tell what differs, and the present one. So at
+the end it has to have at most a tenth more than it had after the load and a new session on the present state has,
+together; and to answer the same.
 
 The same seed gives the same lines. The exit status is 1 where something is not so, 2 where the words are others.
 """
@@ -186,19 +186,22 @@ def every_question(state: State) -> List[Unit]:
     lines = [b"may --reach %d %d" % (uid, request) for uid in uids for request in range(8)]
     lines += [b"who --reach %d '%s'" % (request, file) for file in files for request in range(8)]
     lines += [b"can --reach %d '%s'" % (uid, file) for uid in uids for file in files]
+    lines += [b"below --reach %d '%s'" % (request, file) for file in files for request in range(8)]
     return [INDEX, *(Unit(line, None) for line in lines)]
 
 
 def changes_fault(state: State, table: Table) -> Optional[str]:
-    """What is wrong with what `changes` prints, beside the state after the setup; a `load` makes that another one."""
+    """What is wrong with what `changes` and `gains` print, beside the state after the setup; a `load` makes that
+    another one."""
     if any(is_of_tools(unit, (b"load",)) for unit in state.kept):
         return None
     before = Table(People(PASSWD, GROUP), state.program.run([NUMBERS], state.dump).out)
-    for reach, line in (False, b"changes"), (True, b"changes --reach"):
-        out, _ = state.answers([Unit(line, None)])
-        answer = table.changes(before, reach)
-        if out != answer:
-            return f"{line!r} is not answered {answer[:300]!r} but {out[:300]!r}"
+    for tool, answer_of in (b"changes", table.changes), (b"gains", table.gains):
+        for reach, line in (False, tool), (True, tool + b" --reach"):
+            out, _ = state.answers([Unit(line, None)])
+            answer = answer_of(before, reach)
+            if out != answer:
+                return f"{line!r} is not answered {answer[:300]!r} but {out[:300]!r}"
     return None
 
 

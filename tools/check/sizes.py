@@ -230,9 +230,11 @@ def files_of_the_tree() -> Iterator[Run]:
     yield fails("", f"setup: dump: {full}", {**PEOPLE, "dump": more})
     allowed = lines([*order, ".\nlisa\njoe\nnone"])
     yield Run("may joe 0\nmay --reach joe r\nwho x .\ncan joe ffffe\n", allowed, files=files)
+    sums = lines(f"{count} {user} ." for count in (len(order), 1) for user in ("lisa", "joe"))
+    yield Run("below 0 .\nbelow --reach r ffffe .\n", sums, files=files)
     changed = "".join(f"{user} gains --x,-w-,-wx,r--,r-x,rw-,rwx ffffe\n" for user in ("lisa", "joe"))
-    changed += "# file: ffffe\nother::rwx\n\n"
-    yield Run("changes\nchmod 777 ffffe\nchanges\nwhy joe ffffe\n", changed, files=files)
+    changed += "01 ff 1 lisa ffffe\n01 ff 1 joe ffffe\n# file: ffffe\nother::rwx\n\n"
+    yield Run("changes\ngains\nchmod 777 ffffe\nchanges\ngains --reach\nwhy joe ffffe\n", changed, files=files)
     index = (f"{33 if path == '.' else '01'} {user} {path}" for path in order for user in ("lisa", "joe"))
     yield Run("index\n", lines(index), files=files)
     yield Run(f"load dump\n{most}.\nchacl -l ffffe\n", "ffffe [u::rw-,g::r--,o::---]\n", files=PEOPLE)
@@ -258,8 +260,10 @@ def rows_of_people() -> Iterator[Run]:
     names, last, files = [f"u{k}" for k in range(ROWS)], f"u{ROWS - 1}", {**files, "passwd": users}
     yield Run(f"who r f\nwho w f\nwho --reach 0 f\ncan {last} f\nmay {last} r\n",
               lines([*names, "u1", *names, "r--", ".", "f"]), files=files)
-    lost = lines(f"{name} loses r-- f" for name in names if name != "u1")
-    yield Run(f"chmod 600 f\nchanges\nwhy {last} f\n", lost + "# file: f\ngroup::---\n\n", files=files)
+    others = [name for name in names if name != "u1"]
+    lost = lines([*(f"{name} loses r-- f" for name in others), *(f"11 01 1 {name} f" for name in others)])
+    yield Run(f"chmod 600 f\nchanges\ngains\nwhy {last} f\n", lost + "# file: f\ngroup::---\n\n", files=files)
+    yield Run("below r f .\nbelow --reach w .\n", lines([*(f"2 {name} ." for name in names), "2 u1 ."]), files=files)
     # `r-x` grants the requests 0, 1, 4 and 5; `r--` 0 and 4.
     granted = itertools.product(((".", "33", "ff"), ("f", "11", "55")), names)
     index = (f"{own if name == 'u1' else usual} {name} {path}" for (path, usual, own), name in granted)
@@ -508,7 +512,9 @@ def of_few_files(_: int) -> List[Expect]:
     people += [f"userdel {user(7 * k + 100)}" for k in range(5)]
     questions = [f"who --reach r {long_path(k)}" for k in range(50)]
     questions += [f"{tool} --reach {user(k)} {long_path(k)}" for tool in ("can", "why") for k in range(50)]
-    return [step("people", people), step("questions", [*questions, "changes", "changes --reach"]),
+    questions += [f"below {flag}r {long_path(k)}" for k in range(50) for flag in ("", "--reach ")]
+    of_all = ["changes", "changes --reach", "gains", "gains --reach"]
+    return [step("people", people), step("questions", [*questions, *of_all]),
             step("faults of commands", faults_of_commands())]
 
 
@@ -538,7 +544,8 @@ LARGE = [
     Shape("few users", "all files and groups, and some users: every tool, faults, and every tool again", large_dump,
           lambda n: [step("tools", edits(n)), step("faults of entries", faults_of_entries()),
                      step("faults of commands", faults_of_commands()), step("tools again", edits(n - 100)),
-                     step("after them", [f"may --reach {user(1)} r", "index", "changes", "changes --reach"])],
+                     step("after them", [f"may --reach {user(1)} r", "index", "changes", "changes --reach", "gains",
+                                          "gains --reach"])],
           (20_000, 20_000), large(20), 1),
     Shape("long lines", "the same files: faults of lines, and of restores of 10 MB", large_dump,
           lambda n: [step("lines", faults_of_lines()), step("restores", faults_of_restores(n)[:3])],
@@ -601,11 +608,12 @@ def some(files: int, count: int, path: Callable[[int], str] = tree_path) -> List
 
 def asked(paths: Sequence[str], users: int = 10, tables: bool = True) -> List[Expect]:
     """Questions of some files, and of all."""
-    kinds = (("can", "u%d", users), ("who", "%d", 8), ("why", "u%d", users))
+    kinds = (("can", "u%d", users), ("who", "%d", 8), ("below", "%d", 8), ("why", "u%d", users))
     one = [f"{tool} {'--reach ' * (k % 2)}{form % (k % count)} {path}"
            for tool, form, count in kinds for k, path in enumerate(paths)]
     every = step("may, index", ["may u1 r", "may --reach u2 w", "may u3 0", "may --reach u1 x", "index"])
-    return [step("can, who, why", one), *[every, step("changes", ["changes", "changes --reach"] * 2)] * tables]
+    changes = ["changes", "changes --reach", "gains", "gains --reach"] * 2
+    return [step("can, who, below, why", one), *[every, step("changes, gains", changes)] * tables]
 
 
 # All files listed and changed.
@@ -646,7 +654,8 @@ def of_escaped_names(files: int) -> List[Expect]:
 
 def of_deep_path(deep: str) -> List[Expect]:
     return [
-        step("getfacl, can, who", [f"{words} {deep}" for words in ("getfacl", "can --reach u2", "who --reach r")] * 30),
+        step("getfacl, can, who, below", [f"{words} {deep}" for words in ("getfacl", "can --reach u2", "who --reach r",
+                                                                          "below --reach r")] * 30),
         step("why --reach", [f"why --reach u2 {deep}"] * 30), step("chmod", [f"chmod 700 {deep}"]),
         step("creat, rm", [f"creat --user=u1 --mode=640 {deep}/f", f"rm {deep}/f"] * 10), step("chmod .", ROOT_LINES)]
 

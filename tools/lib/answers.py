@@ -1,4 +1,5 @@
-"""Answers of can, who, may, why, index and changes by acl(5)'s check, from a listing of all files and the users.
+"""Answers of can, who, may, below, why, index, changes and gains by acl(5)'s check, from a listing of all files and the
+users.
 
 It is written from acl(5), getfacl(1), passwd(5) and group(5), and shares nothing with the program.
 """
@@ -215,6 +216,16 @@ class Table:
         paths = [path for path in self.order if self.is_granted(user.name, path, request, reach)]
         return b"".join(self.files[path].shown + b"\n" for path in paths)
 
+    def below(self, request: int, paths: List[Path], reach: bool) -> bytes:
+        """For each user the number of files at or below some on which a request is granted, and the first of them."""
+        asked = [path for path in self.order if any(path[: len(top)] == top for top in paths)]
+        lines = []
+        for user in self.people.users:
+            found = [path for path in asked if self.is_granted(user.name, path, request, reach)]
+            if found:
+                lines.append(b"%d %s %s\n" % (len(found), shown_name(user.name), self.files[found[0]].shown))
+        return b"".join(lines)
+
     def why(self, user: User, paths: List[Path], reach: bool) -> bytes:
         asked = {path[:k] for path in paths for k in range(len(path))} | set(paths) if reach else set(paths)
         groups = self.people.groups_of(user)
@@ -249,6 +260,32 @@ class Table:
                         lines.append(b"%s %s %s %s\n" % (shown_name(name), word, texts, shown))
         return b"".join(lines)
 
+    def side(self, name: bytes, path: Path, reach: bool) -> bytes:
+        """All requests of a user on a file, as two digits."""
+        if name not in self.granted or path not in self.files:
+            return b"--"
+        return b"%02x" % sum(1 << request for request in range(8) if self.is_granted(name, path, request, reach))
+
+    def gains(self, before: Table, reach: bool) -> bytes:
+        """How often each user has which change, and where first: one in `changes`, or a file that is new or gone."""
+        names = [it.name for it in self.people.users]
+        names += [name for name in before.granted if name not in self.granted]
+        paths = sorted({*self.files, *before.files})
+        lines = []
+        for name in names:
+            found: Dict[Tuple[bytes, bytes], List[Path]] = {}
+            for path in paths:
+                sides = before.side(name, path, reach), self.side(name, path, reach)
+                is_kept = path in self.files and path in before.files
+                differs = before.requests(name, path, reach) != self.requests(name, path, reach)
+                if differs if is_kept else sides != (b"--", b"--"):
+                    found.setdefault(sides, []).append(path)
+            for sides in sorted(found):  # A hyphen is below each digit.
+                its = found[sides]
+                shown = (self.files.get(its[0]) or before.files[its[0]]).shown
+                lines.append(b"%s %s %d %s %s\n" % (*sides, len(its), shown_name(name), shown))
+        return b"".join(lines)
+
     def question(self, random: Random) -> Tuple[bytes, bytes]:
         """A random question with its answer."""
         reach = random.random() < 0.5
@@ -260,7 +297,7 @@ class Table:
         file = b"'" + self.files[path].shown + b"'"
         request = random.randrange(8)
         perms = random.choice([b"%d" % request, TEXTS[request].replace(b"-", b"") or b"''"])
-        kind = random.choice(["can", "can", "who", "who", "may", "why"])
+        kind = random.choice(["can", "can", "who", "who", "may", "below", "why"])
         if kind == "can":
             return b"can %s%s %s" % (option, word, file), self.can(user, path, reach)
         if kind == "who":
@@ -268,5 +305,10 @@ class Table:
         if kind == "may":
             return b"may %s%s %s" % (option, word, perms), self.may(user, request, reach)
         paths = [path] + random.choices(self.order, k=random.randrange(3))
+        if random.random() < 0.3:
+            paths.append(random.choice(paths)[: random.randrange(1, 4)])  # Mostly one above or below another.
+            paths = [it for it in paths if it in self.files]
         files = b" ".join(b"'" + self.files[it].shown + b"'" for it in paths)
+        if kind == "below":
+            return b"below %s%s %s" % (option, perms, files), self.below(request, paths, reach)
         return b"why %s%s %s" % (option, word, files), self.why(user, paths, reach)

@@ -182,6 +182,12 @@ class Grammar:
     def may(self, top: str) -> Words:
         return self.reaching([self.user(), self.asked_perms()]), []
 
+    def below(self, top: str) -> Words:
+        paths = self.paths(top)
+        if self.chance(0.4):  # One above another.
+            paths.append(self.quoted(self.random.choice(paths).strip("'").rpartition("/")[0] or top))
+        return self.reaching([self.asked_perms(), *paths]), []
+
     def why(self, top: str) -> Words:
         return self.reaching([self.user(), *self.paths(top)]), []
 
@@ -189,6 +195,9 @@ class Grammar:
         return [], []
 
     def changes(self, top: str) -> Words:
+        return self.reaching([]), []
+
+    def gains(self, top: str) -> Words:
         return self.reaching([]), []
 
     def attr(self, top: str) -> Words:
@@ -287,8 +296,8 @@ class Grammar:
         tool = self.random.choice(TOOLS if self.chance(0.1) else self.served)
         if tool == "load" and self.chance(0.8):
             tool = "getfacl"
-        if tool in ("index", "may", "changes") and self.chance(0.9):
-            tool = "can"  # Those print something for each file of all sessions.
+        if tool in ("index", "may", "changes", "gains") and self.chance(0.9):
+            tool = "can"  # Those look at each file of all sessions.
         words, text = getattr(self, tool)(top)
         words = [tool] + words
         if self.chance(0.1):

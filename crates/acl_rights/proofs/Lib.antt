@@ -23,3 +23,4 @@ mod Searched
 mod Lying
 pub mod Granted
 mod RowsOfNumbers
+mod ClassedRows

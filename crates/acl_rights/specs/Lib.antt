@@ -14,3 +14,6 @@ pub mod Walks
 pub mod Subtrees
 pub mod KindRows
 pub mod RowsLeft
+pub mod Classes
+pub mod ClassRows
+pub mod ClassLists

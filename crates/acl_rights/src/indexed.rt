@@ -1,7 +1,7 @@
 //! A state with the index of who may do what in it, and what users are granted in it, with or without search along the path;
 //! the present one with the one after the texts were loaded, the states that the lines of a script see.
 
-ghost use Rattle.std.specs.Prelude.{◌≡◌, ◌+◌, ◌<◌, ◌≤◌, ◌^◌, IfOk, OnOk, OnErr};
+ghost use Rattle.std.specs.Prelude.{◌≡◌, [], ◌+◌, ◌<◌, ◌≤◌, ◌^◌, IfOk, OnOk, OnErr};
 ghost use Rattle.acl_tree.specs.Reports.{Reports};
 ghost use Rattle.acl_rights.specs.Stages.{most_asked};
 ghost use Rattle.acl_rights.specs.Rows.{Asks};
@@ -10,6 +10,7 @@ ghost use Rattle.acl_rights.specs.Tables.{IsWhole, FindsUsers, FindsFiles};
 ghost use Rattle.acl_rights.specs.Verdicts.{can_requests, users_granted, paths_granted, rows_granted};
 ghost use Rattle.acl_rights.specs.States.{IsPrepared, from_start, loaded_state, states_after, states_in, state_after, most_after};
 
+use crate::file_classes::FileClasses;
 use crate::file_rows::FileRows;
 use crate::index::Index;
 use crate::judge::Judge;
@@ -168,6 +169,14 @@ impl<'a, J: Judge> Verdicts<'a, J> {
     {
         let index = self.state.index();
         index.file_rows(self.along)
+    }
+
+    /// Each file with its class, in path order: files of a class have the same row. Allocates nothing.
+    pub fn classes(&self, alloc: Global) -> FileClasses<'a>
+        ensures { result ≡ ([], rows_granted J.verdict_of self.now.along self.now.state.now) }
+    {
+        let index = self.state.index();
+        index.file_classes(alloc, self.along)
     }
 }
 

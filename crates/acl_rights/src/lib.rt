@@ -27,7 +27,9 @@
 mod answers;
 mod cells;
 mod changed_rows;
+mod classes;
 mod counts;
+mod file_classes;
 mod file_rows;
 mod hash;
 mod hints;
@@ -43,11 +45,11 @@ mod stack;
 mod stage;
 
 pub use cells::{Cells, same_row};
+pub use file_classes::FileClasses;
 pub use file_rows::{FileRow, FileRows};
 pub use index::{Index, Rows};
 pub use indexed::{IndexedState, IndexedStates, States, Verdicts};
 pub use judge::{Judge, Posix};
-pub use kind_rows::{KindRows, LabelRow};
 
 // The public calls take and give these values of the crates below.
 pub use acl_edit::{Change, ChangeEntries, ChangeFlags, Edit, Kind, Specs};

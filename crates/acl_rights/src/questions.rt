@@ -1,12 +1,13 @@
 //! What an index answers: who may do what, with and without search along the files' paths.
 
-ghost use Rattle.std.specs.Prelude.{◌≡◌};
+ghost use Rattle.std.specs.Prelude.{◌≡◌, []};
 ghost use Rattle.std.specs.Option.{option_copied};
 ghost use Rattle.std.specs.FinMap.{find};
 ghost use Rattle.acl_names.specs.Paths.{path_cmp};
 ghost use Rattle.acl_tree.specs.State as states;
 
 use crate::answers::granted_users;
+use crate::file_classes::FileClasses;
 use crate::file_rows::FileRows;
 use crate::index::Index;
 use crate::judge::Judge;
@@ -204,5 +205,13 @@ impl<J: Judge> Index<J> {
     {
         let now = &self.table;
         now.rows.file_rows(along)
+    }
+    /// Each file with its class, in path order: files of a class have the same row, with `along` what is left of their rows
+    /// where each recorded directory above has to let the user search. Allocates nothing.
+    pub fn file_classes(&self, alloc: Global, along: bool) -> FileClasses<'_>
+        ensures { result ≡ ([], rows_along along self.now.rows) }
+    {
+        let now = &self.table;
+        now.rows.file_classes(alloc, along)
     }
 }

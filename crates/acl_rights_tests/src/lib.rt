@@ -11,6 +11,8 @@ mod asked;
 #[cfg(test)]
 mod changed;
 #[cfg(test)]
+mod classes;
+#[cfg(test)]
 mod costs;
 #[cfg(test)]
 mod followed;

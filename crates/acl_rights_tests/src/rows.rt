@@ -19,7 +19,7 @@ static ROOT_CLOSED: [Row; 1] = [Row {
 }];
 
 /// A file, and for each user the byte of the requests.
-type Wanted = (&'static [u8], [u8; 3]);
+pub type Wanted = (&'static [u8], [u8; 3]);
 
 static ALONE: [Wanted; 5] = [
     (b".", [0xff, 0x01, 0x01]),
@@ -38,7 +38,7 @@ static ALONG: [Wanted; 5] = [
 ];
 
 /// The byte of each user's requests.
-fn bytes(alloc: Global, row: &[Requests]) -> Option<Vec<u8>> {
+pub fn bytes(alloc: Global, row: &[Requests]) -> Option<Vec<u8>> {
     let mut bytes = Vec::new(alloc);
     for requests in row {
         bytes.push(requests.bits()).ok()?;

@@ -4,8 +4,8 @@ use crate::followed::{Followed, follow};
 use crate::judge::OwnerAlone;
 use crate::small_tree::{load, path};
 use acl_rights::{
-    Acl, Cells, Command, FileRow, FileRows, Id, Index, Judge, Label, Membership, NoMemory, Path,
-    Perm, Posix, Requests, Subject, read_name,
+    Acl, Cells, Command, FileClasses, FileRow, FileRows, Id, Index, Judge, Label, Membership,
+    NoMemory, Path, Perm, Posix, Requests, Subject, read_name,
 };
 use std::alloc::Global;
 use std::process::Abort;
@@ -88,6 +88,16 @@ fn expect_rows(rt: &impl Abort, alloc: Global, index: &Index<OwnerAlone>) {
     assert!(rt; path.components().is_empty() && row.as_slice().len() == 3);
 }
 
+fn expect_classes(rt: &impl Abort, alloc: Global, index: &Index<OwnerAlone>) {
+    let mut classes: FileClasses<'_> = index.file_classes(alloc, true);
+    let next: Option<&Path> = classes.path();
+    assert!(rt; next.expect(rt, "the root").components().is_empty());
+    let root: Option<(&Path, usize)> = classes.next(alloc).expect(rt, "memory");
+    let (path, class) = root.expect(rt, "the root");
+    let row: Option<&[Requests]> = classes.row(class);
+    assert!(rt; path.components().is_empty() && row.expect(rt, "a class").len() == 3);
+}
+
 #[test]
 fn verdicts_and_questions(rt: HostRuntime) {
     let index: Index<OwnerAlone> = kept_index(&rt, rt.alloc());
@@ -98,6 +108,7 @@ fn verdicts_and_questions(rt: HostRuntime) {
     expect_may(&rt, rt.alloc(), &index);
     expect_may_along_the_path(&rt, rt.alloc(), &index);
     expect_rows(&rt, rt.alloc(), &index);
+    expect_classes(&rt, rt.alloc(), &index);
     drop(index);
 }
 

@@ -100,7 +100,7 @@ module _ {A B : Type 0} (f : A → B) where
       by Equal more = refl
       by Greater more = ap (λ l. part e ∷ l) more
 
-  part_put_all : (ps es : List (PathOf × A)) → map part (put_all ps es) ≡ put_all (map part ps) (map part es)
+  pub part_put_all : (ps es : List (PathOf × A)) → map part (put_all ps es) ≡ put_all (map part ps) (map part es)
   part_put_all [] es = refl
   part_put_all (p ∷ ps) es = part_put_all ps (put path_cmp p.0 p.1 es) ∙ ap (λ l. put_all (map part ps) l) (part_put p.0 p.1 es)
 
@@ -176,7 +176,7 @@ module _ (V : Verdict) (along : Bool) (s : State) (t : VerdictTable) (whole : Is
       by false = alone
 
   -- a verdict in its row
-  cell_along : (user : ℕ) (p : PathOf) → option_and_then (λ (cells : List ℕ). slice_get cells user) (find path_cmp p (rows_along along t.rows)) ≡ can_requests V along s user p
+  pub cell_along : (user : ℕ) (p : PathOf) → option_and_then (λ (cells : List ℕ). slice_get cells user) (find path_cmp p (rows_along along t.rows)) ≡ can_requests V along s user p
   cell_along user p = by along
     where
       by : (b : Bool) → option_and_then (λ (cells : List ℕ). slice_get cells user) (find path_cmp p (rows_along b t.rows)) ≡ can_requests V b s user p

@@ -16,7 +16,9 @@ use Rattle.acl_text.specs.declared.rows.PasswdRow.{PasswdRow}
 use Rattle.std.specs.Prelude.{filter}
 use Rattle.std.specs.List.{flat_map}
 use Rattle.facl_output.specs.AttrListings.{attr_listing}
+use Rattle.facl.specs.BelowText.{below_text}
 use Rattle.facl.specs.ChangesText.{changes_text}
+use Rattle.facl.specs.GainsText.{gains_text}
 use Rattle.facl.specs.WhyText.{files_asked}
 use Rattle.facl_script.specs.Forms.{Text}
 use Rattle.facl_output.specs.declared.fault.LineFault.{LineFault}
@@ -137,8 +139,11 @@ first_fault_refuses verdict loaded s (lines.Setattr line) text =
 first_fault_refuses verdict loaded s (lines.Can line) text = can_refused verdict s line
 first_fault_refuses verdict loaded s (lines.Who line) text = who_refused verdict s line
 first_fault_refuses verdict loaded s (lines.May line) text = may_refused verdict s line
+first_fault_refuses verdict loaded s (lines.Below line) text =
+    listing_refused s.tree.files line.files (λ paths. printed s (below_text verdict line.reach s line.request paths))
 first_fault_refuses verdict loaded s (lines.Why line) text = why_refused s line
 first_fault_refuses verdict loaded s lines.Index text = nothing_refused (printed s (index_text verdict s))
 first_fault_refuses verdict loaded s (lines.Changes line) text = nothing_refused (printed s (changes_text verdict line.reach loaded s))
+first_fault_refuses verdict loaded s (lines.Gains line) text = nothing_refused (printed s (gains_text verdict line.reach loaded s))
 first_fault_refuses verdict loaded s (lines.Useradd line) text = command_refused (done s (commands.Useradd (new_user line)))
 first_fault_refuses verdict loaded s (lines.Userdel line) text = command_refused (done s (commands.Userdel (name_meant line.user)))

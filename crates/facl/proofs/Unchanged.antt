@@ -195,7 +195,7 @@ module _ (name : List ℕ) where
 
 -- ---- files by path
 
-shown_paths : (t es : Files) → paths (map shown (found_in t es)) ≡ paths es
+pub shown_paths : (t es : Files) → paths (map shown (found_in t es)) ≡ paths es
 shown_paths t [] = refl
 shown_paths t (e ∷ es) = ap (λ l. e.0 ∷ l) (shown_paths t es)
 

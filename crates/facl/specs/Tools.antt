@@ -13,11 +13,13 @@ use Rattle.facl_output.specs.declared.fault.LineFault.{LineFault}
 use Rattle.facl_output.specs.declared.fault.LineFault.TheVariants.{Usage}
 use Rattle.facl.specs.Replies.{Reply, after, or_fault}
 use Rattle.facl.specs.Attr as attr
+use Rattle.facl.specs.Below as below
 use Rattle.facl.specs.Can as can
 use Rattle.facl.specs.Chacl as chacl
 use Rattle.facl.specs.Changes as changes
 use Rattle.facl.specs.Chmod as chmod
 use Rattle.facl.specs.Creat as creat
+use Rattle.facl.specs.Gains as gains
 use Rattle.facl.specs.Getfacl as getfacl
 use Rattle.facl.specs.Gpasswd as gpasswd
 use Rattle.facl.specs.Index as index
@@ -72,9 +74,11 @@ table =
     ∷ row tools.Can (codes "can") can.syntax
     ∷ row tools.Who (codes "who") who.syntax
     ∷ row tools.May (codes "may") may.syntax
+    ∷ row tools.Below (codes "below") below.syntax
     ∷ row tools.Why (codes "why") why.syntax
     ∷ row tools.Index (codes "index") index.syntax
     ∷ row tools.Changes (codes "changes") changes.syntax
+    ∷ row tools.Gains (codes "gains") gains.syntax
     ∷ row tools.Useradd (codes "useradd") useradd.syntax
     ∷ row tools.Userdel (codes "userdel") userdel.syntax
     ∷ []
@@ -124,9 +128,11 @@ read_line tools.Setattr w = option_map (λ line. lines.Setattr line) (setattr.re
 read_line tools.Can w = option_map (λ line. lines.Can line) (can.read w)
 read_line tools.Who w = option_map (λ line. lines.Who line) (who.read w)
 read_line tools.May w = option_map (λ line. lines.May line) (may.read w)
+read_line tools.Below w = option_map (λ line. lines.Below line) (below.read w)
 read_line tools.Why w = option_map (λ line. lines.Why line) (why.read w)
 read_line tools.Index w = Some lines.Index
 read_line tools.Changes w = Some (lines.Changes (changes.read w))
+read_line tools.Gains w = Some (lines.Gains (gains.read w))
 read_line tools.Useradd w = option_map (λ line. lines.Useradd line) (useradd.read w)
 read_line tools.Userdel w = Some (lines.Userdel (userdel.read w))
 
@@ -142,7 +148,7 @@ words_of tool words = or_fault Usage (words_by (syntax_of tool) words)
 abbrev pub words_or_fault : Tool → List Text → Result Words LineFault
 words_or_fault tool words = after (words_of tool words) (λ w. after (line_or_fault tool w) (λ line. Ok w))
 
--- what a line does at a state; `changes` alone looks at the state after the texts were loaded
+-- what a line does at a state; `changes` and `gains` alone look at the state after the texts were loaded
 unfoldable pub answered : Verdict → (loaded now : State) → ToolLine → List ℕ → Result Reply LineFault
 answered verdict loaded s (lines.Load line) text = load.answered s line text
 answered verdict loaded s (lines.Getfacl line) text = getfacl.answered s line
@@ -158,9 +164,11 @@ answered verdict loaded s (lines.Setattr line) text = setattr.answered s line
 answered verdict loaded s (lines.Can line) text = can.answered verdict s line
 answered verdict loaded s (lines.Who line) text = who.answered verdict s line
 answered verdict loaded s (lines.May line) text = may.answered verdict s line
+answered verdict loaded s (lines.Below line) text = below.answered verdict s line
 answered verdict loaded s (lines.Why line) text = why.answered s line
 answered verdict loaded s lines.Index text = index.answered verdict s
 answered verdict loaded s (lines.Changes line) text = changes.answered verdict loaded s line
+answered verdict loaded s (lines.Gains line) text = gains.answered verdict loaded s line
 answered verdict loaded s (lines.Useradd line) text = useradd.answered s line
 answered verdict loaded s (lines.Userdel line) text = userdel.answered s line
 

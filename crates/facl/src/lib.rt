@@ -8,8 +8,8 @@
 //! own type (`None`: usage), and what it does at a state. `tool_line` reads a line's words and does it; its effect is
 //! what is printed, and the state that is to replace the present one. It changes nothing; the session puts the effect
 //! in place. [`read_words`] uses the same readers. Below `answers` is what the questions print: that of `can`, `who`,
-//! `may`, `index` and `changes` comes from the index of the state, without a new verdict; that of `why` from the lists
-//! alone.
+//! `may`, `below`, `index`, `changes` and `gains` comes from the index of the state, without a new verdict; that of `why`
+//! from the lists alone.
 #![tactic(auto)]
 
 mod answers;
@@ -22,10 +22,13 @@ mod status;
 mod tools;
 mod words;
 
+pub use answers::below::write_below;
 pub use answers::changes::write_changes;
+pub use answers::gains::write_gains;
 pub use answers::index::write_index;
 pub use answers::laws::{
-    changes_print_all_that_differs, deciding_entries_are_the_check, deciding_entries_are_the_reach,
+    below_counts_what_may_lists, changes_print_all_that_differs, deciding_entries_are_the_check,
+    deciding_entries_are_the_reach,
 };
 pub use answers::may::write_may;
 pub use answers::requests::append_requests;

@@ -48,7 +48,8 @@ fn text_of_unit<'a>(text: &HeldText<'a>) -> Result<&'a [u8], LineFault>
     }
 }
 
-/// What a tool does with the words after its name and a text. `changes` looks at the state after the texts were loaded.
+/// What a tool does with the words after its name and a text. `changes` and `gains` look at the state after the texts were
+/// loaded.
 fn tool_effect<J: Judge>(
     alloc: Global,
     indexed_states: &IndexedStates<J>,

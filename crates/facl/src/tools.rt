@@ -2,6 +2,7 @@
 //! it does.
 
 mod attr;
+mod below;
 mod can;
 mod chacl;
 mod changes;
@@ -9,6 +10,7 @@ mod chmod;
 mod creat;
 mod edits;
 pub(crate) mod effect;
+mod gains;
 mod getfacl;
 mod gpasswd;
 mod index;
@@ -76,12 +78,16 @@ pub enum Tool {
     Who,
     /// With which files a user may do something.
     May,
+    /// Who may do something with a file at or below some paths.
+    Below,
     /// Which entries decide on a user.
     Why,
     /// What each user may do with each file.
     Index,
     /// What the script has changed so far in who may do what.
     Changes,
+    /// The same by users, with how many files.
+    Gains,
     /// useradd(8).
     Useradd,
     /// userdel(8).
@@ -136,9 +142,11 @@ static TOOLS: &[ToolRow] = &[
     row!(Can, "can", can::SYNTAX),
     row!(Who, "who", who::SYNTAX),
     row!(May, "may", may::SYNTAX),
+    row!(Below, "below", below::SYNTAX),
     row!(Why, "why", why::SYNTAX),
     row!(Index, "index", index::SYNTAX),
     row!(Changes, "changes", changes::SYNTAX),
+    row!(Gains, "gains", gains::SYNTAX),
     row!(Useradd, "useradd", useradd::SYNTAX),
     row!(Userdel, "userdel", userdel::SYNTAX),
 ];
@@ -225,9 +233,11 @@ pub(crate) enum ToolLine<'a> {
     Can(can::CanLine<'a>),
     Who(who::WhoLine<'a>),
     May(may::MayLine<'a>),
+    Below(below::BelowLine<'a>),
     Why(why::WhyLine<'a>),
     Index,
     Changes(changes::ChangesLine),
+    Gains(gains::GainsLine),
     Useradd(useradd::UseraddLine<'a>),
     Userdel(userdel::UserdelLine<'a>),
 }
@@ -259,9 +269,11 @@ fn read_line(alloc: Global, tool: Tool, words: &Words) -> Result<Option<ToolLine
         Tool::Can => Ok(can::read(words).map(ToolLine::Can)),
         Tool::Who => Ok(who::read(words).map(ToolLine::Who)),
         Tool::May => Ok(may::read(words).map(ToolLine::May)),
+        Tool::Below => Ok(below::read(words).map(ToolLine::Below)),
         Tool::Why => Ok(why::read(words).map(ToolLine::Why)),
         Tool::Index => Ok(Some(ToolLine::Index)),
         Tool::Changes => Ok(Some(ToolLine::Changes(changes::read(words)))),
+        Tool::Gains => Ok(Some(ToolLine::Gains(gains::read(words)))),
         Tool::Useradd => Ok(useradd::read(alloc, words)?.map(ToolLine::Useradd)),
         Tool::Userdel => Ok(Some(ToolLine::Userdel(userdel::read(words)))),
     }
@@ -312,10 +324,10 @@ pub fn read_words(alloc: Global, tool: Tool, words: &[String]) -> Result<Words, 
 
 /// What a line does at a state. Questions of who may do what are answered from the index of the state.
 #[tactic(auto, unfolding(crate::specs::Tools::answered))]
-fn answer<J: Judge>(
+fn answer<'x, J: Judge>(
     alloc: Global,
-    loaded: &IndexedState<J>,
-    indexed: &IndexedState<J>,
+    loaded: &'x IndexedState<J>,
+    indexed: &'x IndexedState<J>,
     line: ToolLine<'_>,
     text: &[u8],
 ) -> Result<Effect, LineFault>
@@ -337,19 +349,21 @@ fn answer<J: Judge>(
         ToolLine::Can(line) => can::answer(alloc, indexed, line),
         ToolLine::Who(line) => who::answer(alloc, indexed, line),
         ToolLine::May(line) => may::answer(alloc, indexed, line),
+        ToolLine::Below(line) => below::answer(alloc, indexed, line),
         ToolLine::Why(line) => why::answer(alloc, state, line),
         ToolLine::Index => index::answer(alloc, indexed),
         ToolLine::Changes(line) => changes::answer(alloc, loaded, indexed, line),
+        ToolLine::Gains(line) => gains::answer(alloc, loaded, indexed, line),
         ToolLine::Useradd(line) => useradd::answer(alloc, state, line),
         ToolLine::Userdel(line) => userdel::answer(alloc, state, line),
     }
 }
 
 /// What the line of a tool that words give does at a state.
-fn words_answer<J: Judge>(
+fn words_answer<'x, J: Judge>(
     alloc: Global,
-    loaded: &IndexedState<J>,
-    indexed: &IndexedState<J>,
+    loaded: &'x IndexedState<J>,
+    indexed: &'x IndexedState<J>,
     tool: Tool,
     words: &Words,
     text: &[u8],
@@ -360,12 +374,12 @@ fn words_answer<J: Judge>(
     answer(alloc, loaded, indexed, line, text)
 }
 
-/// What a tool does at a state, by the words after its name and the text after the line. `changes` alone looks at the
-/// state after the texts were loaded.
-pub(crate) fn tool_line<J: Judge>(
+/// What a tool does at a state, by the words after its name and the text after the line. `changes` and `gains`
+/// alone look at the state after the texts were loaded.
+pub(crate) fn tool_line<'x, J: Judge>(
     alloc: Global,
-    loaded: &IndexedState<J>,
-    indexed: &IndexedState<J>,
+    loaded: &'x IndexedState<J>,
+    indexed: &'x IndexedState<J>,
     tool: Tool,
     words: &[String],
     text: &[u8],

@@ -12,6 +12,8 @@ mod answers;
 #[cfg(test)]
 mod attributes;
 #[cfg(test)]
+mod below;
+#[cfg(test)]
 mod changes;
 #[cfg(test)]
 mod costs;
@@ -27,6 +29,8 @@ mod edits;
 mod entry_texts;
 #[cfg(test)]
 mod file_costs;
+#[cfg(test)]
+mod gains;
 #[cfg(test)]
 mod judged_rows;
 #[cfg(test)]

@@ -1,7 +1,7 @@
-//! The lines of `attr`, `setattr`, `can`, `who`, `may`, `why` and `index`.
+//! The lines of `attr`, `setattr`, `can`, `who`, `may`, `below`, `why` and `index`.
 use crate::expected::expect_lines;
 
-static LINES: [(&str, &str); 81] = [
+static LINES: [(&str, &str); 93] = [
     ("attr f", ": f"),
     ("attr", "usage"),
     ("attr f g", "usage"),
@@ -81,6 +81,18 @@ static LINES: [(&str, &str); 81] = [
     ("may joe 10", "usage"),
     ("may joe -", "usage"),
     ("may '' r", ": '' r"),
+    ("below w f", ": w f"),
+    ("below w f g f", ": w f g f"),
+    ("below 7 ''", ": 7 ''"),
+    ("below -- -w f", ": -w f"),
+    ("below w ./-", ": w ./-"),
+    ("below q f", "usage"),
+    ("below -w f", "usage"),
+    ("below w", "usage"),
+    ("below w -", "usage"),
+    ("below w f -", "usage"),
+    ("below", "usage"),
+    ("below -R w f", "usage"),
     ("why joe f", ": joe f"),
     ("why joe f g f", ": joe f g f"),
     ("why '' f", ": '' f"),
@@ -102,8 +114,11 @@ static LINES: [(&str, &str); 81] = [
     ("index -", "usage"),
 ];
 
-/// `--reach` of `can`, `who`, `may` and `why`, which has no letter.
-static REACH_LINES: [(&str, &str); 54] = [
+/// `--reach` of `can`, `who`, `may`, `below` and `why`, which has no letter.
+static REACH_LINES: [(&str, &str); 57] = [
+    ("below --reach w f g", "--reach : w f g"),
+    ("below w f --reach", "--reach : w f"),
+    ("below --reach w", "usage"),
     ("can --reach joe f", "--reach : joe f"),
     ("can joe --reach f", "--reach : joe f"),
     ("can joe f --reach", "--reach : joe f"),

@@ -1,13 +1,19 @@
-//! Laws of what `why` and `changes` print, each proved as the contract of a function that only looks.
+//! Laws of what `why`, `below` and `changes` print, each proved as the contract of a function that only looks.
 
-ghost use Rattle.std.specs.Prelude.{◌≡◌, [], Bool, Some};
+ghost use Rattle.std.specs.Prelude.{◌≡◌, [], List, Bool, true, Some, filter};
 ghost use Rattle.std.specs.FinMap.{find};
 ghost use Rattle.std.specs.List.{AllByRecursion};
 ghost use Rattle.acl_edit.specs.declared.node.Node.{Node};
-ghost use Rattle.acl_entry.specs.Check.{check};
+ghost use Rattle.acl_entry.specs.Check.{check, has};
 ghost use Rattle.acl_entry.specs.Perms.{Perms};
 ghost use Rattle.acl_names.specs.Paths.{path_cmp, PathOf};
 ghost use Rattle.acl_rights.specs.Rows.{Verdict};
+ghost use Rattle.acl_rights.specs.Verdicts.{granted};
+ghost use Rattle.acl_text.specs.declared.rows.PasswdRow.{PasswdRow};
+ghost use Rattle.acl_tree.specs.Operands.{is_file};
+ghost use Rattle.acl_tree.specs.State.{State as StateOf};
+ghost use Rattle.facl.specs.Answers.{all_files};
+ghost use Rattle.facl.specs.BelowText.{granted_below};
 ghost use Rattle.facl.specs.ChangesText.{changes_text, IsUnchanged};
 ghost use Rattle.facl.specs.Inner.{HasValidList};
 ghost use Rattle.facl.specs.WhyText.{some_decides, IsDecidedAlong};
@@ -63,3 +69,10 @@ pub fn changes_print_all_that_differs(loaded: &State, state: &State)
     let _same = loaded;
     state.tree().soundness_law();
 }
+
+/// Proof only: the files that `below` counts for a user, of which it prints a line exactly where there is one, are those
+/// of the files that `may` lists which are at or below one of the paths.
+pub fn below_counts_what_may_lists()
+    ensures { (V : Verdict) (along : Bool) (s : StateOf) (q : Perms) (paths : List PathOf) (row : PasswdRow)
+        → granted_below V along s q paths row ≡ filter (λ file. is_file true paths file.path) (filter (λ file. has (granted V along s row (file.path, file.node)) q) (all_files s)) }
+{}

@@ -101,7 +101,7 @@ pub(crate) fn users_of_both(
 }
 
 /// Whether a user has the same place in both states, or none in both.
-fn same_place(before: Option<usize>, after: Option<usize>) -> bool
+pub(crate) fn same_place(before: Option<usize>, after: Option<usize>) -> bool
     ensures { result ≡ same_place before after }
 {
     match before {

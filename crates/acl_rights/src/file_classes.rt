@@ -1,0 +1,99 @@
+//! Files by classes, one after another: all files of a class have the same row of verdicts, alone, or along paths where each
+//! directory above has to grant search.
+
+ghost use Rattle.std.specs.Prelude.{◌≡◌, [], slice_get, option_map, IfOk};
+ghost use Rattle.std.specs.Option.{option_copied};
+ghost use Rattle.path_map.specs.Entries.{first, seen};
+ghost use Rattle.kinds.specs.Numbered.{entries_in};
+ghost use Rattle.acl_rights.specs.KindRows.{rows_at};
+ghost use Rattle.acl_rights.specs.ReachedRows.{rows_along};
+ghost use Rattle.acl_rights.specs.Classes.{TakesFile};
+
+use crate::classes::FilesAbove;
+use crate::kind_rows::KindRows;
+use acl_entry::Requests;
+use acl_names::Path;
+use path_map::Entries;
+use std::alloc::{AllocError, Global};
+use std::marker::Model;
+
+/// A cursor over files with their classes: those that are still to come, in path order. To a contract it is the rows of the
+/// classes so far, and the rows of these files.
+#[derive(Drop)]
+pub struct FileClasses<'a> {
+    all: &'a KindRows,
+    along: bool,
+    first: Option<(&'a Path, usize)>,
+    rest: Entries<'a, usize>,
+    above: FilesAbove<'a>,
+}
+
+impl<'a> Model for FileClasses<'a> {
+    ghost use Rattle.kinds.specs.Numbered.{entries_in, entries_by};
+    ghost use Rattle.acl_rights.specs.KindRows.{rows_at};
+    ghost use Rattle.acl_rights.specs.Classes.{Classed, coded_classed};
+    ghost use Rattle.acl_rights.specs.RowsLeft.{rows_left};
+    ghost use Rattle.acl_rights.specs.ClassRows.{numbers_left, AreClassed};
+
+    ghost Value = { Classed };
+
+    ghost coded = { coded_classed };
+
+    ghost view = { λ f. (f.above.rows, rows_left f.along (rows_at (entries_in f.all.now.rows)) (rows_at (entries_by f.all.now.rows.0 (numbers_left f.first f.rest)))) };
+
+    ghost invariant = { λ f. AreClassed f.along f.all.now.rows (numbers_left f.first f.rest) f.above };
+}
+
+impl<'a> FileClasses<'a> {
+    /// The next file in path order with its class. Fails only if memory runs out.
+    pub fn next(&mut self, alloc: Global) -> Result<Option<(&'a Path, usize)>, AllocError>
+        ensures { IfOk result (λ found. TakesFile self.old (option_map seen found) self.new) }
+    {
+        let Some((path, number)) = self.first else {
+            return Ok(None);
+        };
+        let class = self.above.class_of(alloc, self.along, path, number)?;
+        self.first = self.rest.next();
+        Ok(Some((path, class)))
+    }
+
+    /// The path of the file that `next` would return. Allocates nothing.
+    pub fn path(&self) -> Option<&'a Path>
+        ensures { option_map (λ path. path.now) result ≡ option_map (λ row. row.0) (first self.now.1) }
+    {
+        match self.first {
+            Some((path, _)) => Some(path),
+            None => None,
+        }
+    }
+
+    /// The row of a class, if there is one: what each user may do with its files, in the order of the users. Allocates
+    /// nothing.
+    pub fn row(&self, class: usize) -> Option<&[Requests]>
+        ensures { option_copied result ≡ slice_get self.now.0 class }
+    {
+        match self.above.row(class) {
+            Some(cells) => Some(cells.as_slice()),
+            None => None,
+        }
+    }
+}
+
+impl KindRows {
+    /// All files with their classes: of their rows, or of what is left of these where each directory above has to grant
+    /// search. Allocates nothing.
+    pub fn file_classes(&self, alloc: Global, along: bool) -> FileClasses<'_>
+        ensures { result ≡ ([], rows_along along (rows_at (entries_in self.now.rows))) }
+    {
+        self.rows.order_law();
+        let mut rest = self.rows.numbers().iter();
+        let first = rest.next();
+        FileClasses {
+            all: self,
+            along,
+            first,
+            rest,
+            above: FilesAbove::new(alloc, self.rows.kinds()),
+        }
+    }
+}

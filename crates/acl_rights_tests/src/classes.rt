@@ -1,0 +1,97 @@
+//! Files by classes: the row of each file's class, and how many classes there are.
+use crate::lines::Line;
+use crate::rows::{Wanted, bytes};
+use crate::small_tree::{GROUP, PASSWD};
+use crate::world::{Row, first_wrong, nothing};
+use acl_names::read_path;
+use acl_rights::FileClasses;
+use acl_tree::Table;
+use std::alloc::Global;
+use std::cmp::Ordering;
+
+/// Two directories with files of one label.
+const FILES: &[u8] =
+    b"# file: .\n# owner: lisa\n# group: staff\nuser::rwx\ngroup::r-x\nother::r-x\n\n\
+# file: a\n# owner: lisa\n# group: staff\nuser::rwx\ngroup::---\nother::---\n\n\
+# file: a/f\n# owner: lisa\n# group: staff\nuser::rw-\ngroup::r--\nother::r--\n\n\
+# file: b\n# owner: lisa\n# group: staff\nuser::rwx\ngroup::r-x\nother::r-x\n\n\
+# file: b/f\n# owner: lisa\n# group: staff\nuser::rw-\ngroup::r--\nother::r--\n\n\
+# file: b/g\n# owner: lisa\n# group: staff\nuser::rw-\ngroup::r--\nother::r--\n\n";
+
+static SETUP: [Row; 3] = [
+    Row {
+        line: Line::Load(Table::Passwd, PASSWD),
+        asked: (0, 0),
+        looked: 0,
+        refreshed: 0,
+        verdicts: &[],
+        reach: &[],
+    },
+    Row {
+        line: Line::Load(Table::Group, GROUP),
+        asked: (0, 0),
+        looked: 0,
+        refreshed: 0,
+        verdicts: &[],
+        reach: &[],
+    },
+    Row {
+        line: Line::Load(Table::Dump, FILES),
+        asked: (0, 9),
+        looked: 0,
+        refreshed: 18,
+        verdicts: &[],
+        reach: &[],
+    },
+];
+
+/// Three labels, three classes.
+static ALONE: [Wanted; 6] = [
+    (b".", [0xff, 0x33, 0x33]),
+    (b"a", [0xff, 0x01, 0x01]),
+    (b"a/f", [0x55, 0x11, 0x11]),
+    (b"b", [0xff, 0x33, 0x33]),
+    (b"b/f", [0x55, 0x11, 0x11]),
+    (b"b/g", [0x55, 0x11, 0x11]),
+];
+
+/// The files of one label are of two classes, below two directories, of which one is closed to joe and ann. The root and
+/// `b` are of two classes, since only one of them has a directory above.
+static ALONG: [Wanted; 6] = [
+    (b".", [0xff, 0x33, 0x33]),
+    (b"a", [0xff, 0x01, 0x01]),
+    (b"a/f", [0x55, 0x00, 0x00]),
+    (b"b", [0xff, 0x33, 0x33]),
+    (b"b/f", [0x55, 0x11, 0x11]),
+    (b"b/g", [0x55, 0x11, 0x11]),
+];
+
+/// Whether the next file is this one, and its class has this row.
+fn is_next(alloc: Global, classes: &mut FileClasses<'_>, wanted: &Wanted) -> Option<bool> {
+    let (path, class) = classes.next(alloc).ok()??;
+    let row = bytes(alloc, classes.row(class)?)?;
+    let wanted_path = read_path(alloc, wanted.0).ok()??;
+    Some(path.order(&wanted_path) == Ordering::Equal && row.as_slice() == wanted.1.as_slice())
+}
+
+/// Whether the files are these, in this order, in so many classes.
+fn are(alloc: Global, classes: FileClasses<'_>, all: &[Wanted], count: usize) -> Option<bool> {
+    let mut rest = classes;
+    for wanted in all {
+        if !is_next(alloc, &mut rest, wanted)? {
+            return Some(false);
+        }
+    }
+    Some(count > 0 && rest.row(count - 1).is_some() && rest.row(count).is_none())
+}
+
+#[test]
+fn each_file_has_a_class(rt: HostRuntime) {
+    let alloc = rt.alloc();
+    let mut world = nothing(alloc).expect(&rt, "memory");
+    assert_eq!(rt; first_wrong(alloc, &mut world, &SETUP), None);
+    let alone = are(alloc, world.index.file_classes(alloc, false), &ALONE, 3);
+    let along = are(alloc, world.index.file_classes(alloc, true), &ALONG, 5);
+    drop(world);
+    assert!(rt; (alone, along) == (Some(true), Some(true)));
+}

@@ -1,0 +1,32 @@
+-- Counts of files by keys: for each key how many files have it, and which is the first of them.
+use Rattle.std.specs.Prelude.{◌≡◌, ◌+◌, ℕ, Bool, List, [], ◌∷◌, Option, option_map, if◌then◌else◌}
+use Rattle.std.specs.List.{find}
+use Rattle.acl_names.specs.Paths.{PathOf}
+
+-- a key, a number of files that have it, and the first of them
+pub record Tallied (K : Type 0) : Type 0 where
+  pub key : K
+  pub count : ℕ
+  pub first : PathOf
+
+-- one file
+abbrev pub one : {K : Type 0} → K → PathOf → Tallied K
+one key path = record { key = key; count = 1; first = path }
+
+-- how many files have a key that passes a test
+abbrev pub count_where : {K : Type 0} → (K → Bool) → List (Tallied K) → ℕ
+count_where test [] = 0
+count_where test (t ∷ ts) = (if test t.key then t.count else 0) + count_where test ts
+
+-- the first of them
+abbrev pub first_where : {K : Type 0} → (K → Bool) → List (Tallied K) → Option PathOf
+first_where test ts = option_map (λ t. t.first) (find (λ t. test t.key) ts)
+
+-- some counts say the same as others, whichever keys are asked for
+pub record SaysAs {K : Type 0} (some others : List (Tallied K)) : Type 0 where
+  pub counts : (test : K → Bool) → count_where test some ≡ count_where test others
+  pub firsts : (test : K → Bool) → first_where test some ≡ first_where test others
+
+-- what is there before and after: nothing on the side where it is not there
+abbrev pub Sides : Type 0
+Sides = Option ℕ × Option ℕ

@@ -1,0 +1,159 @@
+//! What `below` prints: on how many files at or below some paths each user is granted a request, and on which first.
+
+ghost use Rattle.std.specs.Prelude.{◌≡◌, ◌≢◌, ◌++◌, ◌∷◌, [], None, false, true, map, filter, IfOk, IfErr, OnOk};
+ghost use Rattle.std.specs.List.{flat_map};
+ghost use Rattle.acl_rights.specs.Verdicts.{rows_granted};
+ghost use Rattle.acl_tree.specs.Found.{files_found};
+ghost use Rattle.acl_tree.specs.Operands.{first_missing, is_file, IsMissing};
+ghost use Rattle.facl.specs.Answers.{file_line};
+ghost use Rattle.facl.specs.BelowText.{below_text};
+ghost use Rattle.facl.specs.Sums.{sum_of, count_text, sum_line, sum_lines, AreSums};
+
+use crate::answers::class_counts::{add_tallies, count_files};
+use crate::answers::index::written_names;
+use crate::answers::may::push_file;
+use crate::answers::sums::{UserSum, no_sums};
+use acl_entry::Perm;
+use acl_names::Path;
+use acl_rights::{Judge, Verdicts};
+use acl_tree::{Found, Paths, Selection, Tree, TreeFault};
+use itoa::Buffer;
+use std::alloc::{AllocError, Global};
+
+/// Adds the lines of files.
+fn push_found(text: &mut Vec<u8>, files: &[Found<'_>]) -> Result<(), AllocError>
+    ensures { OnOk result (text.new.items ≡ text.old.items ++ flat_map file_line files.now) }
+{
+    for file in files {
+        push_file(text, file)?;
+    }
+    Ok(())
+}
+
+/// Adds the line of a recorded file.
+fn push_file_at(
+    alloc: Global,
+    text: &mut Vec<u8>,
+    tree: &Tree,
+    path: &Path,
+) -> Result<(), AllocError>
+    ensures { OnOk result (text.new.items ≡ text.old.items ++ flat_map file_line (files_found false (path.now ∷ []) tree.now.files)) }
+{
+    let mut operands = Vec::new(alloc);
+    operands.push(path.try_clone(alloc)?)?;
+    let operands = Paths::new(operands);
+    let selection = Selection {
+        operands: &operands,
+        recursive: false,
+    };
+    match tree.files(alloc, &selection) {
+        Ok(files) => push_found(text, &files),
+        Err(_) => Err(AllocError),
+    }
+}
+
+/// Adds a number, a user's name, and a space after each.
+fn push_count(text: &mut Vec<u8>, count: u64, name: &[u8]) -> Result<(), AllocError>
+    ensures { OnOk result (text.new.items ≡ text.old.items ++ count_text count name.now) }
+{
+    let mut buffer = Buffer::new();
+    text.extend_from_slice(buffer.format(count).as_bytes())?;
+    text.push(b' ')?;
+    text.extend_from_slice(name)?;
+    text.push(b' ')?;
+    Ok(())
+}
+
+/// Adds the line of a user, where there is a file.
+fn push_sum(
+    alloc: Global,
+    text: &mut Vec<u8>,
+    tree: &Tree,
+    name: &[u8],
+    sum: &UserSum<'_>,
+) -> Result<(), AllocError>
+    ensures { OnOk result (text.new.items ≡ text.old.items ++ sum_line tree.now.files name.now (sum_of sum.now)) }
+{
+    let Some(first) = sum.first else {
+        return Ok(());
+    };
+    push_count(text, sum.count, name)?;
+    push_file_at(alloc, text, tree, first)
+}
+
+/// Adds the lines of users.
+fn push_sums(
+    alloc: Global,
+    text: &mut Vec<u8>,
+    tree: &Tree,
+    names: &[Vec<u8>],
+    sums: &[UserSum<'_>],
+) -> Result<(), AllocError>
+    ensures { OnOk result (text.new.items ≡ text.old.items ++ sum_lines tree.now.files (map (λ n. n.items) names.now) (map sum_of sums.now)) }
+{
+    let mut rest = sums;
+    for name in names {
+        let [sum, more @ ..] = rest else {
+            return Ok(());
+        };
+        push_sum(alloc, text, tree, name, sum)?;
+        rest = more;
+    }
+    Ok(())
+}
+
+/// Whether each path is recorded; else the first that isn't.
+fn look_up(alloc: Global, tree: &Tree, paths: &Paths) -> Result<(), TreeFault>
+    ensures there { OnOk result (first_missing paths.now tree.now.files ≡ None) }
+    ensures reported { IfErr result (λ fault. fault ≢ TreeFault.NoMemory → IsMissing fault (first_missing paths.now tree.now.files)) }
+{
+    let selection = Selection {
+        operands: paths,
+        recursive: false,
+    };
+    let _files = tree.files(alloc, &selection)?;
+    Ok(())
+}
+
+/// For each user on how many files at or below some paths a request is granted, and the first of these files.
+fn sums_below<'a, J: Judge>(
+    alloc: Global,
+    verdicts: &Verdicts<'a, J>,
+    request: Perm,
+    paths: &[Path],
+    names: &[Vec<u8>],
+) -> Result<Vec<UserSum<'a>>, AllocError>
+    ensures { IfOk result (λ sums. AreSums request (filter (λ row. is_file true paths.now row.0) (rows_granted J.verdict_of verdicts.now.along verdicts.now.state.now)) names.now (map sum_of sums.items)) }
+{
+    let mut classes = verdicts.classes(alloc);
+    let tallies = count_files(alloc, &mut classes, paths)?;
+    let mut sums = no_sums(alloc, names)?;
+    add_tallies(&mut sums, &classes, request, tallies.as_slice())?;
+    Ok(sums)
+}
+
+/// What `below` prints: for each user, in the order of the rows, who is granted a request on a file at or below one of
+/// some paths, a line of the number of these files, the user's name and the first of them in path order.
+///
+/// # Errors
+///
+/// `NoSuchFile` of the first path that is not recorded, or `NoMemory`.
+pub fn write_below<J: Judge>(
+    alloc: Global,
+    verdicts: &Verdicts<'_, J>,
+    request: Perm,
+    paths: &Paths,
+) -> Result<Vec<u8>, TreeFault>
+    ensures text { IfOk result (λ text. text.items ≡ below_text J.verdict_of verdicts.now.along verdicts.now.state.now request paths.now) }
+    ensures there { OnOk result (first_missing paths.now verdicts.now.state.now.tree.files ≡ None) }
+    ensures reported { IfErr result (λ fault. fault ≢ TreeFault.NoMemory → IsMissing fault (first_missing paths.now verdicts.now.state.now.tree.files)) }
+{
+    let state = verdicts.state.state();
+    state.tree().soundness_law();
+    look_up(alloc, state.tree(), paths)?;
+    let names = written_names(alloc, state.people())?;
+    let sums = sums_below(alloc, verdicts, request, paths.as_slice(), &names)?;
+    let mut text = Vec::new(alloc);
+    push_sums(alloc, &mut text, state.tree(), &names, &sums)?;
+    Ok(text)
+}
