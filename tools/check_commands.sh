@@ -33,7 +33,7 @@ lint() {
     fi
 }
 
-lint shellcheck -x commands/facl-snapshot .ci/run tools/*.sh tools/*/*.sh
+lint shellcheck -x commands/facl-snapshot commands/facl-daily commands/completion/facl.bash .ci/run tools/*.sh tools/*/*.sh
 lint mypy
 for check in tools/check/documents.py tools/check/memory_faults.py; do
     "$check" >&2 || lint_faults=$((lint_faults + 1))

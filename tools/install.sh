@@ -1,8 +1,7 @@
 #!/bin/sh
-# Installs the program as `facl`, the commands facl-snapshot, facl-ask, facl-plan, facl-apply and facl-report, and
-# their manual pages.
+# Installs the program as `facl`, the commands around it, and their manual pages.
 #
-# usage: tools/install.sh [--program FILE] [--version VERSION] [PREFIX]    into bin, lib/facl and share/man of PREFIX
+# usage: tools/install.sh [--program FILE] [--version VERSION] [PREFIX]    into bin, lib/facl and share of PREFIX
 #        tools/install.sh --uninstall [PREFIX]                              removes what it installs
 #
 # PREFIX is /usr/local. FILE is a program that is built; without it crates/facl_cli/out/facl_cli, which tools/prove.py
@@ -36,12 +35,15 @@ case $version in *[!0-9a-z.]*) fail "$version: is no version" ;; esac
 prefix=${1:-/usr/local}
 case $prefix in /*) ;; *) fail "$prefix: PREFIX has to begin with a slash" ;; esac
 to=${DESTDIR:-}${prefix%/}
-python_commands='facl-ask facl-plan facl-apply facl-report'
-pages="facl facl-commands facl-snapshot $python_commands"
+python_commands='facl-ask facl-plan facl-apply facl-report facl-who facl-diff facl-audit facl-check'
+shell_commands='facl-snapshot facl-daily'
+pages="facl facl-commands $shell_commands $python_commands"
+completions=share/bash-completion/completions
 
 uninstall() {
-    for name in facl facl-snapshot $python_commands; do rm -f -- "$to/bin/$name"; done
+    for name in facl $shell_commands $python_commands; do rm -f -- "$to/bin/$name"; done
     for page in $pages; do rm -f -- "$to/share/man/man1/$page.1"; done
+    for name in $shell_commands $python_commands; do rm -f -- "$to/$completions/$name"; done
     rm -rf -- "$to/lib/facl"
 }
 
@@ -49,19 +51,21 @@ uninstall() {
 check_parts() {
     check_program "$program"
     [ ! -e "$to/lib/facl" ] || [ -d "$to/lib/facl/facl_commands" ] || fail "$to/lib/facl: is there, and is not ours"
-    mkdir -p -- "$to/bin" "$to/lib" "$to/share/man/man1" || true
-    { [ -w "$to/bin" ] && [ -w "$to/lib" ] && [ -w "$to/share/man/man1" ]; } ||
+    mkdir -p -- "$to/bin" "$to/lib" "$to/share/man/man1" "$to/$completions" || true
+    { [ -w "$to/bin" ] && [ -w "$to/lib" ] && [ -w "$to/share/man/man1" ] && [ -w "$to/$completions" ]; } ||
         fail "$prefix: cannot be written: run it as root, or give a PREFIX"
 }
 
 install_files() {
     install -m 755 -- "$program" "$to/bin/facl"
-    install -m 755 -- "$top/commands/facl-snapshot" "$to/bin"
+    for name in $shell_commands; do
+        install -m 755 -- "$top/commands/$name" "$to/bin"
+        sed -i "s/^version=0\>/version=$version/" "$to/bin/$name"
+    done
     rm -rf -- "$to/lib/facl"
     install -d -m 755 -- "$to/lib/facl" "$to/lib/facl/facl_commands"
     install -m 644 -- "$top"/commands/facl_commands/*.py "$top"/commands/facl_commands/report.css \
         "$top"/commands/facl_commands/report.js "$to/lib/facl/facl_commands"
-    sed -i "s/^version=0\>/version=$version/" "$to/bin/facl-snapshot"
     sed -i "s/^VERSION = \"0\"/VERSION = \"$version\"/" "$to/lib/facl/facl_commands/__init__.py"
     for name in $python_commands; do
         install -m 755 -- "$top/commands/$name" "$to/lib/facl"
@@ -70,9 +74,13 @@ install_files() {
     # A start reads what is compiled; a package compiles it where it is installed.
     [ -n "${DESTDIR:-}" ] || ! command -v python3 >/dev/null || python3 -m compileall -q "$to/lib/facl/facl_commands"
     for page in facl facl-commands; do install -m 644 -- "$top/docs/$page.1" "$to/share/man/man1"; done
-    for name in facl-snapshot $python_commands; do
+    for name in $shell_commands $python_commands; do
         echo ".so man1/facl-commands.1" >"$to/share/man/man1/$name.1"
         chmod 644 "$to/share/man/man1/$name.1"
+    done
+    install -m 644 -- "$top/commands/completion/facl.bash" "$to/lib/facl/facl.bash"
+    for name in $shell_commands $python_commands; do
+        ln -sf -- ../../../lib/facl/facl.bash "$to/$completions/$name"
     done
 }
 
@@ -99,5 +107,5 @@ else
     check_parts
     install_files
     [ -n "${DESTDIR:-}" ] || say_what_is_missing
-    echo "$script_name: facl, facl-snapshot, $(echo "$python_commands" | sed 's/ /, /g') are in $prefix/bin; man facl"
+    echo "$script_name: facl, $(echo "$shell_commands $python_commands" | sed 's/ /, /g') are in $prefix/bin; man facl"
 fi

@@ -48,12 +48,17 @@ root=$work/root
 mkdir "$root"
 chmod 755 "$root"
 DESTDIR=$root tools/install.sh --program "$program" --version "$version" /usr >/dev/null
-for command in snapshot ask plan apply report; do
+for command in snapshot ask plan apply report who diff audit check daily; do
     said=$(PYTHONDONTWRITEBYTECODE=yes "$root/usr/bin/facl-$command" --version)
     [ "$said" = "facl-$command $version" ] || fail "facl-$command --version prints $said"
 done
 gzip -9n "$root"/usr/share/man/man1/*.1
-mkdir -p "$root/DEBIAN" "$root/usr/share/doc/facl"
+# facl-daily of each day is off: systemctl enable --now facl-daily.timer, or a copy of the example for cron
+mkdir -p "$root/DEBIAN" "$root/usr/share/doc/facl/examples" "$root/usr/lib/systemd/system" "$root/etc/default"
+install -m 644 -- commands/daily/facl-daily.service commands/daily/facl-daily.timer "$root/usr/lib/systemd/system"
+install -m 644 -- commands/daily/facl-daily.cron "$root/usr/share/doc/facl/examples/facl-daily.cron"
+install -m 644 -- commands/daily/facl-daily.default "$root/etc/default/facl-daily"
+echo /etc/default/facl-daily >"$root/DEBIAN/conffiles"
 printf '%s\n' "$origin" >"$root/usr/share/doc/facl/commit"
 printf '%s\n' "Copyright 2026 the authors of facl, who keep all rights that they have not given." "$origin" \
     >"$root/usr/share/doc/facl/copyright"
@@ -75,14 +80,17 @@ Maintainer: $(git show -s --format='%an <%ae>' HEAD)
 Installed-Size: $size
 Depends: libc6, acl, python3 (>= 3.9)
 Recommends: python3-prompt-toolkit
-Suggests: parallel
+Suggests: parallel, default-mta | mail-transport-agent
 Section: admin
 Priority: optional
 Description: plans changes of access control lists
  facl runs getfacl, setfacl, chacl and chmod over a recorded tree of files, and
  answers who may do what with which file. facl-snapshot records a live system,
- facl-ask asks of it at a prompt, facl-report writes a page to look at,
+ facl-ask asks of it at a prompt, facl-who prints who may do what, facl-diff who
+ gained and lost what between two records, facl-report writes a page to look at,
  facl-plan prints what edits would change, facl-apply takes them there and back.
+ facl-audit finds what is wrong with lists, facl-check checks rules, and
+ facl-daily mails what they say, if it is enabled.
  .
 $(printf '%s\n' "$origin" | fold -s -w 76 | sed 's/^/ /')
 END

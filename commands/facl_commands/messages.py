@@ -76,8 +76,8 @@ class Command:
         self.goes_on = goes_on
         self.fault: Optional[OSError] = None
         # Buffers of our own: where Python has none (PYTHONUNBUFFERED), a write may be cut short.
-        self.out = open(1, "wb", closefd=False)
-        self.messages = open(2, "wb", closefd=False)
+        self.out: IO[bytes] = open(1, "wb", closefd=False)
+        self.messages: IO[bytes] = open(2, "wb", closefd=False)
 
     def say(self, text: bytes) -> None:
         """A message for a person, after what was printed so far."""

@@ -15,6 +15,7 @@ SAFE = re.compile(rb"[\x20-\x7e\t]*\Z")
 CONTROL_CODES = (*range(9), *range(10, 32), *range(127, 160), 0x61C, 0x200E, 0x200F, *range(0x2028, 0x202F),
                  *range(0x2066, 0x206A))
 CONTROLS = {code: "".join("\\%03o" % byte for byte in chr(code).encode()) for code in CONTROL_CODES}
+ESCAPED_IN_NAMES = re.compile(rb"[\\\n\r\t :,#]")  # As the program prints names of users and groups.
 PLAIN_SHELL_WORD = re.compile(rb"[A-Za-z0-9_./:=@%+,-]+\Z")
 
 
@@ -26,6 +27,11 @@ def read_name(text: bytes) -> bytes:
 def write_name(name: bytes) -> bytes:
     """The text of a file's name: a backslash, a line feed and a carriage return are escapes."""
     return re.sub(rb"[\\\n\r]", lambda found: b"\\%03o" % found[0][0], name)
+
+
+def write_user(name: bytes) -> bytes:
+    """The name of a user or a group as the program prints it."""
+    return ESCAPED_IN_NAMES.sub(lambda found: b"\\%03o" % found[0][0], name)
 
 
 def read_path(text: bytes) -> bytes:

@@ -6,8 +6,8 @@ from collections import Counter
 from typing import Dict, FrozenSet, Iterator, List, NamedTuple, Optional, Set, Tuple
 
 from .messages import counted
-from .names import PLAIN_SHELL_WORD, script_word, sorting_key
-from .owners import ESCAPED_IN_NAMES, MASK, OWNER, OWNING_GROUP
+from .names import PLAIN_SHELL_WORD, script_word, sorting_key, write_user
+from .owners import MASK, OWNER, OWNING_GROUP
 from .people import Group, People, User
 from .program import Session
 from .protocol import EFFECTIVE, ENTRIES_OF, NAMED_LINE
@@ -106,10 +106,6 @@ def named_ids(old: bytes, new: bytes) -> Tuple[FrozenSet[int], FrozenSet[int]]:
     return frozenset(ids[b"user"]), frozenset(ids[b"group"])
 
 
-def name_in_index(name: bytes) -> bytes:
-    return ESCAPED_IN_NAMES.sub(lambda found: b"\\%03o" % found[0][0], name)
-
-
 def groups_by_user(people: People) -> Dict[bytes, Set[int]]:
     """By name: the primary group and those that list the user."""
     found = {user.name: {user.gid} for user in people.users}
@@ -183,7 +179,7 @@ class Finder:
 
     def __init__(self, old: Side, new: Side, left_out: Set[bytes]) -> None:
         self.old, self.new = old, new
-        self.users = {name_in_index(user.name): user for user in new.people.users}
+        self.users = {write_user(user.name): user for user in new.people.users}
         stopped = {k for row in set(new.answers.reached.values()) for k, one in enumerate(row) if not one}
         self.places = [k for k, name in enumerate(new.answers.users) if k in stopped and name in self.users
                        and name not in left_out]
@@ -315,7 +311,7 @@ def operand(name: bytes) -> bytes:
 
 def question(user: User, names: List[bytes]) -> bytes:
     """What decides on a user on directories in path order."""
-    asked = b"%d" % user.uid if user.name.isdigit() else name_in_index(user.name)
+    asked = b"%d" % user.uid if user.name.isdigit() else write_user(user.name)
     return b" ".join([ENTRIES_OF, *map(script_word, [asked, *names])])
 
 

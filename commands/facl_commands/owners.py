@@ -6,7 +6,9 @@ import re
 from typing import Dict, Iterable, List, NamedTuple, Optional, Tuple, Union
 
 from .messages import counted
-from .names import SAFE, live_name, live_path, read_name, script_word, shell_word, shown, shown_path, sorting_key
+from .names import (
+    SAFE, live_name, live_path, read_name, script_word, shell_word, shown, shown_path, sorting_key, write_user,
+)
 from .people import People
 from .planned import HEAD_OF_RECORD
 from .program import Session, parts_of
@@ -23,7 +25,6 @@ TEXT_LIMIT = 60 << 20  # A run of the program takes 64 MiB, of which others have
 NO_ID = 0xFFFFFFFF  # chown(2) takes it for "stays".
 SET_FLAGS = re.compile(SET_FLAGS_LINE)
 MASK, OWNING_GROUP = re.compile(MASK_LINE, re.MULTILINE), re.compile(OWNING_GROUP_LINE, re.MULTILINE)
-ESCAPED_IN_NAMES = re.compile(rb"[\\\n\r\t :,#]")  # As the program prints names of users and groups.
 OWNER = re.compile(OWNER_LINES)
 NAMED_USER = re.compile(NAMED_USER_LINE, re.MULTILINE)
 
@@ -123,7 +124,7 @@ def read_id(word: bytes, rows: Iterable[Tuple[bytes, int]], fault: bytes) -> int
     name = read_name(word.strip(b" \t"))
     found = int(name) if name.isdigit() else dict(reversed(list(rows))).get(name, NO_ID)
     if found >= NO_ID:
-        raise Refused(ESCAPED_IN_NAMES.sub(lambda it: b"\\%03o" % it[0][0], name) + b": " + fault)
+        raise Refused(write_user(name) + b": " + fault)
     return found
 
 

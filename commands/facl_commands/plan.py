@@ -11,7 +11,7 @@ from . import label_answers, meta, no_gain, overview, owners, people, plan_folde
 from .answering import answer_unit
 from .links import Links
 from .messages import Command, Failure, counted, parser_of
-from .names import live_path
+from .names import live_path, write_user
 from .plan_report import Asked, Message, answers_text, json_report, text_report
 from .plan_report import Outcome as Outcome
 from .program import Session, find_program
@@ -122,7 +122,7 @@ def list_below(session: Session, tops: List[bytes]) -> Listing:
 
 
 def users_of_id_0(*sides: people.People) -> Set[bytes]:
-    return {no_gain.name_in_index(user.name) for side in sides for user in side.users if user.uid == 0}
+    return {write_user(user.name) for side in sides for user in side.users if user.uid == 0}
 
 
 def find_no_gain(session: Session, program: str, snapshot: Snapshot, old: Listing, new: Listing,
@@ -149,7 +149,7 @@ def answer_scripts(given: argparse.Namespace, snapshot: Snapshot, units: List[Un
         run.answer_all(units)
         new = list_below(session, tops)
         left_out = set() if given.with_root else users_of_id_0(people_before, run.people)
-        names = [no_gain.name_in_index(user.name) for side in (people_before, run.people) for user in side.users]
+        names = [write_user(user.name) for side in (people_before, run.people) for user in side.users]
         users = list(dict.fromkeys(names))
         kinds = rights.ask_kinds(session, along_paths, users, left_out)
         if before is not None:

@@ -10,10 +10,11 @@ from types import TracebackType
 from typing import IO, Callable, Dict, Iterable, Iterator, List, NamedTuple, Optional, Type
 
 from .messages import Failure
-from .protocol import DUMP_NOT_READ, IN_LINE, PROBE, PROBE_REFUSED, SETUP
+from .protocol import DUMP_NOT_READ, IN_LINE, PROBE, PROBE_REFUSED, SETUP, UNKNOWN_TOOL, has_text
 
 # What would have a called program take other words, or read other files, than it is given.
 LEFT_OUT = ("POSIXLY_CORRECT", "PYTHONPATH", "PYTHONHOME", "PERL5LIB", "PERL5OPT", "PARALLEL")
+OLDER = b": it is older than this command, so install both anew"
 FILE_LIMIT = 268_435_456  # Bytes of a text that the program loads.
 HOME = os.path.dirname(os.path.dirname(os.path.realpath(__file__)))  # commands/, or PREFIX/lib/facl.
 INSTALLED = os.path.join(HOME, "..", "..", "bin", "facl")
@@ -132,7 +133,8 @@ class Session:
         """Answers a line of our own, which cannot be refused."""
         answer = self.ask(line + b"\n")
         if answer.messages:
-            raise Failure(b"the program refused `%s`: %s" % (line.split(b"\n")[0], answer.messages[0]))
+            is_old = has_text(answer.messages[0], UNKNOWN_TOOL)
+            raise Failure(b"the program refused `%s`: %s" % (line.split(b"\n")[0], answer.messages[0]) + OLDER * is_old)
         return answer.output
 
     def send(self, lines: bytes) -> None:

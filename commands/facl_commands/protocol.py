@@ -115,11 +115,19 @@ EFFECTIVE = b"#effective:"  # After an entry that the mask cuts.
 
 LIST, LIST_NUMBERS, LIST_ALL = b"getfacl --", b"getfacl -n -E --", b"getfacl -n -E -R --"
 LIST_NAMES = b"getfacl -E --"
+# With what the mask leaves of each entry that it cuts.
+LIST_EFFECTIVE, LIST_NAMED = b"getfacl -n -R --", b"getfacl --"
+LIST_BELOW = b"getfacl -R --"
 RESTORE = b"setfacl --restore=-"  # The records are its text.
 SET_LIST = b"setfacl -n --set=%s --"
 SET_DEFAULT = b"setfacl --test -m d:u::rwx --"  # Whether a file is taken for a directory.
 ENTRIES_OF, INDEX, ATTRIBUTES_OF = b"why --", b"index", b"attr %d"
 GAINS, GAINS_ALONG_PATHS = b"gains", b"gains --reach"
+BELOW, MAY, CAN, WHO = b"below", b"may", b"can", b"who"
+MAKE_FILE = b"creat --user=%s --mode=%s --umask=%s --"
+MAKE_DIRECTORY = b"creat -d --user=%s --mode=%s --umask=%s --"
+GAINS, GAINS_ALONG_PATHS = b"gains", b"gains --reach"
 ADD_USER_WITH = b"useradd -u %d -g %s -- %s"
+ENTRIES_ALONG_PATH = b"why --reach --"
 # A line of a word that nobody can guess, and its refusal, which shows that all lines before it are answered.
 PROBE, PROBE_REFUSED = b"getfacl %s", b"getfacl: %s: " + NO_FILE

@@ -140,10 +140,15 @@ def notice(folder: bytes, dump: bytes) -> Optional[bytes]:
     return b"; ".join(found) or None
 
 
+def names_of(dump: bytes) -> Iterator[bytes]:
+    """The names of its files, as they are written there."""
+    comments = (line for piece in pieces_of(dump) for line in piece if b"#" in line[:9])
+    return (match[1] for match in map(FILE_NAME.match, comments) if match is not None)
+
+
 def tops_of(dump: bytes) -> List[bytes]:
     """The paths that no recorded directory is above, in path order; the root alone where it is recorded."""
-    comments = (line for piece in pieces_of(dump) for line in piece if b"#" in line[:9])
-    recorded = {read_path(match[1]) for match in map(FILE_NAME.match, comments) if match is not None}
+    recorded = set(map(read_path, names_of(dump)))
     return sorted((path for path in recorded if recorded.isdisjoint(directories_above(path))), key=path_order)
 
 

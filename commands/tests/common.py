@@ -3,6 +3,7 @@ from __future__ import annotations
 
 import fcntl
 import os
+import pty
 import shutil
 import signal
 import subprocess
@@ -10,6 +11,7 @@ import sys
 import tempfile
 import termios
 import unittest
+from concurrent.futures import ThreadPoolExecutor
 from typing import Dict, List, NamedTuple, Optional
 
 HERE = os.path.dirname(os.path.realpath(__file__))
@@ -38,6 +40,19 @@ class Done(NamedTuple):
     messages: bytes
 
 
+def read_all(side: int) -> bytes:
+    """What comes to a terminal until its other side is closed, of which Linux makes an error."""
+    found = b""
+    try:
+        while True:
+            piece = os.read(side, 65536)
+            if not piece:
+                return found
+            found += piece
+    except OSError:
+        return found
+
+
 class Case(unittest.TestCase):
     """A test in a folder of its own, with a copy of the stored snapshot as `before`."""
 
@@ -63,6 +78,21 @@ class Case(unittest.TestCase):
             words, input=text, capture_output=True, cwd=self.folder, env={**os.environ, **(environment or {})}, check=False
         )
         return Done(done.returncode, done.stdout, done.stderr)
+
+    def at_terminal(self, name: str, words: List[str], environment: Optional[Dict[str, str]] = None, text: bytes = b"") -> Done:
+        """Runs a command whose standard output is a terminal."""
+        side, other = pty.openpty()
+        attributes = termios.tcgetattr(other)
+        attributes[1] &= ~termios.OPOST
+        termios.tcsetattr(other, termios.TCSANOW, attributes)
+        reader = ThreadPoolExecutor(1).submit(read_all, side)
+        words = [sys.executable, "-I", os.path.join(COMMANDS, name), *words]
+        done = subprocess.run(words, input=text, stdout=other, stderr=subprocess.PIPE, cwd=self.folder, check=False,
+                              env={**os.environ, "TERM": "xterm", **(environment or {})})
+        os.close(other)
+        out = reader.result()
+        os.close(side)
+        return Done(done.returncode, out, done.stderr)
 
     def plan(self, script: bytes, *options: str) -> Done:
         """Runs facl-plan over the snapshot and a script of this text."""

@@ -157,26 +157,6 @@ class OutAtATerminal(Case):
     MARK = b"    <-- here is no search: nothing below is reached"
     QUESTIONS = b"why --reach guest srv/share/one\nfrob\nwhy guest srv/share/one\nload x\n"
 
-    def at_terminal(self, words: List[str], text: bytes) -> Tuple[int, bytes, bytes]:
-        side, other = pty.openpty()
-        attributes = termios.tcgetattr(other)
-        attributes[1] &= ~termios.OPOST
-        termios.tcsetattr(other, termios.TCSANOW, attributes)
-        words = [sys.executable, os.path.join(COMMANDS, "facl-ask"), *words]
-        done = subprocess.run(words, input=text, stdout=other, stderr=subprocess.PIPE, cwd=self.folder, check=False)
-        os.close(other)
-        out = b""
-        try:
-            while True:
-                piece = os.read(side, 65536)
-                if not piece:
-                    break
-                out += piece
-        except OSError:  # Linux says so where the other side is closed.
-            pass
-        os.close(side)
-        return done.returncode, out, done.stderr
-
     def test_where_the_user_is_stopped(self) -> None:
         self.write("script", self.QUESTIONS)
         cases: List[Tuple[List[str], bytes]] = [
@@ -186,7 +166,7 @@ class OutAtATerminal(Case):
         for words, text in cases:
             with self.subTest(words):
                 wanted = self.run_command("facl-ask", words, text)
-                found = self.at_terminal(words, text)
+                found = self.at_terminal("facl-ask", words, text=text)
                 self.assertEqual(found[1].count(self.MARK), 1 + words.count("script") // 2)
                 self.assertIn(b"# file: srv/share" + self.MARK + b"\nother::---\n", found[1])
                 self.assertEqual((found[0], found[1].replace(self.MARK, b""), found[2]), tuple(wanted))

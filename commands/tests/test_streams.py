@@ -67,7 +67,7 @@ class Streams(RealCase):
             self.assertEqual((status, os.path.exists(self.path("other"))), (1, False))
 
     def test_help_and_wrong_words(self) -> None:
-        for name in ("facl-plan", "facl-apply", "facl-report", "facl-ask"):
+        for name in ("facl-plan", "facl-apply", "facl-report", "facl-ask", "facl-who", "facl-diff"):
             for out, err in ((FULL, FULL), (CLOSED, CLOSED), (BROKEN, BROKEN)):
                 status, said = self.run_with([os.path.join(COMMANDS, name), "--nothing"], out, err)
                 self.assertIn(status, (2,) if name in ("facl-plan", "facl-apply") else (2, 141))

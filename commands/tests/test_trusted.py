@@ -29,6 +29,8 @@ class Folders(Case):
         self.expect_refused(message, "facl-plan", "--plan", "other", snapshot, "edits")
         self.expect_refused(message, "facl-ask", snapshot, "edits")
         self.expect_refused(message, "facl-report", snapshot)
+        self.expect_refused(message, "facl-who", "read", snapshot)
+        self.expect_refused(message, "facl-diff", snapshot, snapshot)
         self.assertFalse(os.path.exists(self.path("other")))
 
     def test_a_snapshot_that_everybody_can_write(self) -> None:

@@ -1,0 +1,120 @@
+"""What facl-audit prints: the findings by weight, or all files of one."""
+from __future__ import annotations
+
+from typing import Callable, Dict, Iterator, List, NamedTuple, Optional
+
+from .accepted import Accepted
+from .findings import HIGH, KINDS, LOW, MIDDLE, WEIGHTS, Findings, Found, Kind
+from .messages import counted
+from .meta import Meta, fields_of, named
+from .names import json_text, live_name, shown, shown_path
+from .tables import Column, Paint, Table, cut, is_terminal, size_of_terminal
+
+SCHEMA = "facl-audit/1"
+FIRST = 3  # Names of a finding.
+INDENT = 8
+NAME_WIDTH = max(len(kind.name) for kind in KINDS)
+
+
+class Report(NamedTuple):
+    snapshot: bytes  # As it was given.
+    meta: Meta
+    folders: List[bytes]
+    files: int  # At or below these.
+    findings: Findings  # Without what is accepted.
+    accepted: int  # Files.
+    unused: Dict[Accepted, bytes]  # The lines that accept nothing, each with what is said of it.
+
+    def kinds(self) -> List[Kind]:
+        """Those of which something is found, by weight."""
+        return [kind for weight in WEIGHTS for kind in KINDS if kind.weight == weight and self.findings.get(kind.name)]
+
+    def has(self, weights: List[str]) -> bool:
+        return any(kind.weight in weights for kind in self.kinds())
+
+
+def first_names(found: List[Found]) -> bytes:
+    names = b", ".join(shown_path(it.path) for it in found[:FIRST])
+    return names + b", .." * (len(found) > FIRST)
+
+
+def fitting(line: bytes, indent: int = 0) -> bytes:
+    """A line that a person reads after some blanks, cut in its middle where a terminal has no room for it."""
+    text = shown(line)
+    return b" " * indent + (cut(text.decode(), size_of_terminal().columns - indent).encode() if is_terminal() else text)
+
+
+def painter_of(paint: Paint, weight: str) -> Callable[[bytes], bytes]:
+    return {HIGH: paint.red, MIDDLE: paint.yellow, LOW: paint.dim}[weight]
+
+
+def lines_of_kind(kind: Kind, found: List[Found], paint: Paint) -> Iterator[bytes]:
+    """A finding: its number of files, what it is, the first names and the line that mends the first one."""
+    head = "%-7s %-*s  " % (kind.weight, NAME_WIDTH, kind.name)
+    yield painter_of(paint, kind.weight)(head.encode()) + paint.bold(counted(len(found), "file"))
+    yield fitting(kind.meaning.encode(), INDENT)
+    detail = b" (" + found[0].detail + b")" if found[0].detail else b""
+    yield fitting(b"first: " + first_names(found[:1]) + detail, INDENT)
+    if len(found) > 1:
+        yield fitting(b"then:  " + first_names(found[1:]), INDENT)
+    yield b" " * INDENT + b"mend:  " + shown(found[0].line())  # Whole, to be copied.
+
+
+def summary(report: Report) -> bytes:
+    counts = {weight: sum(kind.weight == weight for kind in report.kinds()) for weight in WEIGHTS}
+    found = b", ".join(b"%d %s" % (count, weight.encode()) for weight, count in counts.items() if count)
+    text = b"findings: " + found if found else b"no findings"
+    return text + (b"; accepted: " + counted(report.accepted, "file")) * bool(report.accepted)
+
+
+def lines_of(report: Report) -> Iterator[bytes]:
+    folders = b", ".join(map(live_name, report.folders))
+    head = b"%s: %s at or below %s" % (named(report.snapshot, report.meta), counted(report.files, "file"), folders)
+    yield fitting(head)
+    paint = Paint()
+    for kind in report.kinds():
+        yield from lines_of_kind(kind, report.findings[kind.name], paint)
+    yield summary(report)
+    if report.kinds():
+        name, word = report.kinds()[0].name.encode(), shown(report.snapshot)
+        yield b"all files of one: facl-audit --list %s %s" % (name, word)
+        yield b"all lines of one: facl-audit --edits %s %s >edits; facl-plan %s edits" % (name, word, word)
+
+
+def table_of(report: Report) -> Table:
+    """A row for each finding."""
+    rows = [[kind.weight.encode(), kind.name.encode(), b"%d" % len(found), shown_path(found[0].path), found[0].detail,
+             found[0].line()] for kind in report.kinds() for found in [report.findings[kind.name]]]
+    columns = [Column("WEIGHT"), Column("FINDING"), Column("FILES", True), Column("FIRST"), Column("WHAT"),
+               Column("MEND")]
+    return Table(columns, rows)
+
+
+def table_of_files(found: List[Found]) -> Table:
+    """A row for each file of a finding."""
+    rows = [[shown_path(it.path), it.detail, it.line()] for it in found]
+    return Table([Column("FILE"), Column("WHAT"), Column("MEND")], rows)
+
+
+def json_of_file(found: Found) -> Dict[str, str]:
+    return {"path": json_text(shown_path(found.path)), "what": json_text(found.detail),
+            "mend": json_text(found.line())}
+
+
+def json_of_kind(kind: Kind, found: List[Found], has_all: bool) -> Dict[str, object]:
+    return {"finding": kind.name, "weight": kind.weight, "meaning": kind.meaning, "count": len(found),
+            "files": [json_of_file(it) for it in (found if has_all else found[:FIRST])]}
+
+
+def json_of(report: Report, only: Optional[str]) -> Dict[str, object]:
+    """The report, with all files of one finding where only that is asked for."""
+    kinds = [kind for kind in report.kinds() if only in (None, kind.name)]
+    snapshot: Dict[str, object] = {"name": json_text(report.snapshot), **fields_of(report.meta)}
+    return {
+        "snapshot": snapshot,
+        "folders": [json_text(live_name(path)) for path in report.folders],
+        "files": report.files,
+        "findings": [json_of_kind(kind, report.findings[kind.name], only is not None) for kind in kinds],
+        "accepted": report.accepted,
+        "unused": [{"line": it.number, "finding": it.kind, "path": json_text(it.word)} for it in report.unused],
+    }

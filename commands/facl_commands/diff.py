@@ -1,0 +1,205 @@
+"""facl-diff: who gained and lost what between two snapshots."""
+from __future__ import annotations
+
+import argparse
+import os
+import tempfile
+from typing import Iterable, List, NamedTuple, Optional, Tuple
+
+from . import choice, diff_report, overview, tables, texts
+from .diff_edits import CannotLead, Edits, group_text
+from .diff_gains import Gain, ask_gains, rows_of
+from .diff_labels import Labels, Shapes, is_in, records_of_folders
+from .diff_moved import Moved, find_moved
+from .diff_report import Compared
+from .diff_states import (
+    Pair, State, counts_of, is_same_text, members_of, pairs_of, people_counts, read_state, records_in, session_of,
+    tops_of,
+)
+from .diff_words import reasons_of
+from .messages import Command, Failure, parser_of
+from .names import write_user
+from .new_file import NewFile
+from .people import rows_of as rows_of_text
+from .program import OutputSlice, Session, find_program
+
+SAME, DIFFERS = 0, 1
+BY_GAINS, BY_INDEX = "gains", "index"
+HELP = """\
+Says who gained and lost what between two snapshots by facl-snapshot: by other lists, owners, groups, memberships and
+users, and by files that are new, gone or moved. People of one change are on one line, those of most files first:
+
+  BEFORE, AFTER  the rights, as rw-; `none`; or `absent`, where the file or the user is not there
+  FILES, FIRST   on how many files, and on which first
+  WHY            why it is so on the first file, where that is plain
+
+A right counts where the user can get to the file: with search on each directory above. Without FOLDER all files are
+looked at. Users who are no people are left out, and root.
+"""
+STATUS = """\
+The exit status is 0 where nobody of those who are looked at gained or lost anything, 1 where somebody did, and 2 where
+the words or the snapshots cannot be used.
+"""
+
+
+class Answered(NamedTuple):
+    """What differs between two snapshots, as far as it is looked at."""
+
+    by: str
+    gains: List[Gain]
+    pairs: List[Pair]
+    people: List[bytes]  # The lines of the edits that change users and groups.
+    listing: List[OutputSlice]  # The files after the edits; none where there are no edits.
+
+
+def parse(words: List[str]) -> argparse.Namespace:
+    parser = parser_of("facl-diff", HELP, STATUS)
+    parser.add_argument("--program", metavar="FILE", help="the program facl; without it $FACL, or facl on the path")
+    parser.add_argument("--any-host", action="store_true", help="also snapshots of two servers")
+    parser.add_argument("--page", metavar="FILE",
+                        help="also write a page to look at, as facl-report does, to a new file")
+    parser.add_argument("before", metavar="BEFORE", help="a snapshot")
+    parser.add_argument("after", metavar="AFTER", help="a later one")
+    choice.add_choice(parser)
+    tables.add_output(parser)
+    given = parser.parse_args(words)
+    if given.page and given.folders:
+        parser.error("--page shows all files: leave out the FOLDERs")
+    return given
+
+
+def check_hosts(old: State, new: State, given: argparse.Namespace) -> None:
+    hosts = old.about.host, new.about.host
+    if all(hosts) and hosts[0] != hosts[1] and not given.any_host:
+        raise Failure(b"%s is of %s, and %s of %s: --any-host compares them" % (old.folder, hosts[0], new.folder,
+                                                                             hosts[1]))
+
+
+def folders_of(sessions: Tuple[Session, Session], words: Iterable[str]) -> List[bytes]:
+    """The paths of words; each is recorded before or after."""
+    found = []
+    for word in map(os.fsencode, words):
+        paths = [path for path in choice.paths_of(word) if any(choice.is_recorded(it, path) for it in sessions)]
+        found.append(paths[0] if paths else choice.folder_of(sessions[1], word))
+    return found
+
+
+class Comparison:
+    """Two snapshots, each with a session and its listing."""
+
+    def __init__(self, program: str, states: Tuple[State, State], sessions: Tuple[Session, Session],
+                 given: argparse.Namespace) -> None:
+        self.program, self.states, self.sessions, self.given = program, states, sessions, given
+        self.is_alone: bool = given.file_alone
+        self.tops = tops_of((sessions[0], states[0]), (sessions[1], states[1]))
+        self.folders = folders_of(sessions, given.folders)
+        self.listings = [texts.list_below(session, self.tops) for session in sessions]
+
+    def pairs(self, is_all: bool = False) -> Iterable[Pair]:
+        """What differs in the files that are looked at, and the directories above them; or all of these."""
+        old, new = (records_of_folders(records_in(it), self.folders or [b""]) for it in self.listings)
+        return pairs_of(old, new, is_all)
+
+    def answer(self) -> Answered:
+        pairs = list(self.pairs())
+        if self.folders:
+            return self.by_labels(pairs)
+        try:
+            return self.by_edits(pairs)
+        except CannotLead as error:
+            if self.given.page:
+                raise Failure(b"no page is made, as no edits lead from one snapshot to the other: "
+                              + error.text) from error
+            return self.by_labels(pairs)
+
+    def by_edits(self, pairs: List[Pair]) -> Answered:
+        edits = Edits(self.states[0], self.states[1], pairs)
+        edits.answer(self.sessions[0])
+        listing = texts.list_below(self.sessions[0], self.tops)
+        if not is_same_text(listing, self.listings[1]):
+            raise CannotLead(b"the files are others then")
+        return Answered(BY_GAINS, ask_gains(self.sessions[0], self.is_alone), pairs, edits.people, listing)
+
+    def by_labels(self, pairs: List[Pair]) -> Answered:
+        shapes = Shapes()
+        shapes.add(self.pairs(is_all=True), self.folders or [b""])
+        labels = Labels(self.program, self.states[0], self.states[1], shapes, self.is_alone)
+        return Answered(BY_INDEX, labels.gains(), pairs, [], [])
+
+    def page(self, answered: Answered) -> Optional[bytes]:
+        if not self.given.page:
+            return None
+        from .diff_page import page_of  # Few runs need it.
+
+        group = group_text(*self.states)
+        listings = [self.listings[0], answered.listing]
+        return page_of(self.program, self.states[0], self.states[1], group, answered.people, listings, self.given)
+
+    def compared(self, answered: Answered) -> Compared:
+        old, new = self.states
+        is_whole = self.tops == [b""]
+        chosen = chosen_users(old, new, self.given)
+        place = {user: number for number, user in enumerate(chosen)}
+        gains = sorted((it for it in answered.gains if it.user in place), key=lambda it: place[it.user])
+        counted = [pair for pair in answered.pairs if is_in(pair.path, self.folders or [b""])]
+        moved: List[Moved] = find_moved(old, new, counted)
+        reasons = reasons_of(self.program, self.states, self.sessions[1], {it.path: it for it in answered.pairs}, gains,
+                             self.is_alone, is_whole)
+        reasons.moved_from = {it.new: it.old for it in moved}
+        reasons.moved_to = {it.old: it.new for it in moved}
+        left_out = list(dict.fromkeys(it.user for it in answered.gains if it.user not in place))
+        return Compared(old, new, self.folders, self.is_alone, is_whole, answered.by, rows_of(gains, reasons.of),
+                        set(chosen), left_out, counts_of(counted),
+                        people_counts(members_of(old.people()), members_of(new.people())), moved)
+
+
+def chosen_users(old: State, new: State, given: argparse.Namespace) -> List[bytes]:
+    """Those who are looked at, as the program prints their names, by their id before or after."""
+    found = [*choice.kept(names_of(old), given, old.passwd), *choice.kept(names_of(new), given, new.passwd)]
+    return list(dict.fromkeys(found))
+
+
+def names_of(state: State) -> List[bytes]:
+    return [write_user(row[0]) for row in rows_of_text(state.passwd)]
+
+
+def compare(command: Command, given: argparse.Namespace) -> Tuple[Compared, Optional[bytes]]:
+    """What differs, and the page where one is asked for."""
+    program = find_program(given.program)
+    old, new = read_state(os.fsencode(given.before)), read_state(os.fsencode(given.after))
+    check_hosts(old, new, given)
+    for text in diff_report.warnings(old, new):
+        command.say(text)
+    for state in (old, new):
+        overview.say_notices(command, texts.Source(state.folder, state.folder, False), has_masks=state is new)
+    with tempfile.TemporaryDirectory(prefix="facl-diff.") as work:
+        with session_of(program, old, work, group_text(old, new)) as before, session_of(program, new, work) as after:
+            comparison = Comparison(program, (old, new), (before, after), given)
+            answered = comparison.answer()
+            return comparison.compared(answered), comparison.page(answered)
+
+
+def write(command: Command, given: argparse.Namespace, compared: Compared) -> None:
+    if given.json:
+        tables.write_json(command, diff_report.SCHEMA, diff_report.object_of(compared))
+        return
+    if given.tsv:
+        tables.write_table(command, given, diff_report.fields_table(compared))
+    else:
+        with tables.paged(command, not given.no_pager):
+            if compared.rows:
+                tables.write_table(command, given, diff_report.table_of(compared))
+            command.tell(diff_report.summary(compared))
+    for note in choice.notes(compared.left_out, compared.new.passwd + b"\n" + compared.old.passwd):
+        command.say(note)
+
+
+def body(command: Command, words: List[str]) -> int:
+    given = parse(words)
+    target = NewFile(os.fsencode(given.page)) if given.page else None
+    compared, page = compare(command, given)
+    write(command, given, compared)
+    if target is not None and page is not None:
+        target.write(page)
+        command.say(target.name + b": is written")
+    return DIFFERS if compared.rows else SAME

@@ -1,0 +1,218 @@
+"""Two snapshots for facl-diff: their files record by record, their users and groups, and what differs between them."""
+from __future__ import annotations
+
+import contextlib
+import itertools
+import os
+from typing import Dict, FrozenSet, Iterable, Iterator, List, NamedTuple, Optional, Tuple
+
+from . import meta, texts
+from .messages import Failure
+from .names import path_order, sorting_key
+from .no_gain import groups_by_user
+from .people import People
+from .program import OutputSlice, Session
+from .protocol import DEFAULT_ENTRY, FILE_HEAD
+from .records import path_of
+from .snapshot import NEEDED, check_texts
+from .trusted import read_trusted
+
+PART = b"001"  # The first of the folders that facl-snapshot --split makes.
+
+
+class State(NamedTuple):
+    """A snapshot: what the program loads of it, and of which system it is."""
+
+    folder: bytes
+    passwd: bytes
+    group: bytes
+    about: meta.Meta
+
+    def named(self) -> bytes:
+        return meta.named(self.folder, self.about)
+
+    def people(self) -> People:
+        """Its users and groups."""
+        try:
+            return People(self.passwd, self.group)
+        except (IndexError, ValueError) as error:
+            raise Failure(self.folder + b": passwd or group has a row that the program does not load: facl-ask "
+                          + self.folder + b" says which") from error
+
+
+class Found(NamedTuple):
+    """A file as the program lists it: its record without the empty line at the end."""
+
+    record: bytes
+    is_directory: bool
+
+    def name(self) -> bytes:
+        return name_of(self.record)
+
+    def body(self) -> bytes:
+        return self.record.partition(b"\n")[2] + b"\n"
+
+
+class Pair(NamedTuple):
+    """A path, with its file before and after; one of them is None where it is not there."""
+
+    path: bytes
+    old: Optional[Found]
+    new: Optional[Found]
+
+    def is_of_other_kind(self) -> bool:
+        """Whether a file is in the place of a directory, or a directory in that of a file."""
+        return self.old is not None and self.new is not None and self.old.is_directory != self.new.is_directory
+
+
+class Member(NamedTuple):
+    """A user, with all groups."""
+
+    uid: int
+    primary: int
+    groups: FrozenSet[int]
+
+
+Members = Dict[bytes, Member]  # By name.
+
+
+def read_state(folder: bytes) -> State:
+    if not os.path.exists(os.path.join(folder, NEEDED[0])) and os.path.isdir(os.path.join(folder, PART)):
+        raise Failure(folder + b": has the parts of a tree (--split): facl-diff compares one snapshot with one other")
+    os.close(check_texts(folder))
+    passwd, group = (read_trusted(os.path.join(folder, name)) for name in NEEDED[:2])
+    return State(folder, passwd, group, meta.meta_of(folder))
+
+
+def members_of(people: People) -> Members:
+    groups = groups_by_user(people)
+    return {user.name: Member(user.uid, user.gid, frozenset(groups[user.name])) for user in people.users}
+
+
+# --- a session over a snapshot
+
+
+@contextlib.contextmanager
+def session_of(program: str, state: State, work: str, group: Optional[bytes] = None) -> Iterator[Session]:
+    """A session over a snapshot; with other groups in the place of its own over a folder that is made in work."""
+    folder = state.folder
+    if group is not None:
+        folder = os.fsencode(work)
+        for name in (b"passwd", b"dump"):
+            os.symlink(os.path.join(os.getcwdb(), state.folder, name), os.path.join(folder, name))
+        with open(os.path.join(folder, b"group"), "wb") as file:
+            file.write(group)
+    with Session(program, folder) as session:
+        session.folder = state.folder  # By which messages name it.
+        yield session
+
+
+def tops_of(*sides: Tuple[Session, State]) -> List[bytes]:
+    """The paths of both snapshots that no recorded directory is above."""
+    found = {path for session, state in sides for path in texts.find_tops(session, state.folder)}
+    return sorted((path for path in found if not any(is_below(path, it) for it in found)), key=path_order)
+
+
+def is_below(path: bytes, above: bytes) -> bool:
+    return path != above and (above == b"" or path.startswith(above + b"/"))
+
+
+# --- records
+
+
+def name_of(record: bytes) -> bytes:
+    return record[len(FILE_HEAD) :].partition(b"\n")[0]
+
+
+def records_in(listing: Iterable[OutputSlice]) -> Iterator[bytes]:
+    """The records of a listing in path order."""
+    return (record for output in listing for record in output.records() if record)
+
+
+def is_directory(record: bytes, following: Optional[bytes]) -> bool:
+    """Whether a record is that of a directory: by its name, its default entries, or the next file, which is in it."""
+    name = name_of(record)
+    if name[-1:] == b"/" or name == b"." or DEFAULT_ENTRY in record:
+        return True
+    return following is not None and following.startswith(FILE_HEAD + name + b"/")
+
+
+def found_of(record: Optional[bytes], following: Optional[bytes]) -> Optional[Found]:
+    return None if record is None else Found(record, is_directory(record, following))
+
+
+def is_first(record: bytes, other: Optional[bytes]) -> bool:
+    """Whether a record comes before another one in path order, or has its path."""
+    return other is None or sorting_key(path_of(name_of(record))) <= sorting_key(path_of(name_of(other)))
+
+
+def pairs_of(old: Iterator[bytes], new: Iterator[bytes], is_all: bool = False) -> Iterator[Pair]:
+    """The paths of two listings whose files differ, or all of them, in path order."""
+    before, after = next(old, None), next(new, None)
+    while before is not None or after is not None:
+        has_old = before is not None and is_first(before, after) if before != after else True
+        has_new = after is not None and is_first(after, before) if before != after else True
+        next_old = next(old, None) if has_old else before
+        next_new = next(new, None) if has_new else after
+        if is_all or before != after or next_old != next_new:
+            pair = pair_of(found_of(before, next_old) if has_old else None,
+                           found_of(after, next_new) if has_new else None)
+            if is_all or before != after or pair.is_of_other_kind():
+                yield pair
+        before, after = next_old, next_new
+
+
+def pair_of(old: Optional[Found], new: Optional[Found]) -> Pair:
+    found = old or new
+    assert found is not None
+    return Pair(path_of(found.name()), old, new)
+
+
+def is_same_text(one: List[OutputSlice], other: List[OutputSlice]) -> bool:
+    """Whether two listings are the same, to the byte."""
+    if [it.end - it.start for it in one] != [it.end - it.start for it in other]:
+        return False
+    both = zip(one, other)
+    return all(here == there for it, that in both for here, there in itertools.zip_longest(it.pieces(), that.pieces()))
+
+
+# --- what differs
+
+
+class Counts(NamedTuple):
+    """How many files differ, and how."""
+
+    changed: int
+    made: int
+    removed: int
+
+
+class PeopleCounts(NamedTuple):
+    """The names of users who came and went, and of those with another id; and how many memberships came and went, of
+    users who are in both snapshots."""
+
+    made: List[bytes]
+    removed: List[bytes]
+    renumbered: List[bytes]
+    joined: int
+    left: int
+
+
+def counts_of(pairs: Iterable[Pair]) -> Counts:
+    changed = made = removed = 0
+    for pair in pairs:
+        is_kept = pair.old is not None and pair.new is not None and not pair.is_of_other_kind()
+        changed += is_kept
+        made += not is_kept and pair.new is not None
+        removed += not is_kept and pair.old is not None
+    return Counts(changed, made, removed)
+
+
+def people_counts(old: Members, new: Members) -> PeopleCounts:
+    both = [name for name in old if name in new]
+    return PeopleCounts(
+        [name for name in new if name not in old], [name for name in old if name not in new],
+        [name for name in both if old[name].uid != new[name].uid],
+        sum(len(new[name].groups - old[name].groups) for name in both),
+        sum(len(old[name].groups - new[name].groups) for name in both),
+    )

@@ -1,0 +1,81 @@
+"""The findings of facl-audit, a record each; and a file with what is found of it, and the line that mends it."""
+from __future__ import annotations
+
+from typing import Dict, Iterator, List, NamedTuple
+
+from .names import script_word, shown_path, write_name
+from .program import parts_of
+
+HIGH, MIDDLE, LOW = "high", "middle", "low"
+WEIGHTS = (HIGH, MIDDLE, LOW)
+ROOM = 60_000  # Bytes of names in a line, which may have 65,536.
+
+
+class Kind(NamedTuple):
+    name: str
+    weight: str
+    meaning: str  # What it is, and why it matters.
+
+
+KINDS = (
+    Kind("writable-by-everybody", HIGH, "any user can write it, along its path"),
+    Kind("set-user-id", HIGH, "a plain file that is run with the rights of its owner"),
+    Kind("readable-by-everybody", MIDDLE, "any user can read it, along its path"),
+    Kind("writable-behind-closed", MIDDLE, "any user can write it as soon as a directory above is opened"),
+    Kind("writable-by-teams", MIDDLE, "several groups can remove each other's files: the directory is not sticky"),
+    Kind("writer-outside-groups", MIDDLE, "a user can write where nobody else of the user's groups may"),
+    Kind("mask-cuts-entry", MIDDLE, "an entry of a user or a group says more than the mask lets through"),
+    Kind("empty-mask", MIDDLE, "Linux gives users and groups with entries what others have, as the mask is empty"),
+    Kind("owner-without-row", MIDDLE, "whoever gets this id next owns it"),
+    Kind("entry-without-row", MIDDLE, "whoever gets this id next has the entry's rights"),
+    Kind("set-group-id", MIDDLE, "a plain file that is run with the rights of its group"),
+    Kind("links-across-folders", MIDDLE, "one file has names in several folders: closing one leaves the others"),
+    Kind("readable-behind-closed", LOW, "any user can read it as soon as a directory above is opened"),
+    Kind("execute-for-everybody", LOW, "a plain file that any user can run, along its path"),
+    Kind("entry-without-effect", LOW, "an entry that can go, and nobody's rights change"),
+    Kind("default-not-inherited", LOW, "the directory lacks default entries that the directory above has"),
+    Kind("default-differs", LOW, "new files here get entries for other users or groups than the directory has"),
+)
+BY_NAME: Dict[str, Kind] = {kind.name: kind for kind in KINDS}
+
+
+class Found(NamedTuple):
+    """A file of a finding."""
+
+    path: bytes
+    detail: bytes  # What is found of it, in words; may be empty.
+    edit: bytes  # The line of a script that mends it, without the file.
+
+    def line(self) -> bytes:
+        """The whole line."""
+        return self.edit + b" " + file_word(self.path)
+
+
+Findings = Dict[str, List[Found]]  # By the names of kinds.
+
+
+def file_word(path: bytes) -> bytes:
+    """A file as a word of a script."""
+    return plain_word(shown_path(path))
+
+
+def plain_word(text: bytes) -> bytes:
+    """A word of a script, in quotes where it needs them."""
+    word = script_word(text)
+    is_plain = word[1:-1] == text and b" " not in text and text[:1] not in (b"#", b"-", b"")
+    return text if is_plain else word
+
+
+def name_word(name: bytes) -> bytes:
+    """A name of a user or a group as a word of a script."""
+    return plain_word(write_name(name))
+
+
+def edits_of(found: List[Found]) -> Iterator[bytes]:
+    """The lines of a script that mend all of these, files with one edit in one line where it has room."""
+    files: Dict[bytes, List[bytes]] = {}
+    for it in found:
+        files.setdefault(it.edit, []).append(file_word(it.path))
+    for edit, words in files.items():
+        for part in parts_of(words, ROOM):
+            yield b" ".join([edit, *part])

@@ -1,0 +1,179 @@
+"""The rules of facl-check: a line says who never, only or always has a right on all files at or below a path."""
+from __future__ import annotations
+
+import os
+from typing import List, NamedTuple, Optional, Set, Tuple
+
+from .choice import is_recorded
+from .everybody import World
+from .findings import plain_word
+from .messages import Failure
+from .names import read_name, read_path, shown_path, write_name
+from .people import Group, People, User
+from .scripts import WORD, is_empty, read_text, words_of
+from .superuser import ids_in
+from .trusted import read_trusted
+
+NEVER, ONLY, ALWAYS = b"never", b"only", b"always"
+READ, WRITE, ENTER = b"read", b"write", b"enter"
+OTHERS, PEOPLE = b"others", b"people"  # A user without entries; all users whom the check is about.
+IN_GROUP = b"@"
+KINDS, RIGHTS = (NEVER, ONLY, ALWAYS), (READ, WRITE, ENTER)
+FORM = b"a rule is never|only|always WHO.. read|write|enter PATH"
+LEAST = 4  # Words of a rule.
+IS_ROOT = (b": has the uid 0, to which the kernel grants nearly everything: leave it out, or give --with-root to judge it "
+           b"as any other user")
+INPUT = "-"  # The name of standard input.
+
+
+class Rule(NamedTuple):
+    """A line, with its words looked up."""
+
+    number: int
+    words: List[bytes]  # As they are written.
+    kind: bytes
+    users: Set[bytes]  # Names; without those of uid 0 whom a group brings.
+    has_others: bool
+    right: bytes
+    path: bytes
+
+    def text(self) -> bytes:
+        return b" ".join(self.words)
+
+
+class Faults(Exception):
+    """What is wrong with lines of a file of rules, one text each."""
+
+    def __init__(self, texts: List[bytes]) -> None:
+        super().__init__(texts)
+        self.texts = texts
+
+
+class BadRule(Exception):
+    """What is wrong with a line."""
+
+    def __init__(self, text: bytes) -> None:
+        super().__init__(text)
+        self.text = text
+
+
+def raw_words(line: bytes) -> List[bytes]:
+    """The words of a line with their quotes, up to a comment."""
+    if words_of(line) is None:
+        before = line.partition(b"#")[0]  # A quote in a comment is no quote.
+        if before == line or words_of(before) is None:
+            raise BadRule(b"a single quote is open: in a name write it as \\047")
+        line = before
+    found: List[bytes] = []
+    for word in WORD.findall(line):
+        if word.startswith(b"#"):
+            break
+        found.append(word)
+    return found
+
+
+class Reader:
+    """Reads rules, and looks up their names."""
+
+    def __init__(self, world: World, chosen: Set[bytes], with_root: bool) -> None:
+        self.world, self.chosen, self.with_root = world, chosen, with_root
+        self.people = People(world.texts.passwd, world.texts.group)
+        self.roots = {name for name, uid in ids_in(world.texts.passwd).items() if uid == 0} if not with_root else set()
+
+    def members(self, group: Group) -> Set[bytes]:
+        """The users of a group, by its row and as their primary group; without those of uid 0."""
+        rows = {user.name for user in self.people.users}
+        primary = {user.name for user in self.people.users if user.gid == group.gid}
+        return (primary | set(group.members) & rows) - self.roots
+
+    def who(self, raw: bytes) -> Tuple[Set[bytes], bool]:
+        """The users that a word means, and whether it is the word for others."""
+        if raw == OTHERS:
+            return set(), True
+        if raw == PEOPLE:
+            return set(self.chosen), False
+        word = raw.replace(b"'", b"")
+        if raw.startswith(IN_GROUP):
+            return self.members(self.group(word[1:])), False
+        return {self.user(word, b"'" in raw)}, False
+
+    def group(self, word: bytes) -> Group:
+        name = read_name(word)
+        found = next((it for it in self.people.groups if is_named(it.name, it.gid, name, False)), None)
+        if found is None:
+            raise BadRule(b"@" + word + b": no such group in the snapshot")
+        return found
+
+    def user(self, word: bytes, is_quoted: bool) -> bytes:
+        name = read_name(word)
+        found: Optional[User] = next(
+            (it for it in self.people.users if is_named(it.name, it.uid, name, is_quoted)), None)
+        if found is None:
+            is_group = any(it.name == name for it in self.people.groups)
+            more = b"; @" + word + b" is a group" if is_group else b""
+            raise BadRule(word + b": no such user in the snapshot" + more)
+        if found.name in self.roots:
+            raise BadRule(word + IS_ROOT)
+        return found.name
+
+    def path(self, word: bytes) -> bytes:
+        if b".." in word.split(b"/"):
+            raise BadRule(word + b": write the path from the root, without ..")
+        path = read_path(word)
+        if path and not is_recorded(self.world.session, path):
+            raise BadRule(word + b": is not in the snapshot")
+        return path
+
+    def rule(self, number: int, raw: List[bytes]) -> Rule:
+        """A line that has words."""
+        if len(raw) < LEAST or raw[0] not in KINDS or raw[-2] not in RIGHTS:
+            raise BadRule(FORM)
+        users: Set[bytes] = set()
+        has_others = False
+        for word in raw[1:-2]:
+            names, is_others = self.who(word)
+            users |= names
+            has_others = has_others or is_others
+        return Rule(number, raw, raw[0], users, has_others, raw[-2], self.path(raw[-1].replace(b"'", b"")))
+
+    def read(self, name: str) -> List[Rule]:
+        """The rules of a file; fails with what is wrong in all of its lines."""
+        shown = b"standard input" if name == INPUT else os.fsencode(name)
+        text = read_text(name).text if name == INPUT else read_trusted(shown)
+        found: List[Rule] = []
+        faults: List[bytes] = []
+        for number, line in enumerate(text.split(b"\n"), 1):
+            try:
+                words = [] if is_empty(line) else raw_words(line)
+                found += [self.rule(number, words)] if words else []
+            except BadRule as error:
+                faults.append(b"%s, line %d: %s" % (shown, number, error.text))
+        if faults:
+            raise Faults(faults)
+        if not found:
+            raise Failure(shown + b": has no rules: facl-check --write SNAPSHOT FOLDER writes those that hold")
+        return found
+
+
+def is_named(name: bytes, number: int, word: bytes, is_quoted: bool) -> bool:
+    """Whether a row is meant by a word; digits alone are an id, unless they are quoted."""
+    return number == int(word) if word.isdigit() and not is_quoted else name == word
+
+
+# --- words that mean a user, a group or a path
+
+
+def user_word(name: bytes) -> bytes:
+    is_special = name in (OTHERS, PEOPLE) or name.isdigit() or name[:1] in (IN_GROUP, b"#")
+    word = plain_word(write_name(name))
+    return b"'" + word + b"'" if is_special and not word.startswith(b"'") else word
+
+
+def group_word(group: Group) -> bytes:
+    name = b"%d" % group.gid if group.name.isdigit() else group.name
+    word = plain_word(IN_GROUP + write_name(name))
+    return word if not word.startswith(b"'") else IN_GROUP + b"'" + word[2:]
+
+
+def path_word(path: bytes, is_directory: bool) -> bytes:
+    return plain_word(b"/" if not path else shown_path(path) + b"/" * is_directory)

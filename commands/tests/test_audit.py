@@ -1,0 +1,328 @@
+"""facl-audit: each finding is made once, in a tree in which nothing else is found."""
+from __future__ import annotations
+
+import json
+import os
+import re
+import signal
+import subprocess
+import sys
+import tempfile
+import time
+import unittest
+from typing import Dict, List, NamedTuple
+
+from common import COMMANDS, Done, restore_signals
+from small_tree import CLEAN, GROUP, PASSWD, SmallTree
+
+sys.path.insert(0, COMMANDS)
+
+from facl_commands import findings  # noqa: E402
+
+PLAIN = b"# owner: 1001\n# group: 2001\nuser::rw-\ngroup::rw-\nother::---\n"
+FOLDER = b"# owner: 0\n# group: 2001\nuser::rwx\ngroup::rwx\nother::---\n"
+OPEN = b"# owner: 0\n# group: 2001\nuser::rwx\ngroup::rwx\nother::--x\n"
+
+
+class Made(NamedTuple):
+    """What makes a finding, and the row that it gives."""
+
+    records: Dict[bytes, bytes]
+    first: bytes
+    what: bytes
+    mend: bytes
+    links: bytes = b""
+    beside: str = ""  # Another finding that cannot be left out, or several.
+
+
+def with_entries(body: bytes, *entries: bytes) -> bytes:
+    """A record with entries of users and groups, and a mask that cuts nothing."""
+    before, after = body.split(b"group::", 1)
+    users = b"".join(it + b"\n" for it in entries if it.startswith(b"user"))
+    groups = b"".join(it + b"\n" for it in entries if it.startswith(b"group"))
+    group, others = after.split(b"\n", 1)
+    return before + users + b"group::" + group + b"\n" + groups + b"mask::rwx\n" + others
+
+
+FILE = b"/srv/hr/new"
+MADE: Dict[str, Made] = {
+    "writable-by-everybody": Made(
+        {b"/srv/hr/": OPEN, FILE: PLAIN.replace(b"other::---", b"other::-w-")}, b"srv/hr/new", b"",
+        b"setfacl -n -m o::--- srv/hr/new"),
+    "readable-by-everybody": Made(
+        {b"/srv/hr/": OPEN, FILE: PLAIN.replace(b"other::---", b"other::r--")}, b"srv/hr/new", b"",
+        b"setfacl -n -m o::--- srv/hr/new"),
+    "execute-for-everybody": Made(
+        {b"/srv/hr/": OPEN, FILE: PLAIN.replace(b"other::---", b"other::--x")}, b"srv/hr/new", b"",
+        b"setfacl -n -m o::--- srv/hr/new"),
+    "writable-behind-closed": Made(
+        {FILE: PLAIN.replace(b"other::---", b"other::-w-")}, b"srv/hr/new", b"closed by srv/hr",
+        b"setfacl -n -m o::--- srv/hr/new"),
+    "readable-behind-closed": Made(
+        {FILE: PLAIN.replace(b"other::---", b"other::r--")}, b"srv/hr/new", b"closed by srv/hr",
+        b"setfacl -n -m o::--- srv/hr/new"),
+    "set-user-id": Made(
+        {FILE: b"# owner: 1001\n# group: 2001\n# flags: ss-\nuser::rwx\ngroup::r-x\nother::---\n"}, b"srv/hr/new", b"",
+        b"chmod 2750 srv/hr/new", beside="set-group-id"),
+    "set-group-id": Made(
+        {FILE: b"# owner: 1001\n# group: 2001\n# flags: -s-\nuser::rwx\ngroup::r-x\nother::---\n"}, b"srv/hr/new", b"",
+        b"chmod 0750 srv/hr/new"),
+    "writable-by-teams": Made(
+        {b"/srv/hr/both/": with_entries(FOLDER, b"group:2002:rwx"), b"/srv/hr/": with_entries(FOLDER, b"group:2002:--x")},
+        b"srv/hr/both", b"group hr, group law", b"chmod 1770 srv/hr/both"),
+    "writer-outside-groups": Made(
+        {FILE: with_entries(PLAIN, b"user:1009:rw-"), b"/srv/hr/": with_entries(FOLDER, b"user:1009:--x")},
+        b"srv/hr/new", b"user xaver", b"setfacl -n -x u:xaver srv/hr/new"),
+    "mask-cuts-entry": Made(
+        {FILE: with_entries(PLAIN, b"user:1009:rwx").replace(b"mask::rwx", b"mask::r--"),
+         b"/srv/hr/": with_entries(FOLDER, b"user:1009:--x")},
+        b"srv/hr/new", b"user xaver: rwx is r--", b"setfacl -n -m u:xaver:r-- srv/hr/new"),
+    "empty-mask": Made(
+        {FILE: with_entries(PLAIN, b"user:1003:---").replace(b"mask::rwx", b"mask::---").replace(b"other::---", b"other::--x"),
+         b"/srv/hr/": with_entries(OPEN, b"user:1003:--x")},
+        b"srv/hr/new", b"others have --x", b"setfacl -n -m o::--- srv/hr/new",
+        beside="execute-for-everybody entry-without-effect"),
+    "owner-without-row": Made(
+        {FILE: PLAIN.replace(b"owner: 1001", b"owner: 4711").replace(b"group: 2001", b"group: 4712")}, b"srv/hr/new",
+        b"user 4711, group 4712", b"chown 0:0 srv/hr/new"),
+    "entry-without-row": Made(
+        {b"/srv/hr/sub/": with_entries(FOLDER, b"user:4711:r--") + b"default:user::rwx\ndefault:user:4711:r--\n"
+         b"default:group::rwx\ndefault:group:4712:r--\ndefault:mask::rwx\ndefault:other::---\n"},
+        b"srv/hr/sub", b"user 4711, default user 4711, default group 4712",
+        b"setfacl -n -x u:4711,d:u:4711,d:g:4712 srv/hr/sub", beside="default-differs"),
+    "links-across-folders": Made(
+        {b"/srv/hr/sub/": FOLDER, b"/srv/hr/sub/pay": CLEAN[b"/srv/hr/pay"]}, b"srv/hr/sub/pay",
+        b"is one file with srv/hr/pay", b"rm srv/hr/sub/pay", links=b"/srv/hr/pay\n/srv/hr/sub/pay\n"),
+    "entry-without-effect": Made(
+        {FILE: with_entries(PLAIN, b"user:1001:r--", b"group:2002:---")}, b"srv/hr/new", b"user anna, group law",
+        b"setfacl -n -x u:anna,g:law srv/hr/new"),
+    "default-not-inherited": Made(
+        {b"/srv/hr/sub/": FOLDER + b"default:user::rwx\ndefault:group::rwx\ndefault:other::---\n",
+         b"/srv/hr/sub/deep/": FOLDER}, b"srv/hr/sub/deep", b"lacks the default list of srv/hr/sub",
+        b"setfacl -n -m d:u::rwx,d:g::rwx,d:o::--- srv/hr/sub/deep"),
+    "default-differs": Made(
+        {b"/srv/hr/sub/": with_entries(FOLDER, b"user:1009:--x") + b"default:user::rwx\ndefault:group::rwx\n"
+         b"default:group:2002:r-x\ndefault:mask::rwx\ndefault:other::---\n"}, b"srv/hr/sub",
+        b"new files get no entry of user xaver; new files alone get one of group law",
+        b"setfacl -n -m d:u:xaver:--x -x d:g:law srv/hr/sub"),
+}
+
+
+class Audits(SmallTree):
+    """Runs of facl-audit over the small snapshot."""
+
+    def audit(self, *words: str) -> Done:
+        return self.run_command("facl-audit", [*words, "small"])
+
+    def rows(self, *words: str) -> List[List[bytes]]:
+        """The fields of its table."""
+        done = self.audit("--tsv", "--fail-on", "none", *words)
+        self.assertEqual((done.status, done.messages), (0, b""))
+        return [line.split(b"\t") for line in done.out.splitlines()[1:]]
+
+
+class EachFinding(Audits):
+    def test_a_clean_tree(self) -> None:
+        self.take({})
+        done = self.audit("--fail-on", "low")
+        wanted = b"small (of srva, 2026-11-27T03:10:00Z): 2 files at or below /srv/hr\nno findings\n"
+        self.expect(done, 0, wanted)
+
+    def test_each_kind_is_made(self) -> None:
+        self.assertEqual({kind.name for kind in findings.KINDS}, set(MADE))
+
+    def test_each_finding(self) -> None:
+        for name, made in MADE.items():
+            self.take(made.records, made.links)
+            rows = {row[1].decode(): row for row in self.rows()}
+            self.assertEqual({name, *made.beside.split()}, set(rows), rows)
+            self.assertEqual((name, rows[name][2:]), (name, [b"1", made.first, made.what, made.mend]))
+
+    def test_each_edit_mends(self) -> None:
+        """After the lines nothing of it is found, and nobody has more than before."""
+        for name, made in MADE.items():
+            self.take(made.records, made.links)
+            self.write("edits", self.audit("--edits", name, "--fail-on", "none").out)
+            done = self.run_command("facl-plan", ["--full", "--plan", "plan", "small", "edits"])
+            self.assertEqual((name, done.status), (name, 0), done)
+            for user, old, _, new, *_ in (line.split(b"\t") for line in done.out.splitlines() if b"\t" in line):
+                self.assertLessEqual(set(b"" if new in (b"none", b"absent") else new) - set(b"-"), set(old), (name, user, old, new))
+            if name != "links-across-folders":  # Names go by hand.
+                self.take({**made.records, **self.planned_records()})
+                self.assertNotIn(name.encode(), [row[1] for row in self.rows()])
+
+    def planned_records(self) -> Dict[bytes, bytes]:
+        """The records of the plan, by names."""
+        records = [record.partition(b"\n") for record in self.read("plan/new").split(b"\n\n") if record]
+        return {first[len(b"# file: ") :]: body + b"\n" for first, _, body in records}
+
+    def test_sticky_and_directories_without_search(self) -> None:
+        self.take({b"/srv/hr/": OPEN, b"/srv/hr/drop/": b"# owner: 0\n# group: 0\n# flags: --t\nuser::rwx\ngroup::rwx\nother::-wx\n",
+                   b"/srv/hr/no/": b"# owner: 0\n# group: 0\nuser::rwx\ngroup::rwx\nother::-w-\n"})
+        rows = self.rows()
+        self.assertEqual(rows, [[b"high", b"writable-by-everybody", b"1", b"srv/hr/drop", b"sticky",
+                                 b"setfacl -n -m o::--x srv/hr/drop"]])
+
+    def test_one_folder_at_two_places(self) -> None:
+        """A folder that is mounted twice has no hard links across folders."""
+        self.take({b"/srv/hr/a/": FOLDER, b"/srv/hr/a/f": PLAIN, b"/srv/hr/b/": FOLDER, b"/srv/hr/b/f": PLAIN},
+                  b"/srv/hr/a/\n/srv/hr/b/\n\n/srv/hr/a/f\n/srv/hr/b/f\n")
+        self.assertEqual(self.rows(), [])
+
+    def test_entries_that_only_one_of_can_go(self) -> None:
+        """Both groups have the same member: each entry can go, and not both."""
+        group = GROUP + b"more:x:2003:carl\n"
+        self.take({FILE: with_entries(PLAIN, b"group:2002:rw-", b"group:2003:rw-")}, group=group)
+        found = [row for row in self.rows() if row[1] == b"entry-without-effect"]
+        self.assertEqual([row[4:] for row in found], [[b"group law", b"setfacl -n -x g:law srv/hr/new"]])
+
+
+class TwoKinds(Audits):
+    """A tree with two findings."""
+
+    def setUp(self) -> None:
+        super().setUp()
+        self.take({**MADE["set-user-id"].records, b"/srv/hr/sub/": FOLDER,
+                   b"/srv/hr/sub/x": MADE["set-group-id"].records[FILE]})
+
+
+class Words(TwoKinds):
+    def test_fail_on(self) -> None:
+        self.assertEqual([self.audit("--fail-on", it).status for it in ("high", "middle", "low", "none")], [1, 1, 1, 0])
+        self.take(MADE["set-group-id"].records)
+        self.assertEqual([self.audit("--fail-on", it).status for it in ("high", "middle", "low", "none")], [0, 1, 1, 0])
+
+    def test_report(self) -> None:
+        wanted = b"""\
+small (of srva, 2026-11-27T03:10:00Z): 5 files at or below /srv/hr
+high    set-user-id             1 file
+        a plain file that is run with the rights of its owner
+        first: srv/hr/new
+        mend:  chmod 2750 srv/hr/new
+middle  set-group-id            2 files
+        a plain file that is run with the rights of its group
+        first: srv/hr/new
+        then:  srv/hr/sub/x
+        mend:  chmod 4750 srv/hr/new
+findings: 1 high, 1 middle
+all files of one: facl-audit --list set-user-id small
+all lines of one: facl-audit --edits set-user-id small >edits; facl-plan small edits
+"""
+        self.expect(self.audit(), 1, wanted)
+
+    def test_at_a_terminal(self) -> None:
+        done = self.at_terminal("facl-audit", ["small"], {"COLUMNS": "44", "LINES": "90"})
+        plain = re.sub(rb"\x1b\[\d*m", b"", done.out)
+        lines = [line for line in plain.splitlines() if not line.startswith((b"        mend:", b"all "))]
+        self.assertEqual((done.status, max(map(len, lines))), (1, 44))
+        self.assertIn(b"\x1b[31mhigh ", done.out)
+        done = self.at_terminal("facl-audit", ["small"], {"COLUMNS": "44", "LINES": "90", "NO_COLOR": "yes"})
+        self.assertEqual(done.out, plain)
+        done = self.at_terminal("facl-audit", ["small"], {"COLUMNS": "44", "LINES": "5", "PAGER": "echo paged"})
+        self.assertEqual((done.status, done.out), (1, b"paged\n"))
+        done = self.at_terminal("facl-audit", ["--edits", "set-user-id", "small"], {"COLUMNS": "10", "LINES": "90"})
+        self.assertEqual(done.out, b"chmod 2750 srv/hr/new\n")
+
+    def test_list_and_edits(self) -> None:
+        self.expect(self.audit("--list", "set-group-id", "--tsv"), 1, b"FILE\tWHAT\tMEND\n"
+                    b"srv/hr/new\t\tchmod 4750 srv/hr/new\nsrv/hr/sub/x\t\tchmod 0750 srv/hr/sub/x\n")
+        self.expect(self.audit("--edits", "set-group-id"), 1, b"chmod 4750 srv/hr/new\nchmod 0750 srv/hr/sub/x\n")
+
+    def test_folders(self) -> None:
+        done = self.run_command("facl-audit", ["--tsv", "small", "/srv/hr/sub"])
+        self.assertEqual((done.status, done.out.count(b"\n"), done.messages), (0, 2, b""))
+        done = self.run_command("facl-audit", ["small", "/srv/nix"])
+        self.expect(done, 2, b"", b"facl-audit: /srv/nix: is not recorded: the snapshot is of /srv/hr\n")
+
+    def test_json(self) -> None:
+        found = json.loads(self.audit("--json").out)
+        self.assertEqual(found["schema"], "facl-audit/1")
+        self.assertEqual([(it["finding"], it["weight"], it["count"]) for it in found["findings"]],
+                         [("set-user-id", "high", 1), ("set-group-id", "middle", 2)])
+        self.assertEqual(found["findings"][0]["files"], [{"path": "srv/hr/new", "what": "", "mend": "chmod 2750 srv/hr/new"}])
+        one = json.loads(self.audit("--json", "--list", "set-group-id").out)
+        self.assertEqual([len(it["files"]) for it in one["findings"]], [2])
+
+    def test_words_that_are_wrong(self) -> None:
+        self.assertEqual(self.audit("--list", "nothing").status, 2)
+        self.expect(self.run_command("facl-audit", ["nix"]), 2, b"",
+                    b"facl-audit: nix: no such folder: make a snapshot by facl-snapshot\n")
+
+
+class AcceptedFindings(TwoKinds):
+    def accept(self, text: bytes, *words: str) -> Done:
+        self.write("accepted", text)
+        os.chmod(self.path("accepted"), 0o600)
+        return self.audit("--accepted", "accepted", *words)
+
+    def test_accepted(self) -> None:
+        done = self.accept(b"# by the board\nset-user-id /srv/hr/new needed by payroll\nset-group-id srv/hr/ all of them\n")
+        self.expect(done, 0, b"small (of srva, 2026-11-27T03:10:00Z): 5 files at or below /srv/hr\n"
+                    b"no findings; accepted: 3 files\n")
+
+    def test_lines_that_accept_nothing(self) -> None:
+        done = self.accept(b"set-user-id srv/hr/old gone\nset-group-id srv/hr/sub they are old\n", "--tsv")
+        self.assertEqual((done.status, done.out.count(b"\n")), (1, 3))
+        self.assertEqual(done.messages, b"facl-audit: accepted, line 1: set-user-id srv/hr/old: is not found: remove the line\n"
+                         b"facl-audit: accepted, line 2: set-group-id srv/hr/sub: is not found there, but below it: end the path "
+                         b"with a slash\n")
+
+    def test_a_line_of_another_folder_is_not_said(self) -> None:
+        self.write("accepted", b"set-user-id srv/hr/new needed\n")
+        os.chmod(self.path("accepted"), 0o600)
+        done = self.run_command("facl-audit", ["--tsv", "--accepted", "accepted", "small", "srv/hr/sub"])
+        self.assertEqual((done.status, done.messages), (0, b""))
+
+    def test_lines_that_are_wrong(self) -> None:
+        for text, message in ((b"set-user-id srv/hr/new\n", b"a line is FINDING PATH REASON; words with spaces are in single "
+                               b"quotes"), (b"setuid srv why\n", b"setuid: is no finding; facl-audit --help lists them"),
+                              (b"set-user-id 'srv why\n", b"a quote is open")):
+            self.expect(self.accept(text), 2, b"", b"facl-audit: accepted, line 1: " + message + b"\n")
+
+    def test_a_file_that_others_can_write(self) -> None:
+        self.write("accepted", b"set-user-id srv/hr/new needed\n")
+        os.chmod(self.path("accepted"), 0o666)
+        done = self.audit("--accepted", "accepted")
+        self.assertEqual((done.status, b"not trusted" in done.messages), (2, True))
+
+
+class Hostile(Audits):
+    NAMES = (b"new\\012line", b"a b", b"it's", b"\x1b[31mred", b"\xff", b"-rf", b"#x", b"tab\there", b"\xe2\x80\xaegnp.exe")
+
+    def test_names(self) -> None:
+        self.take({b"/srv/hr/" + name: MADE["set-user-id"].records[FILE] for name in self.NAMES})
+        done = self.audit()
+        self.assertEqual(done.status, 1)
+        self.assertNotRegex(done.out, b"[\x00-\x09\x0b-\x1f\x7f\xff]|\xe2\x80\xae")
+        rows = self.rows("--list", "set-user-id")
+        self.assertEqual(len(rows), len(self.NAMES))
+        self.write("edits", self.audit("--edits", "set-user-id").out)
+        done = self.run_command("facl-plan", ["small", "edits"])
+        self.assertEqual((done.status, done.messages), (0, b""), done)
+        self.assertIn(b"%d files change" % len(self.NAMES), done.out)
+        json.loads(self.audit("--json").out)
+
+    def test_names_of_users(self) -> None:
+        passwd = PASSWD.replace(b"xaver:", b"o'x \x1b[1m,y:")
+        self.take(MADE["writer-outside-groups"].records, passwd=passwd)
+        row = self.rows()[0]
+        self.assertEqual(row[5], b"setfacl -n -x u:1009 srv/hr/new")
+        self.assertNotIn(b"\x1b", self.audit().out)
+
+
+class Streams(Audits):
+    def test_an_interrupted_run_leaves_nothing(self) -> None:
+        self.take({})
+        for wait in (0.05, 0.15, 0.3):
+            with tempfile.TemporaryDirectory() as folder:
+                words = [sys.executable, "-I", os.path.join(COMMANDS, "facl-audit"), "small"]
+                run = subprocess.Popen(words, cwd=self.folder, env={**os.environ, "TMPDIR": folder}, preexec_fn=restore_signals,
+                                       stdout=subprocess.DEVNULL, stderr=subprocess.DEVNULL)
+                time.sleep(wait)
+                run.send_signal(signal.SIGTERM)
+                self.assertIn(run.wait(), (0, 128 + signal.SIGTERM, -signal.SIGTERM))
+                self.assertEqual(os.listdir(folder), [])
+
+
+if __name__ == "__main__":
+    unittest.main()

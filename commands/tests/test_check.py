@@ -1,0 +1,227 @@
+"""facl-check: rules of each form that hold and that do not, and those that hold written."""
+from __future__ import annotations
+
+import json
+import os
+import re
+import signal
+import subprocess
+import sys
+import tempfile
+import time
+import unittest
+from typing import List
+
+from common import COMMANDS, Done, restore_signals
+from small_tree import GROUP, PASSWD, SmallTree
+
+FOLDER = b"# owner: 0\n# group: 2001\nuser::rwx\nuser:1009:%s\ngroup::rwx\nmask::rwx\nother::--x\n"
+FILE = b"# owner: 1001\n# group: 2001\nuser::rw-\nuser:1009:r--\ngroup::rw-\nmask::%s\nother::---\n"
+TREE = {
+    b"/srv/hr/": FOLDER % b"r-x",
+    b"/srv/hr/cases/": FOLDER % b"--x",
+    b"/srv/hr/cases/one": FILE % b"rw-",
+    b"/srv/hr/cases/two": FILE % b"r--",  # Where the mask closes out nobody but cuts the group.
+    b"/srv/hr/cases/full/": FOLDER % b"---",
+    b"/srv/hr/cases/full/three": FILE % b"rw-",
+    b"/srv/hr/tools/": FOLDER % b"-w-",
+}
+
+
+class Checks(SmallTree):
+    """Runs of facl-check over a small snapshot."""
+
+    def setUp(self) -> None:
+        super().setUp()
+        self.take(TREE)
+
+    def check(self, rules: bytes, *options: str) -> Done:
+        self.write("rules", rules)
+        os.chmod(self.path("rules"), 0o600)
+        return self.run_command("facl-check", [*options, "small", "rules"])
+
+    def rows(self, rules: bytes, *options: str) -> List[List[bytes]]:
+        done = self.check(rules, "--tsv", *options)
+        self.assertEqual(done.messages, b"")
+        found = [line.split(b"\t") for line in done.out.splitlines()[1:]]
+        self.assertEqual(done.status, int(bool(found)))
+        return found
+
+    def broken(self, rule: bytes, *options: str) -> List[bytes]:
+        """For whom a rule does not hold, each with the number of files and the first."""
+        return [b" ".join(row[2:5]) for row in self.rows(rule + b"\n", *options)]
+
+
+class Forms(Checks):
+    def test_never(self) -> None:
+        self.assertEqual(self.broken(b"never carl read srv/hr/"), [])
+        self.assertEqual(self.broken(b"never carl xaver read srv/hr/"), [b"xaver 3 srv/hr"])
+        self.assertEqual(self.broken(b"never xaver read srv/hr/cases/full/"), [])
+        self.assertEqual(self.broken(b"never @hr write srv/hr/cases/one"), [b"anna 1 srv/hr/cases/one", b"bert 1 srv/hr/cases/one"])
+        self.assertEqual(self.broken(b"never @law people read srv/hr/cases/full/three"),
+                         [b"anna 1 srv/hr/cases/full/three", b"bert 1 srv/hr/cases/full/three"])
+
+    def test_only(self) -> None:
+        self.assertEqual(self.broken(b"only @hr xaver read /srv/hr/"), [])
+        self.assertEqual(self.broken(b"only bert read srv/hr/cases/"), [b"anna 5 srv/hr/cases", b"xaver 2 srv/hr/cases/one"])
+        self.assertEqual(self.broken(b"only anna bert write srv/hr/"), [])
+        self.assertEqual(self.broken(b"only @hr enter srv/hr/", "--quiet"), [b"carl 4 srv/hr", b"xaver 2 srv/hr", b"others 4 srv/hr"])
+
+    def test_always(self) -> None:
+        self.assertEqual(self.broken(b"always anna write srv/hr/"), [])
+        self.assertEqual(self.broken(b"always @hr write srv/hr/"), [b"bert 1 srv/hr/cases/two"])
+        self.assertEqual(self.broken(b"always others enter srv/hr/"), [])
+        self.assertEqual(self.broken(b"always others read srv/hr/"), [b"others 8 srv/hr"])
+
+    def test_others(self) -> None:
+        self.assertEqual(self.broken(b"never others write /"), [])
+        self.assertEqual(self.broken(b"never others read /"), [b"others 2 ."])
+
+    def test_write_in_a_directory_takes_search(self) -> None:
+        self.assertEqual(self.broken(b"never xaver write srv/hr/tools/"), [])
+        self.assertEqual(self.broken(b"always xaver write srv/hr/tools/"), [b"xaver 1 srv/hr/tools"])
+
+    def test_enter_is_of_directories(self) -> None:
+        self.assertEqual(self.broken(b"always anna enter srv/hr/"), [])
+        self.assertEqual(self.broken(b"always anna enter srv/hr/cases/one"), [b"anna 1 srv/hr/cases/one"])
+
+    def test_file_alone(self) -> None:
+        self.assertEqual(self.broken(b"never xaver read srv/hr/cases/full/", "--file-alone"), [b"xaver 1 srv/hr/cases/full/three"])
+
+    def test_who_counts(self) -> None:
+        self.take({b"/srv/hr/": FOLDER % b"r-x", b"/srv/hr/x": FILE.replace(b"1009", b"1") % b"rw-"})
+        done = self.check(b"only @hr xaver read srv/hr/\n")
+        self.expect(done, 0, b"small (of srva, 2026-11-27T03:10:00Z): 1 rule holds\n",
+                    b"facl-check: left out: 1 user who is no people (--all-users): daemon\n")
+        self.expect(self.check(b"only @hr xaver read srv/hr/\n", "--quiet"), 0, b"")
+        self.assertEqual(self.broken(b"only @hr xaver read srv/hr/", "--all-users"), [b"daemon 1 srv/hr/x"])
+        self.assertEqual(self.broken(b"never daemon read srv/hr/"), [b"daemon 1 srv/hr/x"])
+        self.assertEqual(self.broken(b"never root write srv/hr/", "--with-root"), [b"root 1 srv/hr"])
+        self.expect(self.check(b"never root write srv/hr/\n"), 2, b"", b"facl-check: rules, line 1: root: has the uid 0, to which "
+                    b"the kernel grants nearly everything: leave it out, or give --with-root to judge it as any other user\n")
+
+
+class Report(Checks):
+    RULES = b"never xaver read srv/hr/cases/   # a contractor, that's why\nalways @hr write srv/hr/cases/\n\nnever others write /\n"
+
+    def test_report(self) -> None:
+        wanted = b"""\
+rules, line 1: never xaver read srv/hr/cases/
+    xaver may read 2 files, first: srv/hr/cases/one, srv/hr/cases/two
+        by  .: other::r-x
+            srv: other::r-x
+            srv/hr: user:xaver:r-x
+            srv/hr/cases: user:xaver:--x
+            srv/hr/cases/one: user:xaver:r--
+        who else may: anna, bert
+rules, line 2: always @hr write srv/hr/cases/
+    bert may not write 1 file of 5, first: srv/hr/cases/two
+        by  srv/hr/cases/two: group::rw- (effective r--)
+        who may: anna
+small (of srva, 2026-11-27T03:10:00Z): 2 of 3 rules do not hold
+"""
+        self.expect(self.check(self.RULES), 1, wanted)
+
+    def test_at_a_terminal(self) -> None:
+        self.write("rules", self.RULES)
+        os.chmod(self.path("rules"), 0o600)
+        done = self.at_terminal("facl-check", ["small", "rules"], {"COLUMNS": "50", "LINES": "90"})
+        plain = re.sub(rb"\x1b\[\d*m", b"", done.out)
+        self.assertEqual((done.status, max(map(len, plain.splitlines())), plain.count(b"\n")), (1, 50, 13))
+        self.assertIn(b"\x1b[31mrules, line 1: never xaver read srv/hr/cases/\x1b[0m\n", done.out)
+        done = self.at_terminal("facl-check", ["small", "rules"], {"COLUMNS": "50", "LINES": "90", "NO_COLOR": "yes"})
+        self.assertEqual(done.out, plain)
+        done = self.at_terminal("facl-check", ["small", "rules"], {"COLUMNS": "50", "LINES": "5", "PAGER": "echo paged"})
+        self.assertEqual(done.out, b"paged\n")
+
+    def test_all_hold(self) -> None:
+        self.expect(self.check(b"never others write /\n"), 0, b"small (of srva, 2026-11-27T03:10:00Z): 1 rule holds\n")
+        self.expect(self.check(b"never others write /\n", "--quiet"), 0, b"")
+
+    def test_json(self) -> None:
+        found = json.loads(self.check(self.RULES, "--json").out)
+        self.assertEqual((found["schema"], found["broken"]), ("facl-check/1", 2))
+        self.assertEqual([it["holds"] for it in found["rules"]], [False, False, True])
+        self.assertEqual(found["rules"][1]["violations"], [{
+            "user": "bert", "count": 1, "files": ["srv/hr/cases/two"],
+            "entries": [{"path": "srv/hr/cases/two", "entries": ["group::rw- (effective r--)"]}], "who_else": ["anna"]}])
+
+
+class WrongRules(Checks):
+    def test_each_fault_is_said(self) -> None:
+        done = self.check(b"never anna read srv/hr/\nnever nobody read srv/hr/\nonly @nix read srv/hr/\nalways anna read srv/nix\n"
+                          b"never hr read srv/hr/\nnever anna see srv/hr/\nnever 4711 read srv/hr/\nnever 'anna read srv\n"
+                          b"never anna read srv/../srv\nnever read srv/hr/\n")
+        form = b"a rule is never|only|always WHO.. read|write|enter PATH"
+        texts = [b"nobody: no such user in the snapshot", b"@nix: no such group in the snapshot", b"srv/nix: is not in the snapshot",
+                 b"hr: no such user in the snapshot; @hr is a group", form, b"4711: no such user in the snapshot",
+                 b"a single quote is open: in a name write it as \\047", b"srv/../srv: write the path from the root, without ..", form]
+        wanted = b"".join(b"facl-check: rules, line %d: %s\n" % (place, text) for place, text in enumerate(texts, 2))
+        self.expect(done, 2, b"", wanted)
+
+    def test_no_rules(self) -> None:
+        self.expect(self.check(b"# none\n"), 2, b"", b"facl-check: rules: has no rules: facl-check --write SNAPSHOT FOLDER writes those "
+                    b"that hold\n")
+        self.expect(self.run_command("facl-check", ["small"]), 2, b"", b"facl-check: RULES is missing: facl-check --write SNAPSHOT "
+                    b"FOLDER >rules writes a file of those that hold\n")
+        self.expect(self.run_command("facl-check", ["small", "-"], b"never anna see srv\n"), 2, b"", b"facl-check: standard input, "
+                    b"line 1: a rule is never|only|always WHO.. read|write|enter PATH\n")
+        self.expect(self.run_command("facl-check", ["small", "nix"]), 2, b"", b"facl-check: nix: No such file or directory\n")
+
+    def test_a_file_that_others_can_write(self) -> None:
+        self.write("rules", b"never anna read srv/hr/\n")
+        os.chmod(self.path("rules"), 0o666)
+        done = self.run_command("facl-check", ["small", "rules"])
+        self.assertEqual((done.status, b"not trusted" in done.messages), (2, True))
+
+
+class Written(Checks):
+    def test_what_is_written_holds(self) -> None:
+        done = self.run_command("facl-check", ["--write", "small", "srv/hr", "srv/hr/cases/full", "srv/hr/cases/one"])
+        self.assertEqual((done.status, done.messages), (0, b""))
+        lines = [line for line in done.out.splitlines() if line and not line.startswith(b"#")]
+        self.assertEqual(lines[:6], [
+            b"never others read srv/hr/", b"only @hr xaver read srv/hr/", b"always @hr read srv/hr/",
+            b"never others write srv/hr/", b"only @hr write srv/hr/", b"always anna write srv/hr/"])
+        self.assertIn(b"always @hr write srv/hr/cases/one", lines)
+        self.assertEqual(self.rows(done.out), [])
+
+    def test_odd_names(self) -> None:
+        passwd = PASSWD.replace(b"xaver:", b"others:").replace(b"bert:", b"@hr:").replace(b"carl:", b"o'x \x1b[1m:")
+        group = GROUP.replace(b"bert", b"@hr").replace(b"carl", b"o'x \x1b[1m").replace(b"law:", b"the law:")
+        group += b"more:x:1003:\n"
+        name = b"/srv/hr/it's \xff\\012#1"
+        self.take({b"/srv/hr/": FOLDER % b"r-x", name: FILE.replace(b"1009", b"1003") % b"rw-"}, passwd=passwd, group=group)
+        done = self.run_command("facl-check", ["--write", "small", "srv/hr", os.fsdecode(name.replace(b"\\012", b"\n"))])
+        self.assertEqual((done.status, done.messages), (0, b""))
+        self.assertIn(b"'others'", done.out)
+        self.assertNotRegex(done.out, b"[\x00-\x09\x0b-\x1f\x7f\xff]")
+        self.assertEqual(self.rows(done.out), [])
+        rules = done.out.replace(b"only", b"never").replace(b"always", b"never")
+        again = self.check(rules)
+        self.assertEqual((again.status, again.messages), (1, b""))
+        self.assertNotRegex(again.out, b"[\x00-\x09\x0b-\x1f\x7f\xff]")
+
+    def test_by_default_the_folders_of_the_snapshot(self) -> None:
+        done = self.run_command("facl-check", ["--write", "small"])
+        self.assertIn(b"\n# srv/hr/\n", done.out)
+        self.assertEqual(self.run_command("facl-check", ["--write", "--json", "small"]).status, 2)
+
+
+class Streams(Checks):
+    def test_an_interrupted_run_leaves_nothing(self) -> None:
+        self.write("rules", Report.RULES)
+        os.chmod(self.path("rules"), 0o600)
+        for wait in (0.05, 0.15, 0.3):
+            with tempfile.TemporaryDirectory() as folder:
+                words = [sys.executable, "-I", os.path.join(COMMANDS, "facl-check"), "small", "rules"]
+                run = subprocess.Popen(words, cwd=self.folder, env={**os.environ, "TMPDIR": folder}, preexec_fn=restore_signals,
+                                       stdout=subprocess.DEVNULL, stderr=subprocess.DEVNULL)
+                time.sleep(wait)
+                run.send_signal(signal.SIGTERM)
+                self.assertIn(run.wait(), (1, 128 + signal.SIGTERM, -signal.SIGTERM))
+                self.assertEqual(os.listdir(folder), [])
+
+
+if __name__ == "__main__":
+    unittest.main()

@@ -1,0 +1,234 @@
+"""facl-daily on a real tree: snapshots that are made and kept, the text that is printed or mailed, and what is left."""
+from __future__ import annotations
+
+import fcntl
+import os
+import re
+import shutil
+import signal
+import subprocess
+import tempfile
+import time
+import unittest
+from typing import List, Optional
+
+from common import COMMANDS, Case, Done, restore_signals
+
+NEEDED = ("getfacl", "setfacl", "getent", "flock")
+USERS = "root:x:0:0::/:/bin/sh\nanna:x:71001:71001::/:/bin/sh\n"
+GROUPS = "root:x:0:\nanna:x:71001:\n"
+STUBS = {
+    "getent": "#!/bin/sh\n[ $# -gt 1 ] || exec cat \"$STUBS/$1\"\nexit 2\n",
+    "sendmail": "#!/bin/sh\n[ ! -e \"$STUBS/broken\" ] || exit 75\ncat >\"$STUBS/mail\"\n",
+    "passwd": USERS,
+    "group": GROUPS,
+}
+# In the place of facl-diff, where that is not in the commands.
+DIFF = "#!/bin/sh\ncmp -s \"$1/dump\" \"$2/dump\" || { echo differs; exit 1; }\n"
+MAIL = """\
+To: root@srva
+Subject: facl on HOST: something to look at
+MIME-Version: 1.0
+Content-Type: text/plain; charset=UTF-8
+Content-Transfer-Encoding: 8bit
+
+facl on HOST, DAY: TOP/tree
+
+== changes since DAY (facl-diff)
+..
+
+== findings (facl-audit)
+TOP/kept/DAY.2 (of HOST, TIME): 2 files at or below TOP/tree
+high    writable-by-everybody   1 file
+        any user can write it, along its path
+        first: PATH/tree/file
+        mend:  setfacl -n -m o::r-- PATH/tree/file
+middle  readable-by-everybody   2 files
+        any user can read it, along its path
+        first: PATH/tree
+        then:  PATH/tree/file
+        mend:  setfacl -n -m o::--x PATH/tree
+findings: 1 high, 1 middle
+all files of one: facl-audit --list writable-by-everybody TOP/kept/DAY.2
+all lines of one: facl-audit --edits writable-by-everybody TOP/kept/DAY.2 >edits; facl-plan TOP/kept/DAY.2 edits
+
+== rules that do not hold (facl-check)
+TOP/rules, line 1: never others write TOP/tree/
+    others may write 1 file, first: PATH/tree/file
+        by  .: other::r-x
+            BLOCKS
+        who else may: anna
+TOP/kept/DAY.2 (of HOST, TIME): 1 of 1 rule does not hold
+"""
+
+
+@unittest.skipIf(any(shutil.which(tool) is None for tool in NEEDED), "it takes " + ", ".join(NEEDED))
+class Daily(Case):
+    def setUp(self) -> None:
+        super().setUp()
+        os.chmod(self.folder, 0o755)
+        self.folder = os.path.realpath(self.folder)
+        self.tree = self.path("tree")
+        os.mkdir(self.tree)
+        os.chmod(self.tree, 0o755)
+        self.make("file", 0o644)
+        os.mkdir(self.path("stubs"), 0o755)
+        for name, text in [*STUBS.items(), *([] if os.path.exists(os.path.join(COMMANDS, "facl-diff")) else [("facl-diff", DIFF)])]:
+            self.write("stubs/" + name, text.encode())
+            os.chmod(self.path("stubs/" + name), 0o755)
+        self.write("rules", b"never others write " + os.fsencode(self.tree) + b"/\n")
+        os.chmod(self.path("rules"), 0o600)
+
+    def make(self, name: str, mode: int) -> None:
+        with open(os.path.join(self.tree, name), "wb") as file:
+            file.write(b"something")
+        os.chmod(os.path.join(self.tree, name), mode)
+
+    def environment(self, **more: str) -> "dict[str, str]":
+        return {**os.environ, "PATH": self.path("stubs") + ":" + os.environ["PATH"], "STUBS": self.path("stubs"), **more}
+
+    def daily(self, *words: str, folders: Optional[List[str]] = None) -> Done:
+        words = ("--folder", self.path("kept"), "--rules", "rules", *words, *([self.tree] if folders is None else folders))
+        done = subprocess.run([os.path.join(COMMANDS, "facl-daily"), *words], cwd=self.folder, env=self.environment(),
+                              stdin=subprocess.DEVNULL, capture_output=True, check=False)
+        return Done(done.returncode, done.stdout, done.stderr)
+
+    def kept(self) -> List[str]:
+        """The names in its folder, without the day."""
+        day = time.strftime("%Y-%m-%d")
+        return [name.replace(day, "DAY") for name in sorted(os.listdir(self.path("kept")))]
+
+    def plain(self, text: bytes) -> str:
+        """A text with its parts that are others each day."""
+        for word, name in ((os.uname().nodename, "HOST"), (self.folder, "TOP"), (self.folder.strip("/"), "PATH"),
+                           (time.strftime("%Y-%m-%d") + "T", "DAYT"), (time.strftime("%Y-%m-%d"), "DAY")):
+            text = text.replace(word.encode(), name.encode())
+        found = re.sub(r"DAYT[\d:]+Z", "TIME", text.decode())
+        found = re.sub(r"(?<=other::r-x\n)(?:            .*\n)+", "            BLOCKS\n", found)
+        return re.sub(r"(?<=\(facl-diff\)\n)(?:.*\n)*?(?=\n== )", "..\n", found)
+
+
+class Week(Daily):
+    def test_three_snapshots(self) -> None:
+        words = ("--keep", "2", "--mail", "root@srva")
+        self.expect(self.daily(*words), 0, b"")
+        os.mkdir(self.path("kept/2026-01-01"))
+        self.assertFalse(os.path.exists(self.path("stubs/mail")))
+        os.chmod(os.path.join(self.tree, "file"), 0o646)
+        self.expect(self.daily(*words), 1, b"")
+        self.assertEqual(self.plain(self.read("stubs/mail")), MAIL)
+        os.chmod(os.path.join(self.tree, "file"), 0o644)
+        self.expect(self.daily(*words), 1, b"")
+        text = self.read("stubs/mail")
+        self.assertEqual([line.split(b" ")[1] for line in text.splitlines() if line.startswith(b"== ")], [b"changes"])
+        self.assertEqual(self.kept(), ["2026-01-01", "DAY.2", "DAY.3", "made.by-facl-daily"])
+        self.expect(self.daily(*words), 0, b"")
+        self.assertEqual(self.kept(), ["2026-01-01", "DAY.3", "DAY.4", "made.by-facl-daily"])
+
+    def test_printed(self) -> None:
+        os.chmod(os.path.join(self.tree, "file"), 0o646)
+        done = self.daily()
+        wanted = MAIL.partition("\n\n")[2].replace("DAY.2", "DAY").replace("== changes since DAY (facl-diff)\n..\n\n", "")
+        self.assertEqual((done.status, self.plain(done.out), done.messages), (1, wanted, b""))
+        self.assertEqual(os.stat(self.path("kept")).st_mode & 0o777, 0o700)
+
+    def test_accepted_and_options_of_the_snapshot(self) -> None:
+        self.make("x.tmp", 0o666)
+        self.make("y.tmp", 0o666)
+        self.write("accepted", b"writable-by-everybody %s/y.tmp needed\n" % os.fsencode(self.tree))
+        os.chmod(self.path("accepted"), 0o600)
+        self.write("rules", b"never 71001 write %s/file\n" % os.fsencode(self.tree))
+        self.expect(self.daily("--accepted", "accepted", "--snapshot", "--exclude x.*"), 0, b"")
+
+
+class Units(Daily):
+    """The files that the package has for systemd and cron."""
+
+    def words_in(self, name: str, pattern: str) -> List[str]:
+        with open(os.path.join(COMMANDS, "daily", name), encoding="utf-8") as file:
+            found: str = re.findall(pattern, file.read(), re.MULTILINE)[0]
+        return found.split()
+
+    def test_their_words(self) -> None:
+        text = self.daily("--help").out.decode()
+        with open(os.path.join(COMMANDS, "..", "docs", "facl-commands.1"), encoding="utf-8") as file:
+            page = re.findall(r'^FACL_DAILY="(.*)"$', file.read().replace("\\-", "-"), re.MULTILINE)[0].split()
+        for words in (self.words_in("facl-daily.default", '^FACL_DAILY="(.*)"$'), page,
+                      self.words_in("facl-daily.cron", "root facl-daily (.*)")):
+            options = [word for word in words if word.startswith("--")]
+            self.assertEqual([], [word for word in options if "\n  %s " % word not in text], words)
+            self.assertEqual(words[-1], "/srv")
+
+    def test_the_service(self) -> None:
+        self.assertEqual(self.words_in("facl-daily.service", "^ExecStart=(.*)"), ["/usr/bin/facl-daily", "$FACL_DAILY"])
+        self.assertEqual(self.words_in("facl-daily.timer", "^OnCalendar=(.*)"), ["*-*-*", "03:10:00"])
+
+
+class Faults(Daily):
+    def test_a_snapshot_with_another_file_stays(self) -> None:
+        self.assertEqual(self.daily("--keep", "1").status, 0)
+        day = time.strftime("%Y-%m-%d")
+        self.write("kept/%s/notes" % day, b"mine")
+        done = self.daily("--keep", "1")
+        self.assertEqual((done.status, self.kept()), (0, ["DAY", "DAY.2", "made.by-facl-daily"]))
+        self.assertIn(b"has files that are no snapshot's, so it stays", done.messages)
+
+    def test_words(self) -> None:
+        for words, text in ((["--keep", "0"], b"--keep 0: is no number of snapshots"), (["--keep"], b"--keep: takes a word"),
+                            (["--mail", "a b"], b"--mail a b: is no address"), (["--fail-on", "x"], b"give high, middle or low"),
+                            (["--snapshot", "--quiet --split 9"], b"leave --split out"), (["--nix"], b"--nix: is no option")):
+            done = self.daily(*words, folders=[] if words == ["--keep"] else None)
+            self.assertEqual((done.status, done.out, text in done.messages), (2, b"", True), done)
+        self.assertIn(b"give a FOLDER from the root on", self.daily(folders=["tree"]).messages)
+        self.assertFalse(os.path.exists(self.path("kept")))
+
+    def test_a_folder_that_others_can_write(self) -> None:
+        os.mkdir(self.path("kept"))
+        os.chmod(self.path("kept"), 0o770)
+        done = self.daily()
+        self.assertEqual((done.status, os.listdir(self.path("kept"))), (2, []))
+        self.assertIn(b"nobody else may write there", done.messages)
+
+    def test_two_at_once(self) -> None:
+        os.mkdir(self.path("kept"), 0o700)
+        folder = os.open(self.path("kept"), os.O_RDONLY)
+        self.addCleanup(os.close, folder)
+        fcntl.flock(folder, fcntl.LOCK_EX)
+        done = self.daily()
+        self.assertEqual((done.status, os.listdir(self.path("kept"))), (2, []))
+
+    def test_no_snapshot(self) -> None:
+        done = self.daily(folders=[self.path("nix")])
+        self.assertEqual((done.status, self.kept()), (2, []))
+        self.assertIn(b"== facl-snapshot: status 2\n", done.out)
+
+    def test_a_rule_that_cannot_be_used(self) -> None:
+        self.write("rules", b"never nobody read /\n")
+        done = self.daily()
+        self.assertEqual((done.status, self.kept()), (2, ["DAY", "made.by-facl-daily"]))
+        self.assertIn(b"rules, line 1: nobody: no such user in the snapshot\n", done.out)
+
+    def test_mail_that_cannot_be_sent(self) -> None:
+        self.write("stubs/broken", b"")
+        os.chmod(os.path.join(self.tree, "file"), 0o646)
+        done = self.daily("--mail", "root")
+        self.assertEqual((done.status, self.kept()), (2, ["DAY", "made.by-facl-daily"]))
+        self.assertIn(b"sendmail: status 75; this was to be sent:\nTo: root\n", done.messages)
+
+    def test_an_interrupted_run_leaves_nothing(self) -> None:
+        words = [os.path.join(COMMANDS, "facl-daily"), "--folder", self.path("kept"), self.tree]
+        for number in (signal.SIGHUP, signal.SIGINT, signal.SIGTERM):
+            for wait in (0.05, 0.3, 0.6, 1.0):
+                with tempfile.TemporaryDirectory() as folder:
+                    run = subprocess.Popen(words, env=self.environment(TMPDIR=folder), preexec_fn=restore_signals,
+                                           stdout=subprocess.DEVNULL, stderr=subprocess.DEVNULL)
+                    time.sleep(wait)
+                    run.send_signal(number)
+                    if run.wait() == 0:
+                        return
+                    self.assertIn(run.wait(), (128 + number, -number))
+                    self.assertEqual((os.listdir(folder), self.kept() if os.path.exists(self.path("kept")) else []), ([], []))
+
+
+if __name__ == "__main__":
+    unittest.main()

@@ -1,0 +1,407 @@
+"""facl-diff over pairs of the stored snapshot, whose rows are worked by hand by the rules of acl(5)."""
+from __future__ import annotations
+
+import json
+import os
+import re
+import shutil
+import signal
+import subprocess
+import sys
+import time
+import unittest
+from typing import Any, Dict, List, Tuple
+
+from common import COMMANDS, Case, Done, restore_signals
+
+sys.path.insert(0, COMMANDS)
+
+from facl_commands.diff_states import pairs_of  # noqa: E402
+from facl_commands.diff_words import entries_of, words_of_list  # noqa: E402
+
+PAIR = ("before", "after")
+NOTHING = b"nothing differs: the same users, groups of users, files and lists\n"
+NEW_FILE = b"# owner: 1001\n# group: 100\nuser::rw-\ngroup::r--\nother::---\n\n"
+ONE, NOTES = b"# file: /srv/share/one\n", b"# file: /srv/share/notes\n"
+META = b"host %s\ndate 2026-11-%dT03:10:00Z\nfolder %s\n"
+SLOW = "#!/bin/sh\necho >>'%s'\nexec sleep 60\n"
+
+
+class DiffCase(Case):
+    def setUp(self) -> None:
+        super().setUp()
+        shutil.copytree(self.path("before"), self.path("after"))
+
+    def edit(self, name: str, *changes: Tuple[bytes, bytes]) -> None:
+        """Changes the text of a file, each part of which is there once."""
+        text = self.read(name)
+        for old, new in changes:
+            self.assertEqual(text.count(old), 1, old)
+            text = text.replace(old, new)
+        self.write(name, text)
+
+    def diff(self, *words: str) -> Done:
+        return self.run_command("facl-diff", [*words, *PAIR])
+
+    def below(self, *folders: str) -> Done:
+        return self.run_command("facl-diff", [*PAIR, *folders])
+
+    def rows(self, *options: str) -> List[Tuple[str, ...]]:
+        """The rows for a script, without the titles: before, after, user, files, first, why."""
+        done = self.diff("--tsv", *options)
+        self.assertEqual(done.status, 1, done.messages)
+        lines = done.out.decode("utf-8", "backslashreplace").splitlines()
+        self.assertEqual(lines[0], "BEFORE\tAFTER\tWHO\tFILES\tFIRST\tWHY")
+        return [tuple(line.split("\t")) for line in lines[1:]]
+
+    def report(self, *words: str) -> Dict[str, Any]:
+        done = self.run_command("facl-diff", ["--json", *PAIR, *words])
+        self.assertEqual(done.messages, b"")
+        found: Dict[str, Any] = json.loads(done.out)
+        return found
+
+
+class People(DiffCase):
+    def test_a_membership(self) -> None:
+        # staff has r-x on srv/share, and r-- on nine files there.
+        self.edit("after/group", (b"staff:x:100:", b"staff:x:100:guest"))
+        self.expect(self.diff(), 1, b"""\
+BEFORE  AFTER  WHO    FILES  FIRST          WHY
+none    r--    guest      9  /srv/share/-x  new member of staff
+none    r-x    guest      1  /srv/share     new member of staff
+memberships: 1 new
+""")
+
+    def test_a_user_who_left_a_group(self) -> None:
+        self.edit("before/group", (b"staff:x:100:", b"staff:x:100:guest"))
+        self.assertEqual(self.rows(), [
+            ("r--", "none", "guest", "9", "/srv/share/-x", "no longer member of staff"),
+            ("r-x", "none", "guest", "1", "/srv/share", "no longer member of staff"),
+        ])
+
+    def test_another_primary_group(self) -> None:
+        # mara owns drafts, which the path hides until she is of staff; the row of notes is her own entry under the mask.
+        self.edit("after/passwd", (b"1003:200:", b"1003:100:"))
+        self.assertEqual(self.rows(), [
+            ("none", "r--", "mara", "9", "/srv/share/-x", "new member of staff"),
+            ("none", "r-x", "mara", "1", "/srv/share", "new member of staff"),
+            ("none", "rwx", "mara", "1", "/srv/share/drafts", "new member of staff"),
+            ("none", "rw-", "mara", "1", "/srv/share/drafts/logo.svg", "new member of staff"),
+        ])
+        self.assertEqual(self.rows("--file-alone"), [("none", "r--", "mara", "8", "/srv/share/-x", "new member of staff"),
+                                                     ("none", "r-x", "mara", "1", "/srv/share", "new member of staff")])
+
+    def test_users_who_come_and_go(self) -> None:
+        self.edit("after/passwd", (b"ben:x:1002:100:Ben Kaya:/home/ben:/bin/sh\n", b"yves:x:1050:100:::\n"))
+        self.expect(self.diff(), 1, b"""\
+BEFORE  AFTER   WHO   FILES  FIRST          WHY
+r--     absent  ben       9  /srv/share/-x  user removed
+absent  r--     yves      9  /srv/share/-x  new user
+r-x     absent  ben       3  /              user removed
+absent  r-x     yves      3  /              new user
+users: 1 new (yves), 1 gone (ben)
+""")
+
+    def test_another_id(self) -> None:
+        # Files keep the ids: the list of notes names 1003, who owns drafts; the group of that is design, of which she is.
+        self.edit("after/passwd", (b"mara:x:1003:200:", b"mara:x:1005:200:"))
+        self.assertEqual(self.rows("--file-alone"), [("r--", "none", "mara", "1", "/srv/share/notes", "other user id")])
+
+    def test_a_user_with_the_id_of_another(self) -> None:
+        # No line of useradd makes the second one; it is of no group of files, and others may do nothing in srv/share.
+        self.edit("after/passwd", (b"guest:x:1009", b"twin:x:1002:300:::\nguest:x:1009"))
+        report = self.report()
+        self.assertEqual(report["answered_by"], "index")
+        self.assertEqual(report["changes"], [{"before": "absent", "after": "r-x", "users": ["twin"], "files": 2, "first": "/",
+                                              "why": "new user"}])
+        self.assertEqual(report["users"], {"new": ["twin"], "removed": [], "other_id": []})
+
+    def test_two_users_of_one_id_who_were_there(self) -> None:
+        for name in PAIR:
+            self.write(name + "/passwd", self.read(name + "/passwd") + b"twin:x:1002:300:::\n")
+        self.edit("after/group", (b"guests:x:300:", b"guests:x:300:ben"))
+        self.assertEqual(self.report()["answered_by"], "gains")
+
+    def test_groups_that_are_new_or_renamed(self) -> None:
+        self.edit("after/group", (b"audit:x:400:ben", b"auditors:x:400:ben\nnew:x:401:guest,ben\n"))
+        self.expect(self.diff(), 0, b"nobody gained or lost anything; memberships: 2 new\n")
+        self.edit("after/dump", (ONE + NEW_FILE, ONE + NEW_FILE.replace(b"group: 100", b"group: 401")))
+        report = self.report("--file-alone")
+        self.assertEqual(report["answered_by"], "gains")
+        self.assertEqual([(row["users"], row["why"]) for row in report["changes"]], [(["guest"], None)])
+
+    def test_people_of_one_change_are_on_one_line(self) -> None:
+        self.edit("after/dump", (ONE + NEW_FILE, ONE + NEW_FILE.replace(b"other::---", b"other::r--")))
+        self.edit("after/dump", (b"# file: /srv/share/\n# owner: 1001\n# group: 100\nuser::rwx\ngroup::r-x\nother::---",
+                                 b"# file: /srv/share/\n# owner: 1001\n# group: 100\nuser::rwx\ngroup::r-x\nother::--x"))
+        self.expect(self.diff(), 1, b"""\
+BEFORE  AFTER  WHO         FILES  FIRST                       WHY
+none    r--    mara            2  /srv/share/notes            /srv/share opened
+none    --x    mara guest      1  /srv/share                  others' entry changed
+none    rwx    mara            1  /srv/share/drafts           /srv/share opened
+none    rw-    mara            1  /srv/share/drafts/logo.svg  /srv/share opened
+none    r--    guest           1  /srv/share/one              /srv/share opened, others' entry changed
+files: 2 with another owner, group, flags or list
+""")
+
+    def test_who_is_looked_at(self) -> None:
+        self.write("after/passwd", self.read("after/passwd").replace(b"root:x:0:0:", b"root:x:0:100:") + b"www:x:33:100:::\n")
+        done = self.diff()
+        self.expect(done, 0, b"nobody gained or lost anything; users: 1 new (www); memberships: 1 new, 1 gone\n",
+                    b"facl-diff: left out: 1 user who is no people (--all-users): www\n")
+        self.assertEqual({row[2] for row in self.rows("--all-users")}, {"www"})
+        self.assertEqual({row[2] for row in self.rows("--with-root", "--all-users")}, {"www", "root"})
+
+
+class Files(DiffCase):
+    def test_new_and_removed_files(self) -> None:
+        self.edit("after/dump", (b"# file: /srv/share/it's\n", b"# file: /srv/share/neu.xlsx\n"))
+        self.expect(self.diff(), 1, b"""\
+BEFORE  AFTER   WHO   FILES  FIRST                WHY
+rw-     absent  ines      1  /srv/share/it's      removed
+r--     absent  ben       1  /srv/share/it's      removed
+absent  rw-     ines      1  /srv/share/neu.xlsx  new file
+absent  r--     ben       1  /srv/share/neu.xlsx  new file
+files: 1 new, 1 gone
+""")
+
+    def test_moved_files(self) -> None:
+        self.edit("after/dump", (b"# file: /srv/share/it's\n", b"# file: /srv/share/its\n"),
+                  (b"# file: /srv/share/one\n", b"# file: /srv/share/uno\n"))
+        row = b"5 %d 1700000000.000000001 /srv/share/%s\0"
+        self.write("before/inodes", b"boot 1\0" + row % (7, b"it's") + row % (8, b"one"))
+        self.write("after/inodes", b"boot 1\0" + row % (7, b"its") + row % (8, b"uno"))
+        rows = self.rows()
+        self.assertIn(("r--", "absent", "ben", "2", "/srv/share/it's", "moved to /srv/share/its"), rows)
+        self.assertIn(("absent", "rw-", "ines", "2", "/srv/share/its", "moved from /srv/share/it's"), rows)
+        # one is one of two names of a file.
+        report = self.report()
+        self.assertEqual(report["files"], {"changed": 0, "new": 2, "removed": 2,
+                                           "moved": [{"from": "/srv/share/it's", "to": "/srv/share/its"}]})
+        # Another inode, or a time of birth that is not known, is another file.
+        for text in (b"5 9 1700000000.000000001 ", b"5 7 0.000000000 "):
+            self.write("after/inodes", b"boot 1\0" + text + b"/srv/share/its\0")
+            self.assertEqual(self.report()["files"]["moved"], [])
+
+    def test_a_file_that_became_a_directory(self) -> None:
+        self.edit("after/dump", (ONE + NEW_FILE, b"# file: /srv/share/one/\n" + NEW_FILE.replace(b"rw-", b"rwx")
+                                 + b"# file: /srv/share/one/in\n" + NEW_FILE))
+        rows = [("rw-", "rwx", "ines", "1", "/srv/share/one", "owner's entry changed"),
+                ("absent", "rw-", "ines", "1", "/srv/share/one/in", "new file")]
+        self.assertEqual(self.rows(), rows)
+        self.assertEqual(self.report()["answered_by"], "gains")
+        shutil.copytree(self.path("before"), self.path("third"))
+        shutil.rmtree(self.path("before"))
+        os.rename(self.path("after"), self.path("before"))
+        os.rename(self.path("third"), self.path("after"))
+        self.assertEqual([row[:2] for row in self.rows()], [("rwx", "rw-"), ("rw-", "absent")])
+
+    def test_flags_and_default_lists_alone(self) -> None:
+        self.edit("after/dump", (b"default:user::rwx\n", b"default:user::r-x\n"), (b"# flags: -s-", b"# flags: -st"))
+        self.expect(self.diff(), 0, b"nobody gained or lost anything; files: 1 with another owner, group, flags or list\n")
+
+    def test_hostile_names(self) -> None:
+        for name in PAIR:
+            self.write(name + "/passwd", self.read(name + "/passwd") + b"1003:x:1100:300:::\n-a b\\:x:1101:300:::\n"
+                       b"=c\xff:x:1102:300:::\n#no row\n")
+        self.edit("after/group", (b"staff:x:100:", b"staff:x:100:1003,-a b\\,=c\xff"))
+        self.edit("after/dump", (b"# file: /srv/share/it's\n", b"# file: /srv/share/\\033[1m\t\n"))
+        self.assertEqual(self.report()["answered_by"], "gains")
+        done = self.diff("--no-pager")
+        self.assertIn(b"none    r--     1003 -a\\040b\\134 =c\\377          8  /srv/share/-x ", done.out)
+        self.assertNotIn(b"\x1b", done.out)
+        self.assertEqual(len({line.count(b"\t") for line in self.diff("--tsv").out.split(b"\n")[:-1]}), 1)
+
+    def test_folders(self) -> None:
+        self.edit("after/group", (b"staff:x:100:", b"staff:x:100:guest"))
+        self.edit("after/dump", (b"# file: /srv/share/drafts/logo.svg\n", b"# file: /srv/share/drafts/new.svg\n"))
+        self.expect(self.below("/srv/share/drafts"), 0,
+                    b"nobody gained or lost anything; files: 1 new, 1 gone; memberships: 1 new\n")
+        self.expect(self.below("srv/share/notes", "/srv/share/two/"), 1, b"""\
+BEFORE  AFTER  WHO    FILES  FIRST             WHY
+none    r--    guest      2  /srv/share/notes  new member of staff
+memberships: 1 new
+""")
+        # What is recorded at one of the times.
+        for name in ("logo.svg", "new.svg"):
+            self.assertEqual(self.below("/srv/share/drafts/" + name).status, 0)
+        done = self.below("/srv/nowhere")
+        self.assertEqual(done.status, 2)
+        self.assertTrue(done.messages.startswith(b"facl-diff: /srv/nowhere: is not recorded"), done.messages)
+
+    def test_both_ways_agree(self) -> None:
+        self.edit("after/group", (b"staff:x:100:", b"staff:x:100:guest"))
+        self.edit("after/passwd", (b"mara:x:1003:200:", b"mara:x:1003:100:"))
+        self.edit("after/dump", (b"# file: /srv/share/it's\n", b"# file: /srv/share/its\n"), (
+            b"user:1003:rw-\t\t\t#effective:r--\ngroup::r--\nmask::r--", b"user:1003:rw-\ngroup::r--\nmask::rw-"))
+        views: List[List[str]] = [[], ["--file-alone"]]
+        for options in views:
+            edits, records = self.report(*options), self.report("/", *options)
+            self.assertEqual((edits.pop("answered_by"), records.pop("answered_by")), ("gains", "index"))
+            self.assertEqual((edits.pop("folders"), records.pop("folders")), ([], ["/"]))
+            self.assertEqual(edits, records)
+
+
+class Words(DiffCase):
+    def why(self, *changes: Tuple[bytes, bytes]) -> List[Tuple[str, ...]]:
+        """The user, both rights and the reason of each row, each file judged alone."""
+        self.edit("after/dump", *changes)
+        found: List[Tuple[str, ...]] = [(row[2], row[0], row[1], row[5]) for row in self.rows("--file-alone")]
+        shutil.copy(self.path("before/dump"), self.path("after/dump"))
+        return found
+
+    def test_lists(self) -> None:
+        plain = ONE + NEW_FILE
+        self.assertEqual(self.why((plain, plain.replace(b"group::r--", b"user:1009:r--\ngroup::r--\nmask::r--"))),
+                         [("guest", "none", "r--", "user entry added")])
+        self.assertEqual(self.why((plain, plain.replace(b"other", b"group:300:rw-\nmask::r--\nother"))),
+                         [("guest", "none", "r--", "group entry added")])
+        self.assertEqual(self.why((plain, plain.replace(b"group::r--", b"group::---"))),
+                         [("ben", "r--", "none", "group entry changed")])
+        self.assertEqual(self.why((plain, plain.replace(b"owner: 1001", b"owner: 1009"))),
+                         [("ines", "rw-", "r--", "no longer the owner"), ("guest", "none", "rw-", "is the owner now")])
+        self.assertEqual(self.why((plain, plain.replace(b"group: 100", b"group: 300"))),
+                         [("ben", "r--", "none", "other group of the file"),
+                          ("guest", "none", "r--", "other group of the file")])
+        self.assertEqual(self.why((b"user:1003:rw-\t\t\t#effective:r--\ngroup::r--\nmask::r--",
+                                   b"user:1003:rw-\ngroup::r--\nmask::rw-")), [("mara", "r--", "rw-", "mask changed")])
+        self.assertEqual(self.why((b"user:1003:rw-\t\t\t#effective:r--\ngroup::r--\nmask::r--\n", b"group::r--\n")),
+                         [("mara", "r--", "none", "user entry gone")])
+
+    def test_nothing_is_said_where_two_things_changed(self) -> None:
+        self.edit("after/group", (b"guests:x:300:", b"guests:x:300:ben"))
+        plain = ONE + NEW_FILE
+        self.assertEqual(self.why((plain, plain.replace(b"group: 100", b"group: 300").replace(b"group::r--", b"group::rw-"))),
+                         [("ben", "r--", "rw-", ""), ("guest", "none", "rw-", "other group of the file")])
+
+    def test_a_directory_that_closed(self) -> None:
+        self.edit("after/dump", (b"# file: /srv/share/\n# owner: 1001\n# group: 100\nuser::rwx\ngroup::r-x\n",
+                                 b"# file: /srv/share/\n# owner: 1001\n# group: 100\nuser::rwx\ngroup::r--\n"))
+        self.assertEqual(self.rows(), [("r--", "none", "ben", "9", "/srv/share/-x", "/srv/share closed"),
+                                       ("r-x", "r--", "ben", "1", "/srv/share", "group entry changed")])
+
+    def test_entries(self) -> None:
+        old = entries_of(b"# file: f\ngroup::rwx\t\t\t#effective:r--\ngroup:7:r--")
+        self.assertEqual(old, {(b"group", b""): (b"rwx", b"r--"), (b"group", b"7"): (b"r--", b"r--")})
+        self.assertEqual(words_of_list(old, entries_of(b"group::rwx\ngroup:7:r--"), False), b"mask changed")
+        # An entry is gone, and another one changed.
+        self.assertEqual(words_of_list(old, entries_of(b"group:7:---"), False), b"")
+
+
+class Snapshots(DiffCase):
+    def test_the_same(self) -> None:
+        self.expect(self.diff(), 0, NOTHING)
+        self.expect(self.run_command("facl-diff", ["before", "before"]), 0, NOTHING)
+        self.expect(self.diff("--tsv"), 0, b"BEFORE\tAFTER\tWHO\tFILES\tFIRST\tWHY\n")
+
+    def test_a_dump_with_names(self) -> None:
+        text = re.sub(rb"^# owner: 1001$", b"# owner: ines", self.read("after/dump"), flags=re.MULTILINE)
+        self.write("after/dump", text)
+        self.expect(self.diff(), 0, NOTHING)
+
+    def test_what_cannot_be_used(self) -> None:
+        for words, text in (
+            (["before", "nowhere"], b"nowhere: no such folder: make a snapshot by facl-snapshot"),
+            (["before", "after/dump"], b"after/dump: no such folder: make a snapshot by facl-snapshot"),
+        ):
+            self.expect(self.run_command("facl-diff", words), 2, b"", b"facl-diff: " + text + b"\n")
+        self.assertEqual(self.run_command("facl-diff", ["before"]).status, 2)
+        self.assertEqual(self.diff("--json", "--tsv").status, 2)
+        os.mkdir(self.path("parts"))
+        shutil.copytree(self.path("before"), self.path("parts/001"))
+        done = self.run_command("facl-diff", ["before", "parts"])
+        self.assertEqual((done.status, b"has the parts of a tree (--split)" in done.messages), (2, True))
+        self.write("after/passwd", b"ines:x:one:100:::\n")
+        self.assertEqual(self.diff().status, 2)
+        self.write("after/passwd", self.read("before/passwd"))
+        self.write("after/dump", b"# file: x\nuser::rw-\n")
+        done = self.diff()
+        self.assertEqual((done.status, done.out), (2, b""))
+        self.assertIn(b"facl-diff: after: the program does not load it: facl: setup: dump: ", done.messages)
+
+    def test_servers(self) -> None:
+        self.write("before/meta", META % (b"srva", 26, b"/srv/share"))
+        self.write("after/meta", META % (b"srvb", 27, b"/srv/share"))
+        self.expect(self.diff(), 2, b"",
+                    b"facl-diff: before is of srva, and after of srvb: --any-host compares them\n")
+        self.expect(self.diff("--any-host"), 0, NOTHING)
+
+    def test_warnings(self) -> None:
+        self.write("before/meta", META % (b"srva", 27, b"/srv/share"))
+        self.write("after/meta", META % (b"srva", 26, b"/srv/other"))
+        self.expect(self.diff(), 0, NOTHING, b"""\
+facl-diff: warning: the second snapshot is older than the first one: after (of srva, 2026-11-26T03:10:00Z)
+facl-diff: warning: recorded in before alone, so that all there is new or gone: /srv/share
+facl-diff: warning: recorded in after alone, so that all there is new or gone: /srv/other
+""")
+
+    def test_json(self) -> None:
+        self.write("before/meta", META % (b"srva", 26, b"/srv/share"))
+        self.edit("after/group", (b"staff:x:100:", b"staff:x:100:guest"))
+        self.assertEqual(self.report(), {
+            "schema": "facl-diff/1", "version": "0",
+            "before": {"snapshot": "before", "host": "srva", "date": "2026-11-26T03:10:00Z"},
+            "after": {"snapshot": "after", "host": None, "date": None},
+            "folders": [], "along_paths": True, "answered_by": "gains",
+            "changes": [{"before": "none", "after": "r--", "users": ["guest"], "files": 9, "first": "/srv/share/-x",
+                         "why": "new member of staff"},
+                        {"before": "none", "after": "r-x", "users": ["guest"], "files": 1, "first": "/srv/share",
+                         "why": "new member of staff"}],
+            "left_out": [],
+            "files": {"changed": 0, "new": 0, "removed": 0, "moved": []},
+            "users": {"new": [], "removed": [], "other_id": []},
+            "memberships": {"new": 1, "removed": 0},
+        })
+
+    def test_a_page(self) -> None:
+        self.edit("after/group", (b"staff:x:100:", b"staff:x:100:guest"))
+        done = self.diff("--page", "page.html")
+        self.assertEqual((done.status, done.messages), (1, b"facl-diff: page.html: is written\n"))
+        data = re.search(r'id="data">(.*?)</script>', self.read("page.html").decode(), re.DOTALL)
+        assert data is not None
+        page = json.loads(data[1])
+        self.assertEqual((page["title"], page["script"]), ("before -> after", True))
+        done = self.diff("--page", "page.html")
+        self.assertEqual((done.status, done.out), (2, b""))
+        self.assertEqual(self.run_command("facl-diff", ["--page", "new.html", *PAIR, "/srv"]).status, 2)
+        self.edit("after/passwd", (b"guest:x:1009", b"twin:x:1002:300:::\nguest:x:1009"))
+        done = self.diff("--page", "new.html")
+        self.assertEqual((done.status, done.messages), (
+            2, b"facl-diff: no page is made, as no edits lead from one snapshot to the other: two users have the id 1002\n"))
+        self.assertFalse(os.path.exists(self.path("new.html")))
+
+    def test_an_interrupted_run(self) -> None:
+        os.mkdir(self.path("tmp"))
+        for number in (signal.SIGINT, signal.SIGTERM):
+            started = self.path("started%d" % number)
+            self.write("slow", (SLOW % started).encode())
+            os.chmod(self.path("slow"), 0o755)
+            environment = {**os.environ, "TMPDIR": self.path("tmp"), "FACL": self.path("slow")}
+            words = [sys.executable, "-I", os.path.join(COMMANDS, "facl-diff"), *PAIR]
+            with subprocess.Popen(words, cwd=self.folder, env=environment, preexec_fn=restore_signals,
+                                  stdout=subprocess.PIPE, stderr=subprocess.PIPE) as run:
+                while run.poll() is None and not os.path.exists(started):
+                    time.sleep(0.01)
+                run.send_signal(number)
+                out, messages = run.communicate()
+            self.assertEqual((run.returncode, out, messages), (128 + number, b"", b""))
+            self.assertEqual(os.listdir(self.path("tmp")), [])
+
+
+class Records(unittest.TestCase):
+    """Listings are compared record by record."""
+
+    def test_pairs(self) -> None:
+        def listing(*names: bytes) -> List[bytes]:
+            return [b"# file: " + name for name in names]
+
+        old, new = listing(b".", b"a", b"a/b", b"a b", b"c"), listing(b".", b"a/", b"a b", b"c", b"c/d")
+        pairs = {pair.path: pair for pair in pairs_of(iter(old), iter(new))}
+        self.assertEqual(sorted(pairs), [b"a", b"a/b", b"c", b"c/d"])
+        self.assertFalse(pairs[b"a"].is_of_other_kind())
+        self.assertTrue(pairs[b"c"].is_of_other_kind())
+        self.assertEqual(list(pairs_of(iter(old), iter(old))), [])
+
+
+if __name__ == "__main__":
+    unittest.main()
