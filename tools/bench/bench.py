@@ -152,7 +152,7 @@ OF_INDEX = (
 OF_LIMITS = (
     WHO, Step("`can`", "can u1 {file}"), Step("`why --reach`", "why --reach u1 {file}"), Step("`may`", "may u1 w"),
     Step("`getfacl`", "getfacl {file}"), CHMOD, CHANGES, SETFACL, *NEW, Step("`usermod -g`", "usermod -g g1 u2"),
-    *MEMBERS, NO_SEARCH, *GAINS)
+    *MEMBERS, NO_SEARCH, BELOW[0], GAINS[0])  # Along paths these take a row for each class: 16 s and 7 GB.
 
 
 def session_times(program: str, tree: Tree, steps: Iterable[Step]) -> Figures:
