@@ -16,7 +16,7 @@ use Rattle.acl_edit.specs.Steps.{remove, replace, put_some, fill_one, fill_from}
 use Rattle.acl_edit.specs.Masks.{has_mask, has_named, add_mask, recalculate, is_recalculated, takes_mask, with_mask}
 use Rattle.acl_edit.specs.Edits.{worked}
 use Rattle.acl_edit.specs.Laws.{given, has_entry, set_at, left_at, loses_mask, mask_after}
-use Rattle.acl_edit.specs.declared.edit.Change.{Change}
+use Rattle.acl_edit.specs.Changes.{Change}
 use Rattle.acl_edit.proofs.Given.{get-modify, get-remove, get-masked}
 use Rattle.acl_edit.proofs.Shown.{tied}
 

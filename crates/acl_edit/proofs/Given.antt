@@ -13,7 +13,7 @@ use Rattle.acl_edit.specs.Steps.{perms_of, remove, replace, modify, put_some, fi
 use Rattle.acl_edit.specs.Masks.{has_mask, has_named, add_mask, recalculate, is_recalculated, with_mask}
 use Rattle.acl_edit.specs.Laws.{last_for, given, has_entry, left_at}
 use Rattle.acl_edit.proofs.Shown.{tied}
-use Rattle.acl_edit.specs.declared.edit.Change.{Change}
+use Rattle.acl_edit.specs.Changes.{Change}
 
 -- ---- modified entries
 

@@ -11,7 +11,7 @@ use Rattle.acl_edit.specs.Steps.{gives_execute, strip, replace, fill_from}
 use Rattle.acl_edit.specs.Masks.{takes_mask, with_mask}
 use Rattle.acl_edit.specs.Edits.{worked, access_after, default_after, access_before, default_before}
 use Rattle.acl_edit.specs.Laws.{left_at, mask_after, had_access, had_default, IsAccessLeft, IsDefaultLeft}
-use Rattle.acl_edit.specs.declared.edit.Change.{Change}
+use Rattle.acl_edit.specs.Changes.{Change}
 use Rattle.acl_edit.specs.declared.node.Node.{Node}
 use Rattle.acl_edit.proofs.Kept.{access_unnamed, default_unnamed}
 use Rattle.acl_edit.proofs.Given.{get-masked, unnamed_left, or_right}
@@ -24,14 +24,14 @@ module _ (n : Node) (c : Change) where
   base_or_none false k e = get-strip_other n.label.acl k e
 
   pub had_access_is : (k : Key) → maps.get (access_before c n.label.acl) k ≡ had_access n c k
-  had_access_is k = by_strip c.flags.strip
+  had_access_is k = by_strip c.strip
     where
       by_strip : (b : Bool) → maps.get (if b then strip n.label.acl else n.label.acl) k ≡ (if b then (if is_base k then effective n.label.acl k else None) else maps.get n.label.acl k)
       by_strip true = base_or_none (is_base k) k refl
       by_strip false = refl
 
   pub had_default_is : (k : Key) → maps.get (default_before c n.dacl) k ≡ had_default n c k
-  had_default_is k = by_drop (c.flags.strip || c.flags.drop_default) n.dacl
+  had_default_is k = by_drop (c.strip || c.drop_default) n.dacl
     where
       by_drop : (b : Bool) (o : Option KeyMap) → maps.get (if b then maps.empty else unwrap_or o maps.empty) k ≡ (if b then None else option_and_then (λ d. maps.get d k) o)
       by_drop true o = maps.get-empty key_cmp k

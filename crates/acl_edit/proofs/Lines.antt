@@ -18,7 +18,7 @@ use Rattle.acl_edit.specs.Masks.{takes_mask, with_mask, add_mask, recalculate, i
 use Rattle.acl_text.specs.InTurn.{◌>>=◌}
 use Rattle.acl_edit.specs.Edits.{worked, checked, checked_default, access_after, default_after, access_before, default_before, changed_access, changed_default}
 use Rattle.acl_edit.specs.Laws.{HidesNothing, LeavesUnnamed, ShowsRecalculated, KeepsGranted, GivesModified, GoesByKey, LeavesByKey, CopiesBase, MakesMask, BoundsRecalculated, MasksNoMore, DropsDefault, last_for, given, has_entry, left_at, mask_made, mask_after, had_access, had_default}
-use Rattle.acl_edit.specs.declared.edit.Change.{Change}
+use Rattle.acl_edit.specs.Changes.{Change}
 use Rattle.acl_edit.specs.declared.edit.EditFault.{EditFault}
 use Rattle.acl_edit.specs.declared.edit.EditFault.TheVariants.{List as ListIs}
 use Rattle.acl_edit.specs.declared.node.Kind.{Kind}
@@ -81,7 +81,7 @@ module _ (n : Node) (c : Change) (acl : KeyMap) (dacl : Option KeyMap) (made : c
   access_is : acl ≡ access_after c (gives_execute n) (access_before c n.label.acl)
   access_is = checked_is Access _ acl made
 
-  kept_default : (k : Kind) → changed_default k n c acl ≡ Ok dacl → HasValidLists n → (c.flags.strip || c.flags.drop_default) ≡ false → names (part c Default) ≡ false → dacl ≡ n.dacl
+  kept_default : (k : Kind) → changed_default k n c acl ≡ Ok dacl → HasValidLists n → (c.strip || c.drop_default) ≡ false → names (part c Default) ≡ false → dacl ≡ n.dacl
   kept_default Plain h valid keeps unnamed = let kept : ◌≡◌ {A = Result (Option KeyMap) EditFault} (Ok n.dacl) (Ok dacl) = subst (λ b. ◌≡◌ {A = Result (Option KeyMap) EditFault} (Ok (if b then None else n.dacl)) (Ok dacl)) keeps h in cc
   kept_default Directory h valid keeps unnamed = by_list n.dacl refl
     where
@@ -135,7 +135,7 @@ module _ (n : Node) (c : Change) (acl : KeyMap) (dacl : Option KeyMap) (made : c
 
   -- ---- stripped lists
 
-  stripped : c.flags.strip ≡ true → names (part c Access) ≡ false → acl ≡ strip n.label.acl
+  stripped : c.strip ≡ true → names (part c Access) ≡ false → acl ≡ strip n.label.acl
   stripped strips unnamed = access_is ∙ access_unnamed c (gives_execute n) _ unnamed ∙ ap (λ b. if b then strip n.label.acl else n.label.acl) strips
 
   pub keeps_granted : KeepsGranted n c (with_lists n acl dacl)
@@ -272,7 +272,7 @@ module _ (n : Node) (c : Change) (acl : KeyMap) (dacl : Option KeyMap) (made : c
 
   -- ---- default lists that are dropped
 
-  dropped : (k : Kind) → changed_default k n c acl ≡ Ok dacl → (c.flags.strip || c.flags.drop_default) ≡ true → names (part c Default) ≡ false → dacl ≡ None
+  dropped : (k : Kind) → changed_default k n c acl ≡ Ok dacl → (c.strip || c.drop_default) ≡ true → names (part c Default) ≡ false → dacl ≡ None
   dropped Plain h drops unnamed =
       let none : ◌≡◌ {A = Result (Option KeyMap) EditFault} (Ok None) (Ok dacl) = subst (λ b. ◌≡◌ {A = Result (Option KeyMap) EditFault} (Ok (if b then None else n.dacl)) (Ok dacl)) drops h in cc
   dropped Directory h drops unnamed =
@@ -286,7 +286,7 @@ module _ (n : Node) (c : Change) (acl : KeyMap) (dacl : Option KeyMap) (made : c
   -- ---- default lists of plain files
 
   pub stays_sound : IsSound n → IsSound (with_lists n acl dacl)
-  stays_sound sound plain = by_drop (c.flags.strip || c.flags.drop_default) (subst (λ k. changed_default k n c acl ≡ Ok dacl) plain made_default)
+  stays_sound sound plain = by_drop (c.strip || c.drop_default) (subst (λ k. changed_default k n c acl ≡ Ok dacl) plain made_default)
     where
       by_drop : (b : Bool) → ◌≡◌ {A = Result (Option KeyMap) EditFault} (Ok (if b then None else n.dacl)) (Ok dacl) → dacl ≡ None
       by_drop true h = cc

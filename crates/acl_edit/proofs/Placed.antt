@@ -6,7 +6,7 @@ use Rattle.acl_edit.specs.Nodes.{IsSound, with_lists}
 use Rattle.acl_edit.specs.Edits as steps
 use Rattle.acl_text.specs.InTurn.{◌>>=◌}
 use Rattle.acl_edit.specs.Edits.{edit, allowed, changed_access, changed_default, is_misplaced}
-use Rattle.acl_edit.specs.declared.edit.Change.{Change}
+use Rattle.acl_edit.specs.Changes.{Change, options}
 use Rattle.acl_edit.specs.declared.edit.Edit.{Edit}
 use Rattle.acl_edit.specs.declared.edit.Edit.TheVariants as edits
 use Rattle.acl_edit.specs.declared.edit.EditFault.{EditFault}
@@ -50,7 +50,7 @@ either_none true o h = refl
 either_none false o h = h
 
 default_left : (k : Kind) (n : Node) (c : Change) (acl : KeyMap) (d : Option KeyMap) → changed_default k n c acl ≡ Ok d → k ≡ Plain → n.dacl ≡ None → d ≡ None
-default_left Plain n c acl d is plain none = sym (ap (list_or None) is) ∙ either_none (c.flags.strip || c.flags.drop_default) n.dacl none
+default_left Plain n c acl d is plain none = sym (ap (list_or None) is) ∙ either_none (c.strip || c.drop_default) n.dacl none
 default_left Directory n c acl d is plain none = absurd (directory_is_not_plain plain)
 
 none_allowed : (k : Kind) (in_recursion : Bool) (o d : Option KeyMap) → allowed k in_recursion o ≡ Ok d → k ≡ Plain → d ≡ None
@@ -73,7 +73,7 @@ line_keeps_kind n c in_recursion m is = by (is_misplaced n c in_recursion) is
 
 pub keeps_kind : (n : Node) (e : Edit) (in_recursion : Bool) (m : Node) → edit n e in_recursion ≡ Ok m → KeepsKind n m
 unfolding steps.put steps.flatten steps.restore
-keeps_kind n (edits.Change c) in_recursion m is = line_keeps_kind n c in_recursion m is
+keeps_kind n (edits.Change b k d nm rm x s md) in_recursion m is = line_keeps_kind n (options b k d nm rm x s md) in_recursion m is
 keeps_kind n (edits.Put access dacl) in_recursion m is =
     bound (KeepsKind n) (allowed n.kind in_recursion dacl) (λ d. Ok (with_lists n (unwrap_or access n.label.acl) (or_else d n.dacl)))
     (λ d given m is. made n (with_lists n (unwrap_or access n.label.acl) (or_else d n.dacl)) m

@@ -12,9 +12,9 @@ use Rattle.acl_edit.specs.Nodes.{is_directory, with_lists}
 use Rattle.acl_edit.specs.Parts.{is_given, is_for}
 use Rattle.acl_edit.specs.Edits as steps
 use Rattle.acl_text.specs.InTurn.{◌>>=◌}
-use Rattle.acl_edit.specs.Edits.{edit, edit_of, checked_default, changed_default, is_misplaced, allowed}
+use Rattle.acl_edit.specs.Edits.{edit, checked_default, changed_default, is_misplaced, allowed}
 use Rattle.acl_edit.specs.Laws.{OfLine, puts_default, misplaces_default, RefusesLists, RefusesNoList}
-use Rattle.acl_edit.specs.declared.edit.Change.{Change}
+use Rattle.acl_edit.specs.Changes.{Change, edit_of, options}
 use Rattle.acl_edit.specs.declared.edit.Edit.{Edit}
 use Rattle.acl_edit.specs.declared.edit.Edit.TheVariants as edits
 use Rattle.acl_edit.specs.declared.edit.EditFault.{EditFault}
@@ -36,7 +36,7 @@ some_given p (s ∷ specs) = by_first (p s) (some_given p specs)
     by_first false h = h
 
 misplaced_is : (n : Node) (c : Change) (r : Bool) → is_misplaced n c r ≡ misplaces_default n (edit_of c) r
-misplaced_is n c r = λ i. not (is_directory n.kind) && not r && (some_given (is_for c.flags.as_default Default) c.entries.set i || some_given (is_for c.flags.as_default Default) c.entries.modified i)
+misplaced_is n c r = λ i. not (is_directory n.kind) && not r && (some_given (is_for c.as_default Default) c.set i || some_given (is_for c.as_default Default) c.modify i)
 
 -- ---- a line
 
@@ -188,7 +188,7 @@ module _ (n : Node) (r : Bool) where
 
 pub misplaced : (n : Node) (e : Edit) (r : Bool) → (edit n e r ≡ Err DefaultOnFile) ↔ (misplaces_default n e r ≡ true)
 unfolding steps.put steps.restore
-misplaced n (edits.Change c) r = line_misplaced n c r
+misplaced n (edits.Change b k d nm rm x s md) r = line_misplaced n (options b k d nm rm x s md) r
 misplaced n (edits.Put access dacl) r = (only_given n r n.kind r dacl _, given_only n r n.kind r dacl _)
 misplaced n (edits.Flatten access dacl) r = ((λ h. cc), (λ h. by_kind (is_directory n.kind) r h))
   where
@@ -199,14 +199,14 @@ misplaced n (edits.Flatten access dacl) r = ((λ h. cc), (λ h. by_kind (is_dire
 misplaced n (edits.Restore access dacl owner group flags) r = (only_given n r n.kind r dacl _, given_only n r n.kind r dacl _)
 
 pub refused_lines : (n : Node) (e : Edit) (r : Bool) → OfLine e (λ c. RefusesLists n c r)
-refused_lines n (edits.Change c) r = refuses_lists n c r
+refused_lines n (edits.Change b k d nm rm x s md) r = refuses_lists n (options b k d nm rm x s md) r
 refused_lines n (edits.Put access dacl) r = tt
 refused_lines n (edits.Flatten access dacl) r = tt
 refused_lines n (edits.Restore access dacl owner group flags) r = tt
 
 pub refuses_no_list : (n : Node) (e : Edit) (r : Bool) → RefusesNoList n e r
 unfolding steps.put steps.restore
-refuses_no_list n (edits.Change c) r = tt
+refuses_no_list n (edits.Change b k d nm rm x s md) r = tt
 refuses_no_list n (edits.Put access dacl) r = λ which f. no_list n r n.kind r dacl _ which f
 refuses_no_list n (edits.Flatten access dacl) r = λ which f h. cc
 refuses_no_list n (edits.Restore access dacl owner group flags) r = λ which f. no_list n r n.kind r dacl _ which f
@@ -216,7 +216,7 @@ misplaces n e r h = (misplaced n e r).1 h
 
 pub takes_no_memory : (n : Node) (e : Edit) (r : Bool) → edit n e r ≢ Err NoMemory
 unfolding steps.put steps.restore
-takes_no_memory n (edits.Change c) r = line_takes_no_memory n c r
+takes_no_memory n (edits.Change b k d nm rm x s md) r = line_takes_no_memory n (options b k d nm rm x s md) r
 takes_no_memory n (edits.Put access dacl) r = memory_given n r n.kind r dacl _
 takes_no_memory n (edits.Flatten access dacl) r = λ h. cc
 takes_no_memory n (edits.Restore access dacl owner group flags) r = memory_given n r n.kind r dacl _

@@ -10,7 +10,7 @@ use Rattle.acl_edit.specs.Nodes.{is_directory, with_lists}
 use Rattle.acl_edit.specs.Parts.{Part, part, puts, names}
 use Rattle.acl_edit.specs.Steps.{gives_execute, strip, remove, modify, replace, fill_from}
 use Rattle.acl_edit.specs.Masks.{takes_mask, with_mask}
-use Rattle.acl_edit.specs.declared.edit.Change.{Change}
+use Rattle.acl_edit.specs.Changes.{Change, options}
 use Rattle.acl_edit.specs.declared.edit.Edit.{Edit}
 use Rattle.acl_edit.specs.declared.edit.Edit.TheVariants as edits
 use Rattle.acl_edit.specs.declared.edit.EditFault.{EditFault}
@@ -52,15 +52,15 @@ checked_default m = if length (entries m) == 0 then Ok None else (checked Defaul
 
 -- the access list that the steps begin with
 abbrev pub access_before : Change → KeyMap → KeyMap
-access_before c m = if c.flags.strip then strip m else m
+access_before c m = if c.strip then strip m else m
 
 -- the default list that the steps begin with
 abbrev pub default_before : Change → Option KeyMap → KeyMap
-default_before c o = if c.flags.strip || c.flags.drop_default then maps.empty else unwrap_or o maps.empty
+default_before c o = if c.strip || c.drop_default then maps.empty else unwrap_or o maps.empty
 
 -- -b and -k remove the default list
 abbrev pub kept_default : Change → Option KeyMap → Option KeyMap
-kept_default c o = if c.flags.strip || c.flags.drop_default then None else o
+kept_default c o = if c.strip || c.drop_default then None else o
 
 abbrev pub changed_access : Node → Change → Result KeyMap EditFault
 changed_access n c = checked Access (access_after c (gives_execute n) (access_before c n.label.acl))
@@ -113,11 +113,8 @@ restore n access dacl owner group flags in_recursion =
 
 -- what the edit makes of a file, or why it is refused
 abbrev pub edit : Node → Edit → Bool → Result Node EditFault
-edit n (edits.Change c) in_recursion = change n c in_recursion
+edit n (edits.Change strip drop_default as_default no_mask remask remove set modify) in_recursion =
+    change n (options strip drop_default as_default no_mask remask remove set modify) in_recursion
 edit n (edits.Put access dacl) in_recursion = put n access dacl in_recursion
 edit n (edits.Flatten access dacl) in_recursion = Ok (flatten n access dacl)
 edit n (edits.Restore access dacl owner group flags) in_recursion = restore n access dacl owner group flags in_recursion
-
--- the edit that a line is
-abbrev pub edit_of : Change → Edit
-edit_of c = edits.Change c

@@ -16,8 +16,8 @@ use Rattle.acl_edit.specs.Parts.{Part, part, names, puts, is_given, is_mask, is_
 use Rattle.acl_edit.specs.Steps.{perms_of, gives_execute}
 use Rattle.acl_text.specs.declared.entries.Spec.{Spec}
 use Rattle.acl_edit.specs.Masks.{has_named, is_recalculated}
-use Rattle.acl_edit.specs.Edits.{edit, edit_of}
-use Rattle.acl_edit.specs.declared.edit.Change.{Change}
+use Rattle.acl_edit.specs.Edits.{edit}
+use Rattle.acl_edit.specs.Changes.{Change, edit_of, options}
 use Rattle.acl_edit.specs.declared.edit.Edit.{Edit}
 use Rattle.acl_edit.specs.declared.edit.Edit.TheVariants as edits
 use Rattle.acl_edit.specs.declared.edit.EditFault.{EditFault}
@@ -79,7 +79,7 @@ mask_after x c p had new =
 -- what an access list has at a key before the line's entries: under -b a base entry has what it granted, and there is no other entry
 abbrev pub had_access : Node → Change → Key → Option Perms
 had_access old c k =
-    if c.flags.strip then (if is_base k then effective old.label.acl k else None) else maps.get old.label.acl k
+    if c.strip then (if is_base k then effective old.label.acl k else None) else maps.get old.label.acl k
 
 -- what a file's default list has at a key, if there is one
 abbrev pub default_at : Node → Key → Option Perms
@@ -87,13 +87,13 @@ default_at n k = option_and_then (λ d. maps.get d k) n.dacl
 
 -- what a default list has at a key before the line's entries: under -b and -k nothing
 abbrev pub had_default : Node → Change → Key → Option Perms
-had_default old c k = if c.flags.strip || c.flags.drop_default then None else default_at old k
+had_default old c k = if c.strip || c.drop_default then None else default_at old k
 
 module _ (old : Node) (c : Change) (new : Node) where
   -- a list that the line neither strips nor drops, and of which it names no entry, stays
   pub record LeavesUnnamed : Type 0 where
-    pub access : c.flags.strip ≡ false → names (part c Access) ≡ false → new.label.acl ≡ old.label.acl
-    pub dacl : (c.flags.strip || c.flags.drop_default) ≡ false → names (part c Default) ≡ false → new.dacl ≡ old.dacl
+    pub access : c.strip ≡ false → names (part c Access) ≡ false → new.label.acl ≡ old.label.acl
+    pub dacl : (c.strip || c.drop_default) ≡ false → names (part c Default) ≡ false → new.dacl ≡ old.dacl
 
   -- where the mask of a list that the line names is recalculated, it hides nothing
   pub record ShowsRecalculated : Type 0 where
@@ -107,8 +107,8 @@ module _ (old : Node) (c : Change) (new : Node) where
 
   -- -b leaves the base entries of an access list of which the line names no entry, with what they granted, and no other
   pub record KeepsGranted : Type 0 where
-    pub base : c.flags.strip ≡ true → names (part c Access) ≡ false → (k : Key) → is_base k ≡ true → maps.get new.label.acl k ≡ effective old.label.acl k
-    pub others : c.flags.strip ≡ true → names (part c Access) ≡ false → (k : Key) → is_base k ≡ false → maps.get new.label.acl k ≡ None
+    pub base : c.strip ≡ true → names (part c Access) ≡ false → (k : Key) → is_base k ≡ true → maps.get new.label.acl k ≡ effective old.label.acl k
+    pub others : c.strip ≡ true → names (part c Access) ≡ false → (k : Key) → is_base k ≡ false → maps.get new.label.acl k ≡ None
 
   -- a modified key has what the last entry for it gives, but a mask that is recalculated
   pub record GivesModified : Type 0 where
@@ -120,7 +120,7 @@ module _ (old : Node) (c : Change) (new : Node) where
   -- an access list that is neither stripped nor set goes key by key, but for the mask: a modified key has what it is given, a removed one
   -- is gone, and every other one is as it was
   pub record GoesByKey : Type 0 where
-    pub access : c.flags.strip ≡ false → is_given (part c Access).set ≡ false → (k : Key) → is_mask k ≡ false
+    pub access : c.strip ≡ false → is_given (part c Access).set ≡ false → (k : Key) → is_mask k ≡ false
         → maps.get new.label.acl k
         ≡ or_else (given (gives_execute old) k (part c Access).modify) (if has_entry k (part c Access).remove then None else maps.get old.label.acl k)
 
@@ -144,7 +144,7 @@ module _ (old : Node) (c : Change) (new : Node) where
 
   -- -b and -k leave no default list where the line names no entry of one
   pub record DropsDefault : Type 0 where
-    pub dacl : (c.flags.strip || c.flags.drop_default) ≡ true → names (part c Default) ≡ false → new.dacl ≡ None
+    pub dacl : (c.strip || c.drop_default) ≡ true → names (part c Default) ≡ false → new.dacl ≡ None
 
   -- the file that a line leaves: all of these
   pub record IsLeft : Type 0 where
@@ -163,7 +163,8 @@ module _ (old : Node) (c : Change) (new : Node) where
 
 -- the edit puts entries of a default list, or a whole one; a removed entry puts nothing
 abbrev pub puts_default : Edit → Bool
-puts_default (edits.Change c) = list_any (is_for c.flags.as_default Default) c.entries.set || list_any (is_for c.flags.as_default Default) c.entries.modified
+puts_default (edits.Change strip drop_default as_default no_mask remask remove set modify) =
+    list_any (is_for as_default Default) set || list_any (is_for as_default Default) modify
 puts_default (edits.Put access dacl) = is_some dacl
 puts_default (edits.Flatten access dacl) = false
 puts_default (edits.Restore access dacl owner group flags) = is_some dacl
@@ -207,7 +208,7 @@ pub record RefusesLists (n : Node) (c : Change) (in_recursion : Bool) : Type 0 w
 
 -- whole lists are lists already, so no edit that puts them is refused for their faults
 abbrev pub RefusesNoList : Node → Edit → Bool → Type 0
-RefusesNoList n (edits.Change c) in_recursion = Unit {0}
+RefusesNoList n (edits.Change strip drop_default as_default no_mask remask remove set modify) in_recursion = Unit {0}
 RefusesNoList n (edits.Put access dacl) in_recursion = (which : Which) (f : ListFault) → edit n (edits.Put access dacl) in_recursion ≢ Err (ListIs which f)
 RefusesNoList n (edits.Flatten access dacl) in_recursion = (which : Which) (f : ListFault) → edit n (edits.Flatten access dacl) in_recursion ≢ Err (ListIs which f)
 RefusesNoList n (edits.Restore access dacl owner group flags) in_recursion =
@@ -215,7 +216,7 @@ RefusesNoList n (edits.Restore access dacl owner group flags) in_recursion =
 
 -- a fact of the line that an edit is, if it is one
 abbrev pub OfLine : Edit → (Change → Type 0) → Type 0
-OfLine (edits.Change c) P = P c
+OfLine (edits.Change strip drop_default as_default no_mask remask remove set modify) P = P (options strip drop_default as_default no_mask remask remove set modify)
 OfLine (edits.Put access dacl) P = Unit {0}
 OfLine (edits.Flatten access dacl) P = Unit {0}
 OfLine (edits.Restore access dacl owner group flags) P = Unit {0}

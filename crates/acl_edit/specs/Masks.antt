@@ -7,7 +7,7 @@ use Rattle.acl_entry.specs.Keys.{is_named}
 use Rattle.acl_entry.specs.declared.entry.Key.TheVariants.{OwningGroup, Mask}
 use Rattle.acl_edit.specs.Parts.{Part, gives_mask, is_of_mask}
 use Rattle.acl_edit.specs.Steps.{put_some}
-use Rattle.acl_edit.specs.declared.edit.Change.{Change}
+use Rattle.acl_edit.specs.Changes.{Change}
 
 abbrev pub has_mask : KeyMap → Bool
 has_mask m = maps.contains_key m Mask
@@ -25,7 +25,7 @@ recalculate m = if has_mask m then maps.insert m Mask (class_union m) else m
 
 -- -n leaves the mask, and so does a mask that the line gives, but under --mask
 abbrev pub is_recalculated : Change → Part → Bool
-is_recalculated c p = not c.flags.no_mask && (c.flags.remask || not (gives_mask p))
+is_recalculated c p = not c.no_mask && (c.remask || not (gives_mask p))
 
 -- a mask is in m, and the line takes it out
 abbrev pub takes_mask : Part → KeyMap → Bool

@@ -6,7 +6,7 @@ use Rattle.acl_entry.specs.declared.entry.Key.TheVariants.{Owner, User, OwningGr
 use Rattle.acl_text.specs.declared.entries.Spec.{Spec}
 use Rattle.acl_text.specs.declared.fault.Which.{Which}
 use Rattle.acl_text.specs.declared.fault.Which.TheVariants.{Access, Default}
-use Rattle.acl_edit.specs.declared.edit.Change.{Change}
+use Rattle.acl_edit.specs.Changes.{Change}
 use Rattle.acl_edit.specs.declared.change.Scope.{Scope}
 
 -- the entry is for this list: under -d plain entries are default ones, and default ones are dropped
@@ -26,9 +26,9 @@ pub record Part : Type 0 where
 
 abbrev pub part : Change → Which → Part
 part c which = record {
-  remove = filter (is_for c.flags.as_default which) c.entries.removed;
-  set = filter (is_for c.flags.as_default which) c.entries.set;
-  modify = filter (is_for c.flags.as_default which) c.entries.modified;
+  remove = filter (is_for c.as_default which) c.remove;
+  set = filter (is_for c.as_default which) c.set;
+  modify = filter (is_for c.as_default which) c.modify;
 }
 
 abbrev pub is_given : List Spec → Bool

@@ -6,7 +6,7 @@ use Rattle.acl_text.specs.declared.fault.Which.{Which}
 use Rattle.acl_text.specs.declared.fault.Which.TheVariants.{Access, Default}
 use Rattle.acl_edit.specs.Parts.{Part, part, names}
 use Rattle.acl_edit.specs.Edits.{access_before, default_before}
-use Rattle.acl_edit.specs.declared.edit.Change.{Change}
+use Rattle.acl_edit.specs.Changes.{Change, options}
 use Rattle.acl_edit.specs.declared.edit.Edit.{Edit}
 use Rattle.acl_edit.specs.declared.edit.Edit.TheVariants as edits
 use Rattle.acl_edit.specs.declared.node.Node.{Node}
@@ -53,7 +53,8 @@ pub record HasRoom (n : Node) (c : Change) : Type 0 where
 
 -- the file's lists and the edit's find room
 abbrev pub IsSmall : Node → Edit → Type 0
-IsSmall n (edits.Change c) = HasRoom n c
+IsSmall n (edits.Change strip drop_default as_default no_mask remask remove set modify) =
+    HasRoom n (options strip drop_default as_default no_mask remask remove set modify)
 IsSmall n (edits.Put access dacl) = HasShortLists n × Fits (size_of access) × Fits (size_of dacl)
 IsSmall n (edits.Flatten access dacl) = HasShortLists n
 IsSmall n (edits.Restore access dacl owner group flags) = Fits (size access) × Fits (size_of dacl)

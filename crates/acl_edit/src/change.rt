@@ -13,24 +13,42 @@ ghost use Rattle.acl_edit.specs.Rooms.{Fits, FitsPart, HasRoom, LeavesIn, MakesI
 ghost use Rattle.acl_edit.specs.Laws.{IsLeft};
 ghost use Rattle.acl_edit.specs.declared.edit.EditFault.TheVariants.{DefaultOnFile, NoMemory};
 
-use crate::edit::Change;
 use crate::steps::{
     complete_mask, fill_from, gives_execute, has_mask, modify, remove, replace, strip,
 };
-use crate::{EditFault, Kind, Node};
+use crate::{EditFault, Kind, Node, Specs};
 use acl_entry::{Acl, Draft, Key};
 use acl_text::{Spec, Which};
 use std::alloc::{AllocError, Global};
+use std::marker::Model;
 
-impl Change {
+/// A setfacl(1) line that changes lists, borrowed from its edit.
+#[derive(Drop)]
+pub(crate) struct ChangeRef<'a> {
+    pub strip: bool,
+    pub drop_default: bool,
+    pub as_default: bool,
+    pub no_mask: bool,
+    pub remask: bool,
+    pub remove: &'a Specs,
+    pub set: &'a Specs,
+    pub modify: &'a Specs,
+}
+
+impl<'a> Model for ChangeRef<'a> {
+    ghost use Rattle.acl_edit.specs.Changes.{Change, options};
+
+    ghost Value = { Change };
+
+    ghost view = { λ c. options c.strip c.drop_default c.as_default c.no_mask c.remask c.remove.now c.set.now c.modify.now };
+}
+
+impl ChangeRef<'_> {
     /// Whether the line takes the list's mask out.
     fn takes_mask(&self, which: Which, draft: &Draft) -> bool
         ensures { result ≡ takes_mask (part self.now which) draft.now }
     {
-        has_mask(draft)
-            && self
-                .scope(which)
-                .takes_mask(self.entries.removed.as_slice())
+        has_mask(draft) && self.scope(which).takes_mask(self.remove.as_slice())
     }
 
     /// Replaces, removes and modifies, and returns whether the list lost its mask.
@@ -46,10 +64,10 @@ impl Change {
         ensures lost { IfOk result (λ lost. lost ≡ takes_mask (part self.now which) (steps.replace x (part self.now which).set draft.old)) }
     {
         let scope = self.scope(which);
-        replace(alloc, draft, scope, x, self.entries.set.as_slice())?;
+        replace(alloc, draft, scope, x, self.set.as_slice())?;
         let lost = self.takes_mask(which, draft);
-        remove(draft, scope, self.entries.removed.as_slice());
-        modify(draft, scope, x, self.entries.modified.as_slice())?;
+        remove(draft, scope, self.remove.as_slice());
+        modify(draft, scope, x, self.modify.as_slice())?;
         Ok(lost)
     }
 
@@ -90,7 +108,7 @@ impl Change {
     fn access_before(&self, alloc: Global, acl: &Acl) -> Result<Draft, AllocError>
         ensures { MakesIn (Fits (size acl.now)) result (edits.access_before self.now acl.now) }
     {
-        if self.flags.strip {
+        if self.strip {
             strip(alloc, acl)
         } else {
             Draft::of(alloc, acl)
@@ -101,7 +119,7 @@ impl Change {
     fn kept_default(&self, alloc: Global, dacl: &Option<Acl>) -> Result<Option<Acl>, AllocError>
         ensures { MakesIn (Fits (size_of dacl.now)) result (edits.kept_default self.now dacl.now) }
     {
-        if self.flags.strip || self.flags.drop_default {
+        if self.strip || self.drop_default {
             return Ok(None);
         }
         clone_of(alloc, dacl)
@@ -112,7 +130,7 @@ impl Change {
         ensures { MakesIn (Fits (size_of dacl.now)) result (edits.default_before self.now dacl.now) }
     {
         match dacl {
-            Some(acl) if !self.flags.strip && !self.flags.drop_default => Draft::of(alloc, acl),
+            Some(acl) if !self.strip && !self.drop_default => Draft::of(alloc, acl),
             _ => Ok(Draft::new(alloc)),
         }
     }
@@ -141,7 +159,12 @@ fn checked_default(draft: Draft) -> Result<Option<Acl>, EditFault>
 }
 
 /// The access list that a line leaves.
-fn changed_access(alloc: Global, node: &Node, line: &Change, x: bool) -> Result<Acl, EditFault>
+fn changed_access(
+    alloc: Global,
+    node: &Node,
+    line: &ChangeRef<'_>,
+    x: bool,
+) -> Result<Acl, EditFault>
     requires { x ≡ steps.gives_execute node.now }
     ensures made { Gives (λ x. x) result (edits.changed_access node.now line.now) }
     ensures room { HasRoom node.now line.now → result ≢ Err NoMemory }
@@ -155,7 +178,7 @@ fn changed_access(alloc: Global, node: &Node, line: &Change, x: bool) -> Result<
 fn changed_default(
     alloc: Global,
     node: &Node,
-    line: &Change,
+    line: &ChangeRef<'_>,
     x: bool,
     acl: &Acl,
 ) -> Result<Option<Acl>, EditFault>
@@ -182,7 +205,7 @@ pub(crate) fn clone_of(alloc: Global, acl: &Option<Acl>) -> Result<Option<Acl>, 
 }
 
 /// Whether the line puts default entries into a file that is not a directory, and not in a recursion.
-fn is_misplaced(node: &Node, line: &Change, in_recursion: bool) -> bool
+fn is_misplaced(node: &Node, line: &ChangeRef<'_>, in_recursion: bool) -> bool
     ensures { result ≡ is_misplaced node.now line.now in_recursion }
 {
     node.kind != Kind::Directory && !in_recursion && line.puts(Which::Default)
@@ -193,7 +216,7 @@ fn is_misplaced(node: &Node, line: &Change, in_recursion: bool) -> bool
 pub(crate) fn change(
     alloc: Global,
     node: &Node,
-    line: &Change,
+    line: &ChangeRef<'_>,
     in_recursion: bool,
 ) -> Result<Node, EditFault>
     ensures made { Gives (λ x. x) result (edits.change node.now line.now in_recursion) }
@@ -263,14 +286,14 @@ pub(crate) fn is_mask(key: &Key) -> bool
     matches!(key, Key::Mask)
 }
 
-impl Change {
+impl ChangeRef<'_> {
     /// The entries for this list.
     pub(crate) fn scope(&self, which: Which) -> Scope
-        ensures { result ≡ record { which = which; as_default = self.now.flags.as_default } }
+        ensures { result ≡ record { which = which; as_default = self.now.as_default } }
     {
         Scope {
             which,
-            as_default: self.flags.as_default,
+            as_default: self.as_default,
         }
     }
 
@@ -279,17 +302,14 @@ impl Change {
         ensures { result ≡ parts.puts (part self.now which) }
     {
         let scope = self.scope(which);
-        scope.takes_some(self.entries.set.as_slice())
-            || scope.takes_some(self.entries.modified.as_slice())
+        scope.takes_some(self.set.as_slice()) || scope.takes_some(self.modify.as_slice())
     }
 
     /// Whether the line names an entry of the list.
     pub(crate) fn names(&self, which: Which) -> bool
         ensures { result ≡ parts.names (part self.now which) }
     {
-        self.scope(which)
-            .takes_some(self.entries.removed.as_slice())
-            || self.puts(which)
+        self.scope(which).takes_some(self.remove.as_slice()) || self.puts(which)
     }
 
     /// Whether the line gives the list a mask.
@@ -297,7 +317,6 @@ impl Change {
         ensures { result ≡ parts.gives_mask (part self.now which) }
     {
         let scope = self.scope(which);
-        scope.takes_mask(self.entries.set.as_slice())
-            || scope.takes_mask(self.entries.modified.as_slice())
+        scope.takes_mask(self.set.as_slice()) || scope.takes_mask(self.modify.as_slice())
     }
 }

@@ -11,51 +11,35 @@ ghost use Rattle.acl_edit.specs.Rooms.{Fits, HasShortLists, IsSmall, MakesIn, si
 ghost use Rattle.acl_edit.specs.Laws as laws;
 ghost use Rattle.acl_edit.specs.Laws.{OnLine, GivesBack, misplaces_default};
 
-use crate::change::{change, clone_of};
+use crate::change::{ChangeRef, change, clone_of};
 use crate::{Kind, Node};
 use acl_entry::{Acl, Id, Label, ListFault};
 use acl_text::{Spec, Which};
 use std::alloc::{AllocError, AllocFailed, Global};
 use std::marker::Model;
 
-/// The flags of a setfacl(1) line that say how it changes a list.
-#[derive(Clone, Copy, Debug, PartialEq, Eq)]
-pub struct ChangeFlags {
-    /// `-b`: the access list keeps its base entries with what they grant, and the default list goes.
-    pub strip: bool,
-    /// `-k`: the default list goes.
-    pub drop_default: bool,
-    /// `-d`: plain entries are entries of the default list, and default entries are dropped.
-    pub as_default: bool,
-    /// `-n`: no mask is recalculated.
-    pub no_mask: bool,
-    /// `--mask`: the mask is recalculated even where one was given.
-    pub remask: bool,
-}
-
-/// The entries of a setfacl(1) line.
-#[derive(Drop)]
-pub struct ChangeEntries {
-    /// `-x`, `-X`: the keys that are removed.
-    pub removed: Specs,
-    /// `--set`, `--set-file`: the entries that replace a list.
-    pub set: Specs,
-    /// `-m`, `-M`: the entries that are modified or added.
-    pub modified: Specs,
-}
-
-/// A setfacl(1) line that changes lists. The order of its options on the line has no meaning.
-#[derive(Drop)]
-pub struct Change {
-    pub flags: ChangeFlags,
-    pub entries: ChangeEntries,
-}
-
 /// An edit of one file.
 #[derive(Drop)]
 pub enum Edit {
-    /// A setfacl(1) line, but for `--restore` and `--test`.
-    Change(Change),
+    /// A setfacl(1) line, but for `--restore` and `--test`. The order of its options on the line has no meaning.
+    Change {
+        /// `-b`: the access list keeps its base entries with what they grant, and the default list goes.
+        strip: bool,
+        /// `-k`: the default list goes.
+        drop_default: bool,
+        /// `-d`: plain entries are entries of the default list, and default entries are dropped.
+        as_default: bool,
+        /// `-n`: no mask is recalculated.
+        no_mask: bool,
+        /// `--mask`: the mask is recalculated even where one was given.
+        remask: bool,
+        /// `-x`, `-X`: the keys that are removed.
+        remove: Specs,
+        /// `--set`, `--set-file`: the entries that replace a list.
+        set: Specs,
+        /// `-m`, `-M`: the entries that are modified or added.
+        modify: Specs,
+    },
     /// chacl(1) with lists: each that is given is put in place of the file's.
     Put {
         access: Option<Acl>,
@@ -137,7 +121,28 @@ pub fn apply(alloc: Global, node: &Node, edit: &Edit, in_recursion: bool) -> Res
     ensures dropped { OnLine laws.DropsDefault node.now edit.now result }
 {
     let edited = match edit {
-        Edit::Change(line) => change(alloc, node, line, in_recursion)?,
+        Edit::Change {
+            strip,
+            drop_default,
+            as_default,
+            no_mask,
+            remask,
+            remove,
+            set,
+            modify,
+        } => {
+            let line = ChangeRef {
+                strip: *strip,
+                drop_default: *drop_default,
+                as_default: *as_default,
+                no_mask: *no_mask,
+                remask: *remask,
+                remove,
+                set,
+                modify,
+            };
+            change(alloc, node, &line, in_recursion)?
+        }
         Edit::Put { access, dacl } => put(alloc, node, access, dacl, in_recursion)?,
         Edit::Flatten { access, dacl } => flatten(alloc, node, *access, *dacl)?,
         Edit::Restore {

@@ -9,8 +9,7 @@ ghost use Rattle.acl_edit.specs.Steps.{execute, gives_execute, perms_of, may_exe
 ghost use Rattle.acl_edit.specs.Masks as masks;
 ghost use Rattle.acl_edit.specs.Masks.{has_mask, has_named, is_recalculated};
 
-use crate::change::{Scope, is_mask};
-use crate::edit::Change;
+use crate::change::{ChangeRef, Scope, is_mask};
 use crate::{Kind, Node};
 use acl_entry::{Acl, Draft, Entry, Key, Perm};
 use acl_text::{PermSpec, Spec, Which};
@@ -184,16 +183,16 @@ fn recalculate(draft: &mut Draft) -> Result<(), AllocError>
 }
 
 /// Whether the line has the list's mask recalculated.
-fn is_recalculated(line: &Change, which: Which) -> bool
+fn is_recalculated(line: &ChangeRef<'_>, which: Which) -> bool
     ensures { result ≡ is_recalculated line.now (part line.now which) }
 {
-    !line.flags.no_mask && (line.flags.remask || !line.gives_mask(which))
+    !line.no_mask && (line.remask || !line.gives_mask(which))
 }
 
 /// Completes a list with its mask, where `lost` means that the line took one out.
 pub(crate) fn complete_mask(
     draft: &mut Draft,
-    line: &Change,
+    line: &ChangeRef<'_>,
     which: Which,
     lost: bool,
 ) -> Result<(), AllocError>

@@ -1,6 +1,6 @@
 //! Lines of setfacl, each with the lists that it leaves, or its fault.
 use crate::made::{expect, specs};
-use acl_edit::{Change, ChangeEntries, ChangeFlags, Edit, Specs};
+use acl_edit::{Edit, Specs};
 use acl_text::Want;
 use std::alloc::Global;
 use std::process::Abort;
@@ -214,25 +214,14 @@ static LINES: [(&str, &str, &str); 42] = [
     ),
 ];
 
-fn flags(line: &str) -> ChangeFlags {
-    let mut flags = ChangeFlags {
-        strip: false,
-        drop_default: false,
-        as_default: false,
-        no_mask: false,
-        remask: false,
-    };
+/// Whether the line has this word.
+fn has(line: &str, flag: &str) -> bool {
     for word in line.split(' ') {
-        match word {
-            "-b" => flags.strip = true,
-            "-k" => flags.drop_default = true,
-            "-d" => flags.as_default = true,
-            "-n" => flags.no_mask = true,
-            "--mask" => flags.remask = true,
-            _ => {}
+        if word == flag {
+            return true;
         }
     }
-    flags
+    false
 }
 
 /// What is after an option's `=`; nothing where the line lacks the option.
@@ -252,14 +241,16 @@ fn entries(rt: &impl Abort, alloc: Global, line: &str, option: &str, want: Want)
 }
 
 fn change(rt: &impl Abort, alloc: Global, line: &str) -> Edit {
-    Edit::Change(Change {
-        flags: flags(line),
-        entries: ChangeEntries {
-            removed: entries(rt, alloc, line, "-x", Want::WithoutPerms),
-            set: entries(rt, alloc, line, "--set", Want::WithPerms),
-            modified: entries(rt, alloc, line, "-m", Want::WithPerms),
-        },
-    })
+    Edit::Change {
+        strip: has(line, "-b"),
+        drop_default: has(line, "-k"),
+        as_default: has(line, "-d"),
+        no_mask: has(line, "-n"),
+        remask: has(line, "--mask"),
+        remove: entries(rt, alloc, line, "-x", Want::WithoutPerms),
+        set: entries(rt, alloc, line, "--set", Want::WithPerms),
+        modify: entries(rt, alloc, line, "-m", Want::WithPerms),
+    }
 }
 
 #[test]

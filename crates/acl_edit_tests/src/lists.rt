@@ -2,10 +2,7 @@
 use crate::made::{
     ANN, STAFF, USERS, edited, expect, expect_label, expect_lists, file, id, list, list_of,
 };
-use acl_edit::{
-    Change, ChangeEntries, ChangeFlags, Edit, EditFault, Node, Specs, apply, chmod,
-    edits_are_refused_for_their_lists,
-};
+use acl_edit::{Edit, EditFault, Node, Specs, apply, chmod, edits_are_refused_for_their_lists};
 use acl_entry::{Key, ListFault, Perm};
 use acl_text::{PermSpec, Spec, Which};
 use std::alloc::Global;
@@ -133,20 +130,16 @@ fn a_record_of_a_file_gives_it_back(rt: HostRuntime) {
 
 /// A line that removes and modifies these entries, and does nothing else.
 fn line(alloc: Global, remove: Vec<Spec>, modify: Vec<Spec>) -> Edit {
-    Edit::Change(Change {
-        flags: ChangeFlags {
-            strip: false,
-            drop_default: false,
-            as_default: false,
-            no_mask: false,
-            remask: false,
-        },
-        entries: ChangeEntries {
-            removed: Specs::new(remove),
-            set: Specs::new(Vec::new(alloc)),
-            modified: Specs::new(modify),
-        },
-    })
+    Edit::Change {
+        strip: false,
+        drop_default: false,
+        as_default: false,
+        no_mask: false,
+        remask: false,
+        remove: Specs::new(remove),
+        set: Specs::new(Vec::new(alloc)),
+        modify: Specs::new(modify),
+    }
 }
 
 /// The line's only entry takes a key out, a base key too, which no text does.

@@ -1,7 +1,5 @@
 //! The public surface as a user sees it, with its types written out: one file, its edits, modes and new files.
-use acl_edit::{
-    Change, ChangeEntries, ChangeFlags, Edit, EditFault, Kind, Node, Specs, apply, chmod, create,
-};
+use acl_edit::{Edit, EditFault, Kind, Node, Specs, apply, chmod, create};
 use acl_entry::{Acl, Id, Label};
 use acl_text::{NoNames, Sep, Spec, Want, Which, read_entries};
 use std::alloc::Global;
@@ -31,20 +29,16 @@ fn specs(rt: &impl Abort, alloc: Global, text: &[u8]) -> Specs {
 
 /// `-m` with the entries of a text.
 fn modifying(rt: &impl Abort, alloc: Global, text: &[u8]) -> Edit {
-    Edit::Change(Change {
-        flags: ChangeFlags {
-            strip: false,
-            drop_default: false,
-            as_default: false,
-            no_mask: false,
-            remask: false,
-        },
-        entries: ChangeEntries {
-            removed: specs(rt, alloc, b""),
-            set: specs(rt, alloc, b""),
-            modified: specs(rt, alloc, text),
-        },
-    })
+    Edit::Change {
+        strip: false,
+        drop_default: false,
+        as_default: false,
+        no_mask: false,
+        remask: false,
+        remove: specs(rt, alloc, b""),
+        set: specs(rt, alloc, b""),
+        modify: specs(rt, alloc, text),
+    }
 }
 
 /// A file after an edit that is accepted.

@@ -52,7 +52,7 @@ pub use indexed::{IndexedState, IndexedStates, States, Verdicts};
 pub use judge::{Judge, Posix};
 
 // The public calls take and give these values of the crates below.
-pub use acl_edit::{Change, ChangeEntries, ChangeFlags, Edit, Kind, Specs};
+pub use acl_edit::{Edit, Kind, Specs};
 pub use acl_entry::{Acl, Id, Key, Label, NoMemory, Perm, Requests, Subject};
 pub use acl_names::{Name, Path, read_name};
 pub use acl_people::{People, UserName};

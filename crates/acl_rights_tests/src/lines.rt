@@ -1,6 +1,6 @@
 //! Commands as they are written.
 
-use acl_edit::{Change, ChangeEntries, ChangeFlags, Edit, Specs};
+use acl_edit::{Edit, Specs};
 use acl_entry::Id;
 use acl_names::{Name, Path, read_path};
 use acl_people::{People, UserName};
@@ -42,20 +42,16 @@ fn name(alloc: Global, text: &[u8]) -> Option<Name> {
 
 fn change(alloc: Global, people: &People, modify: &[u8]) -> Option<Edit> {
     let entries = read_entries(alloc, modify, Sep::Comma, Want::WithPerms, people).ok()?;
-    Some(Edit::Change(Change {
-        flags: ChangeFlags {
-            strip: false,
-            drop_default: false,
-            as_default: false,
-            no_mask: false,
-            remask: false,
-        },
-        entries: ChangeEntries {
-            removed: Specs::new(Vec::new(alloc)),
-            set: Specs::new(Vec::new(alloc)),
-            modified: Specs::new(entries),
-        },
-    }))
+    Some(Edit::Change {
+        strip: false,
+        drop_default: false,
+        as_default: false,
+        no_mask: false,
+        remask: false,
+        remove: Specs::new(Vec::new(alloc)),
+        set: Specs::new(Vec::new(alloc)),
+        modify: Specs::new(entries),
+    })
 }
 
 fn member(

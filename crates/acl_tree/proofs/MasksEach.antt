@@ -3,9 +3,9 @@ use Rattle.std.proofs.Common.{◌≡◌, Bool, true, false, List, Option, Some, 
 use Rattle.std.specs.Prelude.{option_map}
 use Rattle.acl_entry.specs.Lists.{KeyMap}
 use Rattle.acl_text.specs.InTurn.{◌>>=◌}
-use Rattle.acl_edit.specs.Edits.{edit, edit_of, change, changed_access, changed_default, is_misplaced}
+use Rattle.acl_edit.specs.Edits.{edit, change, changed_access, changed_default, is_misplaced}
 use Rattle.acl_edit.specs.Nodes.{with_lists}
-use Rattle.acl_edit.specs.declared.edit.Change.{Change}
+use Rattle.acl_edit.specs.Changes.{Change, edit_of}
 use Rattle.acl_edit.specs.declared.edit.EditFault.{EditFault}
 use Rattle.acl_edit.specs.declared.edit.EditFault.TheVariants.{DefaultOnFile}
 use Rattle.acl_edit.specs.declared.node.Node.{Node}

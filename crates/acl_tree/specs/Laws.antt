@@ -5,10 +5,10 @@ use Rattle.std.specs.Ordering.{eq_by_cmp}
 use Rattle.std.specs.FinMap.{find}
 use Rattle.acl_names.specs.Paths.{path_cmp, PathOf}
 use Rattle.acl_text.specs.declared.record.DumpRecord.{DumpRecord}
-use Rattle.acl_edit.specs.Edits.{edit_of, no_flags}
+use Rattle.acl_edit.specs.Edits.{no_flags}
 use Rattle.acl_edit.specs.Laws.{ShowsRecalculated, BoundsRecalculated, MakesMask}
 use Rattle.acl_edit.specs.Nodes.{is_directory}
-use Rattle.acl_edit.specs.declared.edit.Change.{Change}
+use Rattle.acl_edit.specs.Changes.{Change, edit_of}
 use Rattle.acl_edit.specs.declared.edit.Edit as edits
 use Rattle.acl_edit.specs.declared.edit.EditFault.{EditFault}
 use Rattle.acl_edit.specs.declared.node.Node.{Node}

@@ -51,7 +51,7 @@ pub use tree::Tree;
 pub use user_change::{GroupIds, UserChange};
 
 // The public calls take and give these values of the crates below.
-pub use acl_edit::{Change, ChangeEntries, ChangeFlags, Edit, EditFault, Kind, Node, Specs};
+pub use acl_edit::{Edit, EditFault, Kind, Node, Specs};
 pub use acl_entry::{Acl, Id, Key, Label, ListFault, NoMemory, Subject};
 pub use acl_names::{Name, Path, read_name};
 pub use acl_people::{People, UserName};

@@ -2,7 +2,7 @@
 //!
 //! A row is data. What comes of a command and what a file is are compared as texts, so a new test needs no code.
 use crate::shown::{are_shown, listing, outcome};
-use acl_edit::{Change, ChangeEntries, ChangeFlags, Edit, Kind, Specs};
+use acl_edit::{Edit, Kind, Specs};
 use acl_entry::Id;
 use acl_names::{Name, Path, read_path};
 use acl_people::{People, UserName};
@@ -62,20 +62,16 @@ fn entries(rt: &impl Abort, alloc: Global, text: &[u8], want: Want, people: &Peo
 }
 
 fn change(rt: &impl Abort, alloc: Global, people: &People, remove: &[u8], modify: &[u8]) -> Edit {
-    Edit::Change(Change {
-        flags: ChangeFlags {
-            strip: false,
-            drop_default: false,
-            as_default: false,
-            no_mask: false,
-            remask: false,
-        },
-        entries: ChangeEntries {
-            removed: entries(rt, alloc, remove, Want::WithoutPerms, people),
-            set: Specs::new(Vec::new(alloc)),
-            modified: entries(rt, alloc, modify, Want::WithPerms, people),
-        },
-    })
+    Edit::Change {
+        strip: false,
+        drop_default: false,
+        as_default: false,
+        no_mask: false,
+        remask: false,
+        remove: entries(rt, alloc, remove, Want::WithoutPerms, people),
+        set: Specs::new(Vec::new(alloc)),
+        modify: entries(rt, alloc, modify, Want::WithPerms, people),
+    }
 }
 
 fn records(rt: &impl Abort, alloc: Global, people: &People, text: &[u8]) -> DumpRecords {

@@ -12,7 +12,7 @@ use Rattle.facl.specs.Operands.{paths_from}
 use Rattle.facl.specs.Replies.{Reply, after}
 use Rattle.facl.specs.Setfacl.{entries_given, entries_of_line, both_at, unless_both, change_files, change_line, drops, with_warning_if}
 use Rattle.facl.specs.declared.tools.setfacl.ChangeLine.{ChangeLine}
-use Rattle.acl_edit.specs.declared.edit.ChangeEntries.{ChangeEntries}
+use Rattle.facl.specs.declared.tools.setfacl_entries.ChangeEntries.{ChangeEntries}
 use Rattle.facl.proofs.NoPaths.{Reads, reads_files}
 use Rattle.facl.proofs.Outcomes.{ok_or_err, ok_eq, err_eq, err_before, some_or_none, same_two, same_three, same_found}
 use Rattle.facl.proofs.Parts.{Refused, from_zero, refused_in, step, operands, last}
@@ -146,7 +146,7 @@ module _ (s : State) (line : ChangeLine) (text : List ℕ) where
   set_text = entries_given s.people WithPerms line.set text
 
   abbrev given_of : Result (List Spec) LineFault → Result (List Spec) LineFault → Result (List Spec) LineFault → Result ChangeEntries LineFault
-  given_of r m t = after r (λ removed. after m (λ modified. after t (λ set. Ok (record { removed = removed; modified = modified; set = set }))))
+  given_of r m t = after r (λ removed. after m (λ modified. after t (λ set. Ok (record { remove = removed; modify = modified; set = set }))))
 
   abbrev changed : ChangeEntries → Result Reply LineFault
   changed entries = unless_both (both_at line.flags.as_default entries) (change_files s line entries)
@@ -164,9 +164,9 @@ module _ (s : State) (line : ChangeLine) (text : List ℕ) where
   module _ (r m t : List Spec) (is : entries_given s.people WithoutPerms line.removed text ≡ Ok r) (also : entries_given s.people WithPerms line.modified text ≡ Ok m)
       (and_set : entries_given s.people WithPerms line.set text ≡ Ok t) where
     abbrev entries : ChangeEntries
-    entries = record { removed = r; modified = m; set = t }
+    entries = record { remove = r; modify = m; set = t }
 
-    given_is : entries_of_line s.people line text ≡ Ok (record { removed = r; modified = m; set = t })
+    given_is : entries_of_line s.people line text ≡ Ok (record { remove = r; modify = m; set = t })
     given_is = λ i. given_of (is i) (also i) (and_set i)
 
     both_next : (q : Part) (g : LineFault) → OfChange s line text q g → 3 ≤ rank q

@@ -34,7 +34,7 @@ use Rattle.facl.specs.Replies.{after}
 use Rattle.facl.specs.RoundTrips.{file_listed, after_slash, IsReadByChacl, IsReadBySetattr, AreReadBySetattr, IsReadBySet}
 use Rattle.facl.specs.Setattr as setattr
 use Rattle.facl.specs.Setattr.{bytes_or_fault}
-use Rattle.acl_edit.specs.declared.edit.ChangeEntries.{ChangeEntries}
+use Rattle.facl.specs.declared.tools.setfacl_entries.ChangeEntries.{ChangeEntries}
 use Rattle.hex.specs.Hex.{encode_lower}
 
 -- ---- chacl
@@ -80,7 +80,7 @@ module _ (known : KnownPeople) where
   -- ---- setfacl
 
   abbrev only_set : List Spec → ChangeEntries
-  only_set specs = record { removed = []; modified = []; set = specs }
+  only_set specs = record { remove = []; modify = []; set = specs }
 
   read_by_set : (e : PathOf × Node) → AreListsAgain known e.1 → IsReadBySet known e
   read_by_set e is = record {

@@ -20,7 +20,7 @@ use Rattle.facl.specs.Lists.{list_of_text}
 use Rattle.facl.specs.Setattr as setattr
 use Rattle.facl.specs.Setattr.{attribute_of, attribute_with, put_of}
 use Rattle.facl.specs.Setfacl.{edit_of, entries_of_line}
-use Rattle.acl_edit.specs.declared.edit.ChangeEntries.{ChangeEntries}
+use Rattle.facl.specs.declared.tools.setfacl_entries.ChangeEntries.{ChangeEntries}
 use Rattle.facl.specs.declared.tools.setfacl.ChangeLine.{ChangeLine}
 use Rattle.facl.specs.declared.tools.setfacl.EntrySource.TheVariants.{InWord}
 
@@ -86,4 +86,4 @@ pub record IsReadBySet (known : KnownPeople) (e : PathOf × Node) : Type 0 where
       ≡ path_shown (file_listed e has_below) ++ (codes ": " ++ (lists ++ 10 ∷ []))
   pub read : (files : List Text) (text : List ℕ) → entries_of_line known (set_line lists files) text ≡ Ok entries
   pub set : (files : List Text) (m : Node) (in_recursion : Bool) → m.kind ≡ e.1.kind → (e.1.dacl ≡ None → m.dacl ≡ None)
-      → edit m (edit_of (set_line lists files) entries) in_recursion ≡ Ok (with_lists m e.1.label.acl e.1.dacl)
+      → edit m (edit_of (set_line lists files).flags entries) in_recursion ≡ Ok (with_lists m e.1.label.acl e.1.dacl)

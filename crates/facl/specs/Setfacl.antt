@@ -31,12 +31,13 @@ use Rattle.facl_output.specs.TestListing.{test_listing}
 use Rattle.facl.specs.Replies.{Reply, after, done, printed}
 use Rattle.facl.specs.Operands.{paths_from}
 use Rattle.facl.specs.Lists.{at_source}
+use Rattle.facl.specs.declared.tools.setfacl.ChangeFlags.{ChangeFlags}
 use Rattle.facl.specs.declared.tools.setfacl.ChangeLine.{ChangeLine}
 use Rattle.facl.specs.declared.tools.setfacl.EntrySource.{EntrySource}
 use Rattle.facl.specs.declared.tools.setfacl.EntrySource.TheVariants.{InText, InWord}
 use Rattle.facl.specs.declared.tools.setfacl.SetfaclLine.{SetfaclLine}
 use Rattle.facl.specs.declared.tools.setfacl.SetfaclLine.TheVariants as lines
-use Rattle.acl_edit.specs.declared.edit.ChangeEntries.{ChangeEntries}
+use Rattle.facl.specs.declared.tools.setfacl_entries.ChangeEntries.{ChangeEntries}
 
 -- ---- entry texts
 
@@ -58,7 +59,7 @@ entries_of_line known line text =
     after (entries_given known WithoutPerms line.removed text)
     (λ removed. after (entries_given known WithPerms line.modified text)
     (λ modified. after (entries_given known WithPerms line.set text)
-    (λ set. Ok (record { removed = removed; modified = modified; set = set }))))
+    (λ set. Ok (record { remove = removed; modify = modified; set = set }))))
 
 -- two entries of one list with one key; `-d` drops default entries
 abbrev pub is_same_entry : Bool → Spec → Spec → Bool
@@ -67,7 +68,7 @@ is_same_entry as_default a b = not (as_default && a.dflt) && (beq a.dflt b.dflt 
 -- the first modified entry that is removed too
 abbrev pub both_at : Bool → ChangeEntries → Option ℕ
 both_at as_default entries =
-    option_map (λ m. m.at) (find (λ m. list_any (λ r. is_same_entry as_default m r) entries.removed) entries.modified)
+    option_map (λ m. m.at) (find (λ m. list_any (λ r. is_same_entry as_default m r) entries.remove) entries.modify)
 
 -- this, where no entry is both removed and modified
 abbrev pub unless_both : {A : Type 0} → Option ℕ → Result A LineFault → Result A LineFault
@@ -79,7 +80,7 @@ has_default specs = list_any (λ s. s.dflt) specs
 
 -- `-d` drops a default entry of one of the texts
 abbrev pub drops : Bool → ChangeEntries → Bool
-drops as_default entries = as_default && (has_default entries.removed || (has_default entries.modified || has_default entries.set))
+drops as_default entries = as_default && (has_default entries.remove || (has_default entries.modify || has_default entries.set))
 
 -- ---- what is done
 
@@ -120,15 +121,15 @@ with_warning_if warns r = after r (λ reply. Ok (record reply { warns = warns })
 -- ---- lists are changed
 
 -- what a line does with the lists of a file: its options, and its entries
-abbrev pub edit_of : ChangeLine → ChangeEntries → FileEdit
-edit_of line entries =
-    edits.Change (record { flags = line.flags; entries = entries })
+abbrev pub edit_of : ChangeFlags → ChangeEntries → FileEdit
+edit_of flags entries =
+    edits.Change flags.strip flags.drop_default flags.as_default flags.no_mask flags.remask entries.remove entries.set entries.modify
 
 -- these entries are put into the files
 abbrev pub change_files : State → ChangeLine → ChangeEntries → Result Reply LineFault
 change_files s line entries =
     after (paths_from 1 line.files)
-    (λ paths. with_warning_if (drops line.flags.as_default entries) (done_or_tested line.test s (Edit paths (edit_of line entries) line.recursive)))
+    (λ paths. with_warning_if (drops line.flags.as_default entries) (done_or_tested line.test s (Edit paths (edit_of line.flags entries) line.recursive)))
 
 abbrev pub change_line : State → ChangeLine → List ℕ → Result Reply LineFault
 change_line s line text =

@@ -1,7 +1,7 @@
 -- The words of setfacl(1), and the line that they give.
 use Rattle.std.specs.Prelude.{List, [], ◌∷◌, ◌&&◌, ◌||◌, Bool, not, codes, refl, if◌then◌else◌, Option, None, Some}
 use Rattle.std.specs.Bool.{beq}
-use Rattle.acl_edit.specs.declared.edit.ChangeFlags.{ChangeFlags}
+use Rattle.facl.specs.declared.tools.setfacl.ChangeFlags.{ChangeFlags}
 use Rattle.facl_script.specs.Forms.{Text, files_of, is_empty}
 use Rattle.facl_script.specs.Syntax.{Syntax, any, both, by_name, of_text}
 use Rattle.facl_script.specs.declared.tool_words.Words.{Words}

@@ -31,7 +31,7 @@ use Rattle.facl.specs.declared.tools.creat.CreatLine.{CreatLine}
 use Rattle.facl.specs.declared.tools.setfacl.ChangeLine.{ChangeLine}
 use Rattle.facl.specs.declared.tools.setfacl.SetfaclLine.{SetfaclLine}
 use Rattle.facl.specs.declared.tools.setfacl.SetfaclLine.TheVariants as setfacl
-use Rattle.acl_edit.specs.declared.edit.ChangeEntries.{ChangeEntries}
+use Rattle.facl.specs.declared.tools.setfacl_entries.ChangeEntries.{ChangeEntries}
 use Rattle.facl.specs.declared.tools.ToolLine.{ToolLine}
 use Rattle.facl.specs.declared.tools.ToolLine.TheVariants as lines
 
@@ -120,7 +120,7 @@ pub record IsUseOfAllRefused {A B C : Type 0} (read : Result A LineFault) (other
 
 -- the first entry of the modified ones that is removed too; whatever entries are set
 abbrev pub both_of : ChangeLine → List Spec → List Spec → Option ℕ
-both_of line removed modified = both_at line.flags.as_default (record { removed = removed; modified = modified; set = [] })
+both_of line removed modified = both_at line.flags.as_default (record { remove = removed; modify = modified; set = [] })
 
 -- an entry is both removed and modified
 pub record IsInBoth (s : State) (line : ChangeLine) (text : List ℕ) (fault : LineFault) : Type 0 where
@@ -190,7 +190,7 @@ OfTwoTextsAndFiles text other files use_of part fault = ⊥
 
 -- the entries of a line are put into the files of these paths
 abbrev pub entries_put : State → ChangeLine → ChangeEntries → List PathOf → Result Reply LineFault
-entries_put s line entries paths = done_or_tested line.test s (commands.Edit paths (edit_of line entries) line.recursive)
+entries_put s line entries paths = done_or_tested line.test s (commands.Edit paths (edit_of line.flags entries) line.recursive)
 
 -- of a line of setfacl(1) that changes lists
 abbrev pub OfChange : State → ChangeLine → List ℕ → Part → LineFault → Type 0

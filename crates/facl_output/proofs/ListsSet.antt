@@ -10,8 +10,7 @@ use Rattle.acl_entry.proofs.Faults.{fault_short}
 use Rattle.acl_entry.proofs.Maps.{map_of-entries, in_order-entries}
 use Rattle.acl_edit.proofs.Kept.{checked_valid, default_unnamed}
 use Rattle.acl_text.specs.Again.{IsListIf}
-use Rattle.acl_edit.specs.declared.edit.Change.{Change}
-use Rattle.acl_edit.specs.Changes.{options}
+use Rattle.acl_edit.specs.Changes.{Change, options}
 use Rattle.acl_text.specs.InTurn.{◌>>=◌}
 use Rattle.acl_edit.specs.Edits.{worked, access_after, default_after, checked, checked_default, changed_access, changed_default, change}
 use Rattle.acl_edit.specs.Masks.{has_mask, has_named, add_mask, recalculate, is_recalculated, takes_mask, with_mask}

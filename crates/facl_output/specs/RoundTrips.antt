@@ -10,10 +10,9 @@ use Rattle.acl_text.specs.Writing.{short, spec_of, specs_from}
 use Rattle.acl_text.specs.declared.entries.Sep.TheVariants.{Comma}
 use Rattle.acl_text.specs.declared.entries.Spec.{Spec}
 use Rattle.acl_text.specs.declared.entries.Want.TheVariants as wants
-use Rattle.acl_edit.specs.Changes.{options}
+use Rattle.acl_edit.specs.Changes.{edit_of, options}
 use Rattle.acl_edit.specs.Edits.{edit}
 use Rattle.acl_edit.specs.Nodes.{with_lists}
-use Rattle.acl_edit.specs.declared.edit.Edit.TheVariants as edits
 use Rattle.acl_edit.specs.declared.node.Node.{Node}
 use Rattle.acl_people.specs.KnownPeople.{KnownPeople, naming_of}
 use Rattle.acl_text.specs.declared.record.DumpRecord.{DumpRecord}
@@ -108,7 +107,7 @@ specs_of at (e ∷ es) = record (spec_of at e.1) { dflt = e.0 } ∷ specs_of (at
 abbrev pub AreSetAs : List Spec → Node → Type 0
 AreSetAs specs n =
     (m : Node) (in_recursion : Bool) → m.kind ≡ n.kind → (n.dacl ≡ None → m.dacl ≡ None)
-    → edit m (edits.Change (options false false false false false [] specs [])) in_recursion ≡ Ok (with_lists m n.label.acl n.dacl)
+    → edit m (edit_of (options false false false false false [] specs [])) in_recursion ≡ Ok (with_lists m n.label.acl n.dacl)
 
 -- each list of a file is read again as chacl prints it; and what `setfacl --test` prints of both is read by
 -- `setfacl --set` as the entries of both, which give these lists back

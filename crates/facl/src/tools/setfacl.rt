@@ -1,21 +1,42 @@
 //! The tool setfacl(1): its words, the line that they give, and what it does.
 ghost use Rattle.facl.specs.Replies.{Replies, Gives};
-ghost use Rattle.facl.specs.Setfacl.{answered, change_files, change_line, done_or_tested, records_or_fault, restore_line};
+ghost use Rattle.facl.specs.Setfacl.{answered, change_files, change_line, done_or_tested, edit_of, records_or_fault, restore_line};
 ghost use Rattle.std.specs.Prelude.{◌≡◌};
 ghost use Rattle.facl.specs.SetfaclLine.{change_of, changes_entries, contradicts_itself, entries_from, flags_of, has_edit_flag, read, read_change, read_restore, replaces_lists};
 
 use crate::tools::effect::Effect;
 use crate::tools::operands::paths_of;
-use crate::tools::setfacl_entries::{both_at, drops, entries_of_line};
+use crate::tools::setfacl_entries::{ChangeEntries, both_at, drops, entries_of_line};
 use crate::tools::syntax::{any, both, by_name};
 use crate::tools::tested::do_or_test;
-use acl_edit::{Change, ChangeEntries, ChangeFlags, Edit};
+use acl_edit::Edit;
 use acl_people::People;
 use acl_text::{DumpUse, read_dump};
 use acl_tree::{Command, DumpRecords, State};
 use facl_output::{LineFault, Source};
 use facl_script::{LineFiles, OperandRow, OptionRow, Syntax, WordRef, Words};
 use std::alloc::Global;
+
+/// What a line does with the lists of a file: its options, and its entries.
+fn edit_of(flags: ChangeFlags, entries: ChangeEntries) -> Edit
+    ensures { result ≡ edit_of flags entries }
+{
+    let ChangeEntries {
+        remove,
+        set,
+        modify,
+    } = entries;
+    Edit::Change {
+        strip: flags.strip,
+        drop_default: flags.drop_default,
+        as_default: flags.as_default,
+        no_mask: flags.no_mask,
+        remask: flags.remask,
+        remove,
+        set,
+        modify,
+    }
+}
 
 /// Changes the lists of the files of a line.
 fn change_files(
@@ -30,10 +51,7 @@ fn change_files(
     let warns = drops(line.flags.as_default, &entries);
     let command = Command::Edit {
         paths,
-        edit: Edit::Change(Change {
-            flags: line.flags,
-            entries,
-        }),
+        edit: edit_of(line.flags, entries),
         recursive: line.recursive,
     };
     let effect = do_or_test(alloc, state, command, line.test)?;
@@ -133,6 +151,21 @@ pub(crate) enum EntrySource<'a> {
     InWord(WordRef<'a>),
     /// In the text after the line, each on a line.
     InText,
+}
+
+/// The flags of a line that say how it changes a list.
+#[derive(Clone, Copy, Debug)]
+pub(crate) struct ChangeFlags {
+    /// `-b`: the access list keeps its base entries with what they grant, and the default list goes.
+    pub strip: bool,
+    /// `-k`: the default list goes.
+    pub drop_default: bool,
+    /// `-d`: plain entries are entries of the default list, and default entries are dropped.
+    pub as_default: bool,
+    /// `-n`: no mask is recalculated.
+    pub no_mask: bool,
+    /// `--mask`: the mask is recalculated even where one was given.
+    pub remask: bool,
 }
 
 /// A line of setfacl(1) that changes lists.

@@ -7,12 +7,23 @@ ghost use Rattle.facl.specs.Replies.{Gives};
 ghost use Rattle.facl.specs.Setfacl.{both_at, drops, entries_given, entries_in, entries_of_line, has_default};
 
 use crate::tools::setfacl::{ChangeLine, EntrySource};
-use acl_edit::{ChangeEntries, Specs};
+use acl_edit::Specs;
 use acl_entry::{Draft, Perm};
 use acl_people::People;
 use acl_text::{Sep, Spec, Want, read_entries};
 use facl_output::{LineFault, Source};
 use std::alloc::{AllocError, Global};
+
+/// The entries of a line.
+#[derive(Drop)]
+pub(crate) struct ChangeEntries {
+    /// `-x`, `-X`: the keys that are removed.
+    pub remove: Specs,
+    /// `--set`, `--set-file`: the entries that replace a list.
+    pub set: Specs,
+    /// `-m`, `-M`: the entries that are modified or added.
+    pub modify: Specs,
+}
 
 /// The entries of a text.
 fn entries_in(
@@ -72,13 +83,13 @@ pub(crate) fn entries_of_line(
 ) -> Result<ChangeEntries, LineFault>
     ensures { Gives (λ entries. entries) result (entries_of_line people.now line.now text.now) }
 {
-    let removed = entries_given(alloc, people, Want::WithoutPerms, &line.removed, text)?;
-    let modified = entries_given(alloc, people, Want::WithPerms, &line.modified, text)?;
+    let remove = entries_given(alloc, people, Want::WithoutPerms, &line.removed, text)?;
+    let modify = entries_given(alloc, people, Want::WithPerms, &line.modified, text)?;
     let set = entries_given(alloc, people, Want::WithPerms, &line.set, text)?;
     Ok(ChangeEntries {
-        removed,
+        remove,
         set,
-        modified,
+        modify,
     })
 }
 
@@ -90,8 +101,8 @@ pub(crate) fn both_at(
 ) -> Result<Option<usize>, AllocError>
     ensures { IfOk result (λ at. at ≡ both_at as_default entries.now) }
 {
-    let removed = RemovedKeys::of(alloc, entries.removed.as_slice())?;
-    Ok(first_removed(&removed, as_default, entries.modified.as_slice()))
+    let removed = RemovedKeys::of(alloc, entries.remove.as_slice())?;
+    Ok(first_removed(&removed, as_default, entries.modify.as_slice()))
 }
 
 /// Whether `-d` drops a default entry.
@@ -99,8 +110,8 @@ pub(crate) fn drops(as_default: bool, entries: &ChangeEntries) -> bool
     ensures { result ≡ drops as_default entries.now }
 {
     as_default
-        && (has_default(entries.removed.as_slice())
-            || has_default(entries.modified.as_slice())
+        && (has_default(entries.remove.as_slice())
+            || has_default(entries.modify.as_slice())
             || has_default(entries.set.as_slice()))
 }
 

@@ -9,8 +9,8 @@ use Rattle.facl.proofs.tools.setfacl_entries.both_at.Goals as goal
 pub returns : goal.returns
 returns c =
     let keys = c.in_ok-removed.removed in
-    let removed = c.args.entries.now.removed in
-    let modified = c.args.entries.now.modified in
+    let removed = c.args.entries.now.remove in
+    let modified = c.args.entries.now.modify in
     let d = c.args.as_default in
     let access = c.in_ok-removed.ensures.access ∙ ap (keys_of false) c.as_slice.ensures in
     let dflt = c.in_ok-removed.ensures.dflt ∙ ap (keys_of true) c.as_slice.ensures in

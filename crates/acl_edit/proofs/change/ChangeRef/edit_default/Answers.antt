@@ -3,8 +3,8 @@ use Rattle.acl_text.specs.declared.fault.Which.TheVariants.{Default}
 use Rattle.acl_edit.specs.Parts.{part, names}
 use Rattle.acl_edit.specs.Rooms.{size}
 use Rattle.acl_edit.proofs.Sizes.{none_left, size-worked, size-fill_from}
-use Rattle.acl_edit.proofs.edit.Change.edit_default.Goals as goal
-use Rattle.acl_edit.proofs.edit.Change.edit_default.Goals.{then-puts+in_ok-fill_from, else-puts}
+use Rattle.acl_edit.proofs.change.ChangeRef.edit_default.Goals as goal
+use Rattle.acl_edit.proofs.change.ChangeRef.edit_default.Goals.{then-puts+in_ok-fill_from, else-puts}
 
 pub returns-in_err-lost : goal.returns-in_err-lost
 returns-in_err-lost c =

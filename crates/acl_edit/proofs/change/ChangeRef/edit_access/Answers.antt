@@ -3,7 +3,7 @@ use Rattle.acl_text.specs.declared.fault.Which.TheVariants.{Access}
 use Rattle.acl_edit.specs.Parts.{part, names}
 use Rattle.acl_edit.specs.Rooms.{size}
 use Rattle.acl_edit.proofs.Sizes.{none_left, size-worked}
-use Rattle.acl_edit.proofs.edit.Change.edit_access.Goals as goal
+use Rattle.acl_edit.proofs.change.ChangeRef.edit_access.Goals as goal
 
 pub returns-in_err-lost : goal.returns-in_err-lost
 returns-in_err-lost c =
