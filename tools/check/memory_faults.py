@@ -6,13 +6,15 @@ usage: tools/check/memory_faults.py
 No contract can forbid a call to report that memory ran out where it did not, so this looks at the code of each crate
 that is not one of tests. Types, `use` and patterns may name what follows; of expressions:
 
-- `AllocError` and `AllocFailed` are in none, so these values come from allocations alone.
-- `NoMemory`, of any fault, is made only in an `impl From` of one of these, or out of another `NoMemory`: in an arm of a
-  match each of whose patterns names one, or in the block of an `if` whose condition ends with a comparison with one.
-  Comparisons alone may name it anywhere.
+- `AllocError` and `AllocFailed` are in none, so these values come from allocations alone; but where a `checked_add` has
+  no sum, a count that does not fit is one too.
+- `NoMemory`, of any fault, is made only in an `impl From` of one of these, or out of another `NoMemory`, or out of the
+  kind `OutOfMemory` of std and of the kit's crates: in an arm of a match each of whose patterns names one, or in the
+  block of an `if` whose condition ends with a comparison with one. Comparisons alone may name it anywhere.
 - None of the three has another name, by `use .. as ..` or by `type` (`NoMemory` as a name of `AllocError` apart).
 
-EXCEPTIONS has the other places, by file and function, with reasons; one where nothing is found any more is a fault too.
+EXCEPTIONS has the other places: the one arm of a function, with its reason. One where nothing is found any more is a
+fault too.
 Prints `FILE:LINE: what is wrong`. The exit status is 1 where something is.
 
 tools/check/documents.py reads the sources by this file too: tokens, and functions with their clauses. It reads as much
@@ -26,32 +28,22 @@ import re
 import sys
 from typing import Dict, Iterable, Iterator, List, NamedTuple, Optional, Set, Tuple
 
-COUNT = "a count that does not fit"
-KIND = "the kind of a fault of std or of the kit's crate that says that memory ran out"
-ALONE = "the only fault of the call before it, by a clause or by its type"
-EXCEPTIONS: Dict[Tuple[str, str], str] = {
-    ("crates/kinds/src/blocks.rt", "BlockList::pushed"): COUNT,
-    ("crates/kinds/src/counted.rt", "count_one"): COUNT,
-    ("crates/kinds/src/kinds.rt", "Kinds::grant"): COUNT,
-    ("crates/kinds/src/list.rt", "SharedList::pushed"): COUNT,
-    ("crates/kinds/src/memo.rt", "count_again"): COUNT,
+ALONE = "it is the only fault of the call before it, by a clause or by its type"
+FOUND = "the path was looked up before, so that this call has no other fault"
+# The file and the function, with the patterns of the one arm in which the fault is made there, and why it may be.
+EXCEPTIONS: Dict[Tuple[str, str], Tuple[str, str]] = {
     ("crates/acl_tree/src/edit_command.rt", "prepare_chmod"):
-        "the operands were looked up before, and a mode is put into each file that is found",
-    ("crates/acl_tree/src/creat.rt", "node_of"): ALONE,
-    ("crates/facl/src/answers/below.rt", "push_file_at"): "the path is that of a file that was counted",
-    ("crates/facl/src/answers/gains.rt", "with_count"): COUNT,
-    ("crates/facl/src/answers/path_texts.rt", "files_at"): "the path was looked up before",
-    ("crates/facl/src/answers/sums.rt", "UserSum::add"): COUNT,
-    ("crates/facl/src/answers/tallies.rt", "Tallies::add"): COUNT,
-    ("crates/facl/src/session.rt", "FaclSession::finish_line"): ALONE,
-    ("crates/facl/src/line.rt", "text_of_unit"): "TextFound::Lost: the room for the line's text was refused",
-    ("crates/facl_cli/src/args.rt", "words_fault"): KIND,
-    ("crates/facl_cli/src/files.rt", "From<io::Error> for Unread"): KIND,
-    ("crates/facl/src/tools/setattr.rt", "bytes_of"): KIND,
-    ("crates/facl_script/src/tool_fault.rt", "From<Error> for WordsFault"): KIND,
+        ("Err ( _ )", "the operands were looked up before, and a mode is put into each file that is found"),
+    ("crates/acl_tree/src/creat.rt", "node_of"): ("Err ( _ )", ALONE),
+    ("crates/facl/src/answers/path_texts.rt", "files_at"): ("Err ( fault )", FOUND),
+    ("crates/facl/src/session.rt", "FaclSession::finish_line"): ("Err ( _ )", ALONE),
+    ("crates/facl/src/line.rt", "text_of_unit"): ("HeldText :: Lost", "the room for the line's text was refused"),
 }
 ALLOCATIONS, FAULT = ("AllocError", "AllocFailed"), "NoMemory"
 NAMES = (*ALLOCATIONS, FAULT)
+# What a pattern names where memory ran out: a fault, or the kind of an error of others.
+RAN_OUT = {FAULT, "OutOfMemory"}
+SUM = re.compile(r"\. checked_add \( [^()]* \)$")
 ANY = "|".join(NAMES)
 RENAMED = re.compile(rf"\b({ANY})\s+as\s+(?!(?:{ANY})\b)"
                      rf"|^[^/\n]*\btype\s+(?!(?:{ANY})\b)\w+\s*=\s*(?:\w+::)*({ANY})\b", re.M)
@@ -241,18 +233,24 @@ class Library:
 
 
 class Body:
-    """Where in a body patterns and types are, and where a NoMemory may be made."""
+    """Where in a body patterns and types are, where a NoMemory may be made, and where any of NAMES; and the patterns of the
+    innermost arm that each token is in."""
 
     def __init__(self, tokens: List[Token]) -> None:
         self.tokens, self.texts = tokens, [token.text for token in tokens]
         self.patterns: Set[int] = set()
         self.allowed: Set[int] = set()
+        self.without_sum: Set[int] = set()
+        self.arms: Dict[int, str] = {}
         for at, text in enumerate(self.texts):
             self.look(at, text)
 
     def look(self, at: int, text: str) -> None:
         if text == "match":
-            self.match(find(self.tokens, at, ("{",)))
+            self.match(at, find(self.tokens, at, ("{",)))
+        elif text == "let":
+            self.patterns.update(range(at, find(self.tokens, at, PATTERNS[text])))
+            self.let_else(at)
         elif text == "if":
             self.condition(at)
         elif self.texts[at:at + 3] == ["matches", "!", "("]:
@@ -264,8 +262,19 @@ class Body:
         elif text in PATTERNS and self.texts[at:at + 2] != ["for", "<"]:
             self.patterns.update(range(at, find(self.tokens, at, PATTERNS[text])))
 
-    def match(self, at: int) -> None:
-        """The arms of the match whose brace is at `at`."""
+    def has_sum(self, at: int, end: int) -> bool:
+        """Whether an expression ends in a sum that may not fit."""
+        return SUM.search(" ".join(self.texts[at:end])) is not None
+
+    def let_else(self, at: int) -> None:
+        """The block of `let .. = .. else {..}`, where the value is a sum."""
+        start = find(self.tokens, at, ("else", ";"))
+        if self.texts[start:start + 2] == ["else", "{"] and self.has_sum(at, start):
+            self.without_sum.update(range(start, end_of_group(self.tokens, start + 1)))
+
+    def match(self, first: int, at: int) -> None:
+        """The arms of the match at `first`, whose brace is at `at`."""
+        is_sum = self.has_sum(first, at)
         end, at = end_of_group(self.tokens, at) - 1, at + 1
         while at < end:
             arrow = find(self.tokens, at, ("=>",), end)
@@ -274,8 +283,12 @@ class Body:
             after = end_of_group(self.tokens, value) if is_block else find(self.tokens, value, (",",), end)
             guard = find(self.tokens, at, ("if",), arrow)
             self.patterns.update(range(at, guard))
-            if all(FAULT in alternative.split() for alternative in " ".join(self.texts[at:guard]).split("|")):
+            patterns = " ".join(self.texts[at:guard])
+            self.arms.update((place, patterns) for place in range(value, after))
+            if all(RAN_OUT & set(alternative.split()) for alternative in patterns.split("|")):
                 self.allowed.update(range(value, after))
+            if is_sum and patterns == "None":
+                self.without_sum.update(range(value, after))
             at = after + (self.texts[after] == ",")
 
     def condition(self, at: int) -> None:
@@ -291,44 +304,55 @@ class Body:
             at -= 2
         return self.texts[at - 1] if at else ""
 
-    def made(self) -> Iterator[Tuple[int, str]]:
-        """The lines where one of NAMES is in an expression and may not be, with its name."""
+    def made(self) -> Iterator[Tuple[int, str, str]]:
+        """The lines where one of NAMES is in an expression and may not be, with its name, and the arm that it is in."""
         for at, token in enumerate(self.tokens):
-            if token.text in NAMES and at not in self.patterns:
+            if token.text in NAMES and at not in self.patterns | self.without_sum:
                 may_be = at in self.allowed or self.before_path(at) in ("==", "!=")
-                yield from () if token.text == FAULT and may_be else ((token.line, token.text),)
+                yield from () if token.text == FAULT and may_be else ((token.line, token.text, self.arms.get(at, "")),)
 
 
-def in_functions(source: Source) -> Iterator[Tuple[int, str, str]]:
-    """What functions make, each with its place as EXCEPTIONS names it: a `from` by the impl that it is in."""
+class Made(NamedTuple):
+    """What is made or named where it may not be: the line, the function and the arm as EXCEPTIONS has them, the text."""
+
+    line: int
+    place: str
+    arm: str
+    text: str
+
+
+def in_functions(source: Source) -> Iterator[Made]:
+    """What functions make, each with its place: a `from` by the impl that it is in."""
     for function in source.functions:
         type_, trait, argument = function.scope
         place = f"From<{argument}> for {type_}" if trait == "From" else function.label
         is_of_allocation = trait == "From" and argument.split("<")[0] in ALLOCATIONS
-        for line, name in Body(function.body).made():
+        for line, name, arm in Body(function.body).made():
             if name != FAULT or not is_of_allocation:
-                yield line, place, f"{name} is made in {place}"
+                yield Made(line, place, arm, f"{name} is made in {place}")
 
 
-def in_items(source: Source) -> Iterator[Tuple[int, str, str]]:
+def in_items(source: Source) -> Iterator[Made]:
     """Values of constants and macros, and other names."""
     tokens = source.tokens
     for at, token in enumerate(tokens):
         if token.text in ("const", "static", "macro_rules"):
             start = find(tokens, at, ("{",) if token.text == "macro_rules" else (";",))
-            yield from ((each.line, "", f"{each.text} is named in a {token.text}")
+            yield from (Made(each.line, "", "", f"{each.text} is named in a {token.text}")
                         for each in tokens[at:end_of_group(tokens, start)] if each.text in NAMES)
     for match in RENAMED.finditer(source.text):
-        yield source.text.count("\n", 0, match.start()) + 1, "", f"{match[1] or match[2]} gets another name"
+        yield Made(source.text.count("\n", 0, match.start()) + 1, "", "", f"{match[1] or match[2]} gets another name")
 
 
-def faults_of(source: Source, exceptions: Dict[Tuple[str, str], str], used: Set[Tuple[str, str]]) -> Iterator[str]:
-    """The lines to print for a source; `used` gets the exceptions that were met."""
-    for line, place, text in sorted((*in_functions(source), *in_items(source))):
-        if (source.file, place) in exceptions:
-            used.add((source.file, place))
+def faults_of(source: Source, exceptions: Dict[Tuple[str, str], Tuple[str, str]],
+              used: Set[Tuple[str, str]]) -> Iterator[str]:
+    """The lines to print for a source; `used` gets the exceptions that were met. Each is for one place."""
+    for made in sorted((*in_functions(source), *in_items(source))):
+        key = (source.file, made.place)
+        if key in exceptions and key not in used and exceptions[key][0] == made.arm:
+            used.add(key)
         else:
-            yield f"{source.file}:{line}: {text}"
+            yield f"{source.file}:{made.line}: {made.text}"
 
 
 def main() -> int:

@@ -13,7 +13,7 @@ use Rattle.path_map.specs.Entries.{seen}
 use Rattle.kinds.specs.Kinds.{KindsOf, IsNode, node_at}
 use Rattle.kinds.specs.Numbered.{Kept, Numbers, with_node, entries_in, entries_by}
 use Rattle.acl_rights.specs.declared.kind_rows.LabelRow.{LabelRow}
-use Rattle.acl_rights.specs.declared.classes.Class.{Class}
+use Rattle.acl_rights.specs.declared.classes.Pair.{Pair}
 use Rattle.acl_rights.specs.KindRows.{rows_at}
 use Rattle.acl_rights.specs.Rows.{Rows}
 use Rattle.acl_rights.specs.ReachedRows.{reached_from}
@@ -21,7 +21,7 @@ use Rattle.acl_rights.specs.Walks.{nearest_from, nearest, last_from, last_of, cu
 use Rattle.acl_rights.specs.RowsLeft.{rows_left, AreLeft, IsShrunk, IsReachPut, IsRowPut}
 use Rattle.acl_rights.specs.Classes.{KeepRows, IsFileTaken}
 use Rattle.acl_rights.specs.ClassRows.{NumberedRows, rows_by, HasRow, ClassRows, RowsAbove, IsPlaced, row_in, IsClassRow, IsClass, IsLonger, classed, AllPlaced, rows_above, IsClassPut, AreKept, numbers_left, AreClassed}
-use Rattle.acl_rights.specs.ClassLists.{rows_of_classes, AreClasses}
+use Rattle.acl_rights.specs.ClassLists.{AreClasses}
 use Rattle.acl_rights.proofs.Walks.{take_seen}
 use Rattle.acl_rights.proofs.Known.{cut_none}
 use Rattle.acl_rights.proofs.RowsLeft.{shrunk_itself, left_before, left_shrunk, left_reached, left_next}
@@ -112,21 +112,42 @@ is_node k number h = by (node_at k number) refl (sym (get_or-map (λ o. option_m
 pub row_alone : (kinds : KindsOf LabelRow) (rows : List (List ℕ)) (number : ℕ) (x : LabelRow) → node_at kinds number ≡ Some x → IsClassRow (rows_by kinds) rows None number x.row
 row_alone kinds rows number x is = record { own = x.row; has = has_row kinds number (x, is); placed = tt; cut = sym (cut_none 0 x.row) }
 
--- one class more
-module _ (numbers : NumberedRows) (cs : List Class) (c : Class) where
-  pub rows_pushed : rows_of_classes (cs ++ c ∷ []) ≡ rows_of_classes cs ++ c.row ∷ []
-  rows_pushed = map-append (λ (c : Class). c.row) cs (c ∷ [])
+-- a class with the row that is left of a number's
+pub class_fits : (kinds : KindsOf LabelRow) (rows : List (List ℕ)) (above : Option ℕ) (number class : ℕ) (x : LabelRow) (row : List ℕ) → node_at kinds number ≡ Some x → IsPlaced rows above
+    → slice_get rows class ≡ Some row → row ≡ cut_from (option_map (row_in rows) above) 0 x.row → IsClass (record { numbers = rows_by kinds; rows = rows }) above number class
+class_fits kinds rows above number class x row is placed here cut = record {
+  within = slice_get_within rows class row here;
+  row = record { own = x.row; has = has_row kinds number (x, is); placed = placed; cut = get_or_from_slice_get rows class row [] here ∙ cut };
+}
 
-  module _ (own : IsClassRow numbers (rows_of_classes cs) c.above c.number c.row) where
-    more : (above : Option ℕ) (number : ℕ) (row : List ℕ) → IsClassRow numbers (rows_of_classes cs) above number row → IsClassRow numbers (rows_of_classes (cs ++ c ∷ [])) above number row
-    more above number row h = subst (λ rs. IsClassRow numbers rs above number row) (sym rows_pushed) (class_row_more (rows_of_classes cs) (c.row ∷ []) numbers above number row h)
+pub row_within : (rows : List (List ℕ)) (class : ℕ) (row default : List ℕ) → class < length rows → row ≡ get_or rows class default → row ≡ row_in rows class
+row_within rows class row default lt is = is ∙ sym (get_or_from_slice_get rows class (get_or rows class default) [] (slice_get-get_or rows class default lt))
 
-    pub classes_pushed : AreClasses numbers cs → AreClasses numbers (cs ++ c ∷ [])
-    classes_pushed all =
-        all_pushed (λ d. IsClassRow numbers (rows_of_classes (cs ++ c ∷ [])) d.above d.number d.row) cs c
-        (all_each (λ d. IsClassRow numbers (rows_of_classes cs) d.above d.number d.row)
-        (λ d. IsClassRow numbers (rows_of_classes (cs ++ c ∷ [])) d.above d.number d.row) (λ d h. more d.above d.number d.row h) cs all)
-        (more c.above c.number c.row own)
+-- below no class it is the number's row
+pub class_fits_alone : (kinds : KindsOf LabelRow) (rows : List (List ℕ)) (number class : ℕ) (x : LabelRow) (row : List ℕ) → node_at kinds number ≡ Some x
+    → slice_get rows class ≡ Some row → row ≡ x.row → IsClass (record { numbers = rows_by kinds; rows = rows }) None number class
+class_fits_alone kinds rows number class x row is here same = class_fits kinds rows None number class x row is tt here (same ∙ sym (cut_none 0 x.row))
+
+-- rows were added
+module _ (numbers : NumberedRows) (rows added : List (List ℕ)) where
+  abbrev old : ClassRows
+  old = record { numbers = numbers; rows = rows }
+
+  abbrev new : ClassRows
+  new = record { numbers = numbers; rows = rows ++ added }
+
+  class_more : (above : Option ℕ) (number class : ℕ) → IsClass old above number class → IsClass new above number class
+  class_more above number class k = record {
+    within = within_more rows added class k.within;
+    row =
+        subst (IsClassRow numbers (rows ++ added) above number) (sym (row_more rows added class k.within))
+        (class_row_more rows added numbers above number (row_in rows class) k.row);
+  }
+
+  pub classes_more : (ps : List Pair) → AreClasses old ps → AreClasses new ps
+  classes_more ps all =
+      all_each (λ p. IsClass old p.above p.number p.class) (λ p. IsClass new p.above p.number p.class)
+      (λ p k. class_more p.above p.number p.class k) ps all
 
 -- ---- files with classes
 

@@ -24,3 +24,5 @@ mod Lying
 pub mod Granted
 mod RowsOfNumbers
 mod ClassedRows
+mod Outside
+mod RowsFrom

@@ -100,7 +100,7 @@ not_within e q apart = false_from (is_above e q) (λ below. clash (encloses e q)
     clash : (b : Bool) → b ≡ true → b ≡ false → ⊥
     clash b h k = cc
 
-not_above : (e q p : PathOf) → path_cmp e q ≡ Less → is_above e q ≡ false → is_gt (path_cmp q p) ≡ false → is_above e p ≡ false
+pub not_above : (e q p : PathOf) → path_cmp e q ≡ Less → is_above e q ≡ false → is_gt (path_cmp q p) ≡ false → is_above e p ≡ false
 not_above e q p before apart le = by (path_cmp q p) refl le
   where
     clash : (b : Bool) → b ≡ true → b ≡ false → ⊥

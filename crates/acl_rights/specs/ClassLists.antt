@@ -1,12 +1,9 @@
--- For inner functions: the list of classes.
-use Rattle.std.specs.Prelude.{ℕ, List, map}
+-- For inner functions: the pairs of which files are.
+use Rattle.std.specs.Prelude.{List}
 use Rattle.std.specs.List.{AllByRecursion}
-use Rattle.acl_rights.specs.declared.classes.Class.{Class}
-use Rattle.acl_rights.specs.ClassRows.{NumberedRows, IsClassRow}
+use Rattle.acl_rights.specs.declared.classes.Pair.{Pair}
+use Rattle.acl_rights.specs.ClassRows.{ClassRows, IsClass}
 
-abbrev pub rows_of_classes : List Class → List (List ℕ)
-rows_of_classes classes = map (λ c. c.row) classes
-
--- each class has the row of files of its number below its class above
-abbrev pub AreClasses : NumberedRows → List Class → Type 0
-AreClasses numbers classes = AllByRecursion (λ c. IsClassRow numbers (rows_of_classes classes) c.above c.number c.row) classes
+-- each pair's class has the row of files of its number below its class above
+abbrev pub AreClasses : ClassRows → List Pair → Type 0
+AreClasses classes pairs = AllByRecursion (λ p. IsClass classes p.above p.number p.class) pairs

@@ -17,3 +17,4 @@ pub mod RowsLeft
 pub mod Classes
 pub mod ClassRows
 pub mod ClassLists
+pub mod Outside

@@ -1,8 +1,10 @@
 -- For inner functions: rows of files that are still to come, with what is reached at the directories above.
-use Rattle.std.specs.Prelude.{◌≡◌, ℕ, Bool, true, false, List, [], ◌∷◌, ◌++◌, take, Option, Some, None, if◌then◌else◌}
+use Rattle.std.specs.Prelude.{◌≡◌, ℕ, Bool, true, false, List, [], ◌∷◌, ◌++◌, take, filter, Option, Some, None, if◌then◌else◌}
 use Rattle.std.specs.Borrow.{Bor}
 use Rattle.std.specs.Ordering.{is_gt}
+use Rattle.acl_names.specs.Below.{is_above}
 use Rattle.acl_names.specs.Paths.{path_cmp, PathOf}
+use Rattle.path_map.specs.Below.{from}
 use Rattle.path_map.specs.Entries.{IsInOrder}
 use Rattle.acl_rights.specs.declared.kind_rows.LabelRow.{LabelRow}
 use Rattle.acl_rights.specs.KindRows.{RowedPaths}
@@ -43,3 +45,11 @@ pub record IsReachPut (p : PathOf) (row : List ℕ) (stack new : Rows) (reached 
 abbrev pub IsRowPut : Bool → PathOf → List ℕ → (stack new : Rows) → List ℕ → Type 0
 IsRowPut true p row stack new reached = IsReachPut p row stack new reached
 IsRowPut false p row stack new reached = (new ≡ stack) × (reached ≡ row)
+
+-- the entries above a path
+abbrev pub those : {A : Type 0} → PathOf → List (PathOf × A) → List (PathOf × A)
+those p es = filter (λ e. is_above e.0 p) es
+
+-- after the rows above a path, what is reached there is known for those from the path on
+abbrev pub AreAbove : (all : Rows) → (top : PathOf) → (above : Rows) → Type 0
+AreAbove all top above = AreLeft true (those top all ++ from top all) (from top all) above

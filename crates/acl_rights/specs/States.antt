@@ -1,12 +1,12 @@
 -- The states that the lines of a script see: the one after the texts were loaded, and the present one.
-use Rattle.std.specs.Prelude.{ℕ, Bool, if◌then◌else◌, Option, IfSome}
+use Rattle.std.specs.Prelude.{ℕ, Bool, if◌then◌else◌, Option, IfSome, refl}
+use Rattle.std.specs.Coded.{Coded, code_by, coded×, coded_option}
 use Rattle.std.specs.Option.{option_map_or}
-use Rattle.acl_tree.specs.State.{State}
+use Rattle.acl_tree.specs.State.{State, coded_state}
 use Rattle.acl_tree.specs.Reports.{StagedState, Reports}
 use Rattle.acl_tree.specs.declared.user_change.UserChange.TheVariants.{Unchanged}
 use Rattle.acl_rights.specs.Costs.{most_between}
 use Rattle.acl_rights.specs.declared.indexed.States.{States}
-use Rattle.acl_rights.specs.declared.indexed.IndexedStates.{IndexedStates}
 
 -- both, before the first line
 abbrev pub from_start : State → States
@@ -16,11 +16,19 @@ from_start s = record { loaded = s; now = s }
 abbrev pub states_after : (loads : Bool) → States → (new : State) → States
 states_after loads w new = record { loaded = if loads then new else w.loaded; now = new }
 
--- the state after the texts were loaded: the present one, where no line has changed the state since
-abbrev pub loaded_state : {J : Type 0} → IndexedStates J → State
+-- the present state, and the one after the texts were loaded, where a line has changed the state since
+pub record StatePair : Type 0 where
+  pub state : State
+  pub loaded : Option State
+
+abbrev pub coded_pair : Coded StatePair
+coded_pair = code_by (State × Option State) (coded× coded_state (coded_option coded_state)) (λ w. (w.state, w.loaded)) (λ p. record { state = p.0; loaded = p.1 }) (λ _. refl)
+
+-- the state after the texts were loaded
+abbrev pub loaded_state : StatePair → State
 loaded_state w = option_map_or (λ loaded. loaded) w.loaded w.state
 
-abbrev pub states_in : {J : Type 0} → IndexedStates J → States
+abbrev pub states_in : StatePair → States
 states_in w = record { loaded = loaded_state w; now = w.state }
 
 -- the next state, if there is one, was prepared from this one

@@ -85,6 +85,11 @@ impl Cells {
         })
     }
 
+    /// Whether these are the same verdicts in shared memory. Nothing is known where they are not. Allocates nothing.
+    pub(crate) fn shares(&self, other: &Cells) -> bool {
+        Rc::ptr_eq(&self.requests, &other.requests)
+    }
+
     /// The verdicts, one for each user.
     pub fn as_slice(&self) -> &[Requests]
         ensures { result.now ≡ self.now }
@@ -231,7 +236,7 @@ fn cut(alloc: Global, cells: &[Requests], above: &[Requests]) -> Result<Cells, A
 /// Whether a row has the verdicts of those who can search above, and nothing for others; never where the row above has fewer
 /// users. The loop does not end early, so that it compares many at a time.
 #[tactic(auto, using(crate::proofs::Walks::cut_from_length))]
-fn is_cut(row: &[Requests], cells: &[Requests], above: &[Requests]) -> bool
+pub(crate) fn is_cut(row: &[Requests], cells: &[Requests], above: &[Requests]) -> bool
     ensures { (result ≡ true) ↔ ((length cells.now ≤ length above.now) × (row.now ≡ cut_from (Some above.now) 0 cells.now)) }
 {
     if row.len() != cells.len() || above.len() < cells.len() {

@@ -1,5 +1,9 @@
 //! Classes of files: files of a class have the same row of verdicts. The classes of the files so far, and those of the
 //! directories above the next file.
+//!
+//! Along paths a file's row is what its number's row leaves below the class of the directory above: this pair of a class and
+//! a number is looked up, and only a new pair is compared with a class that may have its row. So a chain of directories of
+//! one label is of one class where each lets through whom those above let through, and few pairs are below it.
 
 ghost use Rattle.std.specs.Prelude.{◌≡◌, ◌≤◌, ◌++◌, ◌∷◌, [], true, map, length, take, is_ok, slice_get, IfOk, IfSome, OnErr, if◌then◌else◌};
 ghost use Rattle.std.specs.Option.{option_copied};
@@ -7,54 +11,46 @@ ghost use Rattle.path_map.specs.Entries.{seen};
 ghost use Rattle.acl_rights.specs.Walks.{last_of, AllBefore};
 ghost use Rattle.acl_rights.specs.ClassRows.{rows_by, HasRow, IsPlaced, IsClassRow, IsClass, IsLonger, IsClassPut, AreKept};
 
-use crate::cells::{Cells, cut_or_shared};
+use crate::cells::{Cells, cut_or_shared, is_cut, same_row};
+use crate::class_hints::{ClassHints, OPEN, gate_of};
 use crate::kind_rows::LabelRow;
 use crate::stack::{depth_above, last};
 use acl_names::Path;
 use kinds::Kinds;
 use std::alloc::{AllocError, Global};
-use std::collections::BTreeMap;
 use std::marker::Model;
 
-/// Files whose label has one number, below directories of one class; or all files of this number, where files are looked at
-/// alone.
-#[derive(Drop)]
-struct Class {
+/// Files whose label has one number, below directories of one class; or all files of this number, where there is none above,
+/// or files are looked at alone. And the class that they have.
+#[derive(Clone, Copy)]
+struct Pair {
     above: Option<usize>,
     number: usize,
-    row: Cells,
+    class: usize,
 }
 
-/// The classes of the files so far, and hints at the places of those that have a number below another class.
+/// The rows of the classes so far, and the pairs of which files are.
 #[derive(Drop)]
 struct Classes<'a> {
     kinds: &'a Kinds<LabelRow>,
-    list: Vec<Class>,
-    hints: BTreeMap<u64, usize>,
+    rows: Vec<Cells>,
+    pairs: Vec<Pair>,
+    hints: ClassHints,
 }
 
 impl<'a> Model for Classes<'a> {
     ghost use Rattle.acl_rights.specs.ClassRows.{ClassRows, rows_by};
-    ghost use Rattle.acl_rights.specs.ClassLists.{rows_of_classes, AreClasses};
+    ghost use Rattle.acl_rights.specs.ClassLists.{AreClasses};
 
     ghost Value = { ClassRows };
 
-    ghost view = { λ c. record { numbers = rows_by c.kinds.now; rows = rows_of_classes c.list.items } };
+    ghost view = { λ c. record { numbers = rows_by c.kinds.now; rows = c.rows.items } };
 
-    ghost invariant = { λ c. AreClasses (rows_by c.kinds.now) c.list.items };
+    ghost invariant = { λ c. AreClasses (record { numbers = rows_by c.kinds.now; rows = c.rows.items }) c.pairs.items };
 }
 
-/// A key for hints. Where two classes have the same one, the first is not found again, and its files get one class more.
-fn key(above: Option<usize>, number: usize) -> u64 {
-    let above = match above {
-        Some(class) => (class as u64).wrapping_add(1),
-        None => 0,
-    };
-    above.wrapping_mul(1 << 32).wrapping_add(number as u64)
-}
-
-/// Whether two classes above are the same, or none.
-fn is_same(some: Option<usize>, other: Option<usize>) -> bool
+/// Whether two classes are the same, or there are none.
+fn is_same_class(some: Option<usize>, other: Option<usize>) -> bool
     ensures { result ≡ true → some ≡ other }
 {
     match some {
@@ -67,27 +63,144 @@ fn is_same(some: Option<usize>, other: Option<usize>) -> bool
 }
 
 impl<'a> Classes<'a> {
+    /// None. Allocates nothing.
+    fn new(alloc: Global, kinds: &'a Kinds<LabelRow>) -> Classes<'a>
+        ensures { result ≡ record { numbers = rows_by kinds.now; rows = [] } }
+    {
+        Classes {
+            kinds,
+            rows: Vec::new(alloc),
+            pairs: Vec::new(alloc),
+            hints: ClassHints::new(alloc),
+        }
+    }
+
     /// The row of a class, if there is one.
     fn row(&self, class: usize) -> Option<&Cells>
         ensures { option_copied result ≡ slice_get self.now.rows class }
     {
-        match self.list.get(class) {
-            Some(class) => Some(&class.row),
-            None => None,
-        }
+        self.rows.get(class)
     }
 
-    /// The class of a number below another class, if its place is the one at hand.
-    fn known(&self, above: Option<usize>, number: usize) -> Option<usize>
+    /// The class of a number below another class, if their pair is at a place.
+    fn class_at(&self, place: usize, above: Option<usize>, number: usize) -> Option<usize>
         ensures { IfSome result (λ class. IsClass self.now above number class) }
     {
-        let at = *self.hints.get(&key(above, number))?;
-        let class = self.list.get(at)?;
-        if class.number == number && is_same(class.above, above) {
-            Some(at)
+        let pair = self.pairs.get(place)?;
+        if pair.number == number && is_same_class(pair.above, above) {
+            Some(pair.class)
         } else {
             None
         }
+    }
+
+    /// The class of a number below another class, if their pair is found.
+    fn known(&self, above: Option<usize>, number: usize) -> Option<usize>
+        ensures { IfSome result (λ class. IsClass self.now above number class) }
+    {
+        let first = self.hints.first(number)?;
+        if let Some(class) = self.class_at(first, above, number) {
+            return Some(class);
+        }
+        let place = self.hints.pair(above, number)?;
+        self.class_at(place, above, number)
+    }
+
+    /// The gate of a class above, or of none.
+    fn gate(&mut self, above: Option<usize>) -> Result<u64, AllocError>
+        ensures { self.new ≡ self.old }
+    {
+        let Some(above) = above else {
+            return Ok(OPEN);
+        };
+        if let Some(gate) = self.hints.gate(above) {
+            return Ok(gate);
+        }
+        let gate = match self.rows.get(above) {
+            Some(row) => gate_of(row.as_slice()),
+            None => OPEN,
+        };
+        self.hints.add_gate(above, gate)?;
+        Ok(gate)
+    }
+
+    /// Whether the row of a class is the whole row of a number.
+    fn is_whole(&self, class: usize, number: usize) -> bool {
+        match self.kinds.get(number) {
+            Some(node) => match self.rows.get(class) {
+                Some(row) => row.shares(&node.row),
+                None => false,
+            },
+            None => false,
+        }
+    }
+
+    /// Whoever looks for the row of the pair at a place is given its class.
+    fn offer(&mut self, place: usize) -> Result<(), AllocError>
+        ensures { self.new ≡ self.old }
+    {
+        let Some(pair) = self.pairs.get(place) else {
+            return Ok(());
+        };
+        let Pair {
+            above,
+            number,
+            class,
+        } = *pair;
+        let gate = self.gate(above)?;
+        self.hints.add_class(gate, number, class)?;
+        if self.is_whole(class, number) {
+            self.hints.add_class(OPEN, number, class)?;
+        }
+        Ok(())
+    }
+
+    /// Whether a class has the row of a number below another class.
+    fn fits(&self, class: usize, above: Option<usize>, number: usize) -> bool
+        requires node { HasRow self.now.numbers number }
+        requires above { IsPlaced self.now.rows above }
+        ensures { result ≡ true → IsClass self.now above number class }
+    {
+        let own = &self.kinds.node(number).row;
+        let Some(row) = self.row(class) else {
+            return false;
+        };
+        match above {
+            Some(above) => is_cut(row.as_slice(), own.as_slice(), self.rows[above].as_slice()),
+            None => same_row(row.as_slice(), own.as_slice()),
+        }
+    }
+
+    /// A class that has the row of a number below another class, if the one that a gate offers does.
+    fn offered(&self, gate: u64, above: Option<usize>, number: usize) -> Option<usize>
+        requires node { HasRow self.now.numbers number }
+        requires above { IsPlaced self.now.rows above }
+        ensures { IfSome result (λ class. IsClass self.now above number class) }
+    {
+        let class = self.hints.class(gate, number)?;
+        if self.fits(class, above, number) {
+            Some(class)
+        } else {
+            None
+        }
+    }
+
+    /// A class that has the row of a number below another class, if one is found: behind the same gate, or of the whole row.
+    fn found(&mut self, above: Option<usize>, number: usize) -> Result<Option<usize>, AllocError>
+        requires node { HasRow self.old.numbers number }
+        requires above { IsPlaced self.old.rows above }
+        ensures class { IfOk result (λ found. IfSome found (λ class. IsClass self.new above number class)) }
+        ensures same { self.new ≡ self.old }
+    {
+        let Some(first) = self.hints.first(number) else {
+            return Ok(None);
+        };
+        self.offer(first)?;
+        let gate = self.gate(above)?;
+        if let Some(class) = self.offered(gate, above, number) {
+            return Ok(Some(class));
+        }
+        Ok(self.offered(OPEN, above, number))
     }
 
     /// The row of files of a number, by the class of the directory above.
@@ -98,7 +211,7 @@ impl<'a> Classes<'a> {
     {
         let row = &self.kinds.node(number).row;
         match above {
-            Some(above) => cut_or_shared(alloc, row, self.list[above].row.as_slice(), None),
+            Some(above) => cut_or_shared(alloc, row, self.rows[above].as_slice(), None),
             None => row.share(),
         }
     }
@@ -110,13 +223,51 @@ impl<'a> Classes<'a> {
         ensures numbers { self.new.numbers ≡ self.old.numbers }
         ensures more { IsLonger self.old.rows self.new.rows }
     {
-        let class = self.list.len();
-        self.hints.insert(key(above, number), class)?;
-        self.list.push(Class { above, number, row })?;
+        let class = self.rows.len();
+        self.rows.push(row)?;
         Ok(class)
     }
 
-    /// The class of a number below another class: one that is known, or a new one.
+    /// The class of a new pair: one that has its row, or a new one.
+    fn made(
+        &mut self,
+        alloc: Global,
+        above: Option<usize>,
+        number: usize,
+    ) -> Result<usize, AllocError>
+        requires node { HasRow self.old.numbers number }
+        requires above { IsPlaced self.old.rows above }
+        ensures class { IfOk result (λ class. IsClass self.new above number class) }
+        ensures numbers { self.new.numbers ≡ self.old.numbers }
+        ensures more { IsLonger self.old.rows self.new.rows }
+    {
+        if let Some(class) = self.found(above, number)? {
+            return Ok(class);
+        }
+        let row = self.cut(alloc, above, number)?;
+        self.push(above, number, row)
+    }
+
+    /// Adds a pair with its class.
+    fn keep(&mut self, above: Option<usize>, number: usize, class: usize) -> Result<(), AllocError>
+        requires { IsClass self.old above number class }
+        ensures { self.new ≡ self.old }
+    {
+        let place = self.pairs.len();
+        self.pairs.push(Pair {
+            above,
+            number,
+            class,
+        })?;
+        let is_first = self.hints.first(number).is_none();
+        self.hints.add_pair(above, number, place)?;
+        if is_first {
+            return Ok(());
+        }
+        self.offer(place)
+    }
+
+    /// The class of a number below another class: that of a pair that is known, or of a new one.
     fn class_of(
         &mut self,
         alloc: Global,
@@ -132,8 +283,9 @@ impl<'a> Classes<'a> {
         if let Some(class) = self.known(above, number) {
             return Ok(class);
         }
-        let row = self.cut(alloc, above, number)?;
-        self.push(above, number, row)
+        let class = self.made(alloc, above, number)?;
+        self.keep(above, number, class)?;
+        Ok(class)
     }
 }
 
@@ -189,11 +341,7 @@ impl<'a> FilesAbove<'a> {
         ensures { result ≡ record { numbers = rows_by kinds.now; rows = []; above = [] } }
     {
         FilesAbove {
-            classes: Classes {
-                kinds,
-                list: Vec::new(alloc),
-                hints: BTreeMap::new(alloc),
-            },
+            classes: Classes::new(alloc, kinds),
             files: Vec::new(alloc),
         }
     }

@@ -1,13 +1,13 @@
 //! Files by classes, one after another: all files of a class have the same row of verdicts, alone, or along paths where each
 //! directory above has to grant search.
 
-ghost use Rattle.std.specs.Prelude.{◌≡◌, [], slice_get, option_map, IfOk};
+ghost use Rattle.std.specs.Prelude.{◌≡◌, [], slice_get, option_map, IfOk, OnErr};
 ghost use Rattle.std.specs.Option.{option_copied};
 ghost use Rattle.path_map.specs.Entries.{first, seen};
 ghost use Rattle.kinds.specs.Numbered.{entries_in};
 ghost use Rattle.acl_rights.specs.KindRows.{rows_at};
 ghost use Rattle.acl_rights.specs.ReachedRows.{rows_along};
-ghost use Rattle.acl_rights.specs.Classes.{TakesFile};
+ghost use Rattle.acl_rights.specs.Classes.{KeepRows, TakesFile};
 
 use crate::classes::FilesAbove;
 use crate::kind_rows::KindRows;
@@ -45,9 +45,11 @@ impl<'a> Model for FileClasses<'a> {
 }
 
 impl<'a> FileClasses<'a> {
-    /// The next file in path order with its class. Fails only if memory runs out.
+    /// The next file in path order with its class. After an error the file is still to come. Fails only if memory runs out.
     pub fn next(&mut self, alloc: Global) -> Result<Option<(&'a Path, usize)>, AllocError>
-        ensures { IfOk result (λ found. TakesFile self.old (option_map seen found) self.new) }
+        ensures file { IfOk result (λ found. TakesFile self.old (option_map seen found) self.new) }
+        ensures same { OnErr result (self.new.1 ≡ self.old.1) }
+        ensures rows { OnErr result (KeepRows self.old.0 self.new.0) }
     {
         let Some((path, number)) = self.first else {
             return Ok(None);

@@ -3,11 +3,13 @@
 
 ghost use Rattle.std.specs.Prelude.{◌≡◌, ◌≤◌, ◌++◌, ◌∷◌, [], true, map, length, take, drop, is_ok, option_map, IfOk, OnOk, OnErr, if◌then◌else◌};
 ghost use Rattle.path_map.specs.Entries.{first, seen};
+ghost use Rattle.path_map.specs.Below.{from};
 ghost use Rattle.kinds.specs.Numbered.{entries_in};
+ghost use Rattle.kinds.specs.Puts.{borrowed};
 ghost use Rattle.acl_rights.specs.KindRows.{rows_at};
 ghost use Rattle.acl_rights.specs.ReachedRows.{rows_along};
 ghost use Rattle.acl_rights.specs.Walks.{last_of, cut_from, AllBefore};
-ghost use Rattle.acl_rights.specs.RowsLeft.{IsShrunk, IsReachPut, IsRowPut};
+ghost use Rattle.acl_rights.specs.RowsLeft.{IsShrunk, IsReachPut, IsRowPut, those, AreAbove};
 
 use crate::cells::{Cells, cut_or_shared};
 use crate::kind_rows::{KindRows, LabelRow};
@@ -176,6 +178,69 @@ impl<'a> FileRows<'a> {
 }
 
 impl KindRows {
+    /// The files above a path with their rows, in path order.
+    fn files_above(&self, alloc: Global, path: &Path) -> Result<Vec<(&Path, &LabelRow)>, AllocError>
+        ensures { IfOk result (λ files. map borrowed files.items ≡ those path.now (entries_in self.now.rows)) }
+    {
+        self.rows.order_law();
+        let mut files = Vec::new(alloc);
+        let mut above = self.rows.nearest_above(path);
+        while let Some(file) = above {
+            files.push(file)?;
+            above = self.rows.nearest_above(file.0);
+        }
+        files.reverse();
+        Ok(files)
+    }
+
+    /// The files above a path with what is reached at them.
+    fn reached_above(&self, alloc: Global, top: &Path) -> Result<Above<'_>, AllocError>
+        ensures { IfOk result (λ above. AreAbove (rows_at (entries_in self.now.rows)) top.now above) }
+    {
+        self.rows.order_law();
+        let files = self.files_above(alloc, top)?;
+        let mut above = Above { rows: None };
+        for at in 0..files.len() {
+            let file = &files[at];
+            drop(above.reach(alloc, file.0, &file.1.row)?);
+        }
+        Ok(above)
+    }
+
+    /// What is known above a path: nothing where search along paths is not asked.
+    fn above_if(&self, alloc: Global, along: bool, top: &Path) -> Result<Above<'_>, AllocError>
+        ensures { IfOk result (λ above. along ≡ true → AreAbove (rows_at (entries_in self.now.rows)) top.now above) }
+    {
+        if along {
+            self.reached_above(alloc, top)
+        } else {
+            Ok(Above { rows: None })
+        }
+    }
+
+    /// The files that are not before a path with their rows, or with what is left of them where each directory above has to
+    /// grant search. Fails only if memory runs out.
+    pub fn file_rows_from(
+        &self,
+        alloc: Global,
+        along: bool,
+        top: &Path,
+    ) -> Result<FileRows<'_>, AllocError>
+        ensures { IfOk result (λ rows. rows ≡ from top.now (rows_along along (rows_at (entries_in self.now.rows)))) }
+    {
+        self.rows.order_law();
+        let above = self.above_if(alloc, along, top)?;
+        let mut rest = self.rows.from(top);
+        let first = rest.next();
+        Ok(FileRows {
+            all: self,
+            along,
+            first,
+            rest,
+            above,
+        })
+    }
+
     /// All files with their rows, or with what is left of them where each directory above has to grant search. Allocates
     /// nothing.
     pub fn file_rows(&self, along: bool) -> FileRows<'_>

@@ -6,7 +6,7 @@ use acl_entry::{Entry, Key, Label};
 const SPREAD: u64 = 0x9E37_79B9_7F4A_7C15;
 
 /// A hash with a number worked into it.
-fn mixed(hash: u64, number: u64) -> u64 {
+pub(crate) fn mixed(hash: u64, number: u64) -> u64 {
     (hash ^ number).wrapping_mul(SPREAD).rotate_left(29)
 }
 

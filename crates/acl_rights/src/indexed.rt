@@ -1,7 +1,7 @@
 //! A state with the index of who may do what in it, and what users are granted in it, with or without search along the path;
 //! the present one with the one after the texts were loaded, the states that the lines of a script see.
 
-ghost use Rattle.std.specs.Prelude.{◌≡◌, [], ◌+◌, ◌<◌, ◌≤◌, ◌^◌, IfOk, OnOk, OnErr};
+ghost use Rattle.std.specs.Prelude.{◌≡◌, [], ◌+◌, ◌<◌, ◌≤◌, ◌^◌, IfOk, OnOk, OnErr, option_map};
 ghost use Rattle.acl_tree.specs.Reports.{Reports};
 ghost use Rattle.acl_rights.specs.Stages.{most_asked};
 ghost use Rattle.acl_rights.specs.Rows.{Asks};
@@ -9,14 +9,17 @@ ghost use Rattle.acl_rights.specs.Costs.{all_pairs, most_pairs, most_between};
 ghost use Rattle.acl_rights.specs.Tables.{IsWhole, FindsUsers, FindsFiles};
 ghost use Rattle.acl_rights.specs.Verdicts.{can_requests, users_granted, paths_granted, rows_granted};
 ghost use Rattle.acl_rights.specs.States.{IsPrepared, from_start, loaded_state, states_after, states_in, state_after, most_after};
+ghost use Rattle.acl_rights.specs.Outside.{SameOutside, SameRows, HoldsChanges};
+ghost use Rattle.path_map.specs.Below.{from};
 
+use crate::changed_part::with_changes;
 use crate::file_classes::FileClasses;
 use crate::file_rows::FileRows;
 use crate::index::Index;
 use crate::judge::Judge;
 use acl_entry::{Perm, Requests};
 use acl_names::Path;
-use acl_tree::{Staged, State};
+use acl_tree::{FilesIter, Staged, State};
 use std::alloc::{AllocError, Global};
 use std::marker::Model;
 use std::mem;
@@ -89,6 +92,14 @@ impl<J: Judge> IndexedState<J> {
         ensures { result.now ≡ self.now }
     {
         &self.state
+    }
+
+    /// The files that are not before a path, in path order. Allocates nothing.
+    pub fn files_from(&self, top: &Path) -> FilesIter<'_>
+        ensures { result ≡ from top.now self.now.tree.files }
+    {
+        let files = self.state.tree().files_whole().files_by_path();
+        files.from(top)
     }
 
     /// The index of the state.
@@ -178,14 +189,46 @@ impl<'a, J: Judge> Verdicts<'a, J> {
         let index = self.state.index();
         index.file_classes(alloc, self.along)
     }
+
+    /// Each file that is not before a path with what each user may do with it, in path order. Fails only if memory runs
+    /// out.
+    pub fn rows_from(&self, alloc: Global, top: &Path) -> Result<FileRows<'a>, AllocError>
+        ensures { IfOk result (λ rows. rows ≡ from top.now (rows_granted J.verdict_of self.now.along self.now.state.now)) }
+    {
+        let index = self.state.index();
+        index.file_rows_from(alloc, self.along, top)
+    }
 }
 
 /// The present state with its index, and the one after the texts were loaded. Both share what did not change.
 #[derive(Drop)]
 pub struct IndexedStates<J: Judge> {
-    pub state: IndexedState<J>,
+    state: IndexedState<J>,
     /// The state after the texts were loaded; `None` where no line that may change the state was accepted since.
-    pub loaded: Option<IndexedState<J>>,
+    loaded: Option<IndexedState<J>>,
+    /// The path at or below which both may differ, if they may.
+    changed: Option<Path>,
+}
+
+impl<J: Judge> Model for IndexedStates<J> {
+    ghost use Rattle.acl_rights.specs.Outside.{SameRows};
+    ghost use Rattle.acl_rights.specs.States.{StatePair, coded_pair, loaded_state};
+
+    ghost Value = { StatePair };
+
+    ghost coded = { coded_pair };
+
+    ghost view = { λ w. record { state = w.state; loaded = w.loaded } };
+
+    ghost invariant = { λ w. SameRows J.verdict_of w.changed (loaded_state (record { state = w.state; loaded = w.loaded })) w.state };
+}
+
+/// The next present state with its index, and the path at or below which it may differ from the state after the texts were
+/// loaded, if it may.
+#[derive(Drop)]
+struct NextState<J: Judge> {
+    state: IndexedState<J>,
+    changed: Option<Path>,
 }
 
 impl<J: Judge> IndexedStates<J> {
@@ -204,7 +247,26 @@ impl<J: Judge> IndexedStates<J> {
         Ok(IndexedStates {
             state,
             loaded: None,
+            changed: None,
         })
+    }
+
+    /// The present state with its index.
+    pub fn state(&self) -> &IndexedState<J>
+        ensures { result.now ≡ self.now.state }
+    {
+        &self.state
+    }
+
+    /// The path at or below which all files are with which a user may do something else than after the texts were loaded,
+    /// if there are any. Allocates nothing.
+    pub fn changed(&self) -> Option<&Path>
+        ensures { SameOutside J.verdict_of (option_map (λ p. p.now) result) (loaded_state self.now) self.now.state }
+    {
+        match &self.changed {
+            Some(top) => Some(top),
+            None => None,
+        }
     }
 
     /// The state after the texts were loaded, with its index.
@@ -224,17 +286,50 @@ impl<J: Judge> IndexedStates<J> {
     {
         if loads {
             drop(self.loaded.take());
+            drop(self.changed.take());
+        }
+    }
+
+    /// The state after a line, with its index, and where files may differ after it. Fails only if memory runs out; then the
+    /// prepared state is discarded.
+    fn after(
+        &self,
+        alloc: Global,
+        judge: &mut J,
+        staged: Staged,
+    ) -> Result<NextState<J>, AllocError>
+        requires room { J.asked_of judge.old + all_pairs staged.state < 2 ^ 64 }
+        requires reports { Reports self.now.state staged }
+        ensures state { IfOk result (λ next. next.state ≡ staged.state) }
+        ensures same { IfOk result (λ next. SameRows J.verdict_of next.changed (loaded_state self.now) staged.state) }
+        ensures at_most { J.asked_of judge.new ≤ J.asked_of judge.old + most_asked staged }
+        ensures bounded { J.asked_of judge.new ≤ J.asked_of judge.old + all_pairs staged.state }
+    {
+        self.state.state().tree().soundness_law();
+        staged.tree().soundness_law();
+        match with_changes(alloc, &self.changed, &staged) {
+            Ok(changed) => {
+                let state = self.state.after(alloc, judge, staged)?;
+                Ok(NextState { state, changed })
+            }
+            Err(refused) => {
+                staged.give_up();
+                Err(refused)
+            }
         }
     }
 
     /// Puts a state in place of the present one, which is kept where no line has changed the state since the texts were
     /// loaded. Allocates nothing.
-    fn put(&mut self, state: IndexedState<J>)
+    fn put(&mut self, next: NextState<J>)
+        requires { SameRows J.verdict_of next.changed (loaded_state self.old) next.state }
         ensures loaded { loaded_state self.new ≡ loaded_state self.old }
-        ensures state { self.new.state ≡ state }
+        ensures state { self.new.state ≡ next.state }
     {
+        let NextState { state, changed } = next;
         let before = mem::replace(&mut self.state, state);
         let _loaded = self.loaded.get_or_insert(before);
+        drop(mem::replace(&mut self.changed, changed));
     }
 
     /// Puts a prepared state with its index in place of the present one; where a load prepared it, it is the state after
@@ -256,8 +351,8 @@ impl<J: Judge> IndexedStates<J> {
     {
         staged.tree().soundness_law();
         staged.people().soundness_law();
-        let state = self.state.after(alloc, judge, staged)?;
-        self.put(state);
+        let next = self.after(alloc, judge, staged)?;
+        self.put(next);
         self.begin_again(loads);
         Ok(())
     }

@@ -19,14 +19,18 @@
 //! - A question on a file is a look-up of its row; one on all files is a walk over them in path order.
 //! - A question along paths looks at the rows of the directories above the file too: a verdict counts only where each of
 //!   them grants the user search.
+//! - A question on all users at once counts files by classes: files of a class have the same row, alone or along paths. So
+//!   each class is looked at once for all users.
 //!
 //! Verdicts on users and files: who decides, how often, the verdicts of all users on one file, rows of them by kinds of files,
-//! and those that are left where each directory above has to grant search.
+//! those that are left where each directory above has to grant search, and classes of files that have the same row.
 #![tactic(auto)]
 
 mod answers;
 mod cells;
+mod changed_part;
 mod changed_rows;
+mod class_hints;
 mod classes;
 mod counts;
 mod file_classes;

@@ -1,10 +1,11 @@
 //! What an index answers: who may do what, with and without search along the files' paths.
 
-ghost use Rattle.std.specs.Prelude.{◌≡◌, []};
+ghost use Rattle.std.specs.Prelude.{◌≡◌, [], IfOk};
 ghost use Rattle.std.specs.Option.{option_copied};
 ghost use Rattle.std.specs.FinMap.{find};
 ghost use Rattle.acl_names.specs.Paths.{path_cmp};
 ghost use Rattle.acl_tree.specs.State as states;
+ghost use Rattle.path_map.specs.Below.{from};
 
 use crate::answers::granted_users;
 use crate::file_classes::FileClasses;
@@ -206,6 +207,7 @@ impl<J: Judge> Index<J> {
         let now = &self.table;
         now.rows.file_rows(along)
     }
+
     /// Each file with its class, in path order: files of a class have the same row, with `along` what is left of their rows
     /// where each recorded directory above has to let the user search. Allocates nothing.
     pub fn file_classes(&self, alloc: Global, along: bool) -> FileClasses<'_>
@@ -213,5 +215,19 @@ impl<J: Judge> Index<J> {
     {
         let now = &self.table;
         now.rows.file_classes(alloc, along)
+    }
+
+    /// Each file that is not before a path with what each user may do with it, in path order; with `along` only where the
+    /// user can search each recorded directory above the file. Fails only if memory runs out.
+    pub fn file_rows_from(
+        &self,
+        alloc: Global,
+        along: bool,
+        top: &Path,
+    ) -> Result<FileRows<'_>, NoMemory>
+        ensures { IfOk result (λ rows. rows ≡ from top.now (rows_along along self.now.rows)) }
+    {
+        let now = &self.table;
+        now.rows.file_rows_from(alloc, along, top)
     }
 }

@@ -56,7 +56,7 @@ static ALONE: [Wanted; 6] = [
 ];
 
 /// The files of one label are of two classes, below two directories, of which one is closed to joe and ann. The root and
-/// `b` are of two classes, since only one of them has a directory above.
+/// `b` are of one class, since they have one row.
 static ALONG: [Wanted; 6] = [
     (b".", [0xff, 0x33, 0x33]),
     (b"a", [0xff, 0x01, 0x01]),
@@ -91,7 +91,7 @@ fn each_file_has_a_class(rt: HostRuntime) {
     let mut world = nothing(alloc).expect(&rt, "memory");
     assert_eq!(rt; first_wrong(alloc, &mut world, &SETUP), None);
     let alone = are(alloc, world.index.file_classes(alloc, false), &ALONE, 3);
-    let along = are(alloc, world.index.file_classes(alloc, true), &ALONG, 5);
+    let along = are(alloc, world.index.file_classes(alloc, true), &ALONG, 4);
     drop(world);
     assert!(rt; (alone, along) == (Some(true), Some(true)));
 }

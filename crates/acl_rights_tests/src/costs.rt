@@ -53,8 +53,20 @@ static SETUP: [Row; 3] = [
     },
 ];
 
-/// Adm is mentioned by log and pub, users is joe's primary group.
-static MEMBERSHIPS: [Row; 5] = [
+/// No file mentions cool, adm is mentioned by log and pub, users is joe's primary group.
+static MEMBERSHIPS: [Row; 6] = [
+    Row {
+        line: Line::Join(b"joe", b"cool"),
+        asked: (0, 0),
+        looked: 0,
+        refreshed: 0,
+        verdicts: &[Verdict {
+            user: JOE,
+            path: b"pub",
+            byte: 0x33,
+        }],
+        reach: &[],
+    },
     Row {
         line: Line::Join(b"joe", b"users"),
         asked: (0, 0),
@@ -265,8 +277,100 @@ static COMES_AND_GOES: [Row; 4] = [
     },
 ];
 
-/// No file has f's label while a user comes.
-static COMES_BACK: [Row; 3] = [
+/// The last user goes, and another one comes.
+static NOBODY_IS_LEFT: [Row; 4] = [
+    Row {
+        line: Line::Userdel(b"joe"),
+        asked: (0, 0),
+        looked: 0,
+        refreshed: 0,
+        verdicts: &[],
+        reach: &[],
+    },
+    Row {
+        line: Line::Userdel(b"lisa"),
+        asked: (0, 0),
+        looked: 0,
+        refreshed: 0,
+        verdicts: &[],
+        reach: &[],
+    },
+    Row {
+        line: Line::Userdel(b"ann"),
+        asked: (0, 0),
+        looked: 0,
+        refreshed: 0,
+        verdicts: &[],
+        reach: &[],
+    },
+    Row {
+        line: Line::Useradd(b"bob", 1003, b"staff"),
+        asked: (0, 5),
+        looked: 0,
+        refreshed: 5,
+        verdicts: &[Verdict {
+            user: 0,
+            path: b"f",
+            byte: 0x11,
+        }],
+        reach: &[],
+    },
+];
+
+/// A file of users and groups without rows.
+const FILE_OF_NUMBERS: &[u8] =
+    b"# file: f\n# owner: 7\n# group: 8\nuser::rw-\ngroup::r--\nother::r--\n";
+
+/// There is nobody until a user comes, who goes again. The label that the file had before is kept meanwhile.
+static NOBODY_IS_LOADED: [Row; 5] = [
+    Row {
+        line: Line::Load(Table::Group, GROUP),
+        asked: (0, 0),
+        looked: 0,
+        refreshed: 0,
+        verdicts: &[],
+        reach: &[],
+    },
+    Row {
+        line: Line::Load(Table::Dump, FILE_OF_NUMBERS),
+        asked: (0, 0),
+        looked: 0,
+        refreshed: 0,
+        verdicts: &[],
+        reach: &[],
+    },
+    Row {
+        line: Line::Chmod(0o600, b"f"),
+        asked: (0, 0),
+        looked: 0,
+        refreshed: 0,
+        verdicts: &[],
+        reach: &[],
+    },
+    Row {
+        line: Line::Useradd(b"bob", 1003, b"staff"),
+        asked: (0, 1),
+        looked: 0,
+        refreshed: 1,
+        verdicts: &[Verdict {
+            user: 0,
+            path: b"f",
+            byte: 0x01,
+        }],
+        reach: &[],
+    },
+    Row {
+        line: Line::Userdel(b"bob"),
+        asked: (0, 0),
+        looked: 0,
+        refreshed: 0,
+        verdicts: &[],
+        reach: &[],
+    },
+];
+
+/// No file has f's label while a user comes. Run then gets the label that f has, which is asked for no more.
+static COMES_BACK: [Row; 4] = [
     Row {
         line: Line::Chmod(0o600, b"f"),
         asked: (0, 3),
@@ -304,6 +408,18 @@ static COMES_BACK: [Row; 3] = [
                 byte: 0x55,
             },
         ],
+        reach: &[],
+    },
+    Row {
+        line: Line::Chmod(0o640, b"run"),
+        asked: (0, 0),
+        looked: 0,
+        refreshed: 4,
+        verdicts: &[Verdict {
+            user: 3,
+            path: b"run",
+            byte: 0x11,
+        }],
         reach: &[],
     },
 ];
@@ -373,8 +489,21 @@ fn lines_on_people_cost_what_they_change(rt: HostRuntime) {
     expect_all(
         &rt,
         rt.alloc(),
-        &[&MEMBERSHIPS, &PRIMARY, &NAMED, &COMES_AND_GOES, &COMES_BACK],
+        &[
+            &MEMBERSHIPS,
+            &PRIMARY,
+            &NAMED,
+            &COMES_AND_GOES,
+            &COMES_BACK,
+            &NOBODY_IS_LEFT,
+        ],
     );
+}
+
+#[test]
+fn lines_cost_nothing_where_nobody_is(rt: HostRuntime) {
+    let mut world = nothing(rt.alloc()).expect(&rt, "memory");
+    expect_none(&rt, first_wrong(rt.alloc(), &mut world, &NOBODY_IS_LOADED));
 }
 
 /// An index that is made of a state asks for so many verdicts.

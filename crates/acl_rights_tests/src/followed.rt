@@ -6,7 +6,7 @@ ghost use Rattle.acl_rights_tests.specs.Verdicts.{owner_alone};
 
 use crate::judge::OwnerAlone;
 use acl_people::People;
-use acl_rights::{Index, Judge, Rows};
+use acl_rights::{Index, Judge, NoMemory, Rows};
 use acl_tree::{Command, Staged, Tree};
 use std::alloc::Global;
 
@@ -44,6 +44,49 @@ pub fn follow(
             None
         }
     }
+}
+
+/// How many labels a command fetches, and how many verdicts along paths it makes again, on a state and its index; the
+/// rows and the state after it are given up.
+fn given_up(
+    alloc: Global,
+    judge: &mut OwnerAlone,
+    index: &Index<OwnerAlone>,
+    tree: &Tree,
+    people: &People,
+    command: &Command<'_>,
+) -> Option<(u64, u64)>
+    requires whole { IsWhole owner_alone (record { tree = tree.now; people = people.now }) index.now }
+    requires asked { judge.old.asked ≡ length tree.now.files * length people.now.users }
+{
+    tree.soundness_law();
+    people.soundness_law();
+    let staged: Staged = tree.prepare(alloc, people, command).ok()?;
+    staged.tree().soundness_law();
+    staged.people().soundness_law();
+    let staged_rows: Result<Rows, NoMemory> = index.stage(alloc, judge, &staged);
+    staged.give_up();
+    let rows: Rows = staged_rows.ok()?;
+    let costs = (rows.looked(), rows.refreshed());
+    rows.give_up();
+    Some(costs)
+}
+
+/// Builds the index of a state, and stages one command with both, which stay as they are; `None` where the command is
+/// refused.
+pub fn tried(
+    alloc: Global,
+    tree: &Tree,
+    people: &People,
+    command: &Command<'_>,
+) -> Option<(u64, u64)> {
+    tree.soundness_law();
+    people.soundness_law();
+    let mut judge = OwnerAlone::new();
+    let index: Index<OwnerAlone> = Index::build(alloc, &mut judge, tree, people).ok()?;
+    let costs = given_up(alloc, &mut judge, &index, tree, people, command);
+    drop(index);
+    costs
 }
 
 /// Follows one command with a state and its index, whose judge was asked about every user and every file.

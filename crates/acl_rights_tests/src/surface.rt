@@ -1,6 +1,6 @@
 //! The public surface of acl_rights as a user sees it, with its types written out: the index, under a judge of the
 //! user's own.
-use crate::followed::{Followed, follow};
+use crate::followed::{Followed, follow, tried};
 use crate::judge::OwnerAlone;
 use crate::small_tree::{load, path};
 use acl_rights::{
@@ -10,14 +10,19 @@ use acl_rights::{
 use std::alloc::Global;
 use std::process::Abort;
 
-/// The index of the texts' tree after joe joined adm.
-fn followed(rt: &impl Abort, alloc: Global) -> Followed {
-    let (mut tree, mut people) = load(rt, alloc);
-    let gpasswd = Command::Gpasswd {
+/// `gpasswd -a joe adm`.
+fn joins(rt: &impl Abort, alloc: Global) -> Command<'static> {
+    Command::Gpasswd {
         user: read_name(alloc, b"joe").expect(rt, "memory"),
         group: read_name(alloc, b"adm").expect(rt, "memory"),
         change: Membership::Add,
-    };
+    }
+}
+
+/// The index of the texts' tree after joe joined adm.
+fn followed(rt: &impl Abort, alloc: Global) -> Followed {
+    let (mut tree, mut people) = load(rt, alloc);
+    let gpasswd = joins(rt, alloc);
     let followed = follow(alloc, &mut tree, &mut people, &gpasswd);
     drop(gpasswd);
     drop(tree);
@@ -30,6 +35,17 @@ fn costs(rt: HostRuntime) {
     let Followed { index, costs } = followed(&rt, rt.alloc());
     drop(index);
     assert!(rt; costs.asked == 2 && costs.looked == 2 && costs.refreshed == 2);
+}
+
+#[test]
+fn rows_that_are_given_up(rt: HostRuntime) {
+    let (tree, people) = load(&rt, rt.alloc());
+    let gpasswd = joins(&rt, rt.alloc());
+    let costs: Option<(u64, u64)> = tried(rt.alloc(), &tree, &people, &gpasswd);
+    drop(gpasswd);
+    drop(tree);
+    drop(people);
+    assert!(rt; costs == Some((2, 2)));
 }
 
 /// The index after joe joined adm.

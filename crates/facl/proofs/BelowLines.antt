@@ -1,5 +1,6 @@
 -- The lines of `below`, out of the rows of the files at or below some paths.
-use Rattle.std.proofs.Common.{◌≡◌, ℕ, suc, ◌+◌, Bool, true, false, cond, ◌||◌, IsTrue, List, [], ◌∷◌, ◌++◌, append-nil, append_assoc, length, map, filter, Option, Some, None, Less, refl, sym, ap, subst, ◌∙◌, arith}
+use Rattle.std.proofs.Common.{◌≡◌, ℕ, zero, suc, ◌+◌, ◌<◌, Bool, true, false, cond, ◌||◌, IsTrue, Option, Some, None, Less, refl, sym, ap, subst, ◌∙◌, arith}
+use Rattle.std.proofs.Common.{List, [], ◌∷◌, ◌++◌, append-nil, append_assoc, drop, filter, get_or, length, map}
 use Rattle.std.specs.Prelude.{option_map, slice_get, count_by, decimal}
 use Rattle.std.specs.Option.{option_map_or}
 use Rattle.std.specs.List.{find, flat_map}
@@ -34,7 +35,8 @@ use Rattle.acl_rights.specs.Verdicts.{granted, rows_granted}
 use Rattle.acl_rights.proofs.Reached.{cell_reached}
 use Rattle.facl.specs.Answers.{file_line}
 use Rattle.facl.specs.BelowText.{below_line, granted_below, below_text}
-use Rattle.facl.specs.Sums.{Sum, sum_in, count_text, sum_line, sum_lines, AreSums}
+use Rattle.facl.specs.CountTexts.{count_text}
+use Rattle.facl.specs.Sums.{Sum, sum_in, sum_line, sum_lines, AreSums}
 
 -- ---- one file of all
 
@@ -132,7 +134,8 @@ module _ (V : Verdict) (along : Bool) (s : State) where
   rows_are : rows_granted V along s ≡ map {B = PathOf × List ℕ} (λ (e : PathOf × Node). (e.0, row_along along e)) t
   rows_are = by along
     where
-      each : (es : Files) → map {B = PathOf × List ℕ} (λ (r : PathOf × List ℕ). (r.0, reached_from (rows_of V us t) r.0 0 r.1)) (rows_of V us es) ≡ map {B = PathOf × List ℕ} (λ (e : PathOf × Node). (e.0, row_along true e)) es
+      each : (es : Files) → map {B = PathOf × List ℕ} (λ (r : PathOf × List ℕ). (r.0, reached_from (rows_of V us t) r.0 0 r.1)) (rows_of V us es)
+          ≡ map {B = PathOf × List ℕ} (λ (e : PathOf × Node). (e.0, row_along true e)) es
       each [] = refl
       each (e ∷ es) = ap (λ (l : Rows). (e.0, row_along true e) ∷ l) (each es)
 
@@ -179,14 +182,16 @@ module _ (V : Verdict) (along : Bool) (s : State) where
       same_paths (e ∷ es) = by (asked e) (same_paths es)
         where
           here : (a b : Bool) → a ≡ b → map (λ (r : PathOf × List ℕ). r.0) (of_rows es) ≡ map (λ (f : FoundFile). f.path) (of_files es)
-              → map (λ (r : PathOf × List ℕ). r.0) (cond a ((e.0, row_along along e) ∷ of_rows es) (of_rows es)) ≡ map (λ (f : FoundFile). f.path) (cond b (found_file (holds_below t e.0) e ∷ of_files es) (of_files es))
+              → map (λ (r : PathOf × List ℕ). r.0) (cond a ((e.0, row_along along e) ∷ of_rows es) (of_rows es))
+              ≡ map (λ (f : FoundFile). f.path) (cond b (found_file (holds_below t e.0) e ∷ of_files es) (of_files es))
           here true true h more = ap (λ l. e.0 ∷ l) more
           here true false h more = absurd (cc h)
           here false true h more = absurd (cc h)
           here false false h more = more
 
           by : (b : Bool) → map (λ (r : PathOf × List ℕ). r.0) (of_rows es) ≡ map (λ (f : FoundFile). f.path) (of_files es)
-              → map (λ (r : PathOf × List ℕ). r.0) (filter (grants_to q user) (cond b ((e.0, row_along along e) ∷ asked_rows (map {B = PathOf × List ℕ} (λ (x : PathOf × Node). (x.0, row_along along x)) es)) (asked_rows (map {B = PathOf × List ℕ} (λ (x : PathOf × Node). (x.0, row_along along x)) es))))
+              → map (λ (r : PathOf × List ℕ). r.0) (filter (grants_to q user) (cond b ((e.0, row_along along e) ∷ asked_rows
+              (map {B = PathOf × List ℕ} (λ (x : PathOf × Node). (x.0, row_along along x)) es)) (asked_rows (map {B = PathOf × List ℕ} (λ (x : PathOf × Node). (x.0, row_along along x)) es))))
               ≡ map (λ (f : FoundFile). f.path) (passing t asked test (found_in t (cond b (e ∷ filter asked es) (filter asked es))))
           by true more = here (grants q user (row_along along e)) (test e) (grants_is e) more
           by false more = more
@@ -216,7 +221,8 @@ module _ (V : Verdict) (along : Bool) (s : State) where
           by (file ∷ rest) is =
               let more : suc (length rest) ≡ 1 + length rest = omega arith in
               ap (λ n. count_text n name ++ flat_map file_line (files_found false (file.path ∷ []) t)) more
-              ∙ append_assoc (decimal (1 + length rest)) (32 ∷ (name ++ 32 ∷ [])) (flat_map file_line (files_found false (file.path ∷ []) t))
+              ∙ append_assoc (decimal (1 + length rest) ++ 32 ∷ []) (name ++ 32 ∷ []) (flat_map file_line (files_found false (file.path ∷ []) t))
+              ∙ append_assoc (decimal (1 + length rest)) (32 ∷ []) ((name ++ 32 ∷ []) ++ flat_map file_line (files_found false (file.path ∷ []) t))
               ∙ ap (λ (l : List ℕ). decimal (1 + length rest) ++ (32 ∷ l)) (append_assoc name (32 ∷ []) (flat_map file_line (files_found false (file.path ∷ []) t)))
               ∙ ap (λ (files : List FoundFile). decimal (1 + length rest) ++ (32 ∷ (name ++ (32 ∷ flat_map file_line files)))) (one_found t file order (first_is t asked test t file rest is))
               ∙ ap (λ (l : List ℕ). decimal (1 + length rest) ++ (32 ∷ (name ++ (32 ∷ l)))) (append-nil (file_line file))
@@ -232,6 +238,60 @@ same_items (x ∷ xs) (y ∷ ys) h = let here : Some x ≡ Some y = h 0 in let s
 each_line : {A : Type 0} (t : Files) (name : A → List ℕ) (sum : A → Sum) (xs : List A) → sum_lines t (map name xs) (map sum xs) ≡ flat_map (λ x. sum_line t (name x) (sum x)) xs
 each_line t name sum [] = refl
 each_line t name sum (x ∷ xs) = ap (λ (l : List ℕ). sum_line t (name x) (sum x) ++ l) (each_line t name sum xs)
+
+no_more_sums : (t : Files) (names : List (List ℕ)) → sum_lines t names [] ≡ []
+no_more_sums t [] = refl
+no_more_sums t (name ∷ names) = refl
+
+drop_none : (k : ℕ) → drop {A = Sum} k [] ≡ []
+drop_none zero = refl
+drop_none (suc k) = refl
+
+none_left : (sums : List Sum) (i : ℕ) → None ≡ slice_get sums i → (drop i sums ≡ []) × (drop (i + 1) sums ≡ [])
+none_left [] i h = (drop_none i, drop_none (i + 1))
+none_left (sum ∷ sums) zero h = absurd (cc h)
+none_left (sum ∷ sums) (suc i) h =
+    let on : suc i + 1 ≡ suc (i + 1) = omega arith in
+    let more = none_left sums i h in
+    (more.0, ap (λ k. drop k (sum ∷ sums)) on ∙ more.1)
+
+-- the line of one user more
+sums_step : (t : Files) (names : List (List ℕ)) (sums : List Sum) (i : ℕ) (d : List ℕ) (s : Sum) → i < length names → Some s ≡ slice_get sums i
+    → sum_lines t (drop i names) (drop i sums) ≡ sum_line t (get_or names i d) s ++ sum_lines t (drop (i + 1) names) (drop (i + 1) sums)
+sums_step t [] sums i d s lt here = absurd (omega (arith, lt))
+sums_step t (name ∷ names) [] i d s lt here = absurd (cc here)
+sums_step t (name ∷ names) (sum ∷ sums) zero d s lt here = let same : s ≡ sum = cc in ap (λ x. sum_line t name x ++ sum_lines t names sums) (sym same)
+sums_step t (name ∷ names) (sum ∷ sums) (suc i) d s lt here =
+    let on : suc i + 1 ≡ suc (i + 1) = omega arith in
+    sums_step t names sums i d s (omega (arith, lt)) here
+    ∙ ap (λ k. sum_line t (get_or names i d) s ++ sum_lines t (drop k (name ∷ names)) (drop k (sum ∷ sums))) (sym on)
+
+name_at : {A : Type 0} (items : A → List ℕ) (names : List A) (i : ℕ) (d : A) → i < length names → get_or (map items names) i (items d) ≡ items (get_or names i d)
+name_at items [] i d lt = absurd (omega (arith, lt))
+name_at items (name ∷ names) zero d lt = refl
+name_at items (name ∷ names) (suc i) d lt = name_at items names i d (omega (arith, lt))
+
+module _ {A : Type 0} (t : Files) (items : A → List ℕ) (names : List A) (sums : List Sum) (i : ℕ) (text new all : List ℕ) where
+  pub sums_more : (name d : A) (s : Sum) → i < length names → name ≡ get_or names i d → Some s ≡ slice_get sums i → new ≡ text ++ sum_line t (items name) s
+      → text ++ sum_lines t (drop i (map items names)) (drop i sums) ≡ all → new ++ sum_lines t (drop (i + 1) (map items names)) (drop (i + 1) sums) ≡ all
+  sums_more name d s lt is here wrote so_far =
+      let ns = map items names in
+      let within : i < length ns = omega (arith, lt, length-map names items) in
+      let named : items name ≡ get_or ns i (items d) = ap items is ∙ sym (name_at items names i d lt) in
+      (λ j. (wrote ∙ ap (λ n. text ++ sum_line t n s) named) j ++ sum_lines t (drop (i + 1) ns) (drop (i + 1) sums))
+      ∙ append_assoc text (sum_line t (get_or ns i (items d)) s) (sum_lines t (drop (i + 1) ns) (drop (i + 1) sums))
+      ∙ ap (λ l. text ++ l) (sym (sums_step t ns sums i (items d) s within here))
+      ∙ so_far
+
+  -- no sum is left
+  pub sums_over : None ≡ slice_get sums i → new ≡ text → text ++ sum_lines t (drop i (map items names)) (drop i sums) ≡ all
+      → new ++ sum_lines t (drop (i + 1) (map items names)) (drop (i + 1) sums) ≡ all
+  sums_over none is so_far =
+      let ns = map items names in
+      let left = none_left sums i none in
+      let later = ap (sum_lines t (drop (i + 1) ns)) left.1 ∙ no_more_sums t (drop (i + 1) ns) in
+      let here = ap (sum_lines t (drop i ns)) left.0 ∙ no_more_sums t (drop i ns) in
+      (λ j. is j ++ (later ∙ sym here) j) ∙ so_far
 
 same_at : {A C : Type 0} (g h : A → List C) (xs : List A) → ((i : ℕ) (x : A) → slice_get xs i ≡ Some x → g x ≡ h x) → flat_map g xs ≡ flat_map h xs
 same_at g h [] same = refl
@@ -255,9 +315,11 @@ module _ (V : Verdict) (along : Bool) (s : State) (q : Perms) (paths : List Path
 
       -- there is a name where there is a user
       here : (user : ℕ) → option_map (λ (a : A). sum_in q user rows) (slice_get users user) ≡ option_map (λ (row : PasswdRow). sum_in q user rows) (slice_get s.people.users user)
-      here user = by (slice_get users user) (slice_get s.people.users user) (sym (slice_get-map f users user) ∙ ap (λ l. slice_get l user) names ∙ slice_get-map (λ (row : PasswdRow). escaped row.name) s.people.users user)
+      here user = by (slice_get users user) (slice_get s.people.users user) (sym (slice_get-map f users user) ∙ ap (λ l. slice_get l user) names
+          ∙ slice_get-map (λ (row : PasswdRow). escaped row.name) s.people.users user)
         where
-          by : (o : Option A) (p : Option PasswdRow) → option_map f o ≡ option_map (λ (row : PasswdRow). escaped row.name) p → option_map (λ (a : A). sum_in q user rows) o ≡ option_map (λ (row : PasswdRow). sum_in q user rows) p
+          by : (o : Option A) (p : Option PasswdRow) → option_map f o ≡ option_map (λ (row : PasswdRow). escaped row.name) p → option_map (λ (a : A). sum_in q user rows) o
+              ≡ option_map (λ (row : PasswdRow). sum_in q user rows) p
           by None None h = refl
           by None (Some row) h = absurd (cc h)
           by (Some a) None h = absurd (cc h)
@@ -272,6 +334,15 @@ module _ (V : Verdict) (along : Bool) (s : State) (q : Perms) (paths : List Path
 
       all : sums ≡ map sum_of_row s.people.users
       all = same_items sums (map sum_of_row s.people.users) one
+
+-- there is no line only where there are no files
+pub no_line : (user : List ℕ) (files : List FoundFile) → below_line user files ≡ [] → files ≡ []
+no_line user [] h = refl
+no_line user (file ∷ files) h = absurd (not_empty (decimal (1 + length files)) h)
+  where
+    not_empty : (number : List ℕ) → number ++ (32 ∷ (user ++ (32 ∷ file_line file))) ≡ [] → ⊥
+    not_empty [] h = absurd (cc h)
+    not_empty (c ∷ number) h = absurd (cc h)
 
 -- ---- what `may` lists, and what is at or below some paths
 

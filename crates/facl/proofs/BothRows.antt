@@ -1,6 +1,6 @@
 -- The files of two states with their rows, one after another, and their counts by classes.
-use Rattle.std.proofs.Common.{◌≡◌, ℕ, suc, ◌+◌, ◌<◌, arith, cond, List, [], ◌∷◌, ◌++◌, append_assoc, append-nil, map, length, Option, Some, None, Ordering, Less, Equal, Greater, refl, sym, ap, subst, ◌∙◌}
-use Rattle.std.specs.Prelude.{option_map, slice_get}
+use Rattle.std.proofs.Common.{◌≡◌, ℕ, suc, arith, cond, List, [], ◌∷◌, ◌++◌, append_assoc, append-nil, map, length, Option, Some, None, Less, Equal, Greater, refl, sym, ap, subst, ◌∙◌}
+use Rattle.std.specs.Prelude.{option_map}
 use Rattle.std.specs.Ordering.{is_eq}
 use Rattle.std.specs.FinMap.{find}
 use Rattle.std.proofs.lemmas.Cmp.{tied_itself}
@@ -11,7 +11,7 @@ use Rattle.path_map.specs.Inner.{After}
 use Rattle.path_map.specs.Merged.{put_all}
 use Rattle.path_map.proofs.Merges.{later_after, put_at_end, put_before, put_over, put_after}
 use Rattle.path_map.proofs.Places.{above, below}
-use Rattle.acl_rights.specs.Classes.{Classed, KeepRows, TakesFile, IsFileTaken}
+use Rattle.acl_rights.specs.Classes.{Classed, KeepRows, IsFileTaken}
 use Rattle.acl_rights.specs.Rows.{Rows}
 use Rattle.facl.specs.InnerGains.{AreClassesOf, AreCounted, AreKeysOf, BothClassed, IsClassOf, IsTaken, RowsOfFile, next_path_of, path_order, rows_of_both}
 use Rattle.facl.specs.Tallies.{Tallied, Sides, SaysAs, one}

@@ -118,7 +118,7 @@ walked_paths (e ∷ es) (row ∷ rows) h =
 pub walked_order : (es : Files) (rows : Rows) → paths rows ≡ paths es → IsInOrder es → IsInOrder (walk_of es rows)
 walked_order es rows h order = subst (λ b. b ≡ true) (sym (order_by_paths (walk_of es rows) es (walked_paths es rows h))) order
 
-walked_rows : (es : Files) (rows : Rows) → paths rows ≡ paths es → (p : PathOf) → option_map (λ (f : List ℕ × List ℕ). f.1) (find path_cmp p (walk_of es rows)) ≡ find path_cmp p rows
+pub walked_rows : (es : Files) (rows : Rows) → paths rows ≡ paths es → (p : PathOf) → option_map (λ (f : List ℕ × List ℕ). f.1) (find path_cmp p (walk_of es rows)) ≡ find path_cmp p rows
 walked_rows [] [] h p = refl
 walked_rows [] (row ∷ rows) h p = absurd (cc h)
 walked_rows (e ∷ es) [] h p = absurd (cc h)

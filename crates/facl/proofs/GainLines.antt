@@ -1,6 +1,6 @@
 -- The lines of `gains`, out of counts by keys.
-use Rattle.std.proofs.Common.{◌≡◌, ℕ, zero, suc, ◌+◌, ◌<◌, ◌≤◌, arith, Bool, true, false, cond, List, [], ◌∷◌, ◌++◌, append_assoc, append-nil, map, length, take, drop, get_or, Option, Some, None, refl, sym, ap, subst, ◌∙◌}
-use Rattle.std.specs.Prelude.{◌||◌, ◌&&◌, option_map, decimal}
+use Rattle.std.proofs.Common.{◌≡◌, ℕ, zero, suc, ◌+◌, ◌<◌, ◌≤◌, arith, Bool, true, false, cond, List, [], ◌∷◌, ◌++◌, append_assoc, append-nil, map, length, take, drop, get_or, Option, Some, None, refl, sym, ap, ◌∙◌}
+use Rattle.std.specs.Prelude.{◌||◌, ◌&&◌, option_map}
 use Rattle.std.specs.List.{list_any, find}
 use Rattle.std.proofs.lemmas.List.{map-append, take_more, take_all}
 use Rattle.acl_names.specs.Paths.{PathOf}

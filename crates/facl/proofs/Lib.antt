@@ -4,6 +4,7 @@ pub mod BelowLines
 pub mod BothRows
 pub mod ChangeLines
 pub mod ClassFiles
+pub mod CommandFaults
 pub mod DecidedAlong
 pub mod Deciding
 pub mod Ending
@@ -11,6 +12,7 @@ pub mod FileLines
 pub mod FirstPart
 pub mod GainLines
 pub mod Gained
+pub mod GainsAndLosses
 pub mod HasWords
 pub mod IndexLines
 pub mod LineParts
@@ -28,10 +30,13 @@ pub mod Rekeyed
 pub mod RoundTrips
 pub mod SameEntries
 pub mod SideBySide
+pub mod SideSums
+pub mod SilentGains
 pub mod Spaced
 pub mod StateGains
 pub mod StillThere
 pub mod Summing
+pub mod SumsApart
 pub mod Tallying
 pub mod ToolLines
 pub mod ToolParts
@@ -40,3 +45,4 @@ pub mod Unchanged
 pub mod Unrecorded
 pub mod UserChanges
 pub mod UserLines
+mod PartLines

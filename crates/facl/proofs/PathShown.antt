@@ -10,7 +10,7 @@ use Rattle.acl_tree.specs.Found.{FoundFile, found_in, found_file, files_found}
 use Rattle.acl_tree.specs.Operands.{is_file}
 use Rattle.path_map.specs.Below.{holds_below}
 use Rattle.facl_output.specs.Listings.{path_shown}
-use Rattle.facl.specs.PathTexts.{shown_in, text_in_tree}
+use Rattle.facl.specs.PathTexts.{text_in_tree}
 
 same_either : (o : Ordering) → is_eq (ordering_reverse o) ≡ is_eq o
 same_either Less = refl

@@ -1,9 +1,9 @@
 -- The lines of the counts of all users are those of the changes between two states.
-use Rattle.std.proofs.Common.{◌≡◌, ℕ, suc, ◌+◌, arith, Bool, true, false, not, cond, IsTrue, List, [], ◌∷◌, ◌++◌, append_assoc, map, filter, length, take, drop, Option, Some, None, is_some, Ordering, Less, Equal, Greater, refl, sym, ap, subst, ◌∙◌}
-use Rattle.std.specs.Prelude.{◌&&◌, ◌||◌, option_map, option_and_then, slice_get, unwrap_or, decimal}
+use Rattle.std.proofs.Common.{◌≡◌, ℕ, suc, ◌+◌, arith, Bool, true, false, not, cond, List, [], ◌∷◌, ◌++◌, append_assoc, map, filter, length, take, drop, Option, Some, None, is_some}
+use Rattle.std.proofs.Common.{Less, refl, sym, ap, subst, ◌∙◌}
+use Rattle.std.specs.Prelude.{◌&&◌, option_map, option_and_then, unwrap_or, decimal}
 use Rattle.std.specs.List.{flat_map}
 use Rattle.std.specs.List as lists
-use Rattle.std.specs.Option.{option_or}
 use Rattle.std.specs.Ordering.{is_eq}
 use Rattle.std.specs.FinMap.{find, put, is_sorted}
 use Rattle.std.specs.FinMap.Entries.{is_sorted-put}
@@ -26,9 +26,11 @@ use Rattle.path_map.proofs.Places.{above}
 use Rattle.path_map.proofs.Rows.{find_put_all}
 use Rattle.facl.specs.Answers.{line}
 use Rattle.facl.specs.ChangesText.{users_of_both, shown_files, files_of_both, place_of}
-use Rattle.facl.specs.GainsText.{is_change, is_same, side_of, side_text, number_of_sides, lines_up_to, lines_by_sides, gain_line, granted_in, sides_of, is_kept, has_change, files_with, gain_lines, gains_text}
+use Rattle.facl.specs.GainsText.{is_change, is_same, side_of, side_text, number_of_sides, lines_up_to, lines_by_sides, gain_line, granted_in, sides_of, is_kept, has_change, files_with}
+use Rattle.facl.specs.GainsText.{gain_lines, gains_text}
 use Rattle.facl.specs.Inner.{Placed, placed_of, placed_in}
-use Rattle.facl.specs.InnerGains.{AllOfBoth, AreCounted, AreKeysOf, ArePassed, BothClassed, Gained, IsClassOf, IsPassed, RowsOfFile, cell_at, cells_of_both, change_of, count_line, counted_line, gained_of, keyed, lines_of_user, rekeyed, row_of_class, rows_of_both, rows_of_key, spaced, tally_line, tally_lines}
+use Rattle.facl.specs.InnerGains.{AllOfBoth, AreCounted, AreKeysOf, ArePassed, BothClassed, Gained, IsClassOf, IsPassed, RowsOfFile}
+use Rattle.facl.specs.InnerGains.{cell_at, cells_of_both, change_of, count_line, counted_line, gained_of, keyed, lines_of_user, rekeyed, row_of_class, rows_of_both, rows_of_key, tally_line}
 use Rattle.facl.specs.PathTexts.{text_in}
 use Rattle.facl.specs.Tallies.{Tallied, Sides, SaysAs, one, count_where, first_where}
 use Rattle.facl.specs.declared.answers.placed_users.PlacedUser.{PlacedUser}
@@ -103,9 +105,10 @@ module _ {V : Type 0} (test : PathOf × V → Bool) where
 
 -- ---- a line by the files that have a change
 
-nested : (a b n user path : List ℕ) → ((a ++ 32 ∷ []) ++ (b ++ 32 ∷ [])) ++ ((n ++ 32 ∷ []) ++ ((user ++ 32 ∷ []) ++ path)) ≡ a ++ (32 ∷ (b ++ (32 ∷ (n ++ (32 ∷ (user ++ (32 ∷ path)))))))
+nested : (a b n user path : List ℕ) → ((a ++ 32 ∷ []) ++ (b ++ 32 ∷ [])) ++ (((n ++ 32 ∷ []) ++ (user ++ 32 ∷ [])) ++ path) ≡ a ++ (32 ∷ (b ++ (32 ∷ (n ++ (32 ∷ (user ++ (32 ∷ path)))))))
 nested a b n user path =
-    append_assoc (a ++ 32 ∷ []) (b ++ 32 ∷ []) ((n ++ 32 ∷ []) ++ ((user ++ 32 ∷ []) ++ path))
+    ap (λ l. ((a ++ 32 ∷ []) ++ (b ++ 32 ∷ [])) ++ l) (append_assoc (n ++ 32 ∷ []) (user ++ 32 ∷ []) path)
+    ∙ append_assoc (a ++ 32 ∷ []) (b ++ 32 ∷ []) ((n ++ 32 ∷ []) ++ ((user ++ 32 ∷ []) ++ path))
     ∙ append_assoc a (32 ∷ []) ((b ++ 32 ∷ []) ++ ((n ++ 32 ∷ []) ++ ((user ++ 32 ∷ []) ++ path)))
     ∙ ap (λ l. a ++ (32 ∷ l))
     (append_assoc b (32 ∷ []) ((n ++ 32 ∷ []) ++ ((user ++ 32 ∷ []) ++ path))
@@ -116,7 +119,8 @@ abbrev first_path : List (PathOf × List ℕ) → Option PathOf
 first_path [] = None
 first_path (file ∷ files) = Some file.0
 
-line_of_files : (text_of : PathOf → List ℕ) (user : List ℕ) (sides : Sides) (files : List (PathOf × List ℕ)) → ((file : PathOf × List ℕ) (more : List (PathOf × List ℕ)) → files ≡ file ∷ more → text_of file.0 ≡ file.1)
+line_of_files : (text_of : PathOf → List ℕ) (user : List ℕ) (sides : Sides) (files : List (PathOf × List ℕ))
+    → ((file : PathOf × List ℕ) (more : List (PathOf × List ℕ)) → files ≡ file ∷ more → text_of file.0 ≡ file.1)
     → counted_line text_of user sides (length files) (first_path files) ≡ gain_line user sides files
 line_of_files text_of user sides [] shown = refl
 line_of_files text_of user sides (file ∷ files) shown =
@@ -243,7 +247,8 @@ module _ (V : Verdict) (along : Bool) (loaded now : State) (before_order : IsInO
           ∙ by (changed_at file.0) (is_same sides (sides_at file.0)) refl (counts files)
         where
           by : (a b : Bool) → is_same sides (sides_at file.0) ≡ b → count_where (is_same sides) (at_paths (paths files)) ≡ length (filter has_it files)
-              → count_where (is_same sides) (keyed (cond a (Some (sides_at file.0)) None) 1 file.0 ++ at_paths (paths files)) ≡ length (cond (a && b) (file ∷ filter has_it files) (filter has_it files))
+              → count_where (is_same sides) (keyed (cond a (Some (sides_at file.0)) None) 1 file.0 ++ at_paths (paths files))
+              ≡ length (cond (a && b) (file ∷ filter has_it files) (filter has_it files))
           by true true is more =
               let one : 1 + length (filter has_it files) ≡ suc (length (filter has_it files)) = omega arith in
               (λ i. cond (is i) 1 0 + more i) ∙ one
@@ -262,7 +267,8 @@ module _ (V : Verdict) (along : Bool) (loaded now : State) (before_order : IsInO
           picked b = option_map (λ (t : Tallied Sides). t.first) (cond b (Some (one (sides_at file.0) file.0)) (lists.find (λ (t : Tallied Sides). is_same sides t.key) (at_paths (paths files))))
 
           by : (a b : Bool) → is_same sides (sides_at file.0) ≡ b → first_where (is_same sides) (at_paths (paths files)) ≡ first_path (filter has_it files)
-              → first_where (is_same sides) (keyed (cond a (Some (sides_at file.0)) None) 1 file.0 ++ at_paths (paths files)) ≡ first_path (cond (a && b) (file ∷ filter has_it files) (filter has_it files))
+              → first_where (is_same sides) (keyed (cond a (Some (sides_at file.0)) None) 1 file.0 ++ at_paths (paths files))
+              ≡ first_path (cond (a && b) (file ∷ filter has_it files) (filter has_it files))
           by true true is more = ap picked is
           by true false is more = ap picked is ∙ more
           by false b is more = more
@@ -283,7 +289,8 @@ module _ (V : Verdict) (along : Bool) (loaded now : State) (before_order : IsInO
         → SaysAs gained (rekeyed (λ key. change_of places (rows_of_key both key)) ts)
         → lines_by_sides (tally_line (text_in loaded.tree now.tree) (escaped name) gained) ≡ gain_lines V along loaded now name
     user_is both ts gained at says =
-        let all = says_both gained (rekeyed (λ key. change_of places (rows_of_key both key)) ts) (ones_of places (rows_of_both rows_before rows_after)) says (says_ones places both ts (rows_of_both rows_before rows_after) at) in
+        let all = says_both gained (rekeyed (λ key. change_of places (rows_of_key both key)) ts) (ones_of places (rows_of_both rows_before rows_after)) says
+        (says_ones places both ts (rows_of_both rows_before rows_after) at) in
         let ones : ones_of places (rows_of_both rows_before rows_after) ≡ at_paths (paths all_shown) = ones_by_paths (put_all rows_after rows_before) ∙ ap at_paths both_paths in
         let of_side : (sides : Sides) → tally_line (text_in loaded.tree now.tree) (escaped name) gained sides ≡ gain_line (escaped name) sides (files_with V along loaded now name sides) =
         λ sides.

@@ -1,6 +1,7 @@
 -- What the counts of users have after some counts of files by classes.
-use Rattle.std.proofs.Common.{◌≡◌, ℕ, zero, suc, ◌+◌, ◌<◌, arith, Bool, true, false, not, cond, List, [], ◌∷◌, ◌++◌, append-nil, append_assoc, map, filter, length, take, drop, set, get_or, ◌≤◌, Option, Some, None, is_some, refl, sym, ap, subst, ◌∙◌}
-use Rattle.std.specs.Prelude.{◌||◌, ◌&&◌, unwrap_or, slice_get}
+use Rattle.std.proofs.Common.{◌≡◌, ℕ, zero, suc, ◌+◌, ◌<◌, arith, Bool, true, false, not, cond, List, [], ◌∷◌, ◌++◌, append-nil, append_assoc, map, filter, length, take, drop, set, get_or}
+use Rattle.std.proofs.Common.{◌≤◌, Option, Some, None, refl, sym, ap, subst, ◌∙◌}
+use Rattle.std.specs.Prelude.{◌||◌, ◌&&◌, unwrap_or}
 use Rattle.std.specs.List.{list_any, list_all}
 use Rattle.std.proofs.lemmas.Bool.{and_parts}
 use Rattle.std.proofs.lemmas.List.{map-append, take_all, take_more, take_more_set, drop-set-lt}
@@ -9,7 +10,8 @@ use Rattle.acl_entry.specs.Perms.{Perms, numbered}
 use Rattle.acl_names.specs.Paths.{PathOf}
 use Rattle.facl.specs.GainsText.{is_gained, is_change}
 use Rattle.facl.specs.Inner.{Placed, same_place}
-use Rattle.facl.specs.InnerGains.{AllOfBoth, BothClassed, Gained, IsCountedFor, IsPassed, ArePassed, RowStays, RowsOfFile, AreCountedFor, cell_at, cells_of_both, change_of, gained_of, keeps, keyed, row_given, rekeyed, rows_of_key}
+use Rattle.facl.specs.InnerGains.{AllOfBoth, BothClassed, Gained, IsCountedFor, IsPassed, ArePassed, RowStays, RowsOfFile, AreCountedFor, cell_at, cells_of_both, change_of, gained_of, keeps}
+use Rattle.facl.specs.InnerGains.{keyed, row_given, rekeyed, rows_of_key}
 use Rattle.facl.specs.Counting.{tallied}
 use Rattle.facl.specs.Tallies.{Tallied, Sides, SaysAs}
 use Rattle.facl.specs.declared.answers.tallies.Tally.{Tally}
@@ -68,6 +70,18 @@ counted_none rows count first stays (user ∷ users) h =
     let none : change_of placed.0.1 rows ≡ None = ap (change_of placed.0.1) stays.1 ∙ unchanged placed.0.1 stays.0 parts.0 in
     ((refl, λ others says. subst (λ l. SaysAs placed.1 l) (sym (ap (λ o. others ++ keyed o count first) none ∙ append-nil others)) says), counted_none rows count first stays users parts.1)
 
+-- ---- the places of users
+
+-- users whose counts alone change keep their places, or do not, as before
+pub places_stay : (both : BothClassed) (ts : List (Tallied Sides)) (xs ys : List UserGains) → ArePassed both ts xs ys → list_all keeps ys ≡ list_all keeps xs
+places_stay both ts [] [] h = refl
+places_stay both ts [] (y ∷ ys) h = absurd h
+places_stay both ts (x ∷ xs) [] h = absurd h
+places_stay both ts (x ∷ xs) (y ∷ ys) h =
+    let here : keeps y ≡ keeps x = ap (λ (placed : Placed). same_place placed.1.0 placed.1.1) h.0.0 in
+    let more = places_stay both ts xs ys h.1 in
+    λ i. here i && more i
+
 -- ---- a loop over users
 
 module _ {A : Type 0} where
@@ -96,13 +110,15 @@ module _ (rows : RowsOfFile) (count : ℕ) (first : PathOf) (start : List UserGa
   abbrev pub AreCountedTo : ℕ → List UserGains → Type 0
   AreCountedTo i users = AreCountedFor rows count first (take i start) (take i users) × (drop i users ≡ drop i start)
 
-  pub counted_more : (i : ℕ) (users : List UserGains) (old new d : UserGains) → i < length users → old ≡ get_or users i d → AreCountedTo i users → IsCountedFor rows count first (gained_of old) (gained_of new)
+  pub counted_more : (i : ℕ) (users : List UserGains) (old new d : UserGains) → i < length users → old ≡ get_or users i d → AreCountedTo i users
+      → IsCountedFor rows count first (gained_of old) (gained_of new)
       → AreCountedTo (i + 1) (set users i new)
   counted_more i users old new d lt is so_far here =
       let left = drop_here users i old d lt is in
       let started = left_at start i old (drop (i + 1) users) (sym so_far.1 ∙ left) in (
         subst (λ l. AllOfBoth (IsCountedFor rows count first) l (map gained_of (take (i + 1) (set users i new)))) (sym (ap (map gained_of) started.0 ∙ map-append gained_of (take i start) (old ∷ [])))
-            (subst (λ l. AllOfBoth (IsCountedFor rows count first) (map gained_of (take i start) ++ gained_of old ∷ []) l) (sym (ap (map gained_of) (take_more_set users i new lt) ∙ map-append gained_of (take i users) (new ∷ [])))
+            (subst (λ l. AllOfBoth (IsCountedFor rows count first) (map gained_of (take i start) ++ gained_of old ∷ []) l)
+            (sym (ap (map gained_of) (take_more_set users i new lt) ∙ map-append gained_of (take i users) (new ∷ [])))
             (all_more (IsCountedFor rows count first) (map gained_of (take i start)) (map gained_of (take i users)) (gained_of old) (gained_of new) so_far.0 here)),
         drop-set-lt (i + 1) users i new (omega arith) ∙ sym started.1,
       )
@@ -123,7 +139,8 @@ module _ (both : BothClassed) where
   abbrev key_of : Placed → Sides → Option Sides
   key_of placed key = change_of placed.1 (rows_of_key both key)
 
-  pub passed_more : (ts : List (Tallied Sides)) (t : Tallied Sides) (x y z : Gained) → IsPassed both ts x y → IsCountedFor (rows_of_key both t.key) t.count t.first y z → IsPassed both (ts ++ t ∷ []) x z
+  pub passed_more : (ts : List (Tallied Sides)) (t : Tallied Sides) (x y z : Gained) → IsPassed both ts x y → IsCountedFor (rows_of_key both t.key) t.count t.first y z
+      → IsPassed both (ts ++ t ∷ []) x z
   passed_more ts t x y z p q = (
     q.0 ∙ p.0,
     λ others says.
@@ -135,7 +152,8 @@ module _ (both : BothClassed) where
         (q.1 (others ++ rekeyed (key_of x.0) ts) (p.1 others says)),
   )
 
-  pub all_passed_more : (ts : List (Tallied Sides)) (t : Tallied Sides) (xs ys zs : List Gained) → AllOfBoth (IsPassed both ts) xs ys → AllOfBoth (IsCountedFor (rows_of_key both t.key) t.count t.first) ys zs
+  pub all_passed_more : (ts : List (Tallied Sides)) (t : Tallied Sides) (xs ys zs : List Gained) → AllOfBoth (IsPassed both ts) xs ys
+      → AllOfBoth (IsCountedFor (rows_of_key both t.key) t.count t.first) ys zs
       → AllOfBoth (IsPassed both (ts ++ t ∷ [])) xs zs
   all_passed_more ts t xs ys zs p q = all_then (IsPassed both ts) (IsCountedFor (rows_of_key both t.key) t.count t.first) (IsPassed both (ts ++ t ∷ [])) (passed_more ts t) xs ys zs p q
 

@@ -1,8 +1,8 @@
 -- For inner functions of `gains`: no public contract names these definitions.
-use Rattle.std.specs.Prelude.{◌≡◌, ℕ, ◌+◌, ◌<◌, ◌&&◌, not, Bool, if◌then◌else◌, List, [], ◌∷◌, ◌++◌, map, length, slice_get, decimal, Option, Some, None, is_some, option_map, option_and_then}
+use Rattle.std.specs.Prelude.{◌≡◌, ℕ, ◌+◌, ◌<◌, ◌&&◌, not, Bool, if◌then◌else◌, List, [], ◌∷◌, ◌++◌, map, length, slice_get, Option, Some, None, is_some, option_map, option_and_then}
 use Rattle.std.specs.FinMap.{find}
 use Rattle.std.specs.declared.cmp.Ordering.{Ordering}
-use Rattle.std.specs.declared.cmp.Ordering.TheVariants.{Less, Equal, Greater}
+use Rattle.std.specs.declared.cmp.Ordering.TheVariants.{Less, Greater}
 use Rattle.acl_entry.specs.Check.{has}
 use Rattle.acl_entry.specs.Perms.{numbered}
 use Rattle.acl_names.specs.Paths.{path_cmp, PathOf}
@@ -11,6 +11,7 @@ use Rattle.path_map.specs.Merged.{put_all}
 use Rattle.acl_rights.specs.Classes.{Classed, KeepRows}
 use Rattle.acl_rights.specs.Rows.{Rows}
 use Rattle.facl.specs.Answers.{line}
+use Rattle.facl.specs.CountTexts.{count_text, spaced}
 use Rattle.facl.specs.GainsText.{is_change, is_same, is_same_side, side_of, side_text, number_of_sides, lines_up_to, lines_by_sides}
 use Rattle.facl.specs.Inner.{Placed, placed_of, keeps_place}
 use Rattle.facl.specs.Tallies.{Sides, Tallied, SaysAs, one, count_where, first_where}
@@ -169,13 +170,10 @@ ArePassed both tallies old new = AllOfBoth (IsPassed both tallies) (map gained_o
 
 -- ---- lines
 
-abbrev pub spaced : List ℕ → List ℕ
-spaced text = text ++ 32 ∷ []
-
 -- a line
 abbrev pub count_line : Sides → (count : ℕ) → (user path : List ℕ) → List ℕ
 count_line sides count user path =
-    (spaced (side_text sides.0) ++ spaced (side_text sides.1)) ++ (spaced (decimal count) ++ (spaced user ++ line path))
+    (spaced (side_text sides.0) ++ spaced (side_text sides.1)) ++ (count_text count user ++ line path)
 
 -- that of so many files, of which one is the first; nothing where there are none
 abbrev pub counted_line : (text_of : PathOf → List ℕ) → (user : List ℕ) → Sides → ℕ → Option PathOf → List ℕ

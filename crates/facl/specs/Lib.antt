@@ -7,7 +7,9 @@ pub mod Chacl
 pub mod Changes
 pub mod ChangesText
 pub mod Chmod
+pub mod CommandFaults
 pub mod Costs
+pub mod CountTexts
 pub mod Counting
 pub mod Creat
 pub mod Edits
@@ -15,6 +17,7 @@ pub mod LineParts
 pub mod ToolParts
 pub mod FirstPart
 pub mod Gains
+pub mod GainsLaws
 pub mod GainsText
 pub mod Getfacl
 pub mod Gpasswd
@@ -40,6 +43,7 @@ pub mod Setattr
 pub mod Setfacl
 pub mod SetfaclLine
 pub mod Setups
+pub mod SumLists
 pub mod Sums
 pub mod Tallies
 pub mod Tools
@@ -52,3 +56,4 @@ pub mod Why
 pub mod WhyText
 -- the public surface: the program names these definitions by this crate
 pub use Rattle.facl_output.specs as facl_output
+pub mod PartWalks

@@ -4,7 +4,7 @@ use Rattle.std.specs.Option.{option_or}
 use Rattle.std.specs.FinMap.{find}
 use Rattle.acl_names.specs.Paths.{path_cmp, PathOf}
 use Rattle.acl_tree.specs.Files.{Files, Recorded}
-use Rattle.acl_tree.specs.Found.{FoundFile, found_in}
+use Rattle.acl_tree.specs.Found.{found_in}
 use Rattle.facl_output.specs.Listings.{path_shown}
 
 -- the files of a tree by their paths, as they are printed

@@ -1,5 +1,5 @@
 -- For inner functions of `below`: what is added to each user's sum, row by row.
-use Rattle.std.specs.Prelude.{◌≡◌, ℕ, ◌+◌, true, false, if◌then◌else◌, List, [], ◌∷◌, ◌++◌, map, filter, slice_get, count_by, zip, decimal, Option, Some, None, option_map, option_and_then}
+use Rattle.std.specs.Prelude.{◌≡◌, ℕ, ◌+◌, true, false, if◌then◌else◌, List, [], ◌∷◌, ◌++◌, map, filter, slice_get, count_by, zip, Option, Some, None, option_map, option_and_then}
 use Rattle.std.specs.Option.{option_map_or, option_or}
 use Rattle.std.specs.List.{AllByRecursion, find, flat_map}
 use Rattle.acl_entry.specs.Check.{has}
@@ -11,6 +11,7 @@ use Rattle.acl_tree.specs.Found.{files_found}
 use Rattle.acl_tree.specs.Files.{Files}
 use Rattle.acl_tree.specs.Operands.{is_file}
 use Rattle.facl.specs.Answers.{file_line}
+use Rattle.facl.specs.CountTexts.{count_text}
 use Rattle.facl.specs.declared.answers.sums.UserSum.{UserSum}
 use Rattle.facl.specs.Tallies.{Tallied, Sides, SaysAs, one}
 
@@ -76,10 +77,6 @@ abbrev pub AreSums : {A : Type 0} → Perms → Rows → List A → List Sum →
 AreSums q rows users sums = (user : ℕ) → slice_get sums user ≡ option_map (λ _. sum_in q user rows) (slice_get users user)
 
 -- ---- lines
-
--- a number and a user's name, with a space after each
-abbrev pub count_text : ℕ → List ℕ → List ℕ
-count_text n name = decimal n ++ (32 ∷ (name ++ 32 ∷ []))
 
 -- the line of a user, where there is a file
 abbrev pub sum_line : Files → List ℕ → Sum → List ℕ

@@ -27,8 +27,9 @@ pub use answers::changes::write_changes;
 pub use answers::gains::write_gains;
 pub use answers::index::write_index;
 pub use answers::laws::{
-    below_counts_what_may_lists, changes_print_all_that_differs, deciding_entries_are_the_check,
-    deciding_entries_are_the_reach,
+    below_counts_what_may_lists, changes_print_all_that_differs, changes_tell_gains_from_losses,
+    deciding_entries_are_the_check, deciding_entries_are_the_reach, gains_count_each_change_once,
+    gains_print_all_that_changes,
 };
 pub use answers::may::write_may;
 pub use answers::requests::append_requests;
@@ -38,7 +39,10 @@ pub use laws::lines_are_refused_for_their_first_fault;
 pub use program::{run, run_judged};
 pub use setup::Setup;
 pub use status::Status;
-pub use tools::laws::{each_tool_has_its_row, tool_lines_are_refused_for_their_first_fault};
+pub use tools::laws::{
+    each_tool_has_its_row, lines_are_refused_for_the_first_fault_of_their_command,
+    tool_lines_are_refused_for_their_first_fault,
+};
 pub use tools::round_trips::{
     chacl_reads_what_it_lists, set_reads_what_test_prints, setattr_reads_what_attr_prints,
 };

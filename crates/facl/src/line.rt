@@ -59,14 +59,7 @@ fn tool_effect<J: Judge>(
 ) -> Result<Effect, LineFault>
     ensures { Replies indexed_states.now.state result (tool_line J.verdict_of (loaded_state indexed_states.now) indexed_states.now.state tool (map string_bytes words.now) text.now) }
 {
-    tool_line(
-        alloc,
-        indexed_states.loaded(),
-        &indexed_states.state,
-        tool,
-        words,
-        text,
-    )
+    tool_line(alloc, indexed_states, tool, words, text)
 }
 
 /// What a tool does with the text of a line and the words after its name.

@@ -36,13 +36,14 @@ mod why;
 ghost use Rattle.std.specs.Prelude.{◌≡◌, IfOk, is_some, map, option_map, string_bytes};
 ghost use Rattle.std.specs.List.{find};
 ghost use Rattle.std.specs.Str.{bytes_eq};
+ghost use Rattle.acl_rights.specs.States.{loaded_state};
 ghost use Rattle.facl_script.specs.Rows.{syntax_view};
 ghost use Rattle.facl.specs.Replies.{Gives, Replies, after};
 ghost use Rattle.facl.specs.Tools.{answered, line_or_fault, loads, read_line, row_of, row_view, syntax_of, table, tool_line, tool_name, tool_named, words_of, words_or_fault};
 ghost use Rattle.facl.specs.contracts.tools.ToolPartialEq.TheImpl.{ghosts as equality};
 
 use crate::tools::effect::Effect;
-use acl_rights::{IndexedState, Judge};
+use acl_rights::{IndexedStates, Judge};
 use facl_output::LineFault;
 use facl_script::{Syntax, Words, read_by};
 use std::alloc::{AllocError, Global};
@@ -324,15 +325,15 @@ pub fn read_words(alloc: Global, tool: Tool, words: &[String]) -> Result<Words, 
 
 /// What a line does at a state. Questions of who may do what are answered from the index of the state.
 #[tactic(auto, unfolding(crate::specs::Tools::answered))]
-fn answer<'x, J: Judge>(
+fn answer<J: Judge>(
     alloc: Global,
-    loaded: &'x IndexedState<J>,
-    indexed: &'x IndexedState<J>,
+    indexed_states: &IndexedStates<J>,
     line: ToolLine<'_>,
     text: &[u8],
 ) -> Result<Effect, LineFault>
-    ensures { Replies indexed.now result (answered J.verdict_of loaded.now indexed.now line.entry text.now) }
+    ensures { Replies indexed_states.now.state result (answered J.verdict_of (loaded_state indexed_states.now) indexed_states.now.state line.entry text.now) }
 {
+    let indexed = indexed_states.state();
     let state = indexed.state();
     match line {
         ToolLine::Load(line) => load::answer(alloc, state, line, text),
@@ -352,42 +353,40 @@ fn answer<'x, J: Judge>(
         ToolLine::Below(line) => below::answer(alloc, indexed, line),
         ToolLine::Why(line) => why::answer(alloc, state, line),
         ToolLine::Index => index::answer(alloc, indexed),
-        ToolLine::Changes(line) => changes::answer(alloc, loaded, indexed, line),
-        ToolLine::Gains(line) => gains::answer(alloc, loaded, indexed, line),
+        ToolLine::Changes(line) => changes::answer(alloc, indexed_states, line),
+        ToolLine::Gains(line) => gains::answer(alloc, indexed_states.loaded(), indexed, line),
         ToolLine::Useradd(line) => useradd::answer(alloc, state, line),
         ToolLine::Userdel(line) => userdel::answer(alloc, state, line),
     }
 }
 
 /// What the line of a tool that words give does at a state.
-fn words_answer<'x, J: Judge>(
+fn words_answer<J: Judge>(
     alloc: Global,
-    loaded: &'x IndexedState<J>,
-    indexed: &'x IndexedState<J>,
+    indexed_states: &IndexedStates<J>,
     tool: Tool,
     words: &Words,
     text: &[u8],
 ) -> Result<Effect, LineFault>
-    ensures { Replies indexed.now result (after (line_or_fault tool words.now) (λ line. answered J.verdict_of loaded.now indexed.now line text.now)) }
+    ensures { Replies indexed_states.now.state result (after (line_or_fault tool words.now) (λ line. answered J.verdict_of (loaded_state indexed_states.now) indexed_states.now.state line text.now)) }
 {
     let line = line_of(alloc, tool, words)?;
-    answer(alloc, loaded, indexed, line, text)
+    answer(alloc, indexed_states, line, text)
 }
 
 /// What a tool does at a state, by the words after its name and the text after the line. `changes` and `gains`
 /// alone look at the state after the texts were loaded.
-pub(crate) fn tool_line<'x, J: Judge>(
+pub(crate) fn tool_line<J: Judge>(
     alloc: Global,
-    loaded: &'x IndexedState<J>,
-    indexed: &'x IndexedState<J>,
+    indexed_states: &IndexedStates<J>,
     tool: Tool,
     words: &[String],
     text: &[u8],
 ) -> Result<Effect, LineFault>
-    ensures { Replies indexed.now result (tool_line J.verdict_of loaded.now indexed.now tool (map string_bytes words.now) text.now) }
+    ensures { Replies indexed_states.now.state result (tool_line J.verdict_of (loaded_state indexed_states.now) indexed_states.now.state tool (map string_bytes words.now) text.now) }
 {
     let words = words_of(alloc, tool, words)?;
-    let effect = words_answer(alloc, loaded, indexed, tool, &words, text);
+    let effect = words_answer(alloc, indexed_states, tool, &words, text);
     drop(words);
     effect
 }

@@ -1,23 +1,23 @@
 //! What `below` prints: on how many files at or below some paths each user is granted a request, and on which first.
 
-ghost use Rattle.std.specs.Prelude.{◌≡◌, ◌≢◌, ◌++◌, ◌∷◌, [], None, false, true, map, filter, IfOk, IfErr, OnOk};
+ghost use Rattle.std.specs.Prelude.{◌≡◌, ◌≢◌, ◌++◌, None, true, map, filter, IfOk, IfErr, OnOk};
 ghost use Rattle.std.specs.List.{flat_map};
 ghost use Rattle.acl_rights.specs.Verdicts.{rows_granted};
-ghost use Rattle.acl_tree.specs.Found.{files_found};
 ghost use Rattle.acl_tree.specs.Operands.{first_missing, is_file, IsMissing};
 ghost use Rattle.facl.specs.Answers.{file_line};
 ghost use Rattle.facl.specs.BelowText.{below_text};
-ghost use Rattle.facl.specs.Sums.{sum_of, count_text, sum_line, sum_lines, AreSums};
+ghost use Rattle.facl.specs.Sums.{sum_of, sum_line, sum_lines, AreSums};
 
 use crate::answers::class_counts::{add_tallies, count_files};
+use crate::answers::count_texts::push_count;
 use crate::answers::index::written_names;
 use crate::answers::may::push_file;
-use crate::answers::sums::{UserSum, no_sums};
+use crate::answers::path_texts::files_at;
+use crate::answers::sums::{UserSum, UserSums};
 use acl_entry::Perm;
 use acl_names::Path;
 use acl_rights::{Judge, Verdicts};
 use acl_tree::{Found, Paths, Selection, Tree, TreeFault};
-use itoa::Buffer;
 use std::alloc::{AllocError, Global};
 
 /// Adds the lines of files.
@@ -27,40 +27,6 @@ fn push_found(text: &mut Vec<u8>, files: &[Found<'_>]) -> Result<(), AllocError>
     for file in files {
         push_file(text, file)?;
     }
-    Ok(())
-}
-
-/// Adds the line of a recorded file.
-fn push_file_at(
-    alloc: Global,
-    text: &mut Vec<u8>,
-    tree: &Tree,
-    path: &Path,
-) -> Result<(), AllocError>
-    ensures { OnOk result (text.new.items ≡ text.old.items ++ flat_map file_line (files_found false (path.now ∷ []) tree.now.files)) }
-{
-    let mut operands = Vec::new(alloc);
-    operands.push(path.try_clone(alloc)?)?;
-    let operands = Paths::new(operands);
-    let selection = Selection {
-        operands: &operands,
-        recursive: false,
-    };
-    match tree.files(alloc, &selection) {
-        Ok(files) => push_found(text, &files),
-        Err(_) => Err(AllocError),
-    }
-}
-
-/// Adds a number, a user's name, and a space after each.
-fn push_count(text: &mut Vec<u8>, count: u64, name: &[u8]) -> Result<(), AllocError>
-    ensures { OnOk result (text.new.items ≡ text.old.items ++ count_text count name.now) }
-{
-    let mut buffer = Buffer::new();
-    text.extend_from_slice(buffer.format(count).as_bytes())?;
-    text.push(b' ')?;
-    text.extend_from_slice(name)?;
-    text.push(b' ')?;
     Ok(())
 }
 
@@ -77,8 +43,9 @@ fn push_sum(
     let Some(first) = sum.first else {
         return Ok(());
     };
+    let files = files_at(alloc, tree, first)?;
     push_count(text, sum.count, name)?;
-    push_file_at(alloc, text, tree, first)
+    push_found(text, &files)
 }
 
 /// Adds the lines of users.
@@ -87,17 +54,14 @@ fn push_sums(
     text: &mut Vec<u8>,
     tree: &Tree,
     names: &[Vec<u8>],
-    sums: &[UserSum<'_>],
+    sums: &UserSums<'_>,
 ) -> Result<(), AllocError>
-    ensures { OnOk result (text.new.items ≡ text.old.items ++ sum_lines tree.now.files (map (λ n. n.items) names.now) (map sum_of sums.now)) }
+    ensures { OnOk result (text.new.items ≡ text.old.items ++ sum_lines tree.now.files (map (λ n. n.items) names.now) sums.now) }
 {
-    let mut rest = sums;
-    for name in names {
-        let [sum, more @ ..] = rest else {
-            return Ok(());
-        };
-        push_sum(alloc, text, tree, name, sum)?;
-        rest = more;
+    for at in 0..names.len() {
+        if let Some(sum) = sums.get(at) {
+            push_sum(alloc, text, tree, &names[at], &sum)?;
+        }
     }
     Ok(())
 }
@@ -122,12 +86,12 @@ fn sums_below<'a, J: Judge>(
     request: Perm,
     paths: &[Path],
     names: &[Vec<u8>],
-) -> Result<Vec<UserSum<'a>>, AllocError>
-    ensures { IfOk result (λ sums. AreSums request (filter (λ row. is_file true paths.now row.0) (rows_granted J.verdict_of verdicts.now.along verdicts.now.state.now)) names.now (map sum_of sums.items)) }
+) -> Result<UserSums<'a>, AllocError>
+    ensures { IfOk result (λ sums. AreSums request (filter (λ row. is_file true paths.now row.0) (rows_granted J.verdict_of verdicts.now.along verdicts.now.state.now)) names.now sums) }
 {
     let mut classes = verdicts.classes(alloc);
     let tallies = count_files(alloc, &mut classes, paths)?;
-    let mut sums = no_sums(alloc, names)?;
+    let mut sums = UserSums::new(alloc, names)?;
     add_tallies(&mut sums, &classes, request, tallies.as_slice())?;
     Ok(sums)
 }

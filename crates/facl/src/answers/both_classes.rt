@@ -7,28 +7,13 @@ ghost use Rattle.path_map.specs.Entries.{IsInOrder, seen};
 ghost use Rattle.facl.specs.InnerGains.{AreCounted, TakesNext, both_of, next_path_of, path_order, row_of_class, rows_of_both};
 
 use crate::answers::tallies::{Key, Tallies};
+use crate::answers::two_paths::path_order;
 use acl_entry::Requests;
 use acl_names::Path;
 use acl_rights::FileClasses;
 use std::alloc::{AllocError, Global};
 use std::cmp::Ordering;
 use std::collections::BTreeMap;
-
-/// How a path is to another one; before it where there is no other one. None where there is no path.
-fn path_order(before: Option<&Path>, after: Option<&Path>) -> Option<Ordering>
-    ensures { result ≡ path_order (option_map (λ path. path.now) before.entry) (option_map (λ path. path.now) after.entry) }
-{
-    match before {
-        Some(old) => match after {
-            Some(new) => Some(old.order(new)),
-            None => Some(Ordering::Less),
-        },
-        None => match after {
-            Some(_) => Some(Ordering::Greater),
-            None => None,
-        },
-    }
-}
 
 /// The row of a class, if there is one.
 fn row_of_class<'a>(classes: &'a FileClasses<'_>, class: Option<usize>) -> Option<&'a [Requests]>

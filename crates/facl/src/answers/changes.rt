@@ -1,18 +1,23 @@
 //! What `changes` prints: what each user may do with each file, beside what the user might do before; and its lines.
 
-ghost use Rattle.std.specs.Prelude.{◌≡◌, ◌&&◌, true, drop, IfOk, OnOk, ◌∷◌, not};
+ghost use Rattle.std.specs.Prelude.{◌≡◌, ◌&&◌, [], true, drop, option_map, IfOk, OnOk, ◌∷◌, not};
 ghost use Rattle.acl_names.specs.Appends.{Appends};
 ghost use Rattle.std.specs.List.{list_all, flat_map};
+ghost use Rattle.acl_rights.specs.Outside.{SameOutside};
+ghost use Rattle.path_map.specs.Below.{within};
 ghost use Rattle.path_map.specs.Entries.{first, IsInOrder};
+ghost use Rattle.facl.specs.PartWalks.{files_granted};
 ghost use Rattle.facl.specs.ChangesText.{changes_text, requests_gained, after_comma, change_line, change_lines};
 ghost use Rattle.facl.specs.Inner.{keeps_place, shown_row, lines_between, lines_of_both, next_order, gone_lines, new_lines, kept_lines, next_lines, left_before, left_after, verdict_or_none};
 ghost use Rattle.acl_entry.specs.Check.{has};
 
 use crate::answers::index::shown;
+use crate::answers::part_walk::PartWalk;
 use crate::answers::placed_users::{PlacedUser, keep_places, users_of_both};
 use crate::answers::requests::NUMBERS;
-use crate::answers::row_walk::{FileWithRow, Walk};
+use crate::answers::row_walk::FileWithRow;
 use acl_entry::{Perm, Requests};
+use acl_names::Path;
 use acl_rights::{IndexedState, Judge, Verdicts, same_row};
 use std::alloc::{AllocError, Global};
 use std::cmp::Ordering;
@@ -38,7 +43,7 @@ fn push_gone(
     alloc: Global,
     text: &mut Vec<u8>,
     users: &[PlacedUser],
-    before: &mut Walk<'_>,
+    before: &mut PartWalk<'_, '_>,
 ) -> Result<(), AllocError>
     ensures lines { Appends result text.old text.new (gone_lines users.now (first before.old)) }
     ensures rest { OnOk result (before.new ≡ drop 1 before.old) }
@@ -56,7 +61,7 @@ fn push_new(
     alloc: Global,
     text: &mut Vec<u8>,
     users: &[PlacedUser],
-    after: &mut Walk<'_>,
+    after: &mut PartWalk<'_, '_>,
 ) -> Result<(), AllocError>
     ensures lines { Appends result text.old text.new (new_lines users.now (first after.old)) }
     ensures rest { OnOk result (after.new ≡ drop 1 after.old) }
@@ -75,8 +80,8 @@ fn push_kept(
     text: &mut Vec<u8>,
     users: &[PlacedUser],
     keep_places: bool,
-    before: &mut Walk<'_>,
-    after: &mut Walk<'_>,
+    before: &mut PartWalk<'_, '_>,
+    after: &mut PartWalk<'_, '_>,
 ) -> Result<(), AllocError>
     requires same { keep_places ≡ true → list_all keeps_place users.now ≡ true }
     ensures lines { Appends result text.old text.new (kept_lines users.now (first before.old) (first after.old)) }
@@ -101,7 +106,7 @@ fn push_kept(
 }
 
 /// How the next path of one walk is to that of another one; before it where the other walk is over. None where both are.
-fn next_order(before: &Walk<'_>, after: &Walk<'_>) -> Option<Ordering>
+fn next_order(before: &PartWalk<'_, '_>, after: &PartWalk<'_, '_>) -> Option<Ordering>
     ensures { result ≡ next_order before.now after.now }
 {
     match before.path() {
@@ -123,8 +128,8 @@ fn push_next(
     users: &[PlacedUser],
     keep_places: bool,
     order: Ordering,
-    before: &mut Walk<'_>,
-    after: &mut Walk<'_>,
+    before: &mut PartWalk<'_, '_>,
+    after: &mut PartWalk<'_, '_>,
 ) -> Result<(), AllocError>
     requires same { keep_places ≡ true → list_all keeps_place users.now ≡ true }
     ensures lines { Appends result text.old text.new (next_lines users.now order before.old after.old) }
@@ -143,8 +148,8 @@ fn push_both(
     alloc: Global,
     text: &mut Vec<u8>,
     users: &[PlacedUser],
-    before: Walk<'_>,
-    after: Walk<'_>,
+    before: PartWalk<'_, '_>,
+    after: PartWalk<'_, '_>,
 ) -> Result<(), AllocError>
     requires before { IsInOrder before }
     requires after { IsInOrder after }
@@ -167,6 +172,94 @@ fn push_both(
     Ok(())
 }
 
+/// Adds the lines of the files at a path or below it.
+fn push_within<J: Judge>(
+    alloc: Global,
+    text: &mut Vec<u8>,
+    users: &[PlacedUser],
+    loaded: &IndexedState<J>,
+    verdicts: &Verdicts<'_, J>,
+    top: &Path,
+) -> Result<(), AllocError>
+    ensures { Appends result text.old text.new (lines_of_both users.now
+        (within top.now (files_granted J.verdict_of verdicts.now.along loaded.now))
+        (within top.now (files_granted J.verdict_of verdicts.now.along verdicts.now.state.now))) }
+{
+    let verdicts_before = loaded.verdicts(verdicts.along);
+    let before = PartWalk::of_verdicts(alloc, &verdicts_before, top)?;
+    let after = PartWalk::of_verdicts(alloc, verdicts, top)?;
+    push_both(alloc, text, users, before, after)
+}
+
+/// The path of the root.
+fn root(alloc: Global) -> Path
+    ensures { result ≡ [] }
+{
+    Path::new(Vec::new(alloc)).unwrap()
+}
+
+/// Adds the lines of all files.
+fn push_all<J: Judge>(
+    alloc: Global,
+    text: &mut Vec<u8>,
+    users: &[PlacedUser],
+    loaded: &IndexedState<J>,
+    verdicts: &Verdicts<'_, J>,
+) -> Result<(), AllocError>
+    ensures { Appends result text.old text.new (lines_of_both users.now
+        (files_granted J.verdict_of verdicts.now.along loaded.now)
+        (files_granted J.verdict_of verdicts.now.along verdicts.now.state.now)) }
+{
+    let root = root(alloc);
+    push_within(alloc, text, users, loaded, verdicts, &root)
+}
+
+/// Adds the lines of all files, where users may do the same outside a part of the tree. Where no user has another place
+/// than before, only the files of the part are looked at.
+fn push_part<J: Judge>(
+    alloc: Global,
+    text: &mut Vec<u8>,
+    users: &[PlacedUser],
+    loaded: &IndexedState<J>,
+    verdicts: &Verdicts<'_, J>,
+    changed: Option<&Path>,
+) -> Result<(), AllocError>
+    requires same { SameOutside J.verdict_of (option_map (λ p. p.now) changed) loaded.now verdicts.now.state.now }
+    requires before { IsInOrder loaded.now.tree.files }
+    requires after { IsInOrder verdicts.now.state.now.tree.files }
+    ensures { Appends result text.old text.new (lines_of_both users.now
+        (files_granted J.verdict_of verdicts.now.along loaded.now)
+        (files_granted J.verdict_of verdicts.now.along verdicts.now.state.now)) }
+{
+    if !keep_places(users) {
+        return push_all(alloc, text, users, loaded, verdicts);
+    }
+    match changed {
+        Some(top) => push_within(alloc, text, users, loaded, verdicts, top),
+        None => Ok(()),
+    }
+}
+
+/// What `changes` prints, where users may do the same in both states outside a part of the tree: it is one walk over both
+/// states' files of the part. Fails only if memory runs out.
+pub(crate) fn write_changes_within<J: Judge>(
+    alloc: Global,
+    loaded: &IndexedState<J>,
+    verdicts: &Verdicts<'_, J>,
+    changed: Option<&Path>,
+) -> Result<Vec<u8>, AllocError>
+    requires { SameOutside J.verdict_of (option_map (λ p. p.now) changed) loaded.now verdicts.now.state.now }
+    ensures { IfOk result (λ text. text.items ≡ changes_text J.verdict_of verdicts.now.along loaded.now verdicts.now.state.now) }
+{
+    loaded.state().tree().soundness_law();
+    verdicts.state.state().tree().soundness_law();
+    let people = verdicts.state.state().people();
+    let users = users_of_both(alloc, loaded.state().people(), people)?;
+    let mut text = Vec::new(alloc);
+    push_part(alloc, &mut text, &users, loaded, verdicts, changed)?;
+    Ok(text)
+}
+
 /// What `changes` prints: for each file of either state in path order, and each user of either state, a line of the
 /// requests that the user gains on it, and one of those that the user loses; with those verdicts that are asked of the
 /// present state, on the files alone or along their paths. It is one walk over both states' files. Fails only if memory
@@ -178,14 +271,8 @@ pub fn write_changes<J: Judge>(
 ) -> Result<Vec<u8>, AllocError>
     ensures { IfOk result (λ text. text.items ≡ changes_text J.verdict_of verdicts.now.along loaded.now verdicts.now.state.now) }
 {
-    let people = verdicts.state.state().people();
-    let users = users_of_both(alloc, loaded.state().people(), people)?;
-    let verdicts_before = loaded.verdicts(verdicts.along);
-    let before = Walk::of_verdicts(&verdicts_before);
-    let after = Walk::of_verdicts(verdicts);
-    let mut text = Vec::new(alloc);
-    push_both(alloc, &mut text, &users, before, after)?;
-    Ok(text)
+    let root = root(alloc);
+    write_changes_within(alloc, loaded, verdicts, Some(&root))
 }
 
 /// Whether a request is granted after, and was not before.

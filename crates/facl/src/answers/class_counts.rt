@@ -4,10 +4,10 @@ ghost use Rattle.std.specs.Prelude.{◌≡◌, ◌++◌, ◌∷◌, [], List, No
 ghost use Rattle.std.specs.Option.{option_copied};
 ghost use Rattle.acl_tree.specs.Operands.{is_file};
 ghost use Rattle.facl.specs.Counting.{tallied};
-ghost use Rattle.facl.specs.Sums.{sum_of, row_of, after_tally, after_tallies, AreCounted};
+ghost use Rattle.facl.specs.Sums.{row_of, after_tally, after_tallies, AreCounted};
 ghost use Rattle.facl.specs.Tallies.{Tallied, Sides, SaysAs, one};
 
-use crate::answers::sums::{UserSum, add_row};
+use crate::answers::sums::UserSums;
 use crate::answers::tallies::{Key, Tallies, Tally};
 use acl_entry::{Perm, Requests};
 use acl_names::Path;
@@ -100,27 +100,27 @@ fn row_of<'a>(classes: &'a FileClasses<'_>, key: &Key) -> Option<&'a [Requests]>
 
 /// Adds files of a class to the sums.
 fn add_tally<'a>(
-    sums: &mut [UserSum<'a>],
+    sums: &mut UserSums<'a>,
     classes: &FileClasses<'a>,
     request: Perm,
     tally: &Tally<'a>,
 ) -> Result<(), AllocError>
-    ensures { OnOk result (map sum_of sums.new ≡ after_tally classes.now.0 request (tallied tally.now) (map sum_of sums.old)) }
+    ensures { OnOk result (sums.new ≡ after_tally classes.now.0 request (tallied tally.now) sums.old) }
 {
     match row_of(classes, &tally.key) {
-        Some(row) => add_row(sums, row, request, tally),
+        Some(row) => sums.add_row(row, request, tally),
         None => Ok(()),
     }
 }
 
 /// Adds all counted files to the sums.
 pub(crate) fn add_tallies<'a>(
-    sums: &mut [UserSum<'a>],
+    sums: &mut UserSums<'a>,
     classes: &FileClasses<'a>,
     request: Perm,
     tallies: &[Tally<'a>],
 ) -> Result<(), AllocError>
-    ensures { OnOk result (map sum_of sums.new ≡ after_tallies classes.now.0 request (map tallied tallies.now) (map sum_of sums.old)) }
+    ensures { OnOk result (sums.new ≡ after_tallies classes.now.0 request (map tallied tallies.now) sums.old) }
 {
     for tally in tallies {
         add_tally(sums, classes, request, tally)?;

@@ -1,27 +1,28 @@
 //! What `gains` prints: for each user and each change of what the user is granted, on how many files, and on which first.
 
-ghost use Rattle.std.specs.Prelude.{◌≡◌, [], ◌<◌, ◌+◌, ◌++◌, if◌then◌else◌, IfOk, decimal, map, option_map};
+ghost use Rattle.std.specs.Prelude.{◌≡◌, [], ◌<◌, ◌+◌, ◌++◌, if◌then◌else◌, IfOk, map, option_map};
 ghost use Rattle.std.specs.List.{flat_map, list_any};
 ghost use Rattle.acl_names.specs.Appends.{Appends};
 ghost use Rattle.path_map.specs.Entries.{IsInOrder};
 ghost use Rattle.acl_rights.specs.Verdicts.{rows_granted};
 ghost use Rattle.facl.specs.Answers.{line};
+ghost use Rattle.facl.specs.CountTexts.{count_text, spaced};
 ghost use Rattle.facl.specs.Counting.{tallied};
 ghost use Rattle.facl.specs.GainsText.{gains_text, is_same, is_same_side, side_of, side_text};
-ghost use Rattle.facl.specs.InnerGains.{count_line, is_before, lines_after, lines_of_user, spaced, tally_line, tally_lines};
+ghost use Rattle.facl.specs.InnerGains.{count_line, is_before, lines_after, lines_of_user, tally_line, tally_lines};
 ghost use Rattle.facl.specs.PathTexts.{text_in};
 ghost use Rattle.facl.specs.Tallies.{count_where, first_where};
 
 use crate::answers::both_classes::BothClasses;
+use crate::answers::count_texts::{push_count, push_path};
 use crate::answers::index::push_hex;
 use crate::answers::path_texts::text_of;
 use crate::answers::placed_users::users_of_both;
-use crate::answers::tallies::{Key, Tally};
+use crate::answers::tallies::{Key, Tally, together};
 use crate::answers::user_gains::{UserGains, count_changes, without_counts};
 use acl_names::Path;
 use acl_rights::{FileClasses, IndexedState, Judge, Verdicts};
 use acl_tree::Tree;
-use itoa::Buffer;
 use std::alloc::{AllocError, Global};
 
 /// The number of sides: not there, or one of 256 bytes.
@@ -75,15 +76,6 @@ fn push_side(text: &mut Vec<u8>, side: Option<u8>) -> Result<(), AllocError>
     }
 }
 
-/// Adds a number in decimal.
-fn push_number(text: &mut Vec<u8>, number: u64) -> Result<(), AllocError>
-    ensures { Appends result text.old text.new (decimal number) }
-{
-    let mut buffer = Buffer::new();
-    text.extend_from_slice(buffer.format(number).as_bytes())?;
-    Ok(())
-}
-
 /// Adds what is granted, and a space.
 fn push_spaced_side(text: &mut Vec<u8>, side: Option<u8>) -> Result<(), AllocError>
     ensures { Appends result text.old text.new (spaced (side_text side)) }
@@ -101,47 +93,12 @@ fn push_sides(text: &mut Vec<u8>, granted: Granted) -> Result<(), AllocError>
     push_spaced_side(text, granted.1)
 }
 
-/// Adds a number, and a space.
-fn push_spaced_number(text: &mut Vec<u8>, number: u64) -> Result<(), AllocError>
-    ensures { Appends result text.old text.new (spaced (decimal number)) }
-{
-    push_number(text, number)?;
-    text.push(b' ')?;
-    Ok(())
-}
-
-/// Adds a user, and a space.
-fn push_spaced(text: &mut Vec<u8>, user: &[u8]) -> Result<(), AllocError>
-    ensures { Appends result text.old text.new (spaced user.now) }
-{
-    text.extend_from_slice(user)?;
-    text.push(b' ')?;
-    Ok(())
-}
-
-/// Adds a path, and the end of the line.
-fn push_path(text: &mut Vec<u8>, path: &[u8]) -> Result<(), AllocError>
-    ensures { Appends result text.old text.new (line path.now) }
-{
-    text.extend_from_slice(path)?;
-    text.push(b'\n')?;
-    Ok(())
-}
-
-/// Adds a user and a path.
-fn push_user_path(text: &mut Vec<u8>, user: &[u8], path: &[u8]) -> Result<(), AllocError>
-    ensures { Appends result text.old text.new (spaced user.now ++ line path.now) }
-{
-    push_spaced(text, user)?;
-    push_path(text, path)
-}
-
 /// Adds how many files there are, a user and a path.
-fn push_count(text: &mut Vec<u8>, count: u64, user: &[u8], path: &[u8]) -> Result<(), AllocError>
-    ensures { Appends result text.old text.new (spaced (decimal count) ++ (spaced user.now ++ line path.now)) }
+fn push_counted(text: &mut Vec<u8>, count: u64, user: &[u8], path: &[u8]) -> Result<(), AllocError>
+    ensures { Appends result text.old text.new (count_text count user.now ++ line path.now) }
 {
-    push_spaced_number(text, count)?;
-    push_user_path(text, user, path)
+    push_count(text, count, user)?;
+    push_path(text, path)
 }
 
 /// Adds a line.
@@ -155,7 +112,7 @@ fn push_line(
     ensures { Appends result text.old text.new (count_line granted count user.now path.now) }
 {
     push_sides(text, granted)?;
-    push_count(text, count, user, path)
+    push_counted(text, count, user, path)
 }
 
 /// A sum with a count, where it counts. Fails only if the numbers run out.
@@ -165,10 +122,7 @@ fn with_count(sum: u64, counts: bool, count: u64) -> Result<u64, AllocError>
     if !counts {
         return Ok(sum);
     }
-    match sum.checked_add(count) {
-        Some(new) => Ok(new),
-        None => Err(AllocError),
-    }
+    together(sum, count)
 }
 
 /// How many files have a key. Fails only if the numbers run out.

@@ -1,4 +1,4 @@
-//! The path of a file of two states as it is printed: as it is now, or as it was.
+//! The file of a path, and how its path is printed: as it is now, or as it was.
 
 ghost use Rattle.std.specs.Prelude.{◌≡◌, ◌∷◌, [], false, IfOk, is_some, option_map};
 ghost use Rattle.std.specs.FinMap.{find};
@@ -19,7 +19,11 @@ fn is_recorded(tree: &Tree, path: &Path) -> bool
 }
 
 /// The file of a path, if it is recorded.
-fn files_at<'a>(alloc: Global, tree: &'a Tree, path: &Path) -> Result<Vec<Found<'a>>, AllocError>
+pub(crate) fn files_at<'a>(
+    alloc: Global,
+    tree: &'a Tree,
+    path: &Path,
+) -> Result<Vec<Found<'a>>, AllocError>
     ensures { IfOk result (λ files. files.items ≡ files_found false (path.now ∷ []) tree.now.files) }
 {
     if !is_recorded(tree, path) {

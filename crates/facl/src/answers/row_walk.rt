@@ -58,6 +58,13 @@ impl<'a> Model for Walk<'a> {
 }
 
 impl<'a> Walk<'a> {
+    /// Files with their rows.
+    pub fn of_parts(files: FilesIter<'a>, rows: FileRows<'a>) -> Walk<'a>
+        ensures { result ≡ walk_of files.entry rows.entry }
+    {
+        Walk { files, rows }
+    }
+
     /// All files of a tree, with their rows.
     pub fn of(tree: &'a Tree, rows: FileRows<'a>) -> Walk<'a>
         ensures { result ≡ walk_of tree.now.files rows.entry }

@@ -1,6 +1,6 @@
 //! Counts of files by keys: for each key how many files have it, and which is the first of them.
 
-ghost use Rattle.std.specs.Prelude.{◌≡◌, ◌++◌, ◌∷◌, [], List, true, IfOk, map};
+ghost use Rattle.std.specs.Prelude.{◌≡◌, ◌+◌, ◌++◌, ◌∷◌, [], List, true, IfOk, map};
 ghost use Rattle.facl.specs.Counting.{tallied, HasKey};
 ghost use Rattle.facl.specs.Tallies.{Tallied, Sides, SaysAs};
 
@@ -19,6 +19,16 @@ pub(crate) struct Tally<'a> {
     pub key: Key,
     pub count: u64,
     pub first: &'a Path,
+}
+
+/// Two counts together. Fails only if the number does not fit.
+pub(crate) fn together(count: u64, more: u64) -> Result<u64, AllocError>
+    ensures { IfOk result (λ sum. sum ≡ count + more) }
+{
+    match count.checked_add(more) {
+        Some(sum) => Ok(sum),
+        None => Err(AllocError),
+    }
 }
 
 /// Counts of files by keys.
@@ -74,10 +84,7 @@ impl<'a> Tallies<'a> {
     {
         if self.has(at, key) {
             let tally = &mut self.list[at];
-            let Some(count) = tally.count.checked_add(count) else {
-                return Err(AllocError);
-            };
-            tally.count = count;
+            tally.count = together(tally.count, count)?;
             return Ok(at);
         }
         let at = self.list.len();

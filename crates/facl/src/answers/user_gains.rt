@@ -198,33 +198,38 @@ fn keep_places(users: &[UserGains<'_>]) -> bool
         .all(|entry| same_place(entry.user.before, entry.user.after))
 }
 
-/// Counts so many files more with these rows for each user. There is no change where the rows and the users are the same.
+/// Counts so many files more with these rows for each user, who all keep their places or may not. There is no change where
+/// the rows and the users are the same.
 fn count_rows<'a>(
     users: &mut [UserGains<'a>],
+    is_kept: bool,
     before: &GivenRow<'_>,
     after: &GivenRow<'_>,
     count: u64,
     first: &'a Path,
 ) -> Result<(), AllocError>
+    requires kept { is_kept ≡ true → list_all keeps users.old ≡ true }
     ensures { OnOk result (AreCountedFor (row_given before.now, row_given after.now) count first.now users.old users.new) }
 {
-    if row_stays(before, after) && keep_places(users) {
+    if is_kept && row_stays(before, after) {
         return Ok(());
     }
     count_for_each(users, before, after, count, first)
 }
 
-/// Counts so many files more with the rows of a key for each user.
+/// Counts so many files more with the rows of a key for each user, who all keep their places or may not.
 fn count_tally<'a>(
     users: &mut [UserGains<'a>],
+    is_kept: bool,
     both: &BothClasses<'_>,
     tally: &Tally<'a>,
 ) -> Result<(), AllocError>
+    requires kept { is_kept ≡ true → list_all keeps users.old ≡ true }
     ensures { OnOk result (AreCountedFor (rows_of_key (both_of both.now) tally.now.key) tally.now.count tally.now.first.now users.old users.new) }
 {
     let before = given(both.row_before(tally.key.0));
     let after = given(both.row_after(tally.key.1));
-    count_rows(users, &before, &after, tally.count, tally.first)
+    count_rows(users, is_kept, &before, &after, tally.count, tally.first)
 }
 
 /// Counts the changes of each user, out of counts of files by classes.
@@ -235,8 +240,9 @@ pub(crate) fn count_changes<'a>(
 ) -> Result<(), AllocError>
     ensures { OnOk result (ArePassed (both_of both.now) (map tallied tallies.now) users.old users.new) }
 {
+    let is_kept = keep_places(users);
     for tally in tallies {
-        count_tally(users, both, tally)?;
+        count_tally(users, is_kept, both, tally)?;
     }
     Ok(())
 }

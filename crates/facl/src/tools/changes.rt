@@ -1,13 +1,14 @@
 //! The tool `changes`: what the script has changed so far in who may do what.
 
 ghost use Rattle.std.specs.Prelude.{◌≡◌};
+ghost use Rattle.acl_rights.specs.States.{loaded_state};
 ghost use Rattle.facl.specs.Changes.{answered, read};
 ghost use Rattle.facl.specs.Replies.{Replies};
 
-use crate::answers::changes::write_changes;
+use crate::answers::changes::write_changes_within;
 use crate::tools::effect::Effect;
 use crate::tools::syntax::by_name;
-use acl_rights::{IndexedState, Judge};
+use acl_rights::{IndexedStates, Judge};
 use facl_output::LineFault;
 use facl_script::{OptionRow, Syntax, Words};
 use std::alloc::Global;
@@ -38,13 +39,17 @@ pub(crate) fn read(words: &Words) -> ChangesLine
 /// What users gained and lost since the texts were loaded; with `--reach` what they gained and lost along paths.
 pub(crate) fn answer<J: Judge>(
     alloc: Global,
-    loaded: &IndexedState<J>,
-    indexed: &IndexedState<J>,
+    indexed_states: &IndexedStates<J>,
     line: ChangesLine,
 ) -> Result<Effect, LineFault>
-    ensures { Replies indexed.now result (answered J.verdict_of loaded.now indexed.now line) }
+    ensures { Replies indexed_states.now.state result (answered J.verdict_of (loaded_state indexed_states.now) indexed_states.now.state line) }
 {
-    let verdicts = indexed.verdicts(line.reach);
-    let out = write_changes(alloc, loaded, &verdicts)?;
+    let verdicts = indexed_states.state().verdicts(line.reach);
+    let out = write_changes_within(
+        alloc,
+        indexed_states.loaded(),
+        &verdicts,
+        indexed_states.changed(),
+    )?;
     Ok(Effect::prints(out))
 }

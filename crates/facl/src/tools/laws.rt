@@ -2,13 +2,29 @@
 //! that does nothing.
 
 ghost use Rattle.std.specs.Prelude.{◌≡◌, ℕ, List, Some, is_some, true};
+ghost use Rattle.std.specs.Borrow.{Bor};
 ghost use Rattle.acl_tree.specs.State.{State};
+ghost use Rattle.acl_tree.specs.declared.command.Command.{Command};
+ghost use Rattle.acl_tree.specs.declared.command.Command.TheVariants as commands;
+ghost use Rattle.path_map.specs.Entries.{IsInOrder};
+ghost use Rattle.facl.specs.CommandFaults.{IsRefusedAs};
+ghost use Rattle.facl.specs.Operands.{name_meant};
+ghost use Rattle.facl.specs.Replies.{done};
 ghost use Rattle.facl.specs.ToolParts.{IsAtFault, place, rank};
 ghost use Rattle.facl.specs.FirstPart.{IsRefusedForFirst};
 ghost use Rattle.acl_rights.specs.Rows.{Verdict};
 ghost use Rattle.facl.specs.Tools.{answered, row_for, tool_name, tool_named};
 ghost use Rattle.facl.specs.declared.tools.Tool.{Tool};
+ghost use Rattle.facl.specs.Useradd.{new_user};
 ghost use Rattle.facl.specs.declared.tools.ToolLine.{ToolLine};
+ghost use Rattle.facl.specs.declared.tools.ToolLine.TheVariants as lines;
+ghost use Rattle.facl.specs.declared.tools.gpasswd.GpasswdLine.{GpasswdLine};
+ghost use Rattle.facl.specs.declared.tools.load.LoadLine.{LoadLine};
+ghost use Rattle.facl.specs.declared.tools.useradd.UseraddLine.{UseraddLine};
+ghost use Rattle.facl.specs.declared.tools.userdel.UserdelLine.{UserdelLine};
+ghost use Rattle.facl.specs.declared.tools.usermod.UsermodLine.{UsermodLine};
+
+use acl_tree::commands_are_refused_for_their_first_fault;
 
 /// Proof only: which parts of a line are at fault is defined for each part by itself, without an order. A line is
 /// refused exactly if one of its parts is at fault, and for the first of those in one order: its texts, an entry that
@@ -18,6 +34,25 @@ pub fn tool_lines_are_refused_for_their_first_fault()
     ensures { (verdict : Verdict) (loaded s : State) (line : ToolLine) (text : List ℕ)
         → IsRefusedForFirst rank place (IsAtFault s line text) (answered verdict loaded s line text) }
 {}
+
+/// Proof only: what a line does is refused exactly if a fault applies to its command, and for the first of these, in the
+/// order of [`commands_are_refused_for_their_first_fault`]. So is a line of load, gpasswd, usermod, useradd and userdel,
+/// which has no other part: no such user, no such group, no member, and so on.
+pub fn lines_are_refused_for_the_first_fault_of_their_command()
+    ensures each { (s : State) (command : Command) → IsInOrder s.tree.files → IsRefusedAs s command (done s command) }
+    ensures load { (verdict : Verdict) (loaded s : State) (line : LoadLine) (bytes : Bor (List ℕ)) → IsInOrder s.tree.files
+        → IsRefusedAs s (commands.Load line.table bytes) (answered verdict loaded s (lines.Load line) bytes.now) }
+    ensures gpasswd { (verdict : Verdict) (loaded s : State) (line : GpasswdLine) (text : List ℕ) → IsInOrder s.tree.files
+        → IsRefusedAs s (commands.Gpasswd (name_meant line.user) (name_meant line.group) line.change) (answered verdict loaded s (lines.Gpasswd line) text) }
+    ensures usermod { (verdict : Verdict) (loaded s : State) (line : UsermodLine) (text : List ℕ) → IsInOrder s.tree.files
+        → IsRefusedAs s (commands.Usermod (name_meant line.user) (name_meant line.group)) (answered verdict loaded s (lines.Usermod line) text) }
+    ensures useradd { (verdict : Verdict) (loaded s : State) (line : UseraddLine) (text : List ℕ) → IsInOrder s.tree.files
+        → IsRefusedAs s (commands.Useradd (new_user line)) (answered verdict loaded s (lines.Useradd line) text) }
+    ensures userdel { (verdict : Verdict) (loaded s : State) (line : UserdelLine) (text : List ℕ) → IsInOrder s.tree.files
+        → IsRefusedAs s (commands.Userdel (name_meant line.user)) (answered verdict loaded s (lines.Userdel line) text) }
+{
+    commands_are_refused_for_their_first_fault();
+}
 
 /// Proof only: each tool has a row in the table of tools, and is found by its name: no other tool has that.
 #[tactic(auto, unfolding(crate::specs::Tools::row_for, crate::specs::Tools::row_of, crate::specs::Tools::tool_named))]

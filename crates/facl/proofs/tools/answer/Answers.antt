@@ -1,4 +1,5 @@
-use Rattle.std.proofs.Common.{sym, subst}
+use Rattle.std.proofs.Common.{sym, subst, ◌∙◌}
+use Rattle.acl_rights.specs.States.{loaded_state}
 use Rattle.facl.specs.Replies.{Replies}
 use Rattle.facl.specs.Tools.{answered}
 use Rattle.facl.proofs.tools.answer.Goals as goal
@@ -6,6 +7,7 @@ use Rattle.facl.proofs.tools.answer.Goals as goal
 pub returns-in-Useradd : goal.returns-in-Useradd
 unfolding answered
 returns-in-Useradd g c =
+    let loaded = loaded_state c.args.indexed_states.now in
     let state = c.state-state.result.now in
-    subst (λ s. Replies s c.answer-in-Useradd.result (answered g.J.Judge.verdict_of c.args.loaded.now s c.args.line c.args.text.now)) c.state-state.ensures
-    (subst (λ l. Replies state c.answer-in-Useradd.result (answered g.J.Judge.verdict_of c.args.loaded.now state l c.args.text.now)) (sym c.in-Useradd.is) c.answer-in-Useradd.ensures)
+    subst (λ s. Replies s c.answer-in-Useradd.result (answered g.J.Judge.verdict_of loaded s c.args.line c.args.text.now)) (c.state-state.ensures ∙ c.state-indexed.ensures)
+    (subst (λ l. Replies state c.answer-in-Useradd.result (answered g.J.Judge.verdict_of loaded state l c.args.text.now)) (sym c.in-Useradd.is) c.answer-in-Useradd.ensures)

@@ -1,7 +1,7 @@
 use Rattle.std.proofs.Common.{◌≡◌, ◌++◌, drop, map}
-use Rattle.facl.specs.Sums.{sum_of, sum_lines}
+use Rattle.facl.specs.Sums.{sum_lines}
 use Rattle.facl.proofs.answers.below.push_sums.Given as goal
 
-abbrev pub invariant-loop-name : goal.invariant-loop-name
-invariant-loop-name l =
-    l.text.items ++ sum_lines l.tree.files (map (λ n. n.items) (drop l.name-index l.names)) (map sum_of l.rest) ≡ l.initial.text.items ++ sum_lines l.tree.files (map (λ n. n.items) l.names) (map sum_of l.sums)
+abbrev pub invariant-loop-at : goal.invariant-loop-at
+invariant-loop-at l =
+    l.text.items ++ sum_lines l.tree.files (drop l.at (map (λ n. n.items) l.names)) (drop l.at l.sums) ≡ l.initial.text.items ++ sum_lines l.tree.files (map (λ n. n.items) l.names) l.sums

@@ -1,4 +1,4 @@
-use Rattle.std.proofs.Common.{◌≡◌, true, List, ◌++◌, filter, map, sym, ap, subst, ◌∙◌}
+use Rattle.std.proofs.Common.{◌≡◌, true, List, ◌++◌, filter, map, ap, subst, ◌∙◌}
 use Rattle.acl_names.specs.Names.{escaped}
 use Rattle.acl_names.specs.Paths.{PathOf}
 use Rattle.acl_people.specs.KnownPeople.{KnownPeople}
@@ -7,7 +7,7 @@ use Rattle.acl_tree.specs.Files.{Recorded}
 use Rattle.acl_tree.specs.Operands.{is_file}
 use Rattle.acl_tree.specs.State.{State}
 use Rattle.path_map.specs.Entries.{IsInOrder}
-use Rattle.facl.specs.Sums.{sum_of, sum_lines, AreSums}
+use Rattle.facl.specs.Sums.{sum_lines, AreSums}
 use Rattle.facl.proofs.BelowLines.{below_lines}
 use Rattle.facl.proofs.answers.below.write_below.Goals as goal
 
@@ -18,7 +18,7 @@ returns-clause-text g c =
     let s = c.args.verdicts.now.state.now in
     let q = c.args.request in
     let names = c.in_ok-names.names.items in
-    let sums = map sum_of c.in_ok-sums.sums.items in
+    let sums = c.in_ok-sums.sums in
     let of_state = ap (λ (known : State). known.tree) c.state-state.ensures in
     let order : IsInOrder s.tree.files = subst (λ (t : Recorded). IsInOrder t.files) (c.tree.ensures ∙ of_state) c.soundness_law.ensures.order in
     let of_people = c.people.ensures ∙ ap (λ (known : State). known.people) c.state-state.ensures in
@@ -29,5 +29,5 @@ returns-clause-text g c =
     in
     let walked = c.tree-3.ensures ∙ of_state in
     c.in_ok-push_sums.ensures
-    ∙ (λ i. c.new-text.ensures.items i ++ sum_lines (walked i).files (map (λ n. n.items) (c.deref-2.ensures.value i)) (map sum_of (c.deref-3.ensures.value i)))
+    ∙ (λ i. c.new-text.ensures.items i ++ sum_lines (walked i).files (map (λ n. n.items) (c.deref-2.ensures.value i)) sums)
     ∙ below_lines V along s q c.args.paths.now order (λ n. n.items) names sums written are
