@@ -1,8 +1,9 @@
-"""What the program prints of FILEs, on both streams and with its status: the worked sessions of demo/, and FILEs that
-cannot be read."""
+"""What the program prints of FILEs, on both streams and with its status: the worked sessions of demo/, FILEs that cannot
+be read, closed streams, when it answers, and trees of many files that are alike."""
 from __future__ import annotations
 
 import os
+import select
 import subprocess
 import unittest
 
@@ -10,6 +11,7 @@ from common import COMMANDS, Case, Done
 
 DEMO = os.path.join(COMMANDS, "..", "demo")
 LONGEST = 268435456
+RECORD = b"# file: %s\n# owner: lisa\n# group: staff\nuser::rw-\ngroup::r--\nother::---\n\n"
 
 
 def demo(name: str) -> bytes:
@@ -20,7 +22,7 @@ def demo(name: str) -> bytes:
 class Program(Case):
     def answer(self, script: bytes, *words: str) -> Done:
         words = (os.environ["FACL"], *words)
-        done = subprocess.run(words, input=script, capture_output=True, cwd=self.folder, check=False)
+        done = subprocess.run(words, input=script, capture_output=True, cwd=self.folder, timeout=100, check=False)
         return Done(done.returncode, done.stdout, done.stderr)
 
     def test_worked_sessions(self) -> None:
@@ -33,16 +35,55 @@ class Program(Case):
         for name, length in (("empty", 0), ("longest", LONGEST), ("too_long", LONGEST + 1)):
             self.write(name, b"")
             os.truncate(self.path(name), length)
+        # Nobody writes into this one: who opens it waits without end. No file is opened after one that is too long.
+        os.mkfifo(self.path("waits"))
         for words, fault in (
             ("--passwd absent", "absent: cannot read"),
             ("--dump third --group second --passwd first", "first: cannot read"),
             ("--dump third --group second --passwd empty", "second: cannot read"),
             ("--group .", ".: cannot read"),
-            ("--passwd too_long", "too_long: cannot read"),
+            ("--passwd too_long --group waits", "too_long: cannot read"),
             ("--passwd longest", "setup: passwd: text line 1: bad row"),
             ("--passwd", "usage"),
         ):
             self.expect(self.answer(b"frob\n", *words.split()), 2, b"", b"facl: %s\n" % fault.encode())
+
+    def with_streams(self, streams: str, script: bytes, files: int) -> Done:
+        """The answer over the first FILEs of demo/, with streams of the shell."""
+        words = [word for name in ("passwd", "group", "dump")[:files] for word in ("--" + name, os.path.join(DEMO, name))]
+        shell = ["sh", "-c", 'exec "$@" ' + streams, "sh", os.environ["FACL"], *words]
+        done = subprocess.run(shell, input=script, capture_output=True, cwd=self.folder, timeout=100, check=False)
+        return Done(done.returncode, done.stdout, done.stderr)
+
+    def test_closed_streams(self) -> None:
+        for files in range(4):
+            self.expect(self.with_streams("<&-", b"", files), 2, b"", b"facl: read fault\n")
+            self.expect(self.with_streams("<&- >&-", b"", files), 2, b"", b"facl: read fault\n")
+            self.expect(self.with_streams("<&- 2>&-", b"", files), 2, b"", b"")
+            self.expect(self.with_streams("2>&-", b"frob\n", files), 2, b"", b"")
+        self.expect(self.with_streams(">&-", b"can mara project\n", 3), 2, b"", b"facl: write fault\n")
+
+    def test_a_line_is_answered_before_the_next_is_read(self) -> None:
+        words = [word for name in ("passwd", "group", "dump") for word in ("--" + name, os.path.join(DEMO, name))]
+        with subprocess.Popen([os.environ["FACL"], *words], stdin=-1, stdout=-1, bufsize=0) as program:
+            assert program.stdin and program.stdout
+            for line, answer in ((b"can mara project\n", b"--x -w- -wx r-- r-x rw- rwx\n"), (b"who w project\n", b"ines\nmara\n")):
+                program.stdin.write(line)
+                printed = b""
+                while printed != answer and select.select([program.stdout], [], [], 30)[0]:
+                    printed += program.stdout.read(1000)
+                self.assertEqual(printed, answer)
+            program.stdin.close()
+            self.assertEqual(program.wait(), 0)
+
+    def test_many_files_of_one_kind(self) -> None:
+        self.write("passwd", b"lisa:x:1001:50:::\njoe:x:1000:60:::\n")
+        self.write("group", b"staff:x:50:\n")
+        script = b"below r .\nsetfacl -R -m o::r .\nbelow r .\nchmod 640 f0\nbelow r .\nrm -r .\nindex\n"
+        for files in (65_537, 131_073):
+            self.write("dump", RECORD % b"./" + b"".join(RECORD % (b"f%d" % number) for number in range(files)))
+            answer = b"%d lisa .\n%d lisa .\n%d joe .\n%d lisa .\n%d joe .\n" % (*[files + 1] * 4, files)
+            self.expect(self.answer(script, *"--passwd passwd --group group --dump dump".split()), 0, answer, b"")
 
 
 if __name__ == "__main__":

@@ -19,7 +19,7 @@ usage: tools/check/documents.py [--write | --files [CRATE]..]
 - Each file of src/ and specs/ of a crate, and each script of commands/ and tools/, has a sentence at its head; --files
   prints these sentences, of some crates or of all and the scripts, and does nothing else.
 - All documents: each link within the repository, and each path that starts with a folder of it or of a crate, leads to
-  something; each name with `_` or `::` is a word of the sources.
+  something; each name with `_` or `::` is a word of the sources, or of the tests of the commands.
 
 Prints `FILE:LINE: what is wrong`. The exit status is 1 where something is.
 """
@@ -122,7 +122,7 @@ class Checks:
 
     def all_words(self) -> Set[str]:
         """The words of sources, definitions, scripts and commands, with the names of crates and edits."""
-        paths = found_in(self.top, *SOURCES, *SCRIPTS, "tools/*/*.txt")
+        paths = found_in(self.top, *SOURCES, *SCRIPTS, "commands/tests/*.py", "tools/*/*.txt")
         names = found_in(self.top, "crates/*/must-fail/*.edit")
         words = {os.path.splitext(os.path.basename(path))[0] for path in (*paths, *names)} | set(self.listed)
         return words.union(*(re.findall(r"\w+", text_of(self.top, path)) for path in paths))

@@ -102,6 +102,8 @@ fn the_check(rt: HostRuntime) {
     let staff: Id = Id::new(50).expect(&rt, "an id");
     let subject: Result<Subject, NoMemory> = Subject::from_groups(rt.alloc(), joe, &[staff]);
     let subject: Subject = subject.expect(&rt, "memory");
+    let groups: &[Id] = subject.groups();
+    assert!(rt; subject.uid() == joe && groups.len() == 1 && groups[0] == staff);
     let is_matched: bool = subject.matches(staff, &Key::OwningGroup);
     assert!(rt; is_matched && !subject.matches(joe, &Key::OwningGroup));
     let requests: Requests = granted(&subject, &label(&rt, rt.alloc(), staff));
@@ -113,4 +115,11 @@ fn the_check(rt: HostRuntime) {
 fn requests(rt: HostRuntime) {
     let whole: Perm = Perm::from_number(7).expect(&rt, "rwx");
     assert!(rt; Requests(0xff).has(whole) && !Requests(0x7f).has(whole));
+}
+
+#[test]
+fn a_subject_without_groups(rt: HostRuntime) {
+    let joe: Id = Id::new(1000).expect(&rt, "an id");
+    let alone: Subject = Subject::new(joe, Vec::new(rt.alloc()));
+    assert!(rt; alone.uid().number() == 1000 && alone.groups().is_empty());
 }

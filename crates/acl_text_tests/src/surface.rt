@@ -1,9 +1,10 @@
 //! The public surface as a user sees it, with its types written out: entry texts, names and paths, rows, dumps, and
 //! attribute bytes.
-use acl_entry::{Acl, Key, NoMemory};
+use crate::people::People;
+use acl_entry::{Acl, Id, Key, NoMemory};
 use acl_text::{
-    DumpRecord, DumpUse, FaultKind, GroupRow, Name, NoNames, PasswdRow, Path, PermSpec, Sep, Spec,
-    TextFault, Want, Which, decode_attr, encode_attr, read_dump, read_entries, read_group,
+    DumpRecord, DumpUse, FaultKind, GroupRow, Name, Names, NoNames, PasswdRow, Path, PermSpec, Sep,
+    Spec, TextFault, Want, Which, decode_attr, encode_attr, read_dump, read_entries, read_group,
     read_name, read_passwd, read_path, write_long, write_name, write_path, write_short,
 };
 use std::alloc::Global;
@@ -113,6 +114,22 @@ fn a_path_of_components(rt: HostRuntime) {
     components.push(above).expect(&rt, "memory");
     let refused: Option<Path> = Path::new(components);
     assert!(rt; refused.is_none());
+}
+
+/// A naming of the user's own: staff is 50, and 2000 is `al b`.
+fn expect_naming<N: Names>(rt: &impl Abort, naming: &N) {
+    let user: Option<Id> = naming.user_id(b"joe");
+    let group: Option<Id> = naming.group_id(b"staff");
+    assert!(rt; user.expect(rt, "joe").number() == 1000 && naming.user_id(b"kim").is_none());
+    let named: Option<&[u8]> = naming.group_name(group.expect(rt, "staff"));
+    assert!(rt; named == Some(b"staff".as_slice()));
+    let spaced: Option<&[u8]> = naming.user_name(Id::new(2000).expect(rt, "an id"));
+    assert!(rt; spaced == Some(b"al b".as_slice()));
+}
+
+#[test]
+fn a_naming(rt: HostRuntime) {
+    expect_naming(&rt, &People);
 }
 
 #[test]

@@ -4,7 +4,7 @@ use crate::small_tree::{accept, load, path};
 use acl_tree::{
     Command, DumpRecord, DumpRecords, DumpUse, Edit, EditFault, FilesFinder, Id, Kind, Membership,
     Name, Names, NewFile, NewUser, NoMemory, NoNames, Node, Path, Paths, People, Staged, Subject,
-    Tree, TreeFault, UserName, read_dump, read_name,
+    Table, Tree, TreeFault, UserName, read_dump, read_name,
 };
 use std::alloc::Global;
 use std::process::Abort;
@@ -86,6 +86,61 @@ fn people_and_files(rt: HostRuntime) {
     expect_look_ups(&rt, &tree, &log, &root);
     expect_above(&rt, rt.alloc(), &tree, &log);
     expect_within(&rt, rt.alloc(), &tree, &root);
+    drop(tree);
+    drop(people);
+}
+
+/// A tree without a file, and nobody.
+fn nothing(rt: &impl Abort, alloc: Global) -> (Tree, People) {
+    let tree: Result<Tree, NoMemory> = Tree::new(alloc);
+    let people: Result<People, NoMemory> = People::new(alloc);
+    (tree.expect(rt, "memory"), people.expect(rt, "memory"))
+}
+
+/// Loads a text into a state in which it is not loaded.
+fn put(
+    rt: &impl Abort,
+    alloc: Global,
+    tree: &mut Tree,
+    people: &mut People,
+    which: Table,
+    bytes: &[u8],
+) {
+    let load = Command::Load { which, bytes };
+    let prepared: Result<Staged, TreeFault> = tree.prepare(alloc, people, &load);
+    drop(load);
+    tree.commit(people, prepared.expect(rt, "a text"));
+}
+
+#[test]
+fn loads(rt: HostRuntime) {
+    let (mut tree, mut people) = nothing(&rt, rt.alloc());
+    assert!(rt; tree.iter().next().is_none() && people.users() == 0);
+    put(
+        &rt,
+        rt.alloc(),
+        &mut tree,
+        &mut people,
+        Table::Passwd,
+        b"al:x:1:50:::\n",
+    );
+    put(
+        &rt,
+        rt.alloc(),
+        &mut tree,
+        &mut people,
+        Table::Group,
+        b"staff:x:50:\n",
+    );
+    put(
+        &rt,
+        rt.alloc(),
+        &mut tree,
+        &mut people,
+        Table::Dump,
+        b"# file: .\n# owner: al\n# group: staff\nuser::rwx\ngroup::r-x\nother::r-x\n",
+    );
+    assert!(rt; people.users() == 1 && tree.iter().next().is_some());
     drop(tree);
     drop(people);
 }

@@ -1,7 +1,8 @@
 //! The texts that are loaded before the script, each read from its file.
 
-ghost use Rattle.std.specs.Prelude.{◌≡◌, ◌≢◌, false, IfOk, IfErr, OnOk, Some, option_map, string_bytes, vec_items, if◌then◌else◌};
+ghost use Rattle.std.specs.Prelude.{◌≡◌, ◌≢◌, false, true, IfOk, IfErr, OnOk, Some, option_map, string_bytes, vec_items, if◌then◌else◌};
 ghost use Rattle.std.specs.IoError.{error_kind};
+ghost use Rattle.facl_cli.specs.declared.fault.ProgramFault.{ProgramFault};
 ghost use Rattle.facl_cli.specs.declared.files.Unread.{Unread};
 ghost use Rattle.facl_cli.specs.Words.{names_of};
 ghost use Rattle.facl_cli.specs.Lines.{ran_out_of_memory};
@@ -73,10 +74,12 @@ impl Texts {
 
 /// All bytes that the open file has left. Past the limit one byte is read.
 fn read_within<S: FileStore>(alloc: Global, store: &mut S) -> Result<Vec<u8>, Unread>
-    requires { S.has_failed store.old ≡ false }
+    requires works { S.has_failed store.old ≡ false }
+    requires open { S.is_open store.old ≡ true }
     ensures ok { IfOk result (λ text. IsText file_limit (S.left store.old) text.items) }
     ensures works { OnOk result (S.has_failed store.new ≡ false) }
     ensures err { IfErr result (λ why. why ≢ Unread.NoMemory → HasNoText file_limit (S.left store.old)) }
+    ensures failed { IfErr result (λ why. why ≢ Unread.NoMemory → S.has_failed store.new ≡ true) }
     ensures same { S.bytes_of store.new ≡ S.bytes_of store.old }
 {
     let mut text = Vec::new(alloc);
@@ -88,22 +91,29 @@ fn read_within<S: FileStore>(alloc: Global, store: &mut S) -> Result<Vec<u8>, Un
             return Ok(text);
         }
         if text.len() + count > FILE_LIMIT {
+            store.refuse();
             return Err(Unread::NoText);
         }
         text.extend_from_slice(&chunk[..count])?;
     }
 }
 
-/// All bytes of a file.
+/// All bytes of a file, which is then closed. Where the program is started with a closed standard input, the system
+/// gives its descriptor to the file, and the script must not be read from there.
 fn read_file<S: FileStore>(alloc: Global, store: &mut S, file: &str) -> Result<Vec<u8>, Unread>
-    requires { S.has_failed store.old ≡ false }
+    requires works { S.has_failed store.old ≡ false }
+    requires closed { S.is_open store.old ≡ false }
     ensures ok { IfOk result (λ text. IsText file_limit (S.bytes_of store.old file.now) text.items) }
     ensures works { OnOk result (S.has_failed store.new ≡ false) }
     ensures err { IfErr result (λ why. why ≢ Unread.NoMemory → HasNoText file_limit (S.bytes_of store.old file.now)) }
+    ensures failed { IfErr result (λ why. why ≢ Unread.NoMemory → S.has_failed store.new ≡ true) }
+    ensures closed { S.is_open store.new ≡ false }
     ensures same { S.bytes_of store.new ≡ S.bytes_of store.old }
 {
     store.open(file)?;
-    read_within(alloc, store)
+    let text = read_within(alloc, store);
+    store.close();
+    text
 }
 
 /// The text of a file. Where there is none, the fault names the file, unless memory ran out.
@@ -112,10 +122,13 @@ fn read_text<S: FileStore>(
     store: &mut S,
     file: String,
 ) -> Result<Vec<u8>, ProgramFault>
-    requires { S.has_failed store.old ≡ false }
+    requires works { S.has_failed store.old ≡ false }
+    requires closed { S.is_open store.old ≡ false }
     ensures ok { IfOk result (λ text. IsText file_limit (S.bytes_of store.old (string_bytes file)) text.items) }
     ensures works { OnOk result (S.has_failed store.new ≡ false) }
     ensures err { IfErr result (λ fault. IsUnread (S.bytes_of store.old) fault (Some (string_bytes file))) }
+    ensures failed { IfErr result (λ fault. fault ≢ ProgramFault.NoMemory → S.has_failed store.new ≡ true) }
+    ensures closed { S.is_open store.new ≡ false }
     ensures same { S.bytes_of store.new ≡ S.bytes_of store.old }
 {
     match read_file(alloc, store, &file) {
@@ -131,11 +144,14 @@ fn read_given<S: FileStore>(
     store: &mut S,
     file: Option<String>,
 ) -> Result<Option<Vec<u8>>, ProgramFault>
-    requires { S.has_failed store.old ≡ false }
+    requires works { S.has_failed store.old ≡ false }
+    requires closed { S.is_open store.old ≡ false }
     ensures ok { IfOk result (λ text.
         IsTextOf (S.bytes_of store.old) (option_map string_bytes file) (option_map vec_items text)) }
     ensures works { OnOk result (S.has_failed store.new ≡ false) }
     ensures err { IfErr result (λ fault. IsUnread (S.bytes_of store.old) fault (option_map string_bytes file)) }
+    ensures failed { IfErr result (λ fault. fault ≢ ProgramFault.NoMemory → S.has_failed store.new ≡ true) }
+    ensures closed { S.is_open store.new ≡ false }
     ensures same { S.bytes_of store.new ≡ S.bytes_of store.old }
 {
     match file {
@@ -144,16 +160,19 @@ fn read_given<S: FileStore>(
     }
 }
 
-/// The texts of the files of users, of groups and of a dump, each if it is given, read in this order. The fault is that
-/// of the first file that has no text.
+/// The texts of the files of users, of groups and of a dump, each if it is given, read in this order. Each is closed
+/// before the next one is opened. The fault is that of the first file that has no text; after it none is opened.
 pub(crate) fn read_texts<S: FileStore>(
     alloc: Global,
     store: &mut S,
     files: Files,
 ) -> Result<Texts, ProgramFault>
-    requires { S.has_failed store.old ≡ false }
+    requires works { S.has_failed store.old ≡ false }
+    requires closed { S.is_open store.old ≡ false }
     ensures ok { IfOk result (λ texts. AreTextsOf (S.bytes_of store.old) (names_of files) (texts_of texts)) }
     ensures err { IfErr result (λ fault. IsFirstUnread (S.bytes_of store.old) fault (names_of files)) }
+    ensures failed { IfErr result (λ fault. fault ≢ ProgramFault.NoMemory → S.has_failed store.new ≡ true) }
+    ensures closed { S.is_open store.new ≡ false }
 {
     let passwd = read_given(alloc, store, files.passwd)?;
     let group = read_given(alloc, store, files.group)?;

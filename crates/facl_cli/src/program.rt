@@ -32,6 +32,7 @@ pub(crate) fn answer_words<S: FileStore, R: Feed, O: Sink, E: Sink>(
     err: &mut E,
 ) -> Result<Status, ProgramFault>
     requires store { S.has_failed store.old ≡ false }
+    requires closed { S.is_open store.old ≡ false }
     requires reader { R.has_failed reader.old ≡ false }
     requires out { O.has_failed out.old ≡ false }
     requires err { E.has_failed err.old ≡ false }
@@ -43,6 +44,9 @@ pub(crate) fn answer_words<S: FileStore, R: Feed, O: Sink, E: Sink>(
         FailsBy fault (S.bytes_of store.old) (map string_bytes words.now)
         (devices (R.remaining reader.old) (O.contents out.old) (E.contents err.old))
         (devices (R.remaining reader.new) (O.contents out.new) (E.contents err.new))) }
+
+    // No file is open when the program ends, nor, by `read_texts`, when the script is read.
+    ensures closed { S.is_open store.new ≡ false }
 
     // A status is returned only once the reader is at its end, and where no device has failed.
     ensures end { OnOk result (IsAtEnd (R.remaining reader.new)) }

@@ -156,3 +156,54 @@ fn one_request(request: Perm) -> Requests
 {
     Requests::from_byte(1 << request.number())
 }
+
+/// Grants as [`OwnerAlone`] does, and counts what it is asked about joe, and about files of ann.
+#[derive(Drop)]
+pub struct Watching {
+    asked: u64,
+    pub about_joe: u64,
+    pub on_files_of_ann: u64,
+}
+
+impl Watching {
+    /// No verdict was asked for yet.
+    pub fn new() -> Watching
+        ensures { result.asked ≡ 0 }
+    {
+        Watching {
+            asked: 0,
+            about_joe: 0,
+            on_files_of_ann: 0,
+        }
+    }
+
+    /// Counts a verdict for what it is about.
+    fn note(&mut self, subject: &Subject, label: &Label)
+        ensures { self.new.asked ≡ self.old.asked }
+    {
+        if subject.uid().number() == 1000 {
+            self.about_joe = self.about_joe.saturating_add(1);
+        }
+        if label.owner.number() == 1002 {
+            self.on_files_of_ann = self.on_files_of_ann.saturating_add(1);
+        }
+    }
+}
+
+impl Judge for Watching {
+    ghost verdict_of = { owner_alone };
+
+    ghost asked_of = { λ judge. judge.asked };
+
+    fn verdict(&mut self, subject: &Subject, label: &Label) -> Requests {
+        self.asked += 1;
+        self.note(subject, label);
+        owner_alone(subject, label)
+    }
+
+    fn asked(&self) -> u64 {
+        self.asked
+    }
+
+    ghost local = { owner_alone_local };
+}

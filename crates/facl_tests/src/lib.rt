@@ -76,4 +76,6 @@ mod user_costs;
 #[cfg(test)]
 mod verdicts;
 #[cfg(test)]
+mod watched;
+#[cfg(test)]
 mod whole_lists;

@@ -4,10 +4,11 @@
 use crate::judges::OwnerAlone;
 use crate::texts::WHOLE;
 use facl::{
-    Judge, LineFault, RunFault, Setup, Source, Status, StdFeed, StdSink, Tool, Words, read_args,
-    read_words, run, run_judged,
+    Feed, Judge, LineFault, RunFault, Setup, Sink, Source, Status, StdFeed, StdSink, Tool, Words,
+    read_args, read_words, run, run_judged,
 };
 use std::alloc::Global;
+use std::io;
 use std::process::Abort;
 
 #[test]
@@ -22,9 +23,26 @@ fn a_session(rt: HostRuntime) {
         &mut StdSink::new(&mut out),
         &mut StdSink::new(&mut err),
     );
-    assert!(rt; ended.ok() == Some(Status::Refused));
+    assert!(rt; ended.ok() == Some(Status::Refused) && Status::Refused.code() == 1);
     assert!(rt; out.as_slice() == b"f [u::rw-,u:joe:rwx,g::r--,m::rwx,o::---]\n".as_slice());
     assert!(rt; err.as_slice() == b"line 3: facl: unknown tool\n".as_slice());
+}
+
+#[test]
+fn a_reader(rt: HostRuntime) {
+    let mut reader = StdFeed::new(b"ab".as_slice());
+    assert!(rt; !reader.failed());
+    let mut piece = [0; 4];
+    let count: io::Result<usize> = reader.read(&mut piece);
+    assert!(rt; count.ok() == Some(2) && piece[1] == b'b' && !reader.failed());
+}
+
+#[test]
+fn a_writer(rt: HostRuntime) {
+    let mut writer = StdSink::new(Vec::new(rt.alloc()));
+    assert!(rt; !writer.failed());
+    let count: io::Result<usize> = writer.write(b"ab");
+    assert!(rt; count.ok() == Some(2) && !writer.failed());
 }
 
 /// How many verdicts a script asks for, its setup included.

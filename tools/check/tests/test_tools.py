@@ -302,18 +302,24 @@ BODIES = {
         "if let Err(ListFault::NoMemory) = g() { h() }", "match f { X::NoMemory => Y::NoMemory, _ => h() }",
         '// AllocError\nsay("AllocError", b"NoMemory", r#"NoMemory"#)', "matches!(f, X::NoMemory) && h()",
         "match f { A(X::NoMemory) | B::NoMemory => { Err(Fault { kind: C::NoMemory }) } other => other }",
-        "if f.kind == X::NoMemory { Y::NoMemory } else { Y::Text(f) }"),
+        "if f.kind == X::NoMemory { Y::NoMemory } else { Y::Text(f) }",
+        "let Some(x) = a.b.checked_add(1) else { return Err(AllocError); };",
+        "match a.checked_add(b) { Some(n) => Ok(n), None => Err(AllocError) }",
+        "match e.kind() { K::OutOfMemory => X::NoMemory, _ => X::Usage }"),
     "AllocError": (
         "return Err(AllocError);", "let f: fn(u8) -> Result<u8, X> = g; Err(AllocError)",
         "match g() { Ok(n) => Ok(n), Err(_) => Err(AllocError) }", "match f { X::NoMemory => Err(AllocError), _ => 1 }",
-        "let Some(x) = g() else { return Err(AllocError) };"),
+        "let Some(x) = g() else { return Err(AllocError) };", "let Some(x) = a.checked_sub(1) else { return Err(AllocError) };",
+        "match a.checked_add(b) { Some(n) => Err(AllocError), None => g() }",
+        "let Some(x) = a.checked_add(1) else { return 1 }; Err(AllocError)"),
     "AllocFailed": ("Err(AllocFailed { value: x })",),
     "NoMemory": (
         "Err(X::NoMemory)", "g().map_err(|_| LineFault::NoMemory)", "match f { X::Other => X::NoMemory, x => x }",
         "match f { X::Other | X::NoMemory => X::NoMemory, x => x }", "if f == X::NoMemory { g() } else { X::NoMemory }",
         "match f { x if x == X::NoMemory => X::NoMemory, x => x }", "if kind == X::Other { X::NoMemory } else { g() }",
         "if kind != X::NoMemory { X::NoMemory } else { g() }",
-        "if h() || kind == X::NoMemory { X::NoMemory } else { g() }")}
+        "if h() || kind == X::NoMemory { X::NoMemory } else { g() }",
+        "match e.kind() { K::OutOfMemory => X::Usage, _ => X::NoMemory }")}
 FROM = "{ fn from(_: X) -> X { X::NoMemory } }"
 ITEMS = {
     "use std::alloc::{AllocError, AllocFailed};\npub type NoMemory = std::alloc::AllocError;": [],
@@ -333,6 +339,12 @@ class MemoryFaults(unittest.TestCase):
             self.assertEqual(memory_faults_of(f"{head}{{{body}\n}}"), [f"{name} is made in f"] if name else [], body)
         for text, found in ITEMS.items():
             self.assertEqual(memory_faults_of(text), found)
+
+    def test_an_exception_is_one_arm(self) -> None:
+        for body, found in (("match g() { Ok(n) => n, Err(_) => X::NoMemory }", 0), ("match g() { Ok(n) => X::NoMemory, x => x }", 1),
+                            ("match g() { Ok(n) => n, Err(_) => h(X::NoMemory, X::NoMemory) }", 1), ("X::NoMemory", 1)):
+            source = Source("crates/low/a.rt", f"fn f() -> X {{{body}}}")
+            self.assertEqual(len(list(faults_of(source, {("crates/low/a.rt", "f"): ("Err ( _ )", "")}, set()))), found, body)
 
 
 # --- lib/

@@ -1,4 +1,4 @@
-use Rattle.std.proofs.Common.{◌≡◌, false, ◌+◌, ◌-◌, ◌≤◌, vec_len}
+use Rattle.std.proofs.Common.{◌≡◌, false, true, ◌+◌, ◌-◌, ◌≤◌, vec_len}
 use Rattle.facl_cli.specs.FileStores.{Loses}
 use Rattle.facl_cli.specs.Files.{file_limit}
 use Rattle.facl_cli.proofs.files.read_within.Given as goal
@@ -8,6 +8,7 @@ invariant-loop-text g l = record {
   within : vec_len l.text ≤ file_limit;
   lost : Loses (g.S.FileStore.left l.fn.store) (g.S.FileStore.left l.store) l.text.items;
   works : g.S.FileStore.has_failed l.store ≡ false;
+  is_open : g.S.FileStore.is_open l.store ≡ true;
   same : g.S.FileStore.bytes_of l.store ≡ g.S.FileStore.bytes_of l.fn.store;
 }
 
