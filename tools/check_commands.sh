@@ -6,8 +6,8 @@
 #
 # With --all it also tests facl-ask at a terminal, and several snapshots by GNU parallel, which takes a minute more.
 # Each of these counts as a failed test where it finds something: shellcheck and mypy where they are installed,
-# tools/check/documents.py and tools/check/memory_faults.py. What needs a real file system and root is in
-# tools/check/live.py and tools/check/snapshot.py.
+# tools/check/documents.py and tools/check/memory_faults.py. Pages are tested in Chromium where it is installed. What
+# needs a real file system and root is in tools/check/live.py and tools/check/snapshot.py.
 set -eu
 top=$(cd "$(dirname "$0")/.." && pwd)
 if [ "${1:-}" = --all ]; then

@@ -64,8 +64,8 @@ install_files() {
     done
     rm -rf -- "$to/lib/facl"
     install -d -m 755 -- "$to/lib/facl" "$to/lib/facl/facl_commands"
-    install -m 644 -- "$top"/commands/facl_commands/*.py "$top"/commands/facl_commands/report.css \
-        "$top"/commands/facl_commands/report.js "$to/lib/facl/facl_commands"
+    install -m 644 -- "$top"/commands/facl_commands/*.py "$top"/commands/facl_commands/*.css \
+        "$top"/commands/facl_commands/*.js "$to/lib/facl/facl_commands"
     sed -i "s/^VERSION = \"0\"/VERSION = \"$version\"/" "$to/lib/facl/facl_commands/__init__.py"
     for name in $python_commands; do
         install -m 755 -- "$top/commands/$name" "$to/lib/facl"

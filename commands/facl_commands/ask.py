@@ -62,7 +62,7 @@ def parse(words: List[str]) -> argparse.Namespace:
     parser.add_argument("--shared", action="append", default=[], help=argparse.SUPPRESS)
     parser.add_argument("--part", action="store_true", help=argparse.SUPPRESS)  # What --each runs for each of them.
     texts.add_source(parser, words)
-    parser.add_argument("scripts", metavar="SCRIPT", nargs="*")
+    parser.add_argument("scripts", metavar="SCRIPT", nargs="*", default=[])
     return parser.parse_args(words)
 
 

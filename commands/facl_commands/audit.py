@@ -17,7 +17,9 @@ from .findings import KINDS, WEIGHTS, Findings, Found, edits_of
 from .messages import Command, parser_of
 from .meta import meta_of
 from .names import parent_of, shown_path
+from .new_file import NewFile
 from .program import find_program
+from .records import Files
 from .snapshot import check_texts, has, read_links
 from .tables import add_output, paged, write_json, write_table
 from .texts import Source
@@ -63,6 +65,8 @@ def parse(words: List[str]) -> argparse.Namespace:
     one.add_argument("--edits", metavar="FINDING", choices=names,
                      help="print the lines of a script that mend all files of one finding, and nothing else")
     parser.add_argument("--accepted", metavar="FILE", help="what is accepted, and why")
+    parser.add_argument("--page", metavar="FILE",
+                        help="also write a page to look at, as facl-report does, with the findings, to a new file")
     parser.add_argument("--fail-on", metavar="WEIGHT", choices=[*WEIGHTS, NONE], default=WEIGHTS[0],
                         help="high (as without it), middle, low or none: see the exit status")
     add_output(parser)
@@ -112,9 +116,12 @@ def findings_of(audited: Audited, program: str, source: Source) -> Findings:
     return found
 
 
-def is_about(line: Accepted, folders: List[bytes]) -> bool:
-    """Whether a line that is accepted can be one of what is audited."""
-    return bool(at_or_below([line.path()], folders) or line.is_folder() and at_or_below(folders, [line.path()]))
+def is_about(line: Accepted, folders: List[bytes], files: Files) -> bool:
+    """Whether a line that accepts nothing is said: it is about what is audited, or its path is not in the snapshot."""
+    path = line.path()
+    if path and path not in files:
+        return True
+    return bool(at_or_below([path], folders) or line.is_folder() and at_or_below(folders, [path]))
 
 
 def report_of(world: World, given: argparse.Namespace, source: Source, program: str) -> Report:
@@ -125,8 +132,17 @@ def report_of(world: World, given: argparse.Namespace, source: Source, program: 
     audited = Audited(world, given, files, at_or_below(files, folders), ids)
     found = findings_of(audited, program, source)
     rest = sort_out(found, lines)
-    unused = {line: why_unused(line, found) for line in rest.unused if is_about(line, folders)}
+    unused = {line: why_unused(line, found) for line in rest.unused if is_about(line, folders, files)}
     return Report(source.shown, meta_of(source.folder), folders, len(audited.paths), rest.rest, rest.accepted, unused)
+
+
+def page_of(given: argparse.Namespace, report: Report, source: Source, program: str) -> Optional[bytes]:
+    """The page, where one is asked for."""
+    if not given.page:
+        return None
+    from .audit_page import page_with  # Few runs need it.
+
+    return page_with(report, source, program, given)
 
 
 def write(command: Command, given: argparse.Namespace, report: Report) -> None:
@@ -152,14 +168,19 @@ def fails_on(weight: str) -> List[str]:
 
 def body(command: Command, words: List[str]) -> int:
     given = parse(words)
+    target = NewFile(os.fsencode(given.page)) if given.page else None
     with texts.opened(given) as source:
         os.close(check_texts(source.folder))
         overview.say_notices(command, source, has_masks=False)
         program = find_program(given.program)
         with world_of(program, source) as world:
             report = report_of(world, given, source, program)
+        page = page_of(given, report, source, program)
     for text in report.unused.values():
         command.say(text)
     with paged(command, not given.no_pager):
         write(command, given, report)
+    if target is not None and page is not None:
+        target.write(page)
+        command.say(target.name + b": is written")
     return int(report.has(fails_on(given.fail_on)))

@@ -7,7 +7,8 @@ from typing import List
 
 from . import report
 from .diff_states import State
-from .names import shown
+from .page_columns import shown
+from .page_html import page_of as html_of
 from .page_tree import Labels, Tree, records_of
 from .program import OutputSlice
 from .scripts import read_script
@@ -27,5 +28,6 @@ def page_of(program: str, old: State, new: State, group: bytes, people: List[byt
     units = read_script(EDITS, b"".join(line + b"\n" for line in people))
     snapshot = Snapshot(old.folder, old.passwd, group, [], "-", {})
     data = report.data_of(program, snapshot, tree, found, units, given)
-    data["title"] = shown(old.named() + b" -> " + new.named()).decode()
-    return report.page_of(data)
+    data["title"] = shown(old.named() + b" -> " + new.named())
+    data["heads"] = [report.head_of(state.folder, state.folder) for state in (old, new)]
+    return html_of(data)

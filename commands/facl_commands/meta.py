@@ -14,6 +14,7 @@ class Meta(NamedTuple):
     host: bytes
     date: bytes  # In UTC.
     folders: List[bytes]
+    version: bytes = b""  # Of the facl that made it.
 
     def text(self) -> bytes:
         """In a line of a command: of which host, and when."""
@@ -31,7 +32,7 @@ def read_meta(text: bytes) -> Meta:
         found.setdefault(key, []).append(value)
     if b"host" not in found or b"date" not in found:
         return UNKNOWN
-    return Meta(found[b"host"][0], found[b"date"][0], found.get(b"folder", []))
+    return Meta(found[b"host"][0], found[b"date"][0], found.get(b"folder", []), found.get(b"version", [b""])[0])
 
 
 def text_of(folder: bytes) -> bytes:

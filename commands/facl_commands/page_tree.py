@@ -18,7 +18,8 @@ Value = TypeVar("Value", bound=Hashable)
 
 
 class Record(NamedTuple):
-    """A file of a listing: its path, whether its name says that it is a directory, and the lines after that name."""
+    """A file of a listing: its path, whether its name says that it is a directory, and the lines after that name, without
+    the end of the last one."""
 
     path: bytes
     is_directory: bool
@@ -27,11 +28,15 @@ class Record(NamedTuple):
 
 def records_of(listing: OutputSlice) -> Iterator[Record]:
     """The records of a listing of the program, one after another."""
+    start = len(FILE_HEAD)
+    has_default: Dict[bytes, bool] = {}  # Most records have one of few bodies.
     for record in listing.records():
         first, _, body = record.partition(b"\n")
-        name = first[len(FILE_HEAD) :]
+        name = first[start:]
         path = b"" if name == b"." else (read_name(name) if b"\\" in name else name).rstrip(b"/")
-        yield Record(path, path == b"" or name.endswith(b"/") or DEFAULT_ENTRY in body, body + b"\n")
+        if body not in has_default:
+            has_default[body] = DEFAULT_ENTRY in body
+        yield Record(path, path == b"" or name[-1:] == b"/" or has_default[body], body)
 
 
 class Table(Generic[Value]):
@@ -52,7 +57,7 @@ class Labels(Table[bytes]):
     """Owner, group, flags and lists of files."""
 
     def bodies(self) -> List[bytes]:
-        return self.values
+        return [body + b"\n" for body in self.values]
 
 
 class Listing(NamedTuple):
@@ -68,7 +73,8 @@ class Tree:
     def __init__(self) -> None:
         self.names: List[bytes] = []  # From the nearest recorded directory on.
         self.parents: List[int] = []
-        self.numbers: Dict[Tuple[int, bytes], int] = {}
+        self.numbers: Dict[Tuple[int, bytes], int] = {}  # Only where there is more than one listing.
+        self.in_order = 0  # So many, the first ones, are in path order.
 
     def number(self, parent: int, name: bytes) -> int:
         """The number of a file, which gets one where it has none."""
@@ -80,24 +86,41 @@ class Tree:
 
     def add(self, records: Iterable[Record], labels: Labels) -> Listing:
         """Adds the files of a listing."""
+        if not self.names:
+            return self.add_first(records, labels)
+        self.numbers = {key: number for number, key in enumerate(zip(self.parents, self.names))}
         found = Listing([GONE] * len(self.names), set())
-        last = b""
-        way: List[Tuple[int,
-                        int]] = []  # For what the last path is in, and for itself: the path's length, and its number.
+        above = Above()
         for record in records:
-            while way and not is_below(record.path, last, way[-1][0]):
-                way.pop()
-            length, parent = way[-1] if way else (0, ABOVE)
-            number = self.number(parent, record.path[length + (length > 0) :])
+            parent, name = above.place_of(record.path)
+            number = self.number(parent, name)
+            above.add(number)
             found.labels.extend([GONE] * (len(self.names) - len(found.labels)))
             found.labels[number] = labels.number(record.body)
             found.directories.update([parent] * (parent != ABOVE) + [number] * record.is_directory)
-            last = record.path
-            way.append((len(last), number))
+        return found
+
+    def add_first(self, records: Iterable[Record], labels: Labels) -> Listing:
+        """The same of the first one, whose files are all new."""
+        found = Listing([], set())
+        above = Above()
+        for number, (path, is_directory, body) in enumerate(records):
+            parent, name = above.place_of(path)
+            above.add(number)
+            self.names.append(name)
+            self.parents.append(parent)
+            found.labels.append(labels.number(body))
+            if is_directory:
+                found.directories.add(number)
+        found.directories.update(self.parents)
+        found.directories.discard(ABOVE)
+        self.in_order = len(self.names)
         return found
 
     def order(self) -> List[int]:
         """The numbers in path order: each directory before what is in it, which follows it."""
+        if self.in_order == len(self.names):
+            return list(range(len(self.names)))
         inside: Dict[int, List[int]] = {}
         for number, parent in enumerate(self.parents):
             inside.setdefault(parent, []).append(number)
@@ -108,6 +131,39 @@ class Tree:
             found.append(number)
             coming += sorted(inside.get(number, []), key=lambda it: sorting_key(self.names[it]), reverse=True)
         return found[1:]
+
+
+class Above:
+    """The last file of a listing and those that it is in, which the next one may be in too."""
+
+    def __init__(self) -> None:
+        self.last = b""
+        self.ends: List[int] = []  # The length of each path.
+        self.numbers: List[int] = []
+        self.directory = b""  # What the last file is in, with a slash, where that is recorded; else nothing.
+
+    def place_of(self, path: bytes) -> Tuple[int, bytes]:
+        """What a file is in, and its name from there on; the file is the last one then, but for its number."""
+        cut = path.rfind(b"/") + 1
+        directory = path[:cut]
+        if directory and directory == self.directory:  # As most files, beside the last one.
+            self.ends[-1] = len(path)
+            self.last = path
+            self.numbers.pop()
+            return self.numbers[-1], path[cut:]
+        while self.ends and not is_below(path, self.last, self.ends[-1]):
+            self.ends.pop()
+            self.numbers.pop()
+        length = self.ends[-1] if self.ends else 0
+        parent = self.numbers[-1] if self.ends else ABOVE
+        self.directory = directory if self.ends and length == cut - 1 else b""
+        self.ends.append(len(path))
+        self.last = path
+        return parent, path[length + (length > 0) :]
+
+    def add(self, number: int) -> None:
+        """Gives the last file its number."""
+        self.numbers.append(number)
 
 
 def is_below(path: bytes, last: bytes, length: int) -> bool:

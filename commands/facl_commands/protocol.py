@@ -116,7 +116,7 @@ EFFECTIVE = b"#effective:"  # After an entry that the mask cuts.
 LIST, LIST_NUMBERS, LIST_ALL = b"getfacl --", b"getfacl -n -E --", b"getfacl -n -E -R --"
 LIST_NAMES = b"getfacl -E --"
 # With what the mask leaves of each entry that it cuts.
-LIST_EFFECTIVE, LIST_NAMED = b"getfacl -n -R --", b"getfacl --"
+LIST_EFFECTIVE, LIST_CUT, LIST_NAMED = b"getfacl -n -R --", b"getfacl -n --", b"getfacl --"
 LIST_BELOW = b"getfacl -R --"
 RESTORE = b"setfacl --restore=-"  # The records are its text.
 SET_LIST = b"setfacl -n --set=%s --"
@@ -126,7 +126,6 @@ GAINS, GAINS_ALONG_PATHS = b"gains", b"gains --reach"
 BELOW, MAY, CAN, WHO = b"below", b"may", b"can", b"who"
 MAKE_FILE = b"creat --user=%s --mode=%s --umask=%s --"
 MAKE_DIRECTORY = b"creat -d --user=%s --mode=%s --umask=%s --"
-GAINS, GAINS_ALONG_PATHS = b"gains", b"gains --reach"
 ADD_USER_WITH = b"useradd -u %d -g %s -- %s"
 ENTRIES_ALONG_PATH = b"why --reach --"
 # A line of a word that nobody can guess, and its refusal, which shows that all lines before it are answered.

@@ -1,303 +1,218 @@
-"use strict";
-// The tree, the choice of a user or group, and the side with one file. All texts are set by textContent.
-(() => {
-const data = JSON.parse(document.getElementById("data").textContent);
-const REQUESTS = ["---", "--x", "-w-", "-wx", "r--", "r-x", "rw-", "rwx"];
-const SHOWN = 500; // Files of a search that are shown at once.
-const FIRST = 200; // Rows of the tree at the start, about.
-const ROWS = 4000; // Rows of the tree that are shown at once.
-const LONG = 240; // Letters of a name or path in a row; a longer one is shown without its middle.
-const LONGEST = 2000; // Letters of the path beside the tree.
-// A file is its place in these columns, in path order: the files in a directory, and in these, follow it.
-const {parents, names, rights, records, inner, changed, reached} = data.files;
-const files = parents.length;
-const SEVERAL = -2, NONE = -1;
-const sizes = new Int32Array(files), changes = new Int32Array(files), depths = new Int32Array(files), opens = new Uint8Array(files), alike = new Uint8Array(files);
-const openGroups = new Set(); // Of files that are alike, by their directory and their rights.
-let rows = 0, who = 0, alongPaths = !data.alone, changesAlone = false, search = "", chosen = NONE;
+// The head of the page, what is chosen and its address, what is saved as a file, and the start.
+const NARROW = "(max-width: 700px)";
+const fields = {
+  who: element("select", {id: "who"}), along: element("input", {type: "checkbox", id: "along", checked: view.alongPaths}),
+  alone: element("input", {type: "checkbox", id: "changed-alone"}),
+  search: element("input", {type: "search", id: "search", placeholder: "a part of a path", autocomplete: "off", spellcheck: false}),
+  count: attributes(element("span", {id: "count"}), {role: "status"}), word: attributes(element("p", {id: "word"}), {"aria-live": "polite"}),
+};
 
-function element(name, properties, ...inner) {
-  const made = Object.assign(document.createElement(name), properties);
-  made.append(...inner);
-  return made;
+function isUser([kind]) { return kind === "user" || kind === "account"; }
+function whoText([kind, name]) { return isUser([kind]) ? name : kind === "group" ? "group " + name : "everybody else"; }
+
+// The sentence of what is shown, or a word of what to do.
+function wordText() {
+  if (view.who < 0)
+    return "Nobody is chosen yet. Choose a person, and each file shows what that person may do with it; or choose a file: "
+      + "beside it is who may do what with it, and why.";
+  const [kind, name] = data.whos[view.who];
+  const who = isUser([kind]) ? name : kind === "group" ? "a user who has the group " + name + " alone" : "a user without any of the groups";
+  return "Shown is what " + who + " may do "
+    + (view.alongPaths ? "along paths: with the file, if all folders above it may be entered." : "with each file alone, whatever the folders above it grant.");
 }
 
-function counted(count, what) { return count + " " + what + (count === 1 ? "" : "s"); }
-
-// The greatest requests that a byte of `index` grants.
-const GRANTED = Array.from({length: 256}, (_, byte) => {
-  if (!byte) return "absent";
-  const found = [1, 2, 3, 4, 5, 6, 7].filter(it => byte >> it & 1);
-  return found.filter(it => !found.some(other => other !== it && (it & other) === it)).map(it => REQUESTS[it]).join(" ") || "none";
-});
-
-function colour(right) {
-  const write = right.includes("w"), read = right.includes("r");
-  return write && read ? "rw" : write ? "w" : read ? "r" : right.includes("x") ? "x" : "none";
-}
-
-function isFolder(file) { return inner[file] >= 0; }
-function isChanged(file) { return changed[file] !== undefined; }
-function rightsOf(file, isOld) { return isOld && isChanged(file) ? changed[file][0] : rights[file]; }
-function recordOf(file, isOld) { return isOld && isChanged(file) ? changed[file][1] : records[file]; }
-function innerOf(file, isOld) { return (isOld ? reached[file] : undefined) ?? inner[file]; }
-function aboveOf(file, isOld) { return parents[file] < 0 ? data.start : innerOf(parents[file], isOld); }
-function isReached(reach, place) { return data.reaches[reach][place] === "1"; }
-
-// What the user of a place may do on a file alone, as a byte of `index`, in the present state or the one before the script;
-// 0 where the file or the user is not there.
-function byteOf(file, place, isOld) {
-  return parseInt(data.rows[rightsOf(file, isOld)].substr(2 * place, 2) || "0", 16);
-}
-
-function rightOf(file, place, isOld) {
-  const byte = byteOf(file, place, isOld);
-  if (alongPaths && !isReached(aboveOf(file, isOld), place)) return byte ? "none" : "absent";
-  return GRANTED[byte];
-}
-
-function both(one, other) { return one === NONE || one === other ? other : other === NONE ? one : SEVERAL; }
-
-// Gives each file what is asked of it often: its depth, the numbers of files and of changed files from it on, and whether
-// all of these are alike, files with files and directories with directories.
-function prepare() {
-  const below = new Int32Array(files).fill(NONE), folders = new Int32Array(files).fill(NONE);
-  for (let file = 0; file < files; file++) depths[file] = parents[file] < 0 ? 0 : depths[parents[file]] + 1;
-  for (let file = files - 1; file >= 0; file--) {
-    const parent = parents[file];
-    sizes[file] += 1;
-    changes[file] += isChanged(file) ? 1 : 0;
-    folders[file] = isFolder(file) ? both(folders[file], rights[file]) : NONE;
-    alike[file] = isFolder(file) && sizes[file] > 1 && !changes[file] && below[file] !== SEVERAL && folders[file] !== SEVERAL ? 1 : 0;
-    if (parent < 0) continue;
-    sizes[parent] += sizes[file];
-    changes[parent] += changes[file];
-    below[parent] = both(below[parent], isFolder(file) ? below[file] : rights[file]);
-    folders[parent] = both(folders[parent], folders[file]);
+// Draws all that depends on what is chosen.
+function draw(wanted = "") {
+  if (shown.drawn !== [view.who, view.alongPaths].join()) {
+    shown.drawn = [view.who, view.alongPaths].join();
+    shown.levels = view.who < 0 ? null : levelsBelow(view.who);
   }
-}
-
-// The files in a directory, at most so many.
-function inside(folder, most) {
-  const found = [];
-  for (let file = folder + 1; file < folder + sizes[folder] && found.length < most; file += sizes[file]) found.push(file);
-  return found;
-}
-
-// Opens directories from the top down, as long as that makes no more than so many rows.
-function openFirst(room) {
-  const coming = [];
-  for (let file = 0; file < files; file += sizes[file]) coming.push(file);
-  for (const file of coming) {
-    if (!isFolder(file) || alike[file]) continue;
-    const found = inside(file, Math.max(room, 0) + 1);
-    if (parents[file] >= 0 && found.length > room) continue;
-    opens[file] = 1;
-    room -= found.length;
-    for (const it of found) coming.push(it);
-  }
-}
-
-// A text without its middle where it is longer than it may be.
-function shortened(text, most) {
-  if (text.length <= most) return text;
-  const half = Math.floor(most / 2);
-  return text.slice(0, half).replace(/[\ud800-\udbff]$/, "") + " \u2026 " + text.slice(-half).replace(/^[\udc00-\udfff]/, "");
-}
-
-// The path of a file; of many components those that are shown at least.
-function pathOf(file, most) {
-  const way = [];
-  for (let it = file; it >= 0 && (parents[it] >= 0 || names[it] !== "/"); it = parents[it]) way.push(it);
-  way.reverse();
-  const kept = way.length <= most ? way : [...way.slice(0, most / 2), ...way.slice(-most / 2)];
-  return shortened("/" + kept.map(it => names[it]).join("/"), most);
-}
-
-function rightBadge(file) {
-  const now = rightOf(file, who, false), before = rightOf(file, who, true);
-  const badge = element("span", {className: "right " + colour(now), textContent: now});
-  return before === now ? [badge] : [element("span", {className: "right " + colour(before), textContent: before}), "\u2192", badge];
-}
-
-function rowOf(depth) {
-  const row = element("div", {className: "row"});
-  row.style.setProperty("--deep", depth);
-  return row;
-}
-
-function fileRow(file, depth, text) {
-  const row = rowOf(depth), isTop = parents[file] < 0;
-  const open = element("button", {className: "open", type: "button", textContent: sizes[file] > 1 ? (opens[file] ? "\u25be" : "\u25b8") : ""});
-  open.onclick = () => { opens[file] = 1 - opens[file]; draw(); };
-  const name = element("button", {className: "name" + (file === chosen ? " chosen" : ""), type: "button",
-    textContent: text ?? shortened(names[file], LONG) + (isFolder(file) && !isTop ? "/" : "")});
-  name.onclick = () => { chosen = file; draw(); };
-  row.append(open, ...rightBadge(file), name);
-  if (!opens[file] && sizes[file] > 1)
-    row.append(element("span", {className: "count", textContent: (sizes[file] - 1) + " below" + (alike[file] ? ", alike for everybody" : "")}));
-  if (isChanged(file)) row.append(element("span", {className: "changed", textContent: records[file] < 0 ? "removed" : changed[file][1] < 0 ? "new" : "changed"}));
-  else if (changes[file]) row.append(element("span", {className: "changed", textContent: changes[file] + " changed below"}));
-  return row;
-}
-
-function groupKey(file) { return parents[file] + "/" + rights[file]; }
-
-// Files of a folder with the same rights, as one row.
-function groupRow(first, count) {
-  const row = rowOf(depths[first]);
-  const open = element("button", {className: "open", type: "button", textContent: "\u25b8"});
-  const name = element("button", {className: "name", type: "button",
-    textContent: shortened(names[first], LONG / 2) + " .. " + shortened(names[first + count - 1], LONG / 2)});
-  open.onclick = name.onclick = () => { openGroups.add(groupKey(first)); draw(); };
-  row.append(open, ...rightBadge(first), name, element("span", {className: "count", textContent: count + " files, alike for everybody"}));
-  return row;
-}
-
-function isShown(file) { return !changesAlone || changes[file] > 0; }
-
-// How many files from one on are in one directory, unchanged, and have the same rights.
-function groupSize(first) {
-  let next = first;
-  while (next < files && parents[next] === parents[first] && !isFolder(next) && !isChanged(next) && rights[next] === rights[first]) next += 1;
-  return next - first;
-}
-
-// Adds a row where there is room for it.
-function addRow(out, make) {
-  rows += 1;
-  if (rows <= ROWS) out.append(make());
-}
-
-// Draws files that are alike, as one row where they are many and closed; returns how many they are.
-function drawGroup(first, out) {
-  const count = groupSize(first);
-  const isClosed = count > 3 && !openGroups.has(groupKey(first)) && !(chosen >= first && chosen < first + count);
-  if (isClosed) addRow(out, () => groupRow(first, count));
-  else for (let file = first; file < first + count && rows <= ROWS; file++) addRow(out, () => fileRow(file, depths[file]));
-  return count;
-}
-
-function drawTree(out) {
-  let file = 0;
-  while (file < files && rows <= ROWS) {
-    if (!isShown(file)) file += sizes[file];
-    else if (groupSize(file) > 0) file += drawGroup(file, out);
-    else {
-      const place = file;
-      addRow(out, () => fileRow(place, depths[place]));
-      file += opens[file] ? 1 : sizes[file];
-    }
-  }
-  if (rows > ROWS) out.append(element("p", {className: "row count", textContent: "only the first " + ROWS + " rows are shown: close directories, or search"}));
-}
-
-function drawFound(out) {
-  const found = [];
-  for (let file = 0; file < files && found.length <= SHOWN; file++)
-    if (isShown(file) && names[file].includes(search)) found.push(file);
-  for (const file of found.slice(0, SHOWN)) out.append(fileRow(file, 0, pathOf(file, LONG)));
-  out.append(element("p", {className: "row count", textContent: found.length > SHOWN ? "only the first " + SHOWN + " are shown" : found.length + " found"}));
-}
-
-function whoText([kind, name]) { return kind === "user" ? name : kind === "group" ? "group " + name : "everybody else"; }
-
-// The entries of a file by which a user is judged.
-function entriesOf(file, place, isOld) {
-  const record = recordOf(file, isOld);
-  const decision = (isOld && data.before[record]) || data.decisions[record];
-  return decision ? data.entries[decision[1][place] ?? decision[0]].replaceAll("\n", ", ") : "";
-}
-
-// The first directory on the way to a file that a user may not search; NONE where there is none.
-function closedFolder(file, place, isOld) {
-  if (isReached(aboveOf(file, isOld), place)) return NONE;
-  let it = parents[file];
-  while (it >= 0 && (aboveOf(it, isOld) === innerOf(it, isOld) || !isReached(aboveOf(it, isOld), place))) it = parents[it];
-  return it;
-}
-
-// By which entries a user has a right: those of the file, or along its path those of the first directory that the user may
-// not search.
-function reasonOf(file, place, isOld) {
-  if (!byteOf(file, place, isOld)) return "";
-  const closed = alongPaths ? closedFolder(file, place, isOld) : NONE;
-  const entries = entriesOf(closed >= 0 ? closed : file, place, isOld);
-  return closed >= 0 && entries ? entries + " of " + pathOf(closed, LONG) : entries;
-}
-
-// What was and what is, where the two differ.
-function bothOf(before, now) { return before === now || !before ? now : now ? before + " \u2192 " + now : before; }
-
-// Who may do what with the chosen file, and by which entries.
-function drawSide() {
-  const box = element("div");
-  if (chosen < 0) box.append(element("p", {textContent: "Choose a file to see its list, and who may do what with it."}));
-  else {
-    box.append(element("h2", {className: "name", textContent: pathOf(chosen, LONGEST)}));
-    const before = recordOf(chosen, true), now = records[chosen];
-    if (before >= 0 && before !== now)
-      box.append(element("h3", {textContent: "Before"}), element("pre", {textContent: data.lists[before]}), element("h3", {textContent: "After"}));
-    if (now >= 0) box.append(element("pre", {textContent: data.lists[now]}));
-    for (const kind of ["user", "group", "everybody"]) {
-      const alike = new Map();
-      data.whos.forEach((it, place) => {
-        if (it[0] !== kind) return;
-        const right = bothOf(rightOf(chosen, place, true), rightOf(chosen, place, false));
-        const reason = bothOf(reasonOf(chosen, place, true), reasonOf(chosen, place, false));
-        const key = right + "\n" + reason;
-        if (!alike.has(key)) alike.set(key, {right, reason, names: []});
-        alike.get(key).names.push(it[1]);
-      });
-      if (!alike.size) continue;
-      box.append(element("h3", {textContent: {user: "Users", group: "A user who has the group alone", everybody: "A user without any of these groups"}[kind]}));
-      for (const {right, reason, names} of alike.values())
-        box.append(element("p", {}, element("span", {className: "right " + colour(right.split("\u2192").pop()), textContent: right}), " ",
-          element("span", {className: "name", textContent: kind === "everybody" ? "" : names.join(", ")}), " ",
-          element("span", {className: "reason", textContent: reason && "by " + reason})));
-    }
-  }
-  document.getElementById("side").replaceChildren(box);
-}
-
-function draw() {
-  const out = document.createDocumentFragment();
-  rows = 0;
-  if (search) drawFound(out);
-  else drawTree(out);
-  document.getElementById("tree").replaceChildren(out);
+  fields.word.textContent = wordText();
+  fields.count.textContent = view.search ? numbered(shown.found.length) + " found" : "";
+  attributes(tree, {"aria-label": view.search ? "Files found" : "Files"});
+  drawTree(wanted);
   drawSide();
+  for (const it of [document.getElementById("head"), tree]) it.inert = view.file >= 0 && matchMedia(NARROW).matches; // What the answer covers.
 }
 
-function choice(text, checked, change) {
-  const box = element("input", {type: "checkbox", checked});
-  box.onchange = () => { change(box.checked); draw(); };
-  return element("label", {}, box, text);
+function choose(file) {
+  const isOther = file !== view.file;
+  view.file = file;
+  if (view.search && file >= 0) openPath(file);
+  draw();
+  writeAddress(isOther);
+  if (file >= 0 && matchMedia(NARROW).matches) document.getElementById("back").focus();
 }
 
-// Opens the directories that have changed files below them.
-function openChanges() {
-  for (let file = 0; file < files; file++) if (isFolder(file) && changes[file]) opens[file] = 1;
+// Leaves the answer, which on a small screen is in the place of the tree.
+function goBack() {
+  const key = "file-" + view.file;
+  view.file = NONE;
+  draw();
+  writeAddress(false);
+  focusRow(shown.byKey.has(key) ? key : shown.active);
+}
+
+function startSearch(text) {
+  view.search = text;
+  shown.found = text ? search(text) : null;
+  room.delete("top");
+  if (!text && view.file >= 0) openPath(view.file);
+  draw(!text && view.file >= 0 ? "file-" + view.file : "");
+  if (!text && view.file >= 0) shown.byKey.get("file-" + view.file)?.made.scrollIntoView({block: "center"});
+  writeAddress(false);
+}
+
+function endSearch() {
+  if (!view.search) return;
+  fields.search.value = view.search = "";
+  shown.found = null;
+  room.delete("top");
+  fields.count.textContent = "";
+}
+
+function showChangesAlone(isSo) {
+  view.changesAlone = fields.alone.checked = isSo;
+  items.clear();
+  if (isSo) openChanges();
+  if (view.search) shown.found = search(view.search);
+}
+
+// The address: u, g or e of whom, f the file, v how they are shown, q what is searched.
+function addressText() {
+  const [kind, name] = view.who < 0 ? [""] : data.whos[view.who], words = [], path = view.file < 0 ? "" : pathOf(view.file, Infinity);
+  if (kind) words.push({user: "u", account: "u", group: "g", everybody: "e"}[kind] + "=" + (kind === "everybody" ? "1" : encodeURIComponent(name)));
+  if (path) words.push("f=" + (path === "/" ? path : path.slice(1).split("/").map(encodeURIComponent).join("/")));
+  const how = [view.alongPaths === data.alone ? (view.alongPaths ? "along" : "alone") : "", view.changesAlone ? "changes" : ""].filter(it => it);
+  if (how.length) words.push("v=" + how.join(","));
+  if (view.search) words.push("q=" + encodeURIComponent(view.search));
+  return "#" + words.join("&");
+}
+
+// A new file is a place to go back to.
+function writeAddress(isNew) {
+  const text = addressText();
+  if (text === (location.hash || "#")) return;
+  isNew ? history.pushState(null, "", text) : history.replaceState(null, "", text);
+}
+
+function decoded(text) {
+  try { return decodeURIComponent(text); } catch { return text; }
+}
+
+// Chooses what the address says, as far as it is there.
+function readAddress() {
+  const words = new Map(location.hash.slice(1).split("&").map(word => [word.split("=", 1)[0], decoded(word.slice(word.indexOf("=") + 1))]));
+  const kind = words.has("u") ? "user" : words.has("g") ? "group" : words.has("e") ? "everybody" : "";
+  view.who = data.whos.findIndex(it => (it[0] === kind || kind === "user" && isUser(it)) && (kind === "everybody" || it[1] === words.get(kind[0])));
+  fields.who.value = view.who < 0 ? "" : String(view.who);
+  const how = (words.get("v") ?? "").split(",");
+  view.alongPaths = fields.along.checked = how.includes("alone") ? false : how.includes("along") || !data.alone;
+  if (data.script && how.includes("changes") !== view.changesAlone) showChangesAlone(how.includes("changes"));
+  view.search = fields.search.value = words.get("q") ?? "";
+  shown.found = view.search ? search(view.search) : null;
+  view.file = words.get("f") ? fileAt(words.get("f")) : NONE;
+  if (view.file >= 0) openPath(view.file);
+  draw(view.file >= 0 ? "file-" + view.file : "");
+  if (view.file >= 0) shown.byKey.get("file-" + view.file)?.made.scrollIntoView({block: "center"});
+}
+
+// A field of a row: a name may have a tab; one that a table would take for a formula begins with an apostrophe.
+function field(text) { return String(text).replaceAll("\t", "\\011").replace(/^(?=[=+@]|-[^rwx-])/, "'"); }
+
+function save(name, rows) {
+  const text = rows.map(row => row.map(field).join("\t") + "\n").join("");
+  const link = element("a", {download: name, href: URL.createObjectURL(new Blob([text], {type: "text/tab-separated-values"}))});
+  link.click();
+  setTimeout(() => URL.revokeObjectURL(link.href), 60000);
+}
+
+// The rows of the tree that are shown.
+function treeTable() {
+  const right = (file, isOld) => view.who < 0 ? [] : [wordsOf(rightOf(file, view.who, isOld), file), LETTERS[rightOf(file, view.who, isOld)]];
+  const before = data.script ? ["BEFORE", "BEFORE IN LETTERS"] : [];
+  const titles = ["PATH", "FILES", ...(view.who < 0 ? [] : [...before, "MAY", "IN LETTERS", "BELOW"]), ...(data.script ? ["CHANGED"] : [])];
+  const rows = shown.rows.filter(row => row.file !== undefined).map(row => [
+    pathOf(row.file, Infinity) + (row.group ? " .. " + nameOfFile(row.group.at(-1)) : ""), row.group ? row.group.length : sizes[row.file],
+    ...(data.script ? right(row.file, true) : []), ...right(row.file, false),
+    ...(shown.levels ? [levelsText(shown.levels.map(it => it[row.file]))] : []), ...(data.script ? [changedText(row.file)] : [])]);
+  return [titles, ...rows];
+}
+
+function sideTable() {
+  const titles = ["PATH", "KIND", "WHO", ...(data.script ? ["BEFORE", "BEFORE IN LETTERS", "BEFORE WHY"] : []), "MAY", "IN LETTERS", "WHY", "BELOW"];
+  const of = ({byte, reason}) => [wordsOf(byte, view.file), LETTERS[byte], reason];
+  const rows = Object.keys(KINDS).flatMap(kind => linesOf(kind).flatMap(line => line.names.map(name => [pathOf(view.file, Infinity), kind, name,
+    ...(data.script ? of(line.before) : []), ...of(line.now), line.below ? levelsText(line.below) : ""])));
+  return [titles, ...rows];
+}
+
+function saveTree() { save("facl-files.tsv", treeTable()); }
+function saveSide() { save("facl-answer.tsv", sideTable()); }
+
+function fact(name, texts) {
+  const [before, now] = [texts[0], texts.at(-1)];
+  const text = before === now ? now : (before || "?") + " \u2192 " + (now || "?");
+  return text ? [element("div", {}, element("dt", {textContent: name}), element("dd", {textContent: text}))] : [];
+}
+
+function factsBox() {
+  const all = data.heads, users = data.whos.filter(isUser).length;
+  const counts = counted(files, "file") + ", " + counted(users, "user") + (data.without.length ? " (without " + data.without.join(", ") + ")" : "")
+    + (data.script ? ", " + counted(Object.keys(data.files.changed).length, "file") + " changed" : "");
+  return element("dl", {id: "facts"}, ...fact("host", all.map(it => it.host)), ...fact("date", all.map(it => it.date)), ...fact("folders", all.map(it => it.folders.join(", "))),
+    ...fact("snapshot", all.map(it => it.name)), ...fact("facl", all.map(it => it.version)), ...fact("here", [counts]));
+}
+
+function fillWhos() {
+  const groups = {user: "Users", group: "Groups: a user who has the group alone", everybody: "Others", account: "Accounts of the system"};
+  fields.who.append(element("option", {value: "", textContent: "\u2014 choose a person \u2014"}));
+  for (const [kind, label] of Object.entries(groups)) {
+    const options = data.whos.flatMap((it, place) => it[0] === kind ? [element("option", {value: String(place), textContent: whoText(it)})] : []);
+    if (options.length) fields.who.append(element("optgroup", {label}, ...options));
+  }
+  attributes(fields.who, {"aria-label": "the person of whom is asked"});
+}
+
+function headBox() {
+  const texts = ["may change it", "may read it", "may enter it (a folder) or run it", "may do nothing with it"];
+  const levels = [...LEVELS].reverse().map((name, place) => [name, texts[place]]);
+  const legend = element("ul", {id: "legend"}, ...levels.map(([name, text]) =>
+    element("li", {}, element("span", {className: "right " + name, textContent: name}), " " + text)));
+  attributes(legend, {"aria-label": "What the colours mean"});
+  const bar = attributes(element("div", {id: "bar"}, element("label", {}, "Find ", fields.search), fields.count,
+    ...(data.script ? [element("label", {}, fields.alone, " changes alone")] : []), button("save", "save the list (TSV)", saveTree)),
+    {role: "search", "aria-label": "Find files, and save the list"});
+  const question = element("p", {id: "question"}, "What may ", fields.who, " do, ", element("label", {}, fields.along, " along paths"), "?");
+  return element("header", {id: "head"}, element("h1", {textContent: "Who may do what"}), factsBox(), question, fields.word, legend, bar);
+}
+
+function listen() {
+  fields.who.onchange = () => { view.who = fields.who.value === "" ? NONE : Number(fields.who.value); draw(); writeAddress(false); };
+  fields.along.onchange = () => { view.alongPaths = fields.along.checked; draw(); writeAddress(false); };
+  fields.alone.onchange = () => { showChangesAlone(fields.alone.checked); draw(); writeAddress(false); };
+  fields.search.oninput = () => startSearch(fields.search.value.trim());
+  fields.search.onkeydown = event => {
+    if (event.key === "Escape" && view.search) { fields.search.value = ""; startSearch(""); }
+    else if (!["ArrowDown", "Enter"].includes(event.key) || !shown.rows.length) return;
+    else focusRow(shown.rows[0].key);
+    event.preventDefault();
+  };
+  side.onkeydown = event => { if (event.key === "Escape" && matchMedia(NARROW).matches) goBack(); };
+  addEventListener("popstate", readAddress);
+  matchMedia(NARROW).addEventListener("change", () => draw());
 }
 
 function start() {
-  prepare();
+  findAlike();
   openFirst(FIRST);
-  const select = element("select", {id: "who"});
-  data.whos.forEach((it, place) => select.append(element("option", {value: place, textContent: whoText(it)})));
-  select.onchange = () => { who = Number(select.value); draw(); };
-  const field = element("input", {type: "search", id: "search", placeholder: "name", autocomplete: "off"});
-  field.oninput = () => { search = field.value; draw(); };
-  const bar = element("div", {className: "bar"}, element("label", {}, "What may ", select, " do"),
-    choice("along paths", alongPaths, it => { alongPaths = it; }), element("label", {}, "Find ", field));
-  if (data.script) bar.append(choice("changes alone", changesAlone, it => { changesAlone = it; if (it) openChanges(); }));
-  const counts = counted(files, "file") + ", " + counted(data.whos.filter(it => it[0] === "user").length, "user")
-    + (data.without.length ? " (without " + data.without.join(", ") + ")" : "")
-    + (data.script ? ", " + counted(Object.keys(changed).length, "file") + " changed" : "");
-  document.body.append(element("header", {}, element("h1", {textContent: data.title + ": " + counts}), bar),
-    element("main", {}, element("div", {id: "tree"}), element("div", {id: "side"})));
-  draw();
+  fillWhos();
+  listen();
+  attributes(tree, {role: "tree"});
+  attributes(side, {"aria-label": "The answer", tabindex: "0"});
+  if (data.findings) fillFindings();
+  document.body.append(headBox(), element("main", {}, ...(data.findings ? [findings] : []), tree, side));
+  readAddress();
 }
 
 start();
-})();

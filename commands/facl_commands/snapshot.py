@@ -49,7 +49,7 @@ def nanoseconds(text: bytes) -> int:
 
 def check_texts(folder: bytes) -> int:
     """Opens the folder; fails where the program would not find its texts, or somebody else can have written them."""
-    if not os.path.isdir(folder):
+    if not os.path.isdir(folder) and not is_hidden(folder):
         raise Failure(folder + b": no such folder: make a snapshot by facl-snapshot")
     descriptor = trusted.open_folder(folder)
     for name in NEEDED:
@@ -57,6 +57,17 @@ def check_texts(folder: bytes) -> int:
             raise Failure(folder + b": is no snapshot: " + name + b" is not in it")
         os.close(trusted.open_trusted(os.path.join(folder, name), os.O_RDONLY))
     return descriptor
+
+
+def is_hidden(folder: bytes) -> bool:
+    """Whether it cannot be seen what is there."""
+    try:
+        os.stat(folder)
+    except PermissionError:
+        return True
+    except OSError:
+        pass
+    return False
 
 
 def has(folder: int, name: bytes) -> bool:

@@ -1,18 +1,84 @@
 """The data of a page of facl-report, for tests."""
 from __future__ import annotations
 
+import base64
 import json
 import re
-from typing import Any, Dict, Tuple
+from typing import Any, Dict, List, Tuple
 
 Node = Dict[str, Any]
+
+
+def numbers_of(column: str) -> List[int]:
+    """The numbers of a column of the page."""
+    found: List[int] = []
+    number = shift = 0
+    for byte in base64.b64decode(column):
+        number |= (byte & 127) << shift
+        shift += 7
+        if byte < 128:
+            found.append(number)
+            number = shift = 0
+    return found
+
+
+def spread(data: Node, row: List[Any]) -> List[int]:
+    """What each of the shown users has."""
+    most, others = row
+    return [others.get(str(place), most) for place in range(len(data["whos"]))]
+
+
+def names_of(files: Node) -> List[str]:
+    """The name of each file."""
+    names, known = files["names"].split("\n"), 0
+    found: List[str] = []
+    for back in numbers_of(files["name"]):
+        found.append(names[known - back])
+        known += back == 0
+    return found
+
+
+def parents_of(depths: List[int]) -> List[int]:
+    """What each file is in; -1 where that is nothing."""
+    last: Dict[int, int] = {-1: -1}
+    found: List[int] = []
+    for file, depth in enumerate(depths):
+        found.append(last[depth - 1])
+        last[depth] = file
+    return found
+
+
+def inner_of(data: Node, parents: List[int], kinds: List[int]) -> List[int]:
+    """Of each directory the number of who can get to what is in it; -1 of other files."""
+    insides = {(reach, row): found for reach, row, found in data["insides"]}
+    found: List[int] = []
+    for parent, kind in zip(parents, kinds):
+        is_folder, row, _ = data["kinds"][kind]
+        found.append(insides[data["start"] if parent < 0 else found[parent], row] if is_folder else -1)
+    return found
+
+
+def unpacked(data: Node) -> Node:
+    """The data with its columns as lists, and with rows and reaches as a text with the digits of each shown user."""
+    files, kinds = data["files"], data["kinds"]
+    now, parents = numbers_of(files["kind"]), parents_of(numbers_of(files["depth"]))
+    before = [files["changed"].get(str(file), kind) for file, kind in enumerate(now)]
+    inner, inner_before = (inner_of(data, parents, it) for it in (now, before))
+    columns: Node = {
+        "parents": parents, "names": names_of(files), "rights": [kinds[it][1] for it in now], "records": [kinds[it][2] for it in now],
+        "inner": inner, "changed": {file: kinds[it][1:] for file, it in files["changed"].items()},
+        "reached": {str(file): reach for file, reach in enumerate(inner_before) if reach != inner[file]},
+    }
+    assert [len(columns[name]) for name in ("names", "rights")] == [files["count"]] * 2
+    return {**data, "files": columns, "rows": [bytes(spread(data, it)).hex() for it in data["rows"]],
+            "reaches": ["".join(map(str, spread(data, it))) for it in data["reaches"]]}
 
 
 def read_data(page: bytes) -> Node:
     found = re.search(rb'<script type="application/json" id="data">(.*?)</script>', page, re.DOTALL)
     assert found is not None
     data: Node = json.loads(found[1])
-    return data
+    return unpacked(data)
 
 
 def nodes_of(data: Node) -> Dict[str, Node]:

@@ -10,9 +10,10 @@ import sys
 import tempfile
 import time
 import unittest
-from typing import Dict, List, NamedTuple
+from typing import Any, Dict, List, NamedTuple
 
 from common import COMMANDS, Done, restore_signals
+from page_data import read_data
 from small_tree import CLEAN, GROUP, PASSWD, SmallTree
 
 sys.path.insert(0, COMMANDS)
@@ -273,6 +274,12 @@ class AcceptedFindings(TwoKinds):
         done = self.run_command("facl-audit", ["--tsv", "--accepted", "accepted", "small", "srv/hr/sub"])
         self.assertEqual((done.status, done.messages), (0, b""))
 
+    def test_a_path_that_is_not_in_the_snapshot_is_said(self) -> None:
+        self.write("accepted", b"set-user-id srv/hr/newer needed\n")
+        os.chmod(self.path("accepted"), 0o600)
+        done = self.run_command("facl-audit", ["--tsv", "--accepted", "accepted", "small", "srv/hr/sub"])
+        self.assertEqual(done.messages, b"facl-audit: accepted, line 1: set-user-id srv/hr/newer: is not found: remove the line\n")
+
     def test_lines_that_are_wrong(self) -> None:
         for text, message in ((b"set-user-id srv/hr/new\n", b"a line is FINDING PATH REASON; words with spaces are in single "
                                b"quotes"), (b"setuid srv why\n", b"setuid: is no finding; facl-audit --help lists them"),
@@ -308,6 +315,26 @@ class Hostile(Audits):
         row = self.rows()[0]
         self.assertEqual(row[5], b"setfacl -n -x u:1009 srv/hr/new")
         self.assertNotIn(b"\x1b", self.audit().out)
+
+
+class Page(TwoKinds):
+    def findings(self, name: str) -> List[Dict[str, Any]]:
+        found: List[Dict[str, Any]] = read_data(self.read(name))["findings"]
+        return found
+
+    def test_the_page_has_them(self) -> None:
+        done = self.audit("--page", "page.html", "--fail-on", "none")
+        self.assertEqual((done.status, done.messages), (0, b"facl-audit: page.html: is written\n"))
+        rows = [[it["weight"], it["name"], "%d" % it["count"], it["files"][0][0].lstrip("/")] for it in self.findings("page.html")]
+        self.assertEqual(rows, [[field.decode() for field in row[:4]] for row in self.rows()])
+        self.expect(self.audit("--page", "page.html"), 2, b"", b"facl-audit: page.html: is there already, and is not replaced\n")
+
+    def test_what_is_accepted_is_not_there(self) -> None:
+        kinds = [it[1].decode() for it in self.rows()]
+        self.write("accepted", b"".join(b"%s /srv/ for now\n" % kind.encode() for kind in kinds))
+        os.chmod(self.path("accepted"), 0o600)
+        self.assertEqual(self.audit("--page", "page.html", "--accepted", "accepted").status, 0)
+        self.assertEqual(self.findings("page.html"), [])
 
 
 class Streams(Audits):

@@ -147,11 +147,16 @@ class Random(Case):
             alone, along = json.loads(subprocess.run(words, capture_output=True, check=True).stdout)
             with self.subTest(seed), Session(find_program(None), os.fsencode(self.path("before"))) as session:
                 self.assertEqual(sorted(alone), sorted(path.rstrip("/") or "/" for path in paths))
+                rights: Dict[Key, str] = {}
                 for path in alone:
                     for word in (b"root", b"ines", b"ben", b"twin", b"1005", b"jo\\040x", b"m\\351"):
                         name = word.decode().replace("1005", "77")
-                        self.assertEqual(line_of(alone[path], name), self.answers(session, b"", word, path), (path, name))
-                        self.assertEqual(line_of(along[path], name), self.answers(session, b"--reach ", word, path), (path, name))
+                        self.assertEqual(line_of(alone[path], name)[:2], self.answers(session, b"", word, path), (path, name))
+                        found = self.answers(session, b"--reach ", word, path)
+                        self.assertEqual(line_of(along[path], name)[:2], found, (path, name))
+                        rights[name, path] = found[0]
+                for name, path in rights:
+                    self.assertEqual(line_of(along[path], name)[2], below(rights, name, path), (path, name))
 
     def answers(self, session: Session, option: bytes, word: bytes, path: str) -> Tuple[str, str]:
         """What the side has to say of a user: the greatest requests that `can` prints, and the entries that `why` prints, along
@@ -172,9 +177,20 @@ def is_within(request: str, other: str) -> bool:
     return request != other and all(letter in (wanted, "-") for letter, wanted in zip(request, other))
 
 
-def line_of(side: List[List[str]], name: str) -> Tuple[str, str]:
-    """The right and the reason of a user in the side of a file."""
-    return next((right, reason) for kind, right, names, reason in side if kind == "Users" and name in names.split(", "))
+def line_of(side: List[List[str]], name: str) -> Tuple[str, str, str]:
+    """The right and the reason of a user in the side of a file, and what is below."""
+    return next((right, reason, below) for kind, right, names, reason, below in side if kind == "Users" and name in names.split(", "))
+
+
+def below(rights: Dict[Key, str], name: str, path: str) -> str:
+    """What the side has to say of the files below, by the rights of a user on all files."""
+    counts = {"nothing": 0, "enters": 0, "reads": 0, "changes": 0}
+    for (user, other), right in rights.items():
+        if user == name and other != path and other.startswith(path.rstrip("/") + "/"):
+            level = "changes" if "w" in right else "reads" if "r" in right else "enters" if "x" in right else "nothing"
+            counts[level] += 1
+    texts = ["%d %s" % (count, level) for level, count in counts.items() if count]
+    return "below: " + ", ".join(texts) if texts else ""
 
 
 if __name__ == "__main__":

@@ -1,4 +1,4 @@
-"""facl-report: what is in its page, without a browser; tools/check/report.py looks at it in one."""
+"""facl-report: what is in its page, without a browser; test_browser looks at it in one."""
 from __future__ import annotations
 
 import base64
@@ -17,11 +17,11 @@ import unittest
 from typing import Any, Dict, Iterable, List, Tuple
 
 from common import COMMANDS, HERE, Case
-from page_data import Node, granted, nodes_of, places_of, read_data
+from page_data import Node, granted, nodes_of, places_of, read_data, unpacked
 
 sys.path.insert(0, COMMANDS)
 
-from facl_commands import page_tree, report  # noqa: E402
+from facl_commands import page_columns, page_html, page_tree  # noqa: E402
 from facl_commands.label_answers import Answers  # noqa: E402
 from facl_commands.messages import Failure  # noqa: E402
 from facl_commands.names import path_order, write_name  # noqa: E402
@@ -146,6 +146,13 @@ class Report(Case):
             data = read_data(self.run_command("facl-report", words.split()).out)
             self.assertEqual(([name for kind, name in data["whos"] if kind == "user"], data["without"]), (users, without))
             self.assertIn(["group", "root"], data["whos"])
+
+    def test_accounts_of_the_system(self) -> None:
+        self.write("before/passwd", self.read("before/passwd") + b"daemon:x:1:1::/:/bin/sh\nnobody:x:65534:65534::/:/bin/sh\n")
+        self.write("edits", b"useradd -u 2000 -g staff nell\n")
+        data = read_data(self.run_command("facl-report", ["--with-root", "before", "edits"]).out)
+        self.assertEqual([name for kind, name in data["whos"] if kind == "account"], ["daemon", "nobody"])
+        self.assertEqual([name for kind, name in data["whos"] if kind == "user"], ["root", "ines", "ben", "mara", "guest", "nell"])
 
     def test_empty_masks(self) -> None:
         self.write("before/dump", self.read("before/dump").replace(b"user::rw-\ngroup::r--\nother::---\n",
@@ -297,12 +304,12 @@ class Deep(Case):
         output.file.close()
         vectors, lists = [b"ffff", b"ff01"], [b"other::r-x", b"other::---"]
         answers = Answers([b"ines", b"ben"], vectors, lists, [[b"other::r-x"] * 2, [b"user::rwx", b"other::---"]])
-        tables, whos = report.Tables(), [report.Who("user", name, name) for name in answers.users]
-        view = report.View(report.State(listing, answers), labels.bodies(), whos, tables)
-        return report.Builder(tree, whos, view, view, tables).data("deep", False)
+        tables, whos = page_columns.Tables(), [page_columns.Who("user", name, name) for name in answers.users]
+        view = page_columns.View(page_columns.State(listing, answers), labels.bodies(), whos, tables)
+        return page_columns.Builder(tree, whos, view, view, tables).data("deep", False)
 
     def test_a_chain(self) -> None:
-        data = json.loads(json.dumps(self.page()))
+        data = unpacked(json.loads(json.dumps(self.page())))
         files = data["files"]
         self.assertEqual(len(files["names"]), 2 * self.LEVELS + 2)
         self.assertEqual(files["parents"][: self.LEVELS + 1], list(range(-1, self.LEVELS)))
@@ -310,18 +317,18 @@ class Deep(Case):
 
     @unittest.skipUnless(shutil.which("node"), "without node, which is not installed")
     def test_the_page_of_a_chain(self) -> None:
-        self.write("page.html", report.page_of(self.page()))
+        self.write("page.html", page_html.page_of(self.page()))
         words = ["node", os.path.join(HERE, "page.js"), self.path("page.html"), "f"]
         done = json.loads(subprocess.run(words, capture_output=True, check=True, timeout=60).stdout)
-        self.assertEqual(done["count"], "only the first 500 are shown")
+        self.assertEqual((done["count"], done["rows"], done["last"]), ("3,001 found", 201, "2,801 more rows: show the next"))
         path = "/" + "a/" * self.LEVELS + "f"
         self.assertEqual(done["row"], path[:120] + " \u2026 " + path[-120:])
         self.assertEqual(done["side"][0], path[:1000] + " \u2026 " + path[-1000:])
         reason = "by other::--- of " + path[:120] + " \u2026 " + path[-122:-2]
-        self.assertEqual(done["side"][1], [["Users", "rwx", "ines", "by other::r-x"], ["Users", "none", "ben", reason]])
-        self.write("page.html", report.page_of({**self.page(), "alone": True}))
+        self.assertEqual(done["side"][1], [["Users", "rwx", "ines", "by other::r-x", ""], ["Users", "none", "ben", reason, ""]])
+        self.write("page.html", page_html.page_of({**self.page(), "alone": True}))
         done = json.loads(subprocess.run(words, capture_output=True, check=True, timeout=60).stdout)
-        self.assertEqual(done["side"][1], [["Users", "rwx", "ines, ben", "by other::r-x"]])
+        self.assertEqual(done["side"][1], [["Users", "rwx", "ines, ben", "by other::r-x", ""]])
 
 
 if __name__ == "__main__":

@@ -1,0 +1,40 @@
+"""The page of facl-report over a snapshot with the findings of facl-audit in it."""
+from __future__ import annotations
+
+import argparse
+from typing import Dict, List
+
+from . import report, texts
+from .audit_report import Report
+from .findings import Found, Kind
+from .names import shown, shown_path
+from .page_html import page_of
+from .page_tree import Labels, Tree
+from .program import Session
+from .snapshot import read_snapshot
+from .texts import Source
+
+MOST = 1_000  # Files of a finding that the page has.
+
+
+def text_of(text: bytes) -> str:
+    return shown(text).decode()
+
+
+def path_on_page(path: bytes) -> str:
+    """A path as the page has it: each with a slash at its start."""
+    return "/" + text_of(shown_path(path)) if path else "/"
+
+
+def fields_of(kind: Kind, found: List[Found]) -> Dict[str, object]:
+    files = [[path_on_page(it.path), text_of(it.detail), text_of(it.edit)] for it in found[:MOST]]
+    return {"name": kind.name, "weight": kind.weight, "meaning": kind.meaning, "count": len(found), "files": files}
+
+
+def page_with(found: Report, source: Source, program: str, given: argparse.Namespace) -> bytes:
+    snapshot = read_snapshot(source.folder, needs_links=False)
+    tree, labels = Tree(), Labels()
+    with Session(program, snapshot.folder) as session:
+        listing = tree.add(report.list_files(session, texts.find_tops(session, snapshot.folder)), labels)
+    data = report.data_of(program, snapshot._replace(folder=source.shown), tree, [(listing, labels)], [], given)
+    return page_of({**data, "findings": [fields_of(kind, found.findings[kind.name]) for kind in found.kinds()]})
