@@ -1,5 +1,6 @@
 -- What a line leaves at each key of a list that it names.
-use Rattle.std.proofs.Common.{◌≡◌, Bool, true, false, cond, if◌then◌else◌, not, ◌&&◌, ◌||◌, List, [], ◌∷◌, map, filter, Option, Some, None, is_some, option_map, Ordering, Less, Equal, Greater, refl, sym, ap, ◌∙◌}
+use Rattle.std.proofs.Common.{◌≡◌, Bool, true, false, cond, if◌then◌else◌, not, ◌&&◌, ◌||◌, List, [], ◌∷◌, map, filter, Option, Some, None, is_some, option_map}
+use Rattle.std.proofs.Common.{Ordering, Less, Equal, Greater, refl, sym, ap, ◌∙◌}
 use Rattle.std.specs.List.{list_any}
 use Rattle.std.specs.FinMap as maps
 use Rattle.std.specs.FinMap.Entries.{by_order}
@@ -19,19 +20,16 @@ use Rattle.acl_edit.specs.Laws.{given, has_entry, set_at, left_at, loses_mask, m
 use Rattle.acl_edit.specs.Changes.{Change}
 use Rattle.acl_edit.proofs.Given.{get-modify, get-remove, get-masked}
 use Rattle.acl_edit.proofs.Shown.{tied}
+use Rattle.acl_edit.proofs.Stripped.{only}
 
 -- ---- the steps at one key
-
-only_given : (o : Option Perms) → or_else o None ≡ o
-only_given None = refl
-only_given (Some s) = refl
 
 pub get-replace : (x : Bool) (p : Part) (m : KeyMap) (k : Key) → maps.get (replace x p.set m) k ≡ set_at x p k (maps.get m k)
 get-replace x p m k = by_set p.set
   where
     by_set : (specs : List Spec) → maps.get (replace x specs m) k ≡ (if is_given specs then given x k specs else maps.get m k)
     by_set [] = refl
-    by_set (s ∷ specs) = get-modify x (s ∷ specs) maps.empty k ∙ ap (or_else (given x k (s ∷ specs))) (maps.get-empty key_cmp k) ∙ only_given (given x k (s ∷ specs))
+    by_set (s ∷ specs) = get-modify x (s ∷ specs) maps.empty k ∙ ap (or_else (given x k (s ∷ specs))) (maps.get-empty key_cmp k) ∙ only (given x k (s ∷ specs))
 
 pub get-worked : (x : Bool) (p : Part) (m : KeyMap) (k : Key) → maps.get (worked x p m) k ≡ left_at x p k (maps.get m k)
 unfolding worked
@@ -80,7 +78,8 @@ class_put : (v : Perms) (ps : List (Key × Perms)) → of_class (maps.put key_cm
 class_put v [] = refl
 class_put v ((k, s) ∷ ps) = by_place (class_put v ps) (key_cmp Mask k) refl
   where
-    by_place : of_class (maps.put key_cmp Mask v ps) ≡ of_class ps → (o : Ordering) → key_cmp Mask k ≡ o → of_class (by_order o ((Mask, v) ∷ (k, s) ∷ ps) ((k, v) ∷ ps) ((k, s) ∷ maps.put key_cmp Mask v ps)) ≡ of_class ((k, s) ∷ ps)
+    by_place : of_class (maps.put key_cmp Mask v ps) ≡ of_class ps → (o : Ordering) → key_cmp Mask k ≡ o
+        → of_class (by_order o ((Mask, v) ∷ (k, s) ∷ ps) ((k, v) ∷ ps) ((k, s) ∷ maps.put key_cmp Mask v ps)) ≡ of_class ((k, s) ∷ ps)
     by_place rest Less e = refl
     by_place rest Equal e =
         let none : is_class k ≡ false = ap is_class (sym (exact_keys Mask k e)) in
@@ -91,7 +90,8 @@ named_put : (v : Perms) (ps : List (Key × Perms)) → some_named (maps.put key_
 named_put v [] = refl
 named_put v ((k, s) ∷ ps) = by_place (named_put v ps) (key_cmp Mask k)
   where
-    by_place : some_named (maps.put key_cmp Mask v ps) ≡ some_named ps → (o : Ordering) → some_named (by_order o ((Mask, v) ∷ (k, s) ∷ ps) ((k, v) ∷ ps) ((k, s) ∷ maps.put key_cmp Mask v ps)) ≡ some_named ((k, s) ∷ ps)
+    by_place : some_named (maps.put key_cmp Mask v ps) ≡ some_named ps → (o : Ordering)
+        → some_named (by_order o ((Mask, v) ∷ (k, s) ∷ ps) ((k, v) ∷ ps) ((k, s) ∷ maps.put key_cmp Mask v ps)) ≡ some_named ((k, s) ∷ ps)
     by_place rest Less = refl
     by_place rest Equal = refl
     by_place rest Greater = ap (λ z. is_named k || z) rest
@@ -156,7 +156,8 @@ get-recalculated m = by_mask (maps.get m Mask) refl
 get-mask : (c : Change) (p : Part) (lost : Bool) (m : KeyMap) → maps.get (with_mask c p lost m) Mask ≡ (if is_recalculated c p then option_map (λ _. class_union m) (made lost m) else made lost m)
 get-mask c p lost m = by_again (is_recalculated c p)
   where
-    by_again : (b : Bool) → maps.get (if b then recalculate (if lost then m else add_mask m) else (if lost then m else add_mask m)) Mask ≡ (if b then option_map (λ _. class_union m) (made lost m) else made lost m)
+    by_again : (b : Bool) → maps.get (if b then recalculate (if lost then m else add_mask m) else (if lost then m else add_mask m)) Mask
+        ≡ (if b then option_map (λ _. class_union m) (made lost m) else made lost m)
     by_again true =
         get-recalculated (if lost then m else add_mask m)
         ∙ (λ i. option_map (λ _. masked_blind class_union union-insert lost m i) (get-made lost m i))
@@ -164,7 +165,7 @@ get-mask c p lost m = by_again (is_recalculated c p)
 
 -- ---- a mask that the line takes out
 
-mask_key : (k : Key) → is_mask k ≡ same_key Mask k
+pub mask_key : (k : Key) → is_mask k ≡ same_key Mask k
 mask_key Owner = refl
 mask_key (User id) = refl
 mask_key OwningGroup = refl

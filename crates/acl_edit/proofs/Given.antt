@@ -7,6 +7,7 @@ use Rattle.acl_entry.specs.Lists.{KeyMap, class_union, or_else}
 use Rattle.acl_entry.specs.declared.entry.Key.{Key}
 use Rattle.acl_entry.specs.declared.entry.Key.TheVariants.{Owner, User, OwningGroup, Group, Mask, Other}
 use Rattle.acl_entry.proofs.KeyLaws.{key_total}
+use Rattle.acl_entry.proofs.Basics.{and_false, or_true, first_false, second_false}
 use Rattle.acl_text.specs.declared.entries.Spec.{Spec}
 use Rattle.acl_edit.specs.Parts.{Part, is_given, is_mask, names, puts}
 use Rattle.acl_edit.specs.Steps.{perms_of, remove, replace, modify, put_some, fill_one, fill_from}
@@ -53,16 +54,13 @@ if_same : (b : Bool) (u m : KeyMap) (k : Key) → maps.get u k ≡ maps.get m k 
 if_same true u m k h = h
 if_same false u m k h = refl
 
-and_false : (b : Bool) → (b && false) ≡ false
-and_false true = refl
-and_false false = refl
-
 get-add_mask : (m : KeyMap) (k : Key) (s : Perms) → maps.get m k ≡ Some s → maps.get (add_mask m) k ≡ maps.get m k
 get-add_mask m Owner s h = if_same _ (put_some m Mask (maps.get m OwningGroup)) m Owner (get-put_mask m _ Owner refl)
 get-add_mask m (User id) s h = if_same _ (put_some m Mask (maps.get m OwningGroup)) m (User id) (get-put_mask m _ (User id) refl)
 get-add_mask m OwningGroup s h = if_same _ (put_some m Mask (maps.get m OwningGroup)) m OwningGroup (get-put_mask m _ OwningGroup refl)
 get-add_mask m (Group id) s h = if_same _ (put_some m Mask (maps.get m OwningGroup)) m (Group id) (get-put_mask m _ (Group id) refl)
-get-add_mask m Mask s h = ap (λ b. maps.get (if has_named m && not b then put_some m Mask (maps.get m OwningGroup) else m) Mask) (ap is_some h) ∙ ap (λ b. maps.get (if b then put_some m Mask (maps.get m OwningGroup) else m) Mask) (and_false (has_named m))
+get-add_mask m Mask s h = ap (λ b. maps.get (if has_named m && not b then put_some m Mask (maps.get m OwningGroup) else m) Mask) (ap is_some h)
+    ∙ ap (λ b. maps.get (if b then put_some m Mask (maps.get m OwningGroup) else m) Mask) (and_false (has_named m))
 get-add_mask m Other s h = if_same _ (put_some m Mask (maps.get m OwningGroup)) m Other (get-put_mask m _ Other refl)
 
 get-recalculate : (m : KeyMap) (k : Key) → is_mask k ≡ false → maps.get (recalculate m) k ≡ maps.get m k
@@ -80,7 +78,8 @@ get-with_mask c p lost m k s h stays = by_again (is_recalculated c p) stays ∙ 
     not_mask true e = cc
     not_mask false e = refl
 
-    by_again : (b : Bool) → (is_mask k && b) ≡ false → maps.get (if b then recalculate (if lost then m else add_mask m) else (if lost then m else add_mask m)) k ≡ maps.get (if lost then m else add_mask m) k
+    by_again : (b : Bool) → (is_mask k && b) ≡ false → maps.get
+        (if b then recalculate (if lost then m else add_mask m) else (if lost then m else add_mask m)) k ≡ maps.get (if lost then m else add_mask m) k
     by_again true e = get-recalculate (if lost then m else add_mask m) k (not_mask (is_mask k) e)
     by_again false e = refl
 
@@ -114,10 +113,6 @@ get-fill_from other m k s h =
 gives_some : (specs : List Spec) (k : Key) (s : Spec) → last_for k specs ≡ Some s → is_given specs ≡ true
 gives_some [] k s h = cc
 gives_some (t ∷ specs) k s h = refl
-
-or_true : (b : Bool) → (b || true) ≡ true
-or_true true = refl
-or_true false = refl
 
 pub puts_some : (p : Part) (k : Key) (s : Spec) → last_for k p.modify ≡ Some s → puts p ≡ true
 puts_some p k s h = ap (λ b. is_given p.set || b) (gives_some p.modify k s h) ∙ or_true (is_given p.set)
@@ -173,25 +168,17 @@ none_given : (specs : List Spec) → is_given specs ≡ false → specs ≡ []
 none_given [] h = refl
 none_given (s ∷ specs) h = cc
 
-or_left : (a b : Bool) → (a || b) ≡ false → a ≡ false
-or_left true b h = cc
-or_left false b h = refl
-
-pub or_right : (a b : Bool) → (a || b) ≡ false → b ≡ false
-or_right true b h = cc
-or_right false b h = h
-
 pub unnamed_key : (x : Bool) (p : Part) (m : KeyMap) (k : Key) → names p ≡ false
     → maps.get m k ≡ or_else (given x k p.modify) (if has_entry k p.remove then None else maps.get m k)
 unnamed_key x p m k h =
-    let removed = none_given p.remove (or_left (is_given p.remove) (puts p) h) in
-    let modified = none_given p.modify (or_right (is_given p.set) (is_given p.modify) (or_right (is_given p.remove) (puts p) h)) in
+    let removed = none_given p.remove (first_false (is_given p.remove) (puts p) h) in
+    let modified = none_given p.modify (second_false (is_given p.set) (is_given p.modify) (second_false (is_given p.remove) (puts p) h)) in
     λ i. or_else (given x k (sym modified i)) (if has_entry k (sym removed i) then None else maps.get m k)
 
 pub unnamed_left : (x : Bool) (p : Part) (k : Key) (had : Option Perms) → names p ≡ false → had ≡ left_at x p k had
 unnamed_left x p k had h =
-    let put = or_right (is_given p.remove) (puts p) h in
-    let removed = none_given p.remove (or_left (is_given p.remove) (puts p) h) in
-    let set = none_given p.set (or_left (is_given p.set) (is_given p.modify) put) in
-    let modified = none_given p.modify (or_right (is_given p.set) (is_given p.modify) put) in
+    let put = second_false (is_given p.remove) (puts p) h in
+    let removed = none_given p.remove (first_false (is_given p.remove) (puts p) h) in
+    let set = none_given p.set (first_false (is_given p.set) (is_given p.modify) put) in
+    let modified = none_given p.modify (second_false (is_given p.set) (is_given p.modify) put) in
     λ i. or_else (given x k (sym modified i)) (if has_entry k (sym removed i) then None else if is_given (sym set i) then given x k (sym set i) else had)

@@ -5,6 +5,7 @@ use Rattle.acl_entry.specs.Keys.{key_cmp, is_base}
 use Rattle.acl_entry.specs.Lists.{KeyMap, effective, or_else}
 use Rattle.acl_entry.specs.declared.entry.Key.{Key}
 use Rattle.acl_entry.specs.declared.entry.Key.TheVariants.{Mask}
+use Rattle.acl_entry.proofs.Basics.{second_false}
 use Rattle.acl_text.specs.declared.fault.Which.TheVariants.{Access, Default}
 use Rattle.acl_edit.specs.Parts.{part, names, puts, is_given, is_mask}
 use Rattle.acl_edit.specs.Steps.{gives_execute, strip, replace, fill_from}
@@ -14,7 +15,7 @@ use Rattle.acl_edit.specs.Laws.{left_at, mask_after, had_access, had_default, Is
 use Rattle.acl_edit.specs.Changes.{Change}
 use Rattle.acl_edit.specs.declared.node.Node.{Node}
 use Rattle.acl_edit.proofs.Kept.{access_unnamed, default_unnamed}
-use Rattle.acl_edit.proofs.Given.{get-masked, unnamed_left, or_right}
+use Rattle.acl_edit.proofs.Given.{get-masked, unnamed_left}
 use Rattle.acl_edit.proofs.ByKey.{get-worked, get-fill_all, loses, get-mask_after}
 use Rattle.acl_edit.proofs.Stripped.{get-strip_base, get-strip_other}
 
@@ -54,7 +55,8 @@ module _ (n : Node) (c : Change) where
   access_mask named m =
       subst (λ b. let new = if b then with_mask c (part c Access) (takes_mask (part c Access) (replace (gives_execute n) (part c Access).set m)) (worked (gives_execute n) (part c Access) m) else m in
       maps.get new Mask ≡ mask_after (gives_execute n) c (part c Access) (maps.get m Mask) new) (sym named)
-      (get-mask_after (gives_execute n) c (part c Access) _ (maps.get m Mask) (worked (gives_execute n) (part c Access) m) (loses (gives_execute n) (part c Access) m) (get-worked (gives_execute n) (part c Access) m Mask))
+      (get-mask_after (gives_execute n) c (part c Access) _ (maps.get m Mask) (worked (gives_execute n) (part c Access) m)
+      (loses (gives_execute n) (part c Access) m) (get-worked (gives_execute n) (part c Access) m Mask))
 
   -- ---- the lists as a whole
 
@@ -77,24 +79,29 @@ module _ (n : Node) (c : Change) where
   module _ (acl : KeyMap) where
     filled_key : (b : Bool) (k : Key) (m : KeyMap) → maps.get (if b then fill_from acl (worked (gives_execute n) (part c Default) m) else worked (gives_execute n) (part c Default) m) k
         ≡ (if b && is_base k then or_else (left_at (gives_execute n) (part c Default) k (maps.get m k)) (maps.get acl k) else left_at (gives_execute n) (part c Default) k (maps.get m k))
-    filled_key true k m = get-fill_all acl (worked (gives_execute n) (part c Default) m) k ∙ ap (λ o. if is_base k then or_else o (maps.get acl k) else o) (get-worked (gives_execute n) (part c Default) m k)
+    filled_key true k m = get-fill_all acl (worked (gives_execute n) (part c Default) m) k
+        ∙ ap (λ o. if is_base k then or_else o (maps.get acl k) else o) (get-worked (gives_execute n) (part c Default) m k)
     filled_key false k m = get-worked (gives_execute n) (part c Default) m k
 
     pub default_key : (k : Key) → is_mask k ≡ false → (m : KeyMap) → maps.get (default_after c (gives_execute n) acl m) k
-        ≡ (if puts (part c Default) && is_base k then or_else (left_at (gives_execute n) (part c Default) k (maps.get m k)) (maps.get acl k) else left_at (gives_execute n) (part c Default) k (maps.get m k))
+        ≡ (if puts (part c Default) && is_base k then or_else (left_at (gives_execute n) (part c Default) k (maps.get m k)) (maps.get acl k)
+        else left_at (gives_execute n) (part c Default) k (maps.get m k))
     unfolding default_after
     default_key k other m = by_names (names (part c Default)) refl
       where
         no_puts : names (part c Default) ≡ false → puts (part c Default) ≡ false
-        no_puts h = or_right (is_given (part c Default).remove) (puts (part c Default)) h
+        no_puts h = second_false (is_given (part c Default).remove) (puts (part c Default)) h
 
         by_names : (b : Bool) → names (part c Default) ≡ b
-            → maps.get (if b then with_mask c (part c Default) (takes_mask (part c Default) (replace (gives_execute n) (part c Default).set m)) (if puts (part c Default) then fill_from acl (worked (gives_execute n) (part c Default) m) else worked (gives_execute n) (part c Default) m) else m) k
-            ≡ (if puts (part c Default) && is_base k then or_else (left_at (gives_execute n) (part c Default) k (maps.get m k)) (maps.get acl k) else left_at (gives_execute n) (part c Default) k (maps.get m k))
+            → maps.get (if b then with_mask c (part c Default) (takes_mask (part c Default) (replace (gives_execute n) (part c Default).set m))
+            (if puts (part c Default) then fill_from acl (worked (gives_execute n) (part c Default) m) else worked (gives_execute n) (part c Default) m) else m) k
+            ≡ (if puts (part c Default) && is_base k then or_else (left_at (gives_execute n) (part c Default) k (maps.get m k)) (maps.get acl k)
+            else left_at (gives_execute n) (part c Default) k (maps.get m k))
         by_names true named = get-masked c (part c Default) _ _ k other ∙ filled_key (puts (part c Default)) k m
         by_names false unnamed =
             unnamed_left (gives_execute n) (part c Default) k (maps.get m k) unnamed
-            ∙ ap (λ b. if b && is_base k then or_else (left_at (gives_execute n) (part c Default) k (maps.get m k)) (maps.get acl k) else left_at (gives_execute n) (part c Default) k (maps.get m k)) (sym (no_puts unnamed))
+            ∙ ap (λ b. if b && is_base k then or_else (left_at (gives_execute n) (part c Default) k (maps.get m k)) (maps.get acl k)
+            else left_at (gives_execute n) (part c Default) k (maps.get m k)) (sym (no_puts unnamed))
 
     pub default_mask : names (part c Default) ≡ true → (m : KeyMap) → maps.get (default_after c (gives_execute n) acl m) Mask
         ≡ mask_after (gives_execute n) c (part c Default) (maps.get m Mask) (default_after c (gives_execute n) acl m)
@@ -105,7 +112,9 @@ module _ (n : Node) (c : Change) where
         maps.get new Mask ≡ mask_after (gives_execute n) c (part c Default) (maps.get m Mask) new) (sym named)
         (get-mask_after (gives_execute n) c (part c Default) _ (maps.get m Mask) filled (loses (gives_execute n) (part c Default) m) (filled_mask (puts (part c Default)) m))
       where
-        filled_mask : (b : Bool) (m : KeyMap) → maps.get (if b then fill_from acl (worked (gives_execute n) (part c Default) m) else worked (gives_execute n) (part c Default) m) Mask ≡ left_at (gives_execute n) (part c Default) Mask (maps.get m Mask)
+        filled_mask : (b : Bool) (m : KeyMap) → maps.get
+            (if b then fill_from acl (worked (gives_execute n) (part c Default) m) else worked (gives_execute n) (part c Default) m) Mask
+            ≡ left_at (gives_execute n) (part c Default) Mask (maps.get m Mask)
         filled_mask true m = filled_key true Mask m
         filled_mask false m = filled_key false Mask m
 
@@ -116,7 +125,8 @@ module _ (n : Node) (c : Change) where
     default_left = record {
       keys = λ k other.
           default_key k other (default_before c n.dacl)
-          ∙ ap (λ had. if puts (part c Default) && is_base k then or_else (left_at (gives_execute n) (part c Default) k had) (maps.get acl k) else left_at (gives_execute n) (part c Default) k had) (had_default_is k);
+          ∙ ap (λ had. if puts (part c Default) && is_base k then or_else (left_at (gives_execute n) (part c Default) k had) (maps.get acl k)
+          else left_at (gives_execute n) (part c Default) k had) (had_default_is k);
       mask = by_names (names (part c Default)) refl;
     }
       where

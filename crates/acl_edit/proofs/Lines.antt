@@ -1,5 +1,6 @@
 -- What a line keeps of a file.
-use Rattle.std.proofs.Common.{◌≡◌, Bool, true, false, cond, if◌then◌else◌, ◌&&◌, ◌||◌, eqb, length, Option, Some, None, Result, Ok, Err, unwrap_or, option_and_then, option_map, refl, sym, ap, subst, ◌∙◌}
+use Rattle.std.proofs.Common.{◌≡◌, Bool, true, false, cond, if◌then◌else◌, ◌&&◌, ◌||◌, eqb, length, Option, Some, None, Result, Ok, Err, unwrap_or}
+use Rattle.std.proofs.Common.{option_and_then, option_map, refl, sym, ap, subst, ◌∙◌}
 use Rattle.std.proofs.lemmas.Bool.{eq-eqb, eqb-true}
 use Rattle.std.proofs.lemmas.List.{length-map}
 use Rattle.std.specs.Option.{option_map_or, ForSome}
@@ -17,7 +18,9 @@ use Rattle.acl_edit.specs.Steps.{gives_execute, perms_of, strip, replace, fill_f
 use Rattle.acl_edit.specs.Masks.{takes_mask, with_mask, add_mask, recalculate, is_recalculated}
 use Rattle.acl_text.specs.InTurn.{◌>>=◌}
 use Rattle.acl_edit.specs.Edits.{worked, checked, checked_default, access_after, default_after, access_before, default_before, changed_access, changed_default}
-use Rattle.acl_edit.specs.Laws.{HidesNothing, LeavesUnnamed, ShowsRecalculated, KeepsGranted, GivesModified, GoesByKey, LeavesByKey, CopiesBase, MakesMask, BoundsRecalculated, MasksNoMore, DropsDefault, last_for, given, has_entry, left_at, mask_made, mask_after, had_access, had_default}
+use Rattle.acl_edit.specs.Laws.{HidesNothing, LeavesUnnamed, ShowsRecalculated, KeepsGranted, GivesModified, GoesByKey, LeavesByKey, CopiesBase, MakesMask}
+use Rattle.acl_edit.specs.Laws.{BoundsRecalculated, MasksNoMore, DropsDefault, last_for, given, has_entry, left_at, mask_made, mask_after, had_access}
+use Rattle.acl_edit.specs.Laws.{had_default}
 use Rattle.acl_edit.specs.Changes.{Change}
 use Rattle.acl_edit.specs.declared.edit.EditFault.{EditFault}
 use Rattle.acl_edit.specs.declared.edit.EditFault.TheVariants.{List as ListIs}
@@ -38,7 +41,7 @@ no_entries =
     eq-eqb (length (entries maps.empty)) 0
     (length-map (maps.entries (maps.empty {X = Perms} {R = key_cmp})) (λ (p : Key × Perms). record { key = p.0; perm = p.1 }) ∙ sym (maps.len-entries maps.empty) ∙ maps.len-empty key_cmp Perms)
 
-checked_empty : checked_default maps.empty ≡ Ok None
+pub checked_empty : checked_default maps.empty ≡ Ok None
 checked_empty = ap (λ b. cond b (Ok None) (checked Default maps.empty >>= λ d. Ok (Some d))) no_entries
 
 checked_default_is : (m d : KeyMap) → checked_default m ≡ Ok (Some d) → d ≡ m
@@ -82,7 +85,8 @@ module _ (n : Node) (c : Change) (acl : KeyMap) (dacl : Option KeyMap) (made : c
   access_is = checked_is Access _ acl made
 
   kept_default : (k : Kind) → changed_default k n c acl ≡ Ok dacl → HasValidLists n → (c.strip || c.drop_default) ≡ false → names (part c Default) ≡ false → dacl ≡ n.dacl
-  kept_default Plain h valid keeps unnamed = let kept : ◌≡◌ {A = Result (Option KeyMap) EditFault} (Ok n.dacl) (Ok dacl) = subst (λ b. ◌≡◌ {A = Result (Option KeyMap) EditFault} (Ok (if b then None else n.dacl)) (Ok dacl)) keeps h in cc
+  kept_default Plain h valid keeps unnamed = let kept : ◌≡◌ {A = Result (Option KeyMap) EditFault} (Ok n.dacl) (Ok dacl) =
+      subst (λ b. ◌≡◌ {A = Result (Option KeyMap) EditFault} (Ok (if b then None else n.dacl)) (Ok dacl)) keeps h in cc
   kept_default Directory h valid keeps unnamed = by_list n.dacl refl
     where
       before : default_after c (gives_execute n) acl (default_before c n.dacl) ≡ unwrap_or n.dacl maps.empty
@@ -207,7 +211,8 @@ module _ (n : Node) (c : Change) (acl : KeyMap) (dacl : Option KeyMap) (made : c
 
   -- ---- each key of any list that the line leaves
 
-  default_is : (kind : Kind) → changed_default kind n c acl ≡ Ok dacl → kind ≡ Directory → (k : Key) → option_and_then (λ d. maps.get d k) dacl ≡ maps.get (default_after c (gives_execute n) acl (default_before c n.dacl)) k
+  default_is : (kind : Kind) → changed_default kind n c acl ≡ Ok dacl → kind ≡ Directory → (k : Key)
+      → option_and_then (λ d. maps.get d k) dacl ≡ maps.get (default_after c (gives_execute n) acl (default_before c n.dacl)) k
   default_is Plain h directory k = cc
   default_is Directory h directory k = by_list dacl refl
     where
@@ -220,10 +225,12 @@ module _ (n : Node) (c : Change) (acl : KeyMap) (dacl : Option KeyMap) (made : c
       by_list (Some d) e = ap (option_and_then (λ d. maps.get d k)) e ∙ ap (λ z. maps.get z k) (checked_default_is _ d (h ∙ ap Ok e))
 
   default_all : n.kind ≡ Directory → (k : Key) → is_mask k ≡ false → option_and_then (λ d. maps.get d k) dacl
-      ≡ (if puts (part c Default) && is_base k then or_else (left_at (gives_execute n) (part c Default) k (had_default n c k)) (maps.get acl k) else left_at (gives_execute n) (part c Default) k (had_default n c k))
+      ≡ (if puts (part c Default) && is_base k then or_else (left_at (gives_execute n) (part c Default) k (had_default n c k)) (maps.get acl k)
+      else left_at (gives_execute n) (part c Default) k (had_default n c k))
   default_all directory k other =
       default_is n.kind made_default directory k ∙ default_key n c acl k other (default_before c n.dacl)
-      ∙ ap (λ had. if puts (part c Default) && is_base k then or_else (left_at (gives_execute n) (part c Default) k had) (maps.get acl k) else left_at (gives_execute n) (part c Default) k had) (had_default_is n c k)
+      ∙ ap (λ had. if puts (part c Default) && is_base k then or_else (left_at (gives_execute n) (part c Default) k had) (maps.get acl k)
+      else left_at (gives_execute n) (part c Default) k had) (had_default_is n c k)
 
   pub leaves_by_key : LeavesByKey n c (with_lists n acl dacl)
   leaves_by_key = record {
@@ -237,7 +244,8 @@ module _ (n : Node) (c : Change) (acl : KeyMap) (dacl : Option KeyMap) (made : c
   copies_base = record {
     dacl = λ directory put k base.
         default_all directory k (not_mask k base)
-        ∙ (λ i. if put i && base i then or_else (left_at (gives_execute n) (part c Default) k (had_default n c k)) (maps.get acl k) else left_at (gives_execute n) (part c Default) k (had_default n c k));
+        ∙ (λ i. if put i && base i then or_else (left_at (gives_execute n) (part c Default) k (had_default n c k)) (maps.get acl k)
+        else left_at (gives_execute n) (part c Default) k (had_default n c k));
   }
 
   -- ---- the mask of a list that the line names
@@ -247,13 +255,15 @@ module _ (n : Node) (c : Change) (acl : KeyMap) (dacl : Option KeyMap) (made : c
   mask_default Plain h directory named d e = cc
   mask_default Directory h directory named d e =
       subst (λ had. maps.get d Mask ≡ mask_after (gives_execute n) c (part c Default) had d) (had_default_is n c Mask)
-      (subst (λ z. maps.get z Mask ≡ mask_after (gives_execute n) c (part c Default) (maps.get (default_before c n.dacl) Mask) z) (sym (checked_default_is _ d (h ∙ ap Ok e))) (default_mask n c acl named (default_before c n.dacl)))
+      (subst (λ z. maps.get z Mask ≡ mask_after (gives_execute n) c (part c Default) (maps.get (default_before c n.dacl) Mask) z)
+      (sym (checked_default_is _ d (h ∙ ap Ok e))) (default_mask n c acl named (default_before c n.dacl)))
 
   pub makes_mask : MakesMask n c (with_lists n acl dacl)
   makes_mask = record {
     access = λ named.
         subst (λ had. maps.get acl Mask ≡ mask_after (gives_execute n) c (part c Access) had acl) (had_access_is n c Mask)
-        (subst (λ z. maps.get z Mask ≡ mask_after (gives_execute n) c (part c Access) (maps.get (access_before c n.label.acl) Mask) z) (sym access_is) (access_mask n c named (access_before c n.label.acl)));
+        (subst (λ z. maps.get z Mask ≡ mask_after (gives_execute n) c (part c Access) (maps.get (access_before c n.label.acl) Mask) z) (sym access_is)
+        (access_mask n c named (access_before c n.label.acl)));
     dacl = λ directory named. mask_default n.kind made_default directory named;
   }
 

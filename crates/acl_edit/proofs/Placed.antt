@@ -2,6 +2,7 @@
 use Rattle.std.proofs.Common.{◌≡◌, Bool, true, false, ◌||◌, Option, Some, None, Result, Ok, Err, if◌then◌else◌, refl, sym, ap, subst, ◌∙◌}
 use Rattle.std.specs.Prelude.{unwrap_or}
 use Rattle.acl_entry.specs.Lists.{KeyMap, or_else}
+use Rattle.acl_entry.proofs.Basics.{err_is_not_ok}
 use Rattle.acl_edit.specs.Nodes.{IsSound, with_lists}
 use Rattle.acl_edit.specs.Edits as steps
 use Rattle.acl_text.specs.InTurn.{◌>>=◌}
@@ -19,9 +20,6 @@ use Rattle.acl_edit.specs.declared.node.Node.{Node}
 pub record KeepsKind (old new : Node) : Type 0 where
   pub kind : new.kind ≡ old.kind
   pub sound : IsSound old → IsSound new
-
-err_is_not_ok : {A B : Type 0} (a : A) (b : B) → Err b ≡ Ok a → ⊥
-err_is_not_ok a b h = cc
 
 directory_is_not_plain : Directory ≡ Plain → ⊥
 directory_is_not_plain h = cc
@@ -83,7 +81,14 @@ keeps_kind n (edits.Flatten access dacl) in_recursion m is =
     made n (steps.flatten n access dacl) m (record { kind = refl; sound = λ sound plain. either_none dacl n.dacl (sound plain) }) is
 keeps_kind n (edits.Restore access dacl owner group flags) in_recursion m is =
     bound (KeepsKind n) (allowed n.kind in_recursion dacl)
-    (λ d. Ok (record { kind = n.kind; label = record { owner = unwrap_or owner n.label.owner; group = unwrap_or group n.label.group; acl = access }; flags = unwrap_or flags steps.no_flags; dacl = d }))
-    (λ d given m is. made n (record { kind = n.kind; label = record { owner = unwrap_or owner n.label.owner; group = unwrap_or group n.label.group; acl = access }; flags = unwrap_or flags steps.no_flags; dacl = d }) m
+    (λ d. Ok (record {
+      kind = n.kind;
+      label = record { owner = unwrap_or owner n.label.owner; group = unwrap_or group n.label.group; acl = access };
+      flags =
+          unwrap_or flags steps.no_flags;
+      dacl = d;
+    }))
+    (λ d given m is. made n
+    (record { kind = n.kind; label = record { owner = unwrap_or owner n.label.owner; group = unwrap_or group n.label.group; acl = access }; flags = unwrap_or flags steps.no_flags; dacl = d }) m
     (record { kind = refl; sound = λ sound plain. none_allowed n.kind in_recursion dacl d given plain }) is)
     m is

@@ -12,7 +12,7 @@ use Rattle.acl_edit.specs.Nodes.{is_directory, with_lists}
 use Rattle.acl_edit.specs.Parts.{is_given, is_for}
 use Rattle.acl_edit.specs.Edits as steps
 use Rattle.acl_text.specs.InTurn.{◌>>=◌}
-use Rattle.acl_edit.specs.Edits.{edit, checked_default, changed_default, is_misplaced, allowed}
+use Rattle.acl_edit.specs.Edits.{edit, changed_default, is_misplaced, allowed}
 use Rattle.acl_edit.specs.Laws.{OfLine, puts_default, misplaces_default, RefusesLists, RefusesNoList}
 use Rattle.acl_edit.specs.Changes.{Change, edit_of, options}
 use Rattle.acl_edit.specs.declared.edit.Edit.{Edit}

@@ -8,7 +8,7 @@ use Rattle.acl_edit.specs.declared.node.Kind.{Kind}
 use Rattle.acl_edit.specs.declared.node.Kind.TheVariants.{Plain, Directory}
 use Rattle.acl_edit.specs.declared.node.Node.{Node}
 
-own_list : (k : Kind) (o : Option KeyMap) (in_recursion : Bool) → (k ≡ Plain → o ≡ None) → allowed k in_recursion o ≡ Ok o
+pub own_list : (k : Kind) (o : Option KeyMap) (in_recursion : Bool) → (k ≡ Plain → o ≡ None) → allowed k in_recursion o ≡ Ok o
 own_list Plain o in_recursion h = subst (λ z. allowed Plain in_recursion z ≡ Ok z) (sym (h refl)) refl
 own_list Directory o in_recursion h = refl
 

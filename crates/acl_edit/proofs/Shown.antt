@@ -1,8 +1,6 @@
 -- A recalculated mask hides nothing, and grants no more than the group class has.
-use Rattle.std.proofs.Common.{◌≡◌, Bool, true, false, cond, if◌then◌else◌, ◌&&◌, ◌||◌, List, [], ◌∷◌, map, filter, Option, Some, None, is_some, option_map, Equal, refl, sym, ap, subst, ◌∙◌}
-use Rattle.std.specs.declared.cmp.Ordering.{Ordering}
-use Rattle.std.specs.declared.cmp.Ordering.TheVariants.{Less, Greater}
-use Rattle.std.specs.Ordering.{eq_by_cmp, is_eq}
+use Rattle.std.proofs.Common.{◌≡◌, Bool, true, false, cond, if◌then◌else◌, ◌&&◌, ◌||◌, List, [], ◌∷◌, map, filter, Option, Some, None, is_some, option_map, refl, sym, ap, subst, ◌∙◌}
+use Rattle.std.specs.Ordering.{eq_by_cmp}
 use Rattle.std.specs.List.{list_any}
 use Rattle.std.specs.FinMap as maps
 use Rattle.acl_entry.specs.Perms.{Perms, none, union, meet}
@@ -12,6 +10,7 @@ use Rattle.acl_entry.specs.declared.entry.Key.{Key}
 use Rattle.acl_entry.specs.declared.entry.Key.TheVariants.{Owner, User, OwningGroup, Group, Mask, Other}
 use Rattle.acl_entry.specs.declared.entry.Entry.{Entry}
 use Rattle.acl_entry.proofs.KeyLaws.{key_total, exact_keys}
+use Rattle.acl_entry.proofs.Basics.{is_equal}
 use Rattle.acl_edit.specs.Masks.{has_mask, recalculate}
 use Rattle.acl_edit.specs.Laws.{HidesNothing, GrantsNoMore, MasksNoMore}
 
@@ -51,11 +50,6 @@ all_of ps = union_all (map perm_of_entry (filter in_class (map entry_of ps)))
 one_more : (b : Bool) (s v : Perms) (e : Entry) (es : List Entry) → meet s (union_all (map perm_of_entry es)) ≡ s → meet s (union_all (map perm_of_entry (cond b (e ∷ es) es))) ≡ s
 one_more true s v e es h = meet-more s e.perm (union_all (map perm_of_entry es)) h
 one_more false s v e es h = h
-
-is_equal : (o : Ordering) → is_eq o ≡ true → o ≡ Equal
-is_equal Less e = cc
-is_equal Equal e = refl
-is_equal Greater e = cc
 
 -- keys that tie are one
 pub tied : (q k : Key) → eq_by_cmp key_cmp q k ≡ true → q ≡ k

@@ -18,7 +18,7 @@ get-put_some m k None q = unchanged (same_key q k)
     unchanged false = refl
 get-put_some m k (Some s) q = maps.get-insert key_total m k s q
 
-only : (o : Option Perms) → or_else o None ≡ o
+pub only : (o : Option Perms) → or_else o None ≡ o
 only None = refl
 only (Some s) = refl
 

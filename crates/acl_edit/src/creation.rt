@@ -12,7 +12,7 @@ use std::alloc::{AllocError, Global};
 /// The node of a new file in a directory.
 ///
 /// Under a default list of the directory the access list is that list, its entries that correspond to
-/// the mode met with the mode, the umask has no effect, and a directory gets the default list too. Else
+/// the mode without what the mode lacks, the umask has no effect, and a directory gets the default list too. Else
 /// the access list is minimal, of the mode without the umask's bits. Mode and umask count by their low
 /// nine bits. A directory with set group ID hands its group on, and to a directory the flag too.
 ///

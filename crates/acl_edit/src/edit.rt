@@ -7,7 +7,7 @@ ghost use Rattle.acl_entry.specs.Lists.{or_else};
 ghost use Rattle.acl_edit.specs.Edits as edits;
 ghost use Rattle.acl_edit.specs.Edits.{Gives};
 ghost use Rattle.acl_edit.specs.Nodes.{IsSound, HasValidLists};
-ghost use Rattle.acl_edit.specs.Rooms.{Fits, HasShortLists, IsSmall, MakesIn, size_of};
+ghost use Rattle.acl_edit.specs.Rooms.{Fits, HasShortLists, IsSmall, MakesIn, size, size_of};
 ghost use Rattle.acl_edit.specs.Laws as laws;
 ghost use Rattle.acl_edit.specs.Laws.{OnLine, GivesBack, misplaces_default};
 
@@ -99,7 +99,6 @@ impl<T: Drop> From<AllocFailed<T>> for EditFault {
 /// Default entries or a default list for a file that is not a directory, but in a recursion, which takes no
 /// memory to find; a resulting list that is not valid; that memory ran out, never where no list has more than
 /// eight entries, counted with what a setfacl(1) line puts into it, a mask, and copied base entries.
-#[tactic(auto, unfolding(crate::specs::Edits::restore))]
 pub fn apply(alloc: Global, node: &Node, edit: &Edit, in_recursion: bool) -> Result<Node, EditFault>
     ensures made { Gives (λ x. x) result (edits.edit node.now edit.now in_recursion) }
     ensures misplaced { misplaces_default node.now edit.now in_recursion ≡ true → result ≡ Err DefaultOnFile }
@@ -151,19 +150,16 @@ pub fn apply(alloc: Global, node: &Node, edit: &Edit, in_recursion: bool) -> Res
             owner,
             group,
             flags,
-        } => {
-            let dacl = allowed(alloc, node.kind, in_recursion, dacl)?;
-            Node {
-                kind: node.kind,
-                label: Label {
-                    owner: owner.unwrap_or(node.label.owner),
-                    group: group.unwrap_or(node.label.group),
-                    acl: access.try_clone(alloc)?,
-                },
-                flags: flags.unwrap_or([false; 3]),
-                dacl,
-            }
-        }
+        } => restore_node(
+            alloc,
+            node,
+            access,
+            dacl,
+            *owner,
+            *group,
+            *flags,
+            in_recursion,
+        )?,
     };
     edited.lists_are_valid();
     Ok(edited)
@@ -186,6 +182,43 @@ fn allowed(
         Kind::Plain if dacl.is_none() || in_recursion => Ok(None),
         Kind::Plain => Err(EditFault::DefaultOnFile),
     }
+}
+
+/// What a record of a dump makes of a file: the lists and the flags are put, and owner and group where the record
+/// names them.
+///
+/// # Errors
+///
+/// A default list for a file that is not a directory, but in a recursion, which takes no memory to find; that memory ran
+/// out, never where no list has more than eight entries.
+#[tactic(auto, unfolding(crate::specs::Edits::restore))]
+pub fn restore_node(
+    alloc: Global,
+    node: &Node,
+    access: &Acl,
+    dacl: &Option<Acl>,
+    owner: Option<Id>,
+    group: Option<Id>,
+    flags: Option<[bool; 3]>,
+    in_recursion: bool,
+) -> Result<Node, EditFault>
+    ensures made { Gives (λ x. x) result (edits.restore node.now access.now dacl.now owner group flags in_recursion) }
+    ensures misplaced { edits.restore node.now access.now dacl.now owner group flags in_recursion ≡ Err DefaultOnFile → result ≡ Err DefaultOnFile }
+    ensures room { Fits (size access.now) → Fits (size_of dacl.now) → result ≢ Err NoMemory }
+    ensures sound { IfOk result IsSound }
+{
+    let dacl = allowed(alloc, node.kind, in_recursion, dacl)?;
+    let acl = access.try_clone(alloc)?;
+    Ok(Node {
+        kind: node.kind,
+        label: Label {
+            owner: owner.unwrap_or(node.label.owner),
+            group: group.unwrap_or(node.label.group),
+            acl,
+        },
+        flags: flags.unwrap_or([false; 3]),
+        dacl,
+    })
 }
 
 /// The default list that is given, or else the file's own again.

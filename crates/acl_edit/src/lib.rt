@@ -12,6 +12,6 @@ mod node;
 mod steps;
 
 pub use creation::create;
-pub use edit::{Edit, EditFault, Specs, apply};
+pub use edit::{Edit, EditFault, Specs, apply, restore_node};
 pub use laws::edits_are_refused_for_their_lists;
 pub use node::{Kind, Node, chmod};

@@ -5,7 +5,7 @@ ghost use Rattle.std.specs.List.{list_any};
 ghost use Rattle.acl_edit.specs.Parts.{specs_for, part};
 ghost use Rattle.acl_edit.specs.Rooms.{Fits, LeavesIn, size};
 ghost use Rattle.acl_edit.specs.Steps as steps;
-ghost use Rattle.acl_edit.specs.Steps.{execute, gives_execute, perms_of, may_execute};
+ghost use Rattle.acl_edit.specs.Steps.{gives_execute, perms_of, may_execute};
 ghost use Rattle.acl_edit.specs.Masks as masks;
 ghost use Rattle.acl_edit.specs.Masks.{has_mask, has_named, is_recalculated};
 
@@ -15,18 +15,11 @@ use acl_entry::{Acl, Draft, Entry, Key, Perm};
 use acl_text::{PermSpec, Spec, Which};
 use std::alloc::{AllocError, Global};
 
-/// Execute alone.
-fn execute() -> Perm
-    ensures { result ≡ execute }
-{
-    Perm::from_number(1).unwrap()
-}
-
 /// Whether the entry, which is not the mask, has execute.
 fn may_execute(entry: &Entry) -> bool
     ensures { result ≡ may_execute entry.now }
 {
-    !is_mask(&entry.key) && entry.perm.contains(execute())
+    !is_mask(&entry.key) && entry.perm.contains(Perm::EXECUTE)
 }
 
 /// Whether an entry other than the mask has execute.
@@ -49,7 +42,7 @@ fn perms_of(x: bool, perm: &Option<PermSpec>) -> Perm
 {
     match perm {
         None => Perm::none(),
-        Some(perm) if x && perm.cond_x => perm.fixed.union(execute()),
+        Some(perm) if x && perm.cond_x => perm.fixed.union(Perm::EXECUTE),
         Some(perm) => perm.fixed,
     }
 }

@@ -1,3 +1,4 @@
+pub mod Basics
 pub mod PermLaws
 pub mod KeyLaws
 pub mod Placed

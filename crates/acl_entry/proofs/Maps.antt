@@ -1,5 +1,5 @@
 -- Entries in list order, as the map that they make.
-use Rattle.std.proofs.Common.{◌≡◌, ℕ, Bool, true, false, cond, T, List, [], ◌∷◌, map, Some, refl, sym, ap, subst, ◌∙◌, ◌≤◌, ◌++◌, length, take, drop, arith}
+use Rattle.std.proofs.Common.{◌≡◌, ℕ, cond, T, List, [], ◌∷◌, map, Some, refl, sym, ap, subst, ◌∙◌, ◌≤◌, ◌++◌, length, take, drop, arith}
 use Rattle.std.specs.Ordering.{eq_by_cmp}
 use Rattle.std.specs.FinMap as maps
 use Rattle.std.specs.FinMap.Entries.{find-put, is_sorted-put}
@@ -13,6 +13,7 @@ use Rattle.acl_entry.specs.Perms.{Perms}
 use Rattle.acl_entry.specs.Keys.{key_cmp, same_key}
 use Rattle.acl_entry.specs.Lists.{KeyMap, pairs, map_of, entries, IsInOrder, IsGapFor, keys}
 use Rattle.acl_entry.proofs.KeyLaws.{key_total, exact_keys}
+use Rattle.acl_entry.proofs.Basics.{from_T}
 
 -- what the map has at a key
 pub get-map_of : (es : List Entry) (k : Key) → maps.get (map_of es) k ≡ maps.find key_cmp k (pairs es)
@@ -44,10 +45,6 @@ unpaired (e ∷ es) = ap (λ z. e ∷ z) (unpaired es)
 pub pairs-map_of : (es : List Entry) → IsInOrder es → maps.entries (map_of es) ≡ pairs es
 pairs-map_of es h = ap maps.entries (map_of-from_sorted es h) ∙ maps.entries-from_sorted key_cmp (pairs es) (is_T es h)
 
-pub true_T : (b : Bool) → T b → b ≡ true
-true_T true h = refl
-true_T false h = absurd h
-
 unpaired_pairs : (ps : List (Key × Perms)) → pairs (map (λ p. record { key = p.0; perm = p.1 }) ps) ≡ ps
 unpaired_pairs [] = refl
 unpaired_pairs (p ∷ ps) = ap (λ z. p ∷ z) (unpaired_pairs ps)
@@ -58,7 +55,7 @@ map_of-entries m = same _ _ (λ k.
     get-map_of (entries m) k ∙ ap (maps.find key_cmp k) (unpaired_pairs (maps.entries m)) ∙ sym (maps.get-entries m k))
 
 pub in_order-entries : (m : KeyMap) → IsInOrder (entries m)
-in_order-entries m = ap (maps.is_sorted key_cmp) (unpaired_pairs (maps.entries m)) ∙ true_T _ (maps.entries_sorted m)
+in_order-entries m = ap (maps.is_sorted key_cmp) (unpaired_pairs (maps.entries m)) ∙ from_T _ (maps.entries_sorted m)
 
 -- the entries of the map are those that made it
 pub entries-map_of : (es : List Entry) → IsInOrder es → entries (map_of es) ≡ es
@@ -68,14 +65,15 @@ entries-map_of es h = ap (map (λ p. record { key = p.0; perm = p.1 })) (pairs-m
 pub in_order-insert : (es : List Entry) → IsInOrder es → (e : Entry) (i : ℕ) → IsGapFor es e.key i → IsInOrder (insert es i e)
 in_order-insert es h e i gap =
     ap (maps.is_sorted key_cmp) (sym (put_gap es e.key e.perm i gap))
-    ∙ true_T _ (is_sorted-put key_cmp key_total e.key e.perm (pairs es) (is_T es h))
+    ∙ from_T _ (is_sorted-put key_cmp key_total e.key e.perm (pairs es) (is_T es h))
 
 -- another set at an old key keeps it too
 pub in_order-put : (es fs : List Entry) → IsInOrder es → (k : Key) (v : Perms) → pairs fs ≡ maps.put key_cmp k v (pairs es) → IsInOrder fs
-in_order-put es fs h k v is = ap (maps.is_sorted key_cmp) is ∙ true_T _ (is_sorted-put key_cmp key_total k v (pairs es) (is_T es h))
+in_order-put es fs h k v is = ap (maps.is_sorted key_cmp) is ∙ from_T _ (is_sorted-put key_cmp key_total k v (pairs es) (is_T es h))
 
 -- what is found after the insert
-pub find-insert : (es : List Entry) (e : Entry) (i : ℕ) → IsGapFor es e.key i → (k : Key) → maps.find key_cmp k (pairs (insert es i e)) ≡ cond (same_key k e.key) (Some e.perm) (maps.find key_cmp k (pairs es))
+pub find-insert : (es : List Entry) (e : Entry) (i : ℕ) → IsGapFor es e.key i → (k : Key)
+    → maps.find key_cmp k (pairs (insert es i e)) ≡ cond (same_key k e.key) (Some e.perm) (maps.find key_cmp k (pairs es))
 find-insert es e i gap k = ap (maps.find key_cmp k) (sym (put_gap es e.key e.perm i gap)) ∙ find-put key_cmp key_total k e.key e.perm (pairs es)
 
 -- what a write of all entries as a slice leaves

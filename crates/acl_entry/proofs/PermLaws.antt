@@ -26,12 +26,13 @@ same_perms s t r w x = λ i. record { read = r i; write = w i; execute = x i }
 pub numbered-or : (a b : ℕ) → numbered (bit_or a b) ≡ union (numbered a) (numbered b)
 numbered-or a b = same_perms _ _ (bit_or_is a b 2) (bit_or_is a b 1) (bit_or_is a b 0)
 
--- `&` meets them
+-- `&` leaves those of both
 pub numbered-and : (a b : ℕ) → numbered (bit_and a b) ≡ meet (numbered a) (numbered b)
 numbered-and a b = same_perms _ _ (bit_and_is a b 2) (bit_and_is a b 1) (bit_and_is a b 0)
 
 -- the test that the code makes
-contains_bools : (a b c d e f : Bool) → contains (record { read = a; write = b; execute = c }) (record { read = d; write = e; execute = f }) ≡ eqb (number (meet (record { read = a; write = b; execute = c }) (record { read = d; write = e; execute = f }))) (number (record { read = d; write = e; execute = f }))
+contains_bools : (a b c d e f : Bool) → contains (record { read = a; write = b; execute = c }) (record { read = d; write = e; execute = f })
+    ≡ eqb (number (meet (record { read = a; write = b; execute = c }) (record { read = d; write = e; execute = f }))) (number (record { read = d; write = e; execute = f }))
 contains_bools a b c d e f = grind (arith, nat_tests)
 
 pub contains-and : (a b : ℕ) → a < 8 → b < 8 → contains (numbered a) (numbered b) ≡ eqb (bit_and a b) b

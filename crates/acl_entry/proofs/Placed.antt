@@ -1,5 +1,6 @@
 -- Entries in list order: where a key is, or would be.
-use Rattle.std.proofs.Common.{◌≡◌, ℕ, zero, suc, ◌+◌, ◌<◌, true, false, cond, IsTrue, List, [], ◌∷◌, length, get_or, set, Some, None, Result, Ok, Err, IfOk, IfErr, Ordering, Less, Equal, Greater, refl, sym, ap, subst, ◌∙◌, arith}
+use Rattle.std.proofs.Common.{◌≡◌, ℕ, zero, suc, ◌+◌, ◌<◌, false, cond, IsTrue, List, [], ◌∷◌, length, get_or, set, Some, None, Result, Ok, Err, IfOk, IfErr}
+use Rattle.std.proofs.Common.{Ordering, Less, Equal, Greater, refl, sym, ap, subst, ◌∙◌, arith}
 use Rattle.std.specs.List.{insert}
 use Rattle.std.specs.Ordering.{is_lt, is_eq}
 use Rattle.std.specs.List.Sorted.{IsSearchInRange, IsBinarySearchResult, IsSortedBy}
@@ -14,15 +15,11 @@ use Rattle.acl_entry.specs.Perms.{Perms}
 use Rattle.acl_entry.specs.Keys.{key_cmp}
 use Rattle.acl_entry.specs.Lists.{pairs, IsInOrder, IsAt, IsGapFor}
 use Rattle.acl_entry.proofs.KeyLaws.{key_total, exact_keys, above, below}
-
-pub less : (o : Ordering) → is_lt o ≡ true → o ≡ Less
-less Less h = refl
-less Equal h = cc
-less Greater h = cc
+use Rattle.acl_entry.proofs.Basics.{is_less}
 
 below_at : (k : Key) (es : List Entry) → IsTrue (below_all key_cmp k (pairs es)) → (j : ℕ) (d : Entry) → j < length es → key_cmp k (get_or es j d).key ≡ Less
 below_at k [] h j d lt = absurd (omega arith)
-below_at k (e ∷ es) h zero d lt = less _ (and_parts _ _ h).0
+below_at k (e ∷ es) h zero d lt = is_less _ (and_parts _ _ h).0
 below_at k (e ∷ es) h (suc j) d lt = below_at k es (and_parts _ _ h).1 j d (omega arith)
 
 -- the keys rise
@@ -36,7 +33,8 @@ is_sorted_by : (es : List Entry) → IsInOrder es → IsSortedBy (λ a b. is_lt 
 is_sorted_by es h k d low high = ap is_lt (above (get_or es k d).key (get_or es (k + 1) d).key (rises es h k (k + 1) d (omega arith) (omega arith)))
 
 -- what a binary search by the keys answers
-pub searched : (es : List Entry) → IsInOrder es → (k : Key) (r : Result ℕ ℕ) → IsSearchInRange r (length es) → IsBinarySearchResult (λ e. key_cmp e.key k) es r → record { found : IfOk r (IsAt es k); absent : IfErr r (IsGapFor es k) }
+pub searched : (es : List Entry) → IsInOrder es → (k : Key) (r : Result ℕ ℕ) → IsSearchInRange r (length es) → IsBinarySearchResult (λ e. key_cmp e.key k) es r
+    → record { found : IfOk r (IsAt es k); absent : IfErr r (IsGapFor es k) }
 searched es h k (Ok i) in_range equal = record { found = record { in_range = in_range; has_key = λ d. exact_keys _ _ (equal d) }; absent = tt }
 searched es h k (Err i) in_range parted =
     let two = parted (searchable_from_sorted key_total (λ (e : Entry). e.key) es k (is_sorted_by es h)) in
@@ -98,12 +96,14 @@ put_gap (e ∷ es) k v (suc i) gap =
 pub put_at : (es : List Entry) → IsInOrder es → (k : Key) (v : Perms) (i : ℕ) → IsAt es k i → put key_cmp k v (pairs es) ≡ pairs (set es i (record { key = k; perm = v }))
 put_at [] h k v i at = absurd (omega (arith, at.in_range))
 put_at (e ∷ es) h k v zero at =
-    ap (λ r. by_order r ((k, v) ∷ pairs (e ∷ es)) ((e.key, v) ∷ pairs es) ((e.key, e.perm) ∷ put key_cmp k v (pairs es))) (subst (λ q. key_cmp k q ≡ Equal) (sym (at.has_key e)) (tied_itself key_total k))
+    ap (λ r. by_order r ((k, v) ∷ pairs (e ∷ es)) ((e.key, v) ∷ pairs es) ((e.key, e.perm) ∷ put key_cmp k v (pairs es)))
+    (subst (λ q. key_cmp k q ≡ Equal) (sym (at.has_key e)) (tied_itself key_total k))
     ∙ ap (λ q. (q, v) ∷ pairs es) (at.has_key e)
 put_at (e ∷ es) h k v (suc i) at =
     ap (λ r. by_order r ((k, v) ∷ pairs (e ∷ es)) ((e.key, v) ∷ pairs es) ((e.key, e.perm) ∷ put key_cmp k v (pairs es))) (before_at e es k i h at)
     ∙ ap (λ z. (e.key, e.perm) ∷ z) (put_at es (and_parts _ _ h).1 k v i (tail_at e es k i at))
 
 -- the same search by an order that agrees
-pub search_by : (R : Key → Key → Ordering) → ((a b : Key) → R a b ≡ key_cmp a b) → (es : List Entry) (k : Key) (r : Result ℕ ℕ) → IsBinarySearchResult (λ e. R e.key k) es r → IsBinarySearchResult (λ e. key_cmp e.key k) es r
+pub search_by : (R : Key → Key → Ordering) → ((a b : Key) → R a b ≡ key_cmp a b) → (es : List Entry) (k : Key) (r : Result ℕ ℕ)
+    → IsBinarySearchResult (λ e. R e.key k) es r → IsBinarySearchResult (λ e. key_cmp e.key k) es r
 search_by R same es k r h = subst (λ (f : Entry → Ordering). IsBinarySearchResult f es r) (λ i e. same e.key k i) h

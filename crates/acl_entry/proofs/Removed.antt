@@ -12,8 +12,9 @@ use Rattle.acl_entry.specs.Perms.{Perms}
 use Rattle.acl_entry.specs.Keys.{key_cmp, same_key}
 use Rattle.acl_entry.specs.Lists.{pairs, map_of, IsInOrder, IsAt, IsGapFor}
 use Rattle.acl_entry.proofs.KeyLaws.{key_total, exact_keys}
-use Rattle.acl_entry.proofs.Placed.{less, tail_at, tail_gap, before_at}
-use Rattle.acl_entry.proofs.Maps.{same, get-map_of, is_T, true_T}
+use Rattle.acl_entry.proofs.Placed.{tail_at, tail_gap, before_at}
+use Rattle.acl_entry.proofs.Maps.{same, get-map_of, is_T}
+use Rattle.acl_entry.proofs.Basics.{from_T, is_less}
 
 -- the entries of other keys
 abbrev pub without : Key → List (Key × Perms) → List (Key × Perms)
@@ -26,7 +27,7 @@ stays k e es same = ap (λ b. cond (not b) ((e.key, e.perm) ∷ without k (pairs
 without_above : (k : Key) (es : List Entry) → IsTrue (below_all key_cmp k (pairs es)) → without k (pairs es) ≡ pairs es
 without_above k [] h = refl
 without_above k (e ∷ es) h =
-    stays k e es (ap is_eq (less _ (and_parts _ _ h).0)) ∙ ap (λ z. (e.key, e.perm) ∷ z) (without_above k es (and_parts _ _ h).1)
+    stays k e es (ap is_eq (is_less _ (and_parts _ _ h).0)) ∙ ap (λ z. (e.key, e.perm) ∷ z) (without_above k es (and_parts _ _ h).1)
 
 pub without_at : (es : List Entry) → IsInOrder es → (k : Key) (i : ℕ) → IsAt es k i → pairs (remove es i) ≡ without k (pairs es)
 without_at [] h k i at = absurd (omega (arith, at.in_range))
@@ -63,4 +64,4 @@ map_of-without es fs k h = same _ _ (λ q.
     ∙ sym (maps.get-remove key_total (map_of es) k q ∙ ap (cond (same_key q k) None) (get-map_of es q)))
 
 pub in_order-without : (es fs : List Entry) → IsInOrder es → (k : Key) → pairs fs ≡ without k (pairs es) → IsInOrder fs
-in_order-without es fs h k is = ap (maps.is_sorted key_cmp) is ∙ true_T _ (is_sorted-where_key key_cmp (λ x. not (same_key k x)) (pairs es) (is_T es h))
+in_order-without es fs h k is = ap (maps.is_sorted key_cmp) is ∙ from_T _ (is_sorted-where_key key_cmp (λ x. not (same_key k x)) (pairs es) (is_T es h))

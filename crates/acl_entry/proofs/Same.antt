@@ -1,5 +1,5 @@
 -- What the derived `==` of entries decides.
-use Rattle.std.proofs.Common.{◌≡◌, Bool, true, false, ◌&&◌, refl, sym, ap, subst, ◌∙◌}
+use Rattle.std.proofs.Common.{◌≡◌, Bool, true, false, refl, sym, ap, subst, ◌∙◌}
 use Rattle.std.specs.Bool.{Decides}
 use Rattle.std.proofs.lemmas.Bool.{and_parts, eqb-true, eq-eqb}
 use Rattle.acl_entry.specs.declared.entry.Key.{Key}
@@ -9,6 +9,7 @@ use Rattle.acl_entry.specs.contracts.entry.KeyPartialEq.TheImpl.{ghosts as key_e
 use Rattle.acl_entry.specs.contracts.entry.PermPartialEq.TheImpl.{ghosts as perm_equality}
 use Rattle.acl_entry.specs.contracts.entry.EntryPartialEq.TheImpl.{ghosts as entry_equality}
 use Rattle.acl_entry.specs.Perms.{Perms, number, numbered}
+use Rattle.acl_entry.proofs.Basics.{both_true}
 
 key_is_same : (a b : Key) → key_equality.eq a b ≡ true → a ≡ b
 key_is_same Owner Owner h = refl
@@ -32,7 +33,7 @@ key_itself (Group m) = eq-eqb m m refl
 key_itself Mask = refl
 key_itself Other = refl
 
-numbered_bools : (r w x : Bool) → numbered (number (record { read = r; write = w; execute = x })) ≡ record { read = r; write = w; execute = x }
+pub numbered_bools : (r w x : Bool) → numbered (number (record { read = r; write = w; execute = x })) ≡ record { read = r; write = w; execute = x }
 numbered_bools true true true = refl
 numbered_bools true true false = refl
 numbered_bools true false true = refl
@@ -52,14 +53,11 @@ perm_is_same s t h = sym (numbered-number s) ∙ ap numbered (eqb-true (number s
 perm_itself : (s : Perms) → perm_equality.eq s s ≡ true
 perm_itself s = eq-eqb (number s) (number s) refl
 
-both : (a b : Bool) → a ≡ true → b ≡ true → (a && b) ≡ true
-both a b p q = cc
-
 same_entry : (a b : Entry) → a.key ≡ b.key → a.perm ≡ b.perm → a ≡ b
 same_entry a b k p = λ i. record { key = k i; perm = p i }
 
 entry_itself : (a : Entry) → entry_equality.eq a a ≡ true
-entry_itself a = both _ _ (key_itself a.key) (perm_itself a.perm)
+entry_itself a = both_true _ _ (key_itself a.key) (perm_itself a.perm)
 
 -- two entries are equal where `==` returns true
 pub entry_decided : (a b : Entry) → Decides (entry_equality.eq a b) (a ≡ b)

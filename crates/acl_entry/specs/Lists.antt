@@ -1,5 +1,6 @@
 -- Access control lists: a map from keys to permission sets, and the faults of a sequence of entries.
-use Rattle.std.specs.Prelude.{◌≡◌, ℕ, ◌+◌, ◌*◌, ◌/◌, Bool, not, nat_lt, List, [], ◌∷◌, ◌++◌, map, length, Option, Some, None, option_map, unwrap_or, find, filter, IsTrue, ◌<◌, ◌≤◌, slice_index_or, if◌then◌else◌}
+use Rattle.std.specs.Prelude.{◌≡◌, ℕ, ◌+◌, ◌*◌, ◌/◌, Bool, not, nat_lt, List, [], ◌∷◌, ◌++◌, map, length, Option, Some, None, option_map, unwrap_or, find}
+use Rattle.std.specs.Prelude.{filter, IsTrue, ◌<◌, ◌≤◌, slice_index_or, if◌then◌else◌}
 use Rattle.std.specs.declared.cmp.Ordering.TheVariants.{Less, Greater}
 use Rattle.std.specs.List.{All, list_any, list_all, position_from}
 use Rattle.std.specs.FinMap as maps
@@ -133,7 +134,7 @@ with_mode m owner group other = maps.insert (maps.insert (maps.insert m Owner ow
 abbrev pub chmod : KeyMap → ℕ → KeyMap
 chmod m n = with_mode m (perms.numbered (n / 64)) (perms.numbered (n / 8)) (perms.numbered n)
 
--- the mode entries are met with the digits of n
+-- of the mode entries what the digits of n have too is left
 abbrev pub restrict : KeyMap → ℕ → KeyMap
 restrict m n =
     with_mode m (perms.meet (perm_at m Owner) (perms.numbered (n / 64))) (perms.meet (perm_at m (group_digit_key m)) (perms.numbered (n / 8))) (perms.meet (perm_at m Other) (perms.numbered n))

@@ -148,8 +148,8 @@ impl Acl {
         &self.entries
     }
 
-    /// What the entry of this key grants: its permissions, met with the mask, where there is one, if
-    /// the entry is of the group class.
+    /// What the entry of this key grants: its permissions, and of an entry of the group class those that the mask has
+    /// too, where there is one.
     pub fn effective(&self, key: Key) -> Option<Perm>
         ensures { result ≡ lists.effective self.now key }
     {

@@ -106,7 +106,7 @@ fn all_granted(subject: &Subject, label: &Label) -> Requests
     }
 }
 
-/// The permissions, met with the mask, if there is one.
+/// The permissions, and where there is a mask those that it has too.
 fn under(mask: &Option<Perm>, perm: Perm) -> Perm
     ensures { result ≡ masked_by mask.now perm }
 {

@@ -237,6 +237,15 @@ impl Model for Perm {
 }
 
 impl Perm {
+    /// Read alone.
+    pub const READ: Perm = Perm { bits: PermBits(4) };
+
+    /// Write alone.
+    pub const WRITE: Perm = Perm { bits: PermBits(2) };
+
+    /// Execute alone. On a directory it is search.
+    pub const EXECUTE: Perm = Perm { bits: PermBits(1) };
+
     /// The set of a number from 0 to 7, and `None` above.
     pub fn from_number(n: u8) -> Option<Perm>
         ensures { SomeIff result (n < 8) (perms.numbered n) }

@@ -278,6 +278,13 @@ fn permissions(rt: HostRuntime) {
 }
 
 #[test]
+fn single_permissions(rt: HostRuntime) {
+    assert!(rt; Perm::READ == perm(&rt, 4));
+    assert!(rt; Perm::WRITE == perm(&rt, 2));
+    assert!(rt; Perm::EXECUTE == perm(&rt, 1));
+}
+
+#[test]
 fn ids(rt: HostRuntime) {
     assert!(rt; Id::new(4294967295).is_none());
     assert!(rt; id(&rt, 4294967294).number() == 4294967294);

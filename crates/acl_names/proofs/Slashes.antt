@@ -11,12 +11,14 @@ use Rattle.acl_names.proofs.Packs.{clean_component}
 use Rattle.acl_names.proofs.Escapes.{written_whole}
 
 -- one more is written
-pub one_written : (g : ℕ → ℕ) (xs : List ℕ) (i d : ℕ) → i < length xs → set (map g (take i xs) ++ drop i xs) i (g (get_or (map g (take i xs) ++ drop i xs) i d)) ≡ map g (take (suc i) xs) ++ drop (suc i) xs
+pub one_written : (g : ℕ → ℕ) (xs : List ℕ) (i d : ℕ) → i < length xs
+    → set (map g (take i xs) ++ drop i xs) i (g (get_or (map g (take i xs) ++ drop i xs) i d)) ≡ map g (take (suc i) xs) ++ drop (suc i) xs
 one_written g [] i d lt = absurd (omega (arith, lt))
 one_written g (x ∷ xs) zero d lt = refl
 one_written g (x ∷ xs) (suc i) d lt = ap (λ (l : List ℕ). g x ∷ l) (one_written g xs i d (omega (arith, lt)))
 
-pub none_of_three : (bytes : List ℕ) → list_any (λ b. b == 92) bytes ≡ false → list_any (λ b. b == 10) bytes ≡ false → list_any (λ b. b == 13) bytes ≡ false → list_any is_escaped_in_paths bytes ≡ false
+pub none_of_three : (bytes : List ℕ) → list_any (λ b. b == 92) bytes ≡ false → list_any (λ b. b == 10) bytes ≡ false → list_any (λ b. b == 13) bytes ≡ false
+    → list_any is_escaped_in_paths bytes ≡ false
 none_of_three [] one two three = refl
 none_of_three (b ∷ bs) one two three =
     let first = or_parts (b == 92) (list_any (λ b. b == 92) bs) one in
@@ -35,7 +37,8 @@ slashes_others : (names : List (List ℕ)) → list_all is_component names ≡ t
 slashes_others [] are = refl
 slashes_others (name ∷ names) are =
     let parts = and_parts (is_component name) (list_all is_component names) are in
-    ap (λ (l : List ℕ). 47 ∷ l) (slashes_name name (packed names) (clean_component name parts.0) ∙ ap (λ (l : List ℕ). name ++ l) (slashes_others names parts.1) ∙ sym (append_assoc name (flat_map after_slash names) (47 ∷ [])))
+    ap (λ (l : List ℕ). 47 ∷ l)
+    (slashes_name name (packed names) (clean_component name parts.0) ∙ ap (λ (l : List ℕ). name ++ l) (slashes_others names parts.1) ∙ sym (append_assoc name (flat_map after_slash names) (47 ∷ [])))
 
 escaped_as_before : (b : ℕ) → is_escaped_in_paths (with_slash b) ≡ is_escaped_in_paths b
 escaped_as_before zero = refl
@@ -53,7 +56,8 @@ text_of [] (f ∷ front) last are is = absurd cc
 text_of (name ∷ names) front last are is =
     let parts = and_parts (is_component name) (list_all is_component names) are in
     (same_from_push (map with_slash front) (joined (name ∷ names)) (with_slash last) 47
-    (sym (map-append with_slash front (last ∷ [])) ∙ sym (ap (map with_slash) is) ∙ slashes_name name (packed names) (clean_component name parts.0) ∙ ap (λ (l : List ℕ). name ++ l) (slashes_others names parts.1) ∙ sym (append_assoc name (flat_map after_slash names) (47 ∷ [])))).0
+    (sym (map-append with_slash front (last ∷ [])) ∙ sym (ap (map with_slash) is) ∙ slashes_name name (packed names) (clean_component name parts.0)
+    ∙ ap (λ (l : List ℕ). name ++ l) (slashes_others names parts.1) ∙ sym (append_assoc name (flat_map after_slash names) (47 ∷ [])))).0
 
 -- what is written at once is the text of the path
 pub plain_text : (bytes front : List ℕ) (last : ℕ) → IsPacked bytes → list_any is_escaped_in_paths bytes ≡ false → bytes ≡ front ++ last ∷ [] → map with_slash front ≡ path_text (unpacked bytes)

@@ -1,5 +1,6 @@
 -- What is done at places, and what it does to a row of all users.
-use Rattle.std.proofs.Common.{◌≡◌, ℕ, zero, suc, ◌+◌, ◌<◌, ◌==◌, ◌||◌, Bool, true, false, List, [], ◌∷◌, length, map, take, get_or, set, replicate, if◌then◌else◌, refl, ap, sym, ◌∙◌, ⊎_elim, eq-eqb, arith}
+use Rattle.std.proofs.Common.{◌≡◌, ℕ, zero, suc, ◌+◌, ◌<◌, ◌==◌, ◌||◌, Bool, true, false, List, [], ◌∷◌, length, map, take, get_or, set, replicate}
+use Rattle.std.proofs.Common.{if◌then◌else◌, refl, ap, sym, ◌∙◌, ⊎_elim, eq-eqb, arith}
 use Rattle.std.specs.Int.RustNames.{bit_or}
 use Rattle.std.specs.FinSet as sets
 use Rattle.std.proofs.lemmas.Bool.{cases_eq, ne_eqb}
@@ -22,7 +23,8 @@ or_twice a b = same_from_bits (bit_or (bit_or a b) b) (bit_or a b) (λ i.
     omega (arith, outer, inner))
 
 -- ---- one place more, at which h is done: twice is as once
-module _ (h : ℕ → ℕ) (once : (n : ℕ) → h (h n) ≡ h n) (places old row : List ℕ) (i w : ℕ) (lt : i < length places) (in_range : get_or places i 0 < length row) (is : w ≡ h (get_or row (get_or places i 0) 0)) (so_far : (at : ℕ) → get_or row at 0 ≡ (if is_one_of at (take i places) then h (get_or old at 0) else get_or old at 0)) where
+module _ (h : ℕ → ℕ) (once : (n : ℕ) → h (h n) ≡ h n) (places old row : List ℕ) (i w : ℕ) (lt : i < length places) (in_range : get_or places i 0 < length row)
+    (is : w ≡ h (get_or row (get_or places i 0) 0)) (so_far : (at : ℕ) → get_or row at 0 ≡ (if is_one_of at (take i places) then h (get_or old at 0) else get_or old at 0)) where
   more : (at : ℕ) → is_one_of at (take (i + 1) places) ≡ (is_one_of at (take i places) || (get_or places i 0 == at))
   more at = list_any_more (λ x. x == at) places i 0 lt
 
@@ -46,13 +48,15 @@ module _ (h : ℕ → ℕ) (once : (n : ℕ) → h (h n) ≡ h n) (places old ro
       ∙ ap (λ q. h (get_or row q 0)) e
       ∙ ap h (so_far at)
       ∙ again (is_one_of at (take i places)) (get_or old at 0)
-      ∙ ap (λ b. if b then h (get_or old at 0) else get_or old at 0) (sym (more at ∙ ap (λ b. is_one_of at (take i places) || b) (eq-eqb (get_or places i 0) at e) ∙ or_true (is_one_of at (take i places))))
+      ∙ ap (λ b. if b then h (get_or old at 0) else get_or old at 0)
+      (sym (more at ∙ ap (λ b. is_one_of at (take i places) || b) (eq-eqb (get_or places i 0) at e) ∙ or_true (is_one_of at (take i places))))
 
   elsewhere : (at : ℕ) → (get_or places i 0 ≡ at → ⊥) → get_or (set row (get_or places i 0) w) at 0 ≡ (if is_one_of at (take (i + 1) places) then h (get_or old at 0) else get_or old at 0)
   elsewhere at ne =
       get_or-set_other row (get_or places i 0) at w 0 (λ e. ne (sym e))
       ∙ so_far at
-      ∙ ap (λ b. if b then h (get_or old at 0) else get_or old at 0) (sym (more at ∙ ap (λ b. is_one_of at (take i places) || b) (ne_eqb (get_or places i 0) at ne) ∙ or_false (is_one_of at (take i places))))
+      ∙ ap (λ b. if b then h (get_or old at 0) else get_or old at 0)
+      (sym (more at ∙ ap (λ b. is_one_of at (take i places) || b) (ne_eqb (get_or places i 0) at ne) ∙ or_false (is_one_of at (take i places))))
 
   pub done_more : (at : ℕ) → get_or (set row (get_or places i 0) w) at 0 ≡ (if is_one_of at (take (i + 1) places) then h (get_or old at 0) else get_or old at 0)
   done_more at = ⊎_elim (here at) (elsewhere at) (cases_eq (get_or places i 0) at)

@@ -1,15 +1,15 @@
 -- The row of all users, one entry of the file after another, and what the row is in the end.
-use Rattle.std.proofs.Common.{◌≡◌, ℕ, ◌+◌, ◌<◌, ◌≤◌, ◌==◌, ◌||◌, Bool, true, false, cond, Option, Some, None, List, ◌∷◌, length, map, take, drop, get_or, eqb, nat_cmp, Less, Equal, Greater, if◌then◌else◌, refl, ap, sym, ◌∙◌, ⊎_elim, arith}
+use Rattle.std.proofs.Common.{◌≡◌, ℕ, ◌+◌, ◌<◌, ◌≤◌, ◌==◌, ◌||◌, Bool, true, false, cond, Option, Some, None, List, ◌∷◌, length, map, take, drop, get_or, eqb, if◌then◌else◌, refl, ap, sym, ◌∙◌}
 use Rattle.std.specs.Int.RustNames.{bit_or}
-use Rattle.std.specs.Ordering.{is_eq, eq_by_cmp}
-use Rattle.std.specs.Cmp.{nat_cmp_is}
+use Rattle.std.specs.Ordering.{eq_by_cmp}
 use Rattle.std.specs.List.{list_any}
 use Rattle.std.specs.Option.{option_map_or}
 use Rattle.std.specs.FinMap as maps
 use Rattle.std.specs.FinSet as sets
-use Rattle.std.proofs.lemmas.Bool.{cases_eq, cases_lt, ne_eqb, eq-eqb}
 use Rattle.std.proofs.lemmas.List.{drop_more, take_all}
 use Rattle.std.proofs.lemmas.List.Folds.{list_any_more, list_any_at}
+use Rattle.acl_names.proofs.Basics.{or_false}
+use Rattle.acl_names.proofs.Begins.{nat_is_eq}
 use Rattle.acl_entry.specs.declared.entry.Key.{Key}
 use Rattle.acl_entry.specs.declared.entry.Key.TheVariants.{Owner, User, OwningGroup, Group, Mask, Other}
 use Rattle.acl_entry.specs.declared.entry.Entry.{Entry}
@@ -41,10 +41,6 @@ abbrev pub named : Option Perms → (Person → ℕ) → List Entry → Person �
 named mask f es u = option_map_or (λ s. byte_of (contains (masked_by mask s))) (maps.find key_cmp (User u.uid) (pairs es)) (f u)
 
 -- ---- entries of groups, from the first on
-
-or_false : (b : Bool) → (b || false) ≡ b
-or_false true = refl
-or_false false = refl
 
 module _ (users : List Person) (owning : ℕ) (es : List Entry) (i : ℕ) (e : Entry) (lt : i < length es) (is : e ≡ get_or es i e) where
   matched_more : (u : Person) → list_any (is_for u owning) (take (i + 1) es) ≡ (list_any (is_for u owning) (take i es) || is_for u owning e)
@@ -118,23 +114,8 @@ added_all l mask es i mask_is es_are past f u = λ j. if is_matched l u then byt
 
 -- ---- entries of named users, from the last on: of two of one key the first counts
 
-same_id : (a b : ℕ) → is_eq (nat_cmp a b) ≡ eqb a b
-same_id a b = ⊎_elim equal apart (cases_eq a b)
-  where
-    equal : a ≡ b → is_eq (nat_cmp a b) ≡ eqb a b
-    equal e = ap is_eq (sym (nat_cmp_is a b Equal e)) ∙ sym (eq-eqb a b e)
-
-    less : (a ≡ b → ⊥) → a < b → is_eq (nat_cmp a b) ≡ eqb a b
-    less ne lt = ap is_eq (sym (nat_cmp_is a b Less lt)) ∙ sym (ne_eqb a b ne)
-
-    greater : (a ≡ b → ⊥) → b < a → is_eq (nat_cmp a b) ≡ eqb a b
-    greater ne lt = ap is_eq (sym (nat_cmp_is a b Greater lt)) ∙ sym (ne_eqb a b ne)
-
-    apart : (a ≡ b → ⊥) → is_eq (nat_cmp a b) ≡ eqb a b
-    apart ne = ⊎_elim (less ne) (λ le. greater ne (omega (arith, ne))) (cases_lt a b)
-
 names : (n : ℕ) (k : Key) (id : ℕ) → k ≡ User id → eq_by_cmp key_cmp (User n) k ≡ eqb n id
-names n k id is = ap (eq_by_cmp key_cmp (User n)) is ∙ same_id n id
+names n k id is = ap (eq_by_cmp key_cmp (User n)) is ∙ nat_is_eq n id
 
 names_nobody : (k : Key) → ((id : ℕ) → k ≡ User id → ⊥) → (n : ℕ) → eq_by_cmp key_cmp (User n) k ≡ false
 names_nobody Owner other n = refl

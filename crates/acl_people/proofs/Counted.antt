@@ -1,5 +1,6 @@
 -- The names of counted rows are distinct, not empty, and made of bytes.
-use Rattle.std.proofs.Common.{◌≡◌, ℕ, ◌+◌, ◌<◌, Bool, true, false, ◌||◌, cond, List, [], ◌∷◌, ◌++◌, length, map, get_or, position, Option, Some, None, option_map, Result, Ok, Err, if◌then◌else◌, nat_le, refl, ap, subst, ◌∙◌, inl, inr, arith, length-append}
+use Rattle.std.proofs.Common.{◌≡◌, ℕ, ◌+◌, ◌<◌, Bool, true, false, cond, List, [], ◌∷◌, ◌++◌, length, map, get_or, position, Option, Some, None, option_map}
+use Rattle.std.proofs.Common.{Result, Ok, Err, if◌then◌else◌, nat_le, refl, ap, subst, ◌∙◌, inl, inr, arith, length-append}
 use Rattle.std.specs.List.{list_all, position_or_len, remove}
 use Rattle.std.specs.Option.{option_or}
 use Rattle.std.specs.Str.{bytes_eq}
@@ -11,6 +12,7 @@ use Rattle.std.proofs.lemmas.List.Sums.{position_or_len_is}
 use Rattle.std.proofs.lemmas.Bool.{cases_lt, and_parts}
 use Rattle.std.proofs.lemmas.Bool.Decides.{nat_tests}
 use Rattle.acl_names.specs.Pieces.{pieces, is_byte}
+use Rattle.acl_names.proofs.Basics.{both_false}
 use Rattle.acl_text.specs.declared.fault.FaultKind.{FaultKind}
 use Rattle.acl_text.specs.declared.fault.FaultKind.TheVariants.{TooMany}
 use Rattle.acl_text.specs.declared.fault.TextFault.{TextFault}
@@ -110,13 +112,6 @@ counted_remove es u within known = record { names = record { once = once; filled
       | inr above ↦ rw (get_or-remove_above es u d i above within) (known.names.made_of_bytes (i + 1) d (omega (arith, length-remove es u within)))
     ]
 
-both_false : (a b : Bool) → (a || b) ≡ false → (a ≡ false) × (b ≡ false)
-both_false true b h = absurd (true_is_not_false h)
-  where
-    true_is_not_false : true ≡ false → ⊥
-    true_is_not_false e = cc
-both_false false b h = (refl, h)
-
 module _ {R : Type 0} (name_of : R → List ℕ) (id_of : R → ℕ) where
   abbrev entries : List R → List Named
   entries rows = map (λ r. (name_of r, id_of r)) rows
@@ -133,14 +128,18 @@ module _ {R : Type 0} (name_of : R → List ℕ) (id_of : R → ℕ) where
   counted_keeps rows new None text known is = absurd (err_is_not_ok _ new is)
   counted_keeps rows new (Some row) text known is = by (is_repeated name_of rows (name_of row)) refl is
     where
-      full : (b : Bool) → nat_le most_rows (length rows) ≡ b → is_repeated name_of rows (name_of row) ≡ false → (let many : Result (List R) FaultKind = Err TooMany in (if b then many else Ok (rows ++ row ∷ [])) ≡ Ok new) → AreCounted (entries new)
+      full : (b : Bool) → nat_le most_rows (length rows) ≡ b → is_repeated name_of rows (name_of row) ≡ false
+          → (let many : Result (List R) FaultKind = Err TooMany in (if b then many else Ok (rows ++ row ∷ [])) ≡ Ok new) → AreCounted (entries new)
       full true room apart e = absurd (err_is_not_ok _ new e)
       full false room apart e =
           subst (λ rs. AreCounted (entries rs)) (ok_same FaultKind (rows ++ row ∷ []) new e)
           (let pushed : entries (rows ++ row ∷ []) ≡ entries rows ++ (name_of row, id_of row) ∷ [] = map_push (λ r. (name_of r, id_of r)) rows row in
-          rw pushed (counted_push (entries rows) (name_of row, id_of row) known (not_there (name_of row) rows apart) (text row refl) (let as_long : length (entries rows) ≡ length rows = length-map rows (λ r. (name_of r, id_of r)) in grind (arith, nat_tests))))
+          rw pushed (counted_push (entries rows) (name_of row, id_of row) known (not_there (name_of row) rows apart) (text row refl)
+          (let as_long : length (entries rows) ≡ length rows = length-map rows (λ r. (name_of r, id_of r)) in grind (arith, nat_tests))))
 
-      by : (b : Bool) → is_repeated name_of rows (name_of row) ≡ b → (let many : Result (List R) FaultKind = Err TooMany in (if b then Ok rows else (if nat_le most_rows (length rows) then many else Ok (rows ++ row ∷ []))) ≡ Ok new) → AreCounted (entries new)
+      by : (b : Bool) → is_repeated name_of rows (name_of row) ≡ b
+          → (let many : Result (List R) FaultKind = Err TooMany in
+          (if b then Ok rows else (if nat_le most_rows (length rows) then many else Ok (rows ++ row ∷ []))) ≡ Ok new) → AreCounted (entries new)
       by true there e = subst (λ rs. AreCounted (entries rs)) (ok_same FaultKind rows new e) known
       by false apart e = full (nat_le most_rows (length rows)) refl apart e
 
@@ -153,13 +152,16 @@ module _ {R : Type 0} (name_of : R → List ℕ) (id_of : R → ℕ) where
         by false e = counted_keeps rows new (row_of (pieces 58 line)) (λ row is. text (pieces 58 line) (pieces_made 58 line made) row is) known e
 
     -- the rows that are counted of all lines
-    pub reads_keep : (at : ℕ) (rows new : List R) (ls : List (List ℕ)) → are_texts ls ≡ true → AreCounted (entries rows) → read_each_from (λ at rows line. one_line name_of row_of rows line) at rows ls ≡ Ok new → AreCounted (entries new)
+    pub reads_keep : (at : ℕ) (rows new : List R) (ls : List (List ℕ)) → are_texts ls ≡ true → AreCounted (entries rows)
+        → read_each_from (λ at rows line. one_line name_of row_of rows line) at rows ls ≡ Ok new → AreCounted (entries new)
     reads_keep at rows new [] made known is = subst (λ rs. AreCounted (entries rs)) (ok_same TextFault rows new is) known
     reads_keep at rows new (l ∷ ls) made known is =
         let parts = and_parts (list_all is_byte l) (are_texts ls) made in
         by parts.0 (one_line name_of row_of rows l) refl is (λ mid more e. reads_keep (at + 1) mid new ls parts.1 more e)
       where
-        by : list_all is_byte l ≡ true → (r : Result (List R) FaultKind) → one_line name_of row_of rows l ≡ r → at_place at r (λ more. read_each_from (λ at rows line. one_line name_of row_of rows line) (at + 1) more ls) ≡ Ok new
-            → ((mid : List R) → AreCounted (entries mid) → read_each_from (λ at rows line. one_line name_of row_of rows line) (at + 1) mid ls ≡ Ok new → AreCounted (entries new)) → AreCounted (entries new)
+        by : list_all is_byte l ≡ true → (r : Result (List R) FaultKind) → one_line name_of row_of rows l ≡ r
+            → at_place at r (λ more. read_each_from (λ at rows line. one_line name_of row_of rows line) (at + 1) more ls) ≡ Ok new
+            → ((mid : List R) → AreCounted (entries mid) → read_each_from (λ at rows line. one_line name_of row_of rows line) (at + 1) mid ls ≡ Ok new
+            → AreCounted (entries new)) → AreCounted (entries new)
         by line (Ok mid) e is more = more mid (line_keeps rows mid l line known e) is
         by line (Err kind) e is more = absurd (err_is_not_ok _ new is)

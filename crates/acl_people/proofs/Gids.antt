@@ -32,9 +32,10 @@ any-rows t name (g ∷ gs) =
     list_any-append t (row_gids name g) (rows_gids name gs)
     ∙ ap (λ b. b || list_any t (rows_gids name gs)) (any-marked t g.gid (λ member. bytes_eq member name) g.names)
     ∙ ap (λ b. (names_user name g && t g.gid) || b) (any-rows t name gs)
-    ∙ (elim (names_user name g) as (λ b. ((b && t g.gid) || list_any t (map (λ group. group.gid) (filter (names_user name) gs))) ≡ list_any t (map (λ group. group.gid) (cond b (g ∷ filter (names_user name) gs) (filter (names_user name) gs)))) [ true ↦ refl | false ↦ refl ])
+    ∙ (elim (names_user name g) as (λ b. ((b && t g.gid) || list_any t (map (λ group. group.gid) (filter (names_user name) gs)))
+    ≡ list_any t (map (λ group. group.gid) (cond b (g ∷ filter (names_user name) gs) (filter (names_user name) gs)))) [ true ↦ refl | false ↦ refl ])
 
--- the groups of a user, from the groups that were noted for the user's name
+-- the groups of a user, from the groups that are listed for the user's name
 pub person_is : (groups : List GroupRow) (row : PasswdRow) → record { uid = row.uid; groups = sets.from_list {R = nat_cmp} (row.gid ∷ rows_gids row.name groups) } ≡ person groups row
 person_is groups row =
     ap (λ (g : sets.FinSet nat_cmp). record { uid = row.uid; groups = g }) (same_set nat_cmp_total nat_cmp-IsAntisymmetric _ _ (λ q.
@@ -43,7 +44,8 @@ person_is groups row =
     ∙ sym (contains-from_list_nat (gids_of groups row) q)))
 
 -- one row more
-pub gids_more : (name : List ℕ) (gs : List GroupRow) (g : GroupRow) → map (λ row. row.gid) (filter (names_user name) (gs ++ g ∷ [])) ≡ map (λ row. row.gid) (filter (names_user name) gs) ++ cond (names_user name g) (g.gid ∷ []) []
+pub gids_more : (name : List ℕ) (gs : List GroupRow) (g : GroupRow)
+    → map (λ row. row.gid) (filter (names_user name) (gs ++ g ∷ [])) ≡ map (λ row. row.gid) (filter (names_user name) gs) ++ cond (names_user name g) (g.gid ∷ []) []
 gids_more name gs g =
     ap (λ rows. map (λ row. row.gid) rows) (filter-append (names_user name) gs (g ∷ []))
     ∙ map-append (λ row. row.gid) (filter (names_user name) gs) (filter (names_user name) (g ∷ []))

@@ -1,4 +1,4 @@
--- A group noted for a name.
+-- A group that is listed for a name.
 use Rattle.std.proofs.Common.{◌≡◌, ℕ, nat_cmp, List, [], ◌∷◌, ◌++◌, Vec, Global, Option, Some, None, unwrap_or, if◌then◌else◌, refl, ap, ◌∙◌, inl, inr}
 use Rattle.std.specs.Map.{update}
 use Rattle.std.specs.Option.{option_map_or}
@@ -12,12 +12,12 @@ use Rattle.acl_people.specs.Members.{Members, gids_at}
 abbrev at : Members → List ℕ → Option (Vec ℕ Global)
 at members name = get_by (λ k. slice_cmp nat_cmp name k.now) members
 
--- the groups noted so far, or none
+-- the groups listed so far, or none
 pub items_or : (had : Option (Vec ℕ Global)) (empty : Vec ℕ Global) → empty.items ≡ [] → (unwrap_or had empty).items ≡ option_map_or (λ gids. gids.items) had []
 items_or None empty is = is
 items_or (Some gids) empty is = refl
 
--- the noted groups of the name are taken out and put back with one more
+-- the listed groups of the name are taken out and put back with one more
 pub joined : (name : List ℕ) (gid : ℕ) (old mid new : Members) (gids : Vec ℕ Global)
     → ((q : List ℕ) → get_by (λ k. slice_cmp nat_cmp q k.now) mid ≡ update bytes_eq (λ ds. get_by (λ k. slice_cmp nat_cmp ds k.now) old) name None q)
     → ((q : List ℕ) → get_by (λ k. slice_cmp nat_cmp q k.now) new ≡ update bytes_eq (λ ds. get_by (λ k. slice_cmp nat_cmp ds k.now) mid) name (Some gids) q)

@@ -1,5 +1,6 @@
 -- Lists of places, and notes of places.
-use Rattle.std.proofs.Common.{◌≡◌, ℕ, suc, ◌+◌, ◌==◌, ◌&&◌, ◌||◌, Bool, true, false, cond, not, List, [], ◌∷◌, ◌++◌, take, drop, map, filter, if◌then◌else◌, Vec, Global, Some, refl, ap, sym, subst, ◌∙◌, arith}
+use Rattle.std.proofs.Common.{◌≡◌, ℕ, suc, ◌+◌, ◌==◌, ◌&&◌, ◌||◌, Bool, true, false, cond, not, List, [], ◌∷◌, ◌++◌, take, drop, map, filter, if◌then◌else◌}
+use Rattle.std.proofs.Common.{Vec, Global, Some, refl, ap, sym, subst, ◌∙◌, arith}
 use Rattle.std.specs.List.{All, AllZip}
 use Rattle.std.specs.Map.{lookup}
 use Rattle.std.specs.Option.{option_map_or}
@@ -23,7 +24,8 @@ clones_found test [] (f ∷ fs) h = absurd h
 clones_found test (e ∷ es) [] h = absurd h
 clones_found test (e ∷ es) (f ∷ fs) h = ap (λ k. option_map_or (λ l. l.value.items) (cond (test k) (Some f.1) (lookup test fs)) []) h.0.0 ∙ by (test e.0) (clones_found test es fs h.1)
   where
-    by : (b : Bool) → places_in test fs ≡ places_in test es → option_map_or (λ l. l.value.items) (cond b (Some f.1) (lookup test fs)) [] ≡ option_map_or (λ l. l.value.items) (cond b (Some e.1) (lookup test es)) []
+    by : (b : Bool) → places_in test fs ≡ places_in test es
+        → option_map_or (λ l. l.value.items) (cond b (Some f.1) (lookup test fs)) [] ≡ option_map_or (λ l. l.value.items) (cond b (Some e.1) (lookup test es)) []
     by true rest = ap (λ v. v.items) h.0.1
     by false rest = rest
 

@@ -22,7 +22,8 @@ person_same p q uid groups = λ i. record { uid = uid i; groups = groups i }
 -- no id that moved, no user that changed
 pub none_moved : (old new : List Person) (u : ℕ) (ch : ChangesUser old new u) → AreMoved ch.before ch.after [] → new ≡ old
 none_moved old new u ch moved =
-    let groups : ch.after.groups ≡ ch.before.groups = same_set nat_cmp_total nat_cmp-IsAntisymmetric _ _ (λ g. in_none (sets.contains ch.before.groups g) (sets.contains ch.after.groups g) (moved.just g)) in
+    let groups : ch.after.groups ≡ ch.before.groups =
+    same_set nat_cmp_total nat_cmp-IsAntisymmetric _ _ (λ g. in_none (sets.contains ch.before.groups g) (sets.contains ch.after.groups g) (moved.just g)) in
     ch.becomes
     ∙ ap (λ (p : Person). slice_set old u p) (person_same ch.after ch.before ch.uid groups ∙ sym (get_or_from_slice_get old u ch.before ch.before ch.was))
     ∙ set-get_or old u ch.before

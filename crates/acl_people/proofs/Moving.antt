@@ -1,5 +1,6 @@
 -- Which users a change of rows concerns.
-use Rattle.std.proofs.Common.{◌≡◌, ◌≢◌, ℕ, zero, suc, ◌<◌, Bool, true, false, not, ◌||◌, cond, List, [], ◌∷◌, ◌++◌, length, map, filter, get_or, slice_get, slice_set, position, Some, option_map, refl, sym, ap, subst, ◌∙◌, arith}
+use Rattle.std.proofs.Common.{◌≡◌, ◌≢◌, ℕ, zero, suc, ◌<◌, Bool, true, false, not, ◌||◌, cond, List, [], ◌∷◌, ◌++◌, length, map, filter, get_or, slice_get}
+use Rattle.std.proofs.Common.{slice_set, position, Some, option_map, refl, sym, ap, subst, ◌∙◌, arith}
 use Rattle.std.specs.List.{remove, flat_map}
 use Rattle.std.specs.Option.{option_map_or}
 use Rattle.std.specs.Str.{bytes_eq}
@@ -10,6 +11,7 @@ use Rattle.std.proofs.lemmas.Map.Views.{any-filter_same}
 use Rattle.std.proofs.lemmas.Option.{slice_get-map, slice_get_within, slice_get-get_or, get_or_from_slice_get}
 use Rattle.std.proofs.lemmas.Simd.{map-map}
 use Rattle.std.proofs.lemmas.Slice.Eq.{bytes_eq-Decides}
+use Rattle.acl_names.proofs.Basics.{some_eq}
 use Rattle.acl_entry.specs.Person.{Person}
 use Rattle.acl_text.specs.declared.rows.PasswdRow.{PasswdRow}
 use Rattle.acl_text.specs.declared.rows.GroupRow.{GroupRow}
@@ -28,10 +30,12 @@ given name row = cond (names_user name row) (row.gid ∷ []) []
 
 gids-given : (name : List ℕ) (groups : List GroupRow) → map (λ row. row.gid) (filter (names_user name) groups) ≡ flat_map (λ ids. ids) (map (given name) groups)
 gids-given name [] = refl
-gids-given name (g ∷ gs) = elim (names_user name g) as (λ b. map (λ row. row.gid) (cond b (g ∷ filter (names_user name) gs) (filter (names_user name) gs)) ≡ cond b (g.gid ∷ []) [] ++ flat_map (λ ids. ids) (map (given name) gs)) [
-  | true ↦ ap (λ ids. g.gid ∷ ids) (gids-given name gs)
-  | false ↦ gids-given name gs
-]
+gids-given name (g ∷ gs) =
+    elim (names_user name g) as (λ b. map (λ row. row.gid) (cond b (g ∷ filter (names_user name) gs) (filter (names_user name) gs))
+    ≡ cond b (g.gid ∷ []) [] ++ flat_map (λ ids. ids) (map (given name) gs)) [
+      | true ↦ ap (λ ids. g.gid ∷ ids) (gids-given name gs)
+      | false ↦ gids-given name gs
+    ]
 
 -- rows that give the same to a user
 person_same : (old new : List GroupRow) (row : PasswdRow) → map (given row.name) new ≡ map (given row.name) old → person new row ≡ person old row
@@ -134,7 +138,8 @@ changes_rows known u row groups names at same = record {
   before = person known.groups row;
   after = person groups row;
   was = person_at known u row at;
-  becomes = map_one (person groups) (person known.groups) u known.users row at (λ i y here apart. person_same known.groups groups y (same y.name (other_name known.users names u i row y at here apart)));
+  becomes = map_one (person groups) (person known.groups) u known.users row at
+      (λ i y here apart. person_same known.groups groups y (same y.name (other_name known.users names u i row y at here apart)));
   uid = refl;
 }
 
@@ -181,7 +186,8 @@ module _ (known : KnownPeople) (sound : IsSound known) (u : ℕ) (within : u < l
     becomes = map_removed (person (map (name_removed name) known.groups)) (person known.groups) u known.users row (row_at known.users u within)
         (λ i y here apart. person_same known.groups (map (name_removed name) known.groups) y
         (map-map (given y.name) (name_removed name) known.groups
-        ∙ map_same (λ r. given y.name (name_removed name r)) (given y.name) known.groups (λ k r at. removed_other name y.name r (other y.name (other_name known.users sound.user_names u i row y (row_at known.users u within) here apart)))));
+        ∙ map_same (λ r. given y.name (name_removed name r)) (given y.name) known.groups
+        (λ k r at. removed_other name y.name r (other y.name (other_name known.users sound.user_names u i row y (row_at known.users u within) here apart)))));
   }
 
 -- one user more
@@ -190,10 +196,12 @@ joins known name uid g = record { next = person known.groups (user_row name uid 
 
 -- ---- a change of one user, and the rows after it
 
-pub changes_as : (old : List Person) (groups groups' : List GroupRow) (users users' : List PasswdRow) (u : ℕ) → groups' ≡ groups → users' ≡ users → ChangesUser old (map (person groups) users) u → ChangesUser old (map (person groups') users') u
+pub changes_as : (old : List Person) (groups groups' : List GroupRow) (users users' : List PasswdRow) (u : ℕ) → groups' ≡ groups → users' ≡ users
+    → ChangesUser old (map (person groups) users) u → ChangesUser old (map (person groups') users') u
 changes_as old groups groups' users users' u gs us ch = subst (λ new. ChangesUser old new u) (λ i. map (person (sym gs i)) (sym us i)) ch
 
-pub leaves_as : (old : List Person) (groups groups' : List GroupRow) (users users' : List PasswdRow) (u : ℕ) → groups' ≡ groups → users' ≡ users → LeavesUser old (map (person groups) users) u → LeavesUser old (map (person groups') users') u
+pub leaves_as : (old : List Person) (groups groups' : List GroupRow) (users users' : List PasswdRow) (u : ℕ) → groups' ≡ groups → users' ≡ users
+    → LeavesUser old (map (person groups) users) u → LeavesUser old (map (person groups') users') u
 leaves_as old groups groups' users users' u gs us ch = subst (λ new. LeavesUser old new u) (λ i. map (person (sym gs i)) (sym us i)) ch
 
 pub slice_get-set_same : {A : Type 0} (xs : List A) (u : ℕ) (x y : A) → slice_get xs u ≡ Some x → slice_get (slice_set xs u y) u ≡ Some y
@@ -201,13 +209,11 @@ slice_get-set_same [] u x y at = cc
 slice_get-set_same (z ∷ zs) zero x y at = refl
 slice_get-set_same (z ∷ zs) (suc u) x y at = slice_get-set_same zs u x y at
 
-some_same : {A : Type 0} (x y : A) → Some x ≡ Some y → x ≡ y
-some_same x y e = cc
-
 -- the user as the rows after the change give it
-pub after_is : (old : List Person) (groups : List GroupRow) (users : List PasswdRow) (u : ℕ) (ch : ChangesUser old (map (person groups) users) u) (row : PasswdRow) → slice_get users u ≡ Some row → person groups row ≡ ch.after
+pub after_is : (old : List Person) (groups : List GroupRow) (users : List PasswdRow) (u : ℕ) (ch : ChangesUser old (map (person groups) users) u)
+    (row : PasswdRow) → slice_get users u ≡ Some row → person groups row ≡ ch.after
 after_is old groups users u ch row at =
-    some_same (person groups row) ch.after
+    some_eq (person groups row) ch.after
     (ap (λ o. option_map (person groups) o) (sym at) ∙ sym (slice_get-map (person groups) users u) ∙ ap (λ ps. slice_get ps u) ch.becomes ∙ slice_get-set_same old u ch.before ch.after ch.was)
 
 pub user_within : (old : List Person) (groups : List GroupRow) (users : List PasswdRow) (u : ℕ) → ChangesUser old (map (person groups) users) u → u < length users

@@ -1,5 +1,6 @@
 -- One more name in a name table, and what its places give.
-use Rattle.std.proofs.Common.{◌≡◌, ℕ, ◌+◌, ◌<◌, Bool, true, false, not, ◌&&◌, cond, List, [], ◌∷◌, ◌++◌, length, map, take, get_or, slice_get, position, find, Option, Some, None, option_map, option_and_then, if◌then◌else◌, refl, sym, ap, ◌∙◌}
+use Rattle.std.proofs.Common.{◌≡◌, ℕ, ◌+◌, ◌<◌, Bool, true, false, not, ◌&&◌, cond, List, [], ◌∷◌, ◌++◌, length, map, take, get_or, slice_get, position, find}
+use Rattle.std.proofs.Common.{Option, Some, None, option_map, option_and_then, if◌then◌else◌, refl, sym, ap, ◌∙◌}
 use Rattle.std.specs.Option.{option_or}
 use Rattle.indexmap.specs.IndexMap.{insert_entry}
 use Rattle.acl_people.specs.NameTables.{Named, is_name, AreNames}
@@ -22,14 +23,16 @@ insert-absent {K} {V} eq p f k v agrees (e ∷ es) none =
     found : cond (eq k e.0) (Some 0) (option_map (λ i. i + 1) (position p (map f es))) ≡ None
     found = ap (λ b. cond b (Some 0) (option_map (λ i. i + 1) (position p (map f es)))) (sym (agrees e)) ∙ sym (position-cons p (f e) (map f es)) ∙ none
 
-    by : (b : Bool) → eq k e.0 ≡ b → (position p (map f es) ≡ None → map f (insert_entry eq es k v) ≡ map f es ++ f (k, v) ∷ []) → map f (cond b ((e.0, v) ∷ es) (e ∷ insert_entry eq es k v)) ≡ map f (e ∷ es) ++ f (k, v) ∷ []
+    by : (b : Bool) → eq k e.0 ≡ b → (position p (map f es) ≡ None → map f (insert_entry eq es k v) ≡ map f es ++ f (k, v) ∷ [])
+        → map f (cond b ((e.0, v) ∷ es) (e ∷ insert_entry eq es k v)) ≡ map f (e ∷ es) ++ f (k, v) ∷ []
     by true is more = absurd (some_is_not_none 0 (sym (ap (λ b. cond b (Some 0) (option_map (λ i. i + 1) (position p (map f es)))) is) ∙ found))
     by false is more =
         let rest = none_from _ (sym (ap (λ b. cond b (Some 0) (option_map (λ i. i + 1) (position p (map f es)))) is) ∙ found) in
         ap (λ xs. f e ∷ xs) (more rest)
 
 -- the first place, once it is kept unless there is one
-pub first_more : (old new : List Named) (y : Named) → new ≡ old ++ y ∷ [] → (p : Named → Bool) (was now : Option ℕ) (place : ℕ) → place ≡ length old → was ≡ position p old → now ≡ option_or was (if p y then Some place else None) → now ≡ position p new
+pub first_more : (old new : List Named) (y : Named) → new ≡ old ++ y ∷ [] → (p : Named → Bool) (was now : Option ℕ) (place : ℕ) → place ≡ length old
+    → was ≡ position p old → now ≡ option_or was (if p y then Some place else None) → now ≡ position p new
 first_more old new y pushed p was now place last is noted =
     noted
     ∙ ap (λ o. option_or o (if p y then Some place else None)) is

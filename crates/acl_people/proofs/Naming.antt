@@ -1,10 +1,12 @@
 -- The names that ids print as are found under these ids.
-use Rattle.std.proofs.Common.{◌≡◌, ℕ, ◌<◌, Bool, true, false, not, ◌&&◌, eqb, List, length, get_or, slice_get, position, find, Option, Some, None, option_map, option_and_then, refl, sym, ap, subst, ◌∙◌}
+use Rattle.std.proofs.Common.{◌≡◌, ℕ, ◌<◌, Bool, true, false, not, ◌&&◌, eqb, List, length, get_or, slice_get, position, find, Option, Some, None, option_map}
+use Rattle.std.proofs.Common.{option_and_then, refl, sym, ap, subst, ◌∙◌}
 use Rattle.std.specs.List.{list_all}
 use Rattle.std.proofs.lemmas.Bool.{eqb-true}
 use Rattle.std.proofs.lemmas.List.Quantifiers.{position-Some}
 use Rattle.std.proofs.lemmas.Option.{get_or_from_slice_get}
 use Rattle.acl_names.specs.Pieces.{is_byte}
+use Rattle.acl_names.proofs.Basics.{none_is_not_some, some_eq}
 use Rattle.acl_text.specs.Ids.{is_number}
 use Rattle.acl_text.specs.Writing.{IsNamed, IsFoundAs}
 use Rattle.acl_people.specs.NameTables.{Named, is_name, prints, id_named, name_shown, AreNames, IsNaming}
@@ -18,12 +20,6 @@ record Shown (es : List Named) (id : ℕ) (name : List ℕ) : Type 0 where
   is_counted_there : slice_get es at ≡ Some row
   named : row.0 ≡ name
   passes : prints id row ≡ true
-
-none_is_not_some : {A : Type 0} (x : A) → None ≡ Some x → ⊥
-none_is_not_some x e = cc
-
-some_same : {A : Type 0} (x y : A) → Some x ≡ Some y → x ≡ y
-some_same x y e = cc
 
 shown : (es : List Named) (id : ℕ) (name : List ℕ) → name_shown id es ≡ Some name → Shown es id name
 shown es id name is = by (position (prints id) es) refl (sym (ap (λ o. option_map (λ e. e.0) o) (find-position (prints id) es)) ∙ is)
@@ -41,7 +37,7 @@ shown es id name is = by (position (prints id) es) refl (sym (ap (λ o. option_m
               at = i;
               within = first.0;
               is_counted_there = e2;
-              named = some_same r.0 name h2;
+              named = some_eq r.0 name h2;
               passes = ap (λ x. prints id x) (sym (get_or_from_slice_get es i r r e2)) ∙ first.1;
             }
 

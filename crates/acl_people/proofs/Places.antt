@@ -1,5 +1,6 @@
 -- First places in a list.
-use Rattle.std.proofs.Common.{◌≡◌, ℕ, zero, suc, ◌+◌, Bool, true, false, cond, List, [], ◌∷◌, ◌++◌, length, map, take, slice_get, position, find, Option, Some, None, option_map, option_and_then, if◌then◌else◌, add-one, refl, sym, ap, ◌∙◌, arith}
+use Rattle.std.proofs.Common.{◌≡◌, ℕ, zero, suc, ◌+◌, Bool, true, false, cond, List, [], ◌∷◌, ◌++◌, length, map, take, slice_get, position, find, Option, Some}
+use Rattle.std.proofs.Common.{None, option_map, option_and_then, if◌then◌else◌, add-one, refl, sym, ap, ◌∙◌, arith}
 use Rattle.std.specs.List.{position_from}
 use Rattle.std.specs.Option.{option_or}
 use Rattle.std.proofs.lemmas.Iterator.Adapters.{position_from-zero}
@@ -22,10 +23,11 @@ module _ {X : Type 0} (p : X → Bool) where
   -- the first element that passes is at the first place
   pub find-position : (xs : List X) → find p xs ≡ option_and_then (λ i. slice_get xs i) (position p xs)
   find-position [] = refl
-  find-position (x ∷ xs) = rw (position-cons x xs) (elim (p x) as (λ b. cond b (Some x) (find p xs) ≡ option_and_then (λ i. slice_get (x ∷ xs) i) (cond b (Some 0) (option_map (λ k. k + 1) (position p xs)))) [
-    | true ↦ refl
-    | false ↦ find-position xs ∙ at (position p xs)
-  ])
+  find-position (x ∷ xs) =
+      rw (position-cons x xs) (elim (p x) as (λ b. cond b (Some x) (find p xs) ≡ option_and_then (λ i. slice_get (x ∷ xs) i) (cond b (Some 0) (option_map (λ k. k + 1) (position p xs)))) [
+        | true ↦ refl
+        | false ↦ find-position xs ∙ at (position p xs)
+      ])
     where
       at : (o : Option ℕ) → option_and_then (λ i. slice_get xs i) o ≡ option_and_then (λ i. slice_get (x ∷ xs) i) (option_map (λ k. k + 1) o)
       at None = refl
@@ -34,10 +36,12 @@ module _ {X : Type 0} (p : X → Bool) where
   -- one more element, at the end
   pub position-push : (xs : List X) (y : X) → position p (xs ++ y ∷ []) ≡ option_or (position p xs) (if p y then Some (length xs) else None)
   position-push [] y = position-cons y []
-  position-push (x ∷ xs) y = rw (position-cons x (xs ++ y ∷ []), position-cons x xs, position-push xs y) (elim (p x) as (λ b. cond b (Some 0) (option_map (λ k. k + 1) (option_or (position p xs) (if p y then Some (length xs) else None))) ≡ option_or (cond b (Some 0) (option_map (λ k. k + 1) (position p xs))) (if p y then Some (length (x ∷ xs)) else None)) [
-    | true ↦ refl
-    | false ↦ later (position p xs)
-  ])
+  position-push (x ∷ xs) y = rw (position-cons x (xs ++ y ∷ []), position-cons x xs, position-push xs y)
+      (elim (p x) as (λ b. cond b (Some 0) (option_map (λ k. k + 1) (option_or (position p xs) (if p y then Some (length xs) else None)))
+      ≡ option_or (cond b (Some 0) (option_map (λ k. k + 1) (position p xs))) (if p y then Some (length (x ∷ xs)) else None)) [
+        | true ↦ refl
+        | false ↦ later (position p xs)
+      ])
     where
       last : (b : Bool) → option_map (λ k. k + 1) (if b then Some (length xs) else None) ≡ (if b then Some (length (x ∷ xs)) else None)
       last true = ap (λ n. Some n) (omega arith)
@@ -76,4 +80,5 @@ position-before p (suc i) (x ∷ xs) e = by (p x) refl (λ h. position-before p 
 
     by : (b : Bool) → p x ≡ b → (position p xs ≡ Some i → position p (take i xs) ≡ None) → position p (x ∷ take i xs) ≡ None
     by true is more = absurd (zero_is_not (one true is))
-    by false is more = position-cons p x (take i xs) ∙ ap (λ b. cond b (Some 0) (option_map (λ k. k + 1) (position p (take i xs)))) is ∙ ap (λ o. option_map (λ k. k + 1) o) (more (less_one _ i (one false is)))
+    by false is more = position-cons p x (take i xs) ∙ ap (λ b. cond b (Some 0) (option_map (λ k. k + 1) (position p (take i xs)))) is
+        ∙ ap (λ o. option_map (λ k. k + 1) o) (more (less_one _ i (one false is)))

@@ -1,20 +1,10 @@
 -- Lists of pointers, and what they point to.
-use Rattle.std.proofs.Common.{◌≡◌, ℕ, zero, suc, ◌+◌, ◌<◌, Bool, ◌||◌, List, [], ◌∷◌, ◌++◌, length, map, take, get_or, slice_get, Some, option_map, refl, ap, sym, subst, ◌∙◌}
-use Rattle.std.specs.List.{list_any, AllZip, remove}
+use Rattle.std.proofs.Common.{◌≡◌, ℕ, zero, suc, ◌+◌, ◌<◌, List, [], ◌∷◌, ◌++◌, length, map, take, get_or, slice_get, Some, option_map, refl, ap, sym, subst, ◌∙◌}
+use Rattle.std.specs.List.{remove}
 use Rattle.std.proofs.lemmas.Option.{slice_get-map, slice_get_read}
 use Rattle.std.proofs.lemmas.List.{take_more, get_or-map, length-map}
 
-pub list_any-map : {A B : Type 0} (p : B → Bool) (f : A → B) (xs : List A) → list_any p (map f xs) ≡ list_any (λ x. p (f x)) xs
-list_any-map p f [] = refl
-list_any-map p f (x ∷ xs) = ap (λ b. p (f x) || b) (list_any-map p f xs)
-
 -- clones of pointers point to the same values
-pub same_values : {A B : Type 0} (f : A → B) (xs ys : List A) → AllZip (λ x y. f y ≡ f x) xs ys → map f ys ≡ map f xs
-same_values f [] [] h = refl
-same_values f [] (y ∷ ys) h = absurd h
-same_values f (x ∷ xs) [] h = absurd h
-same_values f (x ∷ xs) (y ∷ ys) h = λ i. h.0 i ∷ same_values f xs ys h.1 i
-
 -- one value more
 pub map_take_more : {A B : Type 0} (f : A → B) (xs : List A) (i : ℕ) (x : A) → i < length xs → x ≡ get_or xs i x → take (i + 1) (map f xs) ≡ take i (map f xs) ++ f x ∷ []
 map_take_more f xs i x lt is =

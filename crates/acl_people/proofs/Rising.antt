@@ -16,6 +16,7 @@ use Rattle.std.proofs.lemmas.List.Folds.{list_any-append}
 use Rattle.std.proofs.lemmas.Map.Keys.{sorted_from_strictly_increasing}
 use Rattle.std.proofs.lemmas.Map.Views.{any-filter_same}
 use Rattle.std.proofs.lemmas.Option.{slice_get-map}
+use Rattle.acl_names.proofs.Basics.{both_true}
 use Rattle.acl_entry.specs.Mentions.{is_one_of}
 use Rattle.acl_entry.specs.Person.{Person}
 use Rattle.acl_text.specs.declared.rows.PasswdRow.{PasswdRow}
@@ -31,17 +32,14 @@ Marked = List (ℕ × Unit {0})
 abbrev marked : List ℕ → Marked
 marked ids = map (λ id. (id, tt)) ids
 
-both : (a b : Bool) → a ≡ true → b ≡ true → (a && b) ≡ true
-both a b p q = cc
-
 below_each : (x : ℕ) (ids : List ℕ) → AllByRecursion (λ y. nat_cmp x y ≡ Less) ids → below_all nat_cmp x (marked ids) ≡ true
 below_each x [] h = refl
-below_each x (y ∷ ids) h = both _ _ (ap is_lt h.0) (below_each x ids h.1)
+below_each x (y ∷ ids) h = both_true _ _ (ap is_lt h.0) (below_each x ids h.1)
 
 sorted_marked : (ids : List ℕ) → IsStrictlySortedBy nat_cmp ids → is_sorted nat_cmp (marked ids) ≡ true
 unfolding IsStrictlySortedBy
 sorted_marked [] h = refl
-sorted_marked (x ∷ ids) h = both _ _ (below_each x ids h.0) (sorted_marked ids h.1)
+sorted_marked (x ∷ ids) h = both_true _ _ (below_each x ids h.0) (sorted_marked ids h.1)
 
 abbrev mark : Bool → Option (Unit {0})
 mark b = cond b (Some tt) None
@@ -70,7 +68,8 @@ are_rising ids of order same =
     in
     sym (names ids)
     ∙ ap (λ (es : Marked). map (λ e. e.0) es)
-    (same_entries nat_cmp nat_cmp_total nat_cmp-IsAntisymmetric (marked ids) (entries set) (subst T (sym (sorted_marked ids (sorted_from_strictly_increasing ids order))) tt) (entries_sorted set) found)
+    (same_entries nat_cmp nat_cmp_total nat_cmp-IsAntisymmetric (marked ids) (entries set)
+    (subst T (sym (sorted_marked ids (sorted_from_strictly_increasing ids order))) tt) (entries_sorted set) found)
 
 -- ---- ids of one list or the other
 
@@ -101,7 +100,8 @@ groups_are known user p at id = by (slice_get known.users user) (sym (slice_get-
         some_same x y e = cc
 
 -- the ids that moved, by the rows
-pub moved_ids : (old new : KnownPeople) (user : ℕ) (before after : Person) (ids : List ℕ) → slice_get (persons old) user ≡ Some before → slice_get (persons new) user ≡ Some after → AreMoved before after ids
+pub moved_ids : (old new : KnownPeople) (user : ℕ) (before after : Person) (ids : List ℕ) → slice_get (persons old) user ≡ Some before
+    → slice_get (persons new) user ≡ Some after → AreMoved before after ids
     → ids ≡ ids_of_one (user_gids old user) (user_gids new user)
 moved_ids old new user before after ids was is moved =
     are_rising ids _ moved.rising

@@ -3,6 +3,7 @@ use Rattle.std.proofs.Common.{◌≡◌, ℕ, ◌<◌, Bool, true, false, eqb, L
 use Rattle.std.specs.List.{list_all}
 use Rattle.std.proofs.lemmas.Bool.{and_parts}
 use Rattle.acl_names.specs.Pieces.{pieces, is_byte}
+use Rattle.acl_names.proofs.Basics.{none_is_not_some, some_eq}
 use Rattle.acl_text.specs.declared.rows.PasswdRow.{PasswdRow}
 use Rattle.acl_text.specs.declared.rows.GroupRow.{GroupRow}
 use Rattle.acl_text.specs.Ids.{id_of}
@@ -11,12 +12,6 @@ use Rattle.acl_people.specs.NameTables.{AreCounted}
 use Rattle.acl_people.specs.Entries.{user_entry, group_entry}
 use Rattle.acl_people.proofs.Bytes.{are_texts, pieces_made}
 use Rattle.acl_people.proofs.Counted.{IsNameText, none_counted, reads_keep}
-
-none_is_not_some : {A : Type 0} (x : A) → None ≡ Some x → ⊥
-none_is_not_some x e = cc
-
-some_same : {A : Type 0} (x y : A) → Some x ≡ Some y → x ≡ y
-some_same x y e = cc
 
 nonzero : (n : List ℕ) → eqb (length n) 0 ≡ false → 0 < length n
 nonzero [] h = cc
@@ -28,16 +23,17 @@ first_text n ns made some = record { filled = nonzero n some; made_of_bytes = (a
 user_made : (n : List ℕ) (row : PasswdRow) (ou og : Option ℕ) → option_and_then (λ u. option_map (λ g. let r : PasswdRow = record { name = n; uid = u; gid = g } in r) og) ou ≡ Some row → row.name ≡ n
 user_made n row None og h = absurd (none_is_not_some row h)
 user_made n row (Some u) None h = absurd (none_is_not_some row h)
-user_made n row (Some u) (Some g) h = ap (λ (r : PasswdRow). r.name) (sym (some_same _ row h))
+user_made n row (Some u) (Some g) h = ap (λ (r : PasswdRow). r.name) (sym (some_eq _ row h))
 
 group_made : (n : List ℕ) (names : List (List ℕ)) (row : GroupRow) (og : Option ℕ) → option_map (λ g. let r : GroupRow = record { name = n; gid = g; names = names } in r) og ≡ Some row → row.name ≡ n
 group_made n names row None h = absurd (none_is_not_some row h)
-group_made n names row (Some g) h = ap (λ (r : GroupRow). r.name) (sym (some_same _ row h))
+group_made n names row (Some g) h = ap (λ (r : GroupRow). r.name) (sym (some_eq _ row h))
 
 passwd_text : (fields : List (List ℕ)) → are_texts fields ≡ true → (row : PasswdRow) → passwd_row fields ≡ Some row → IsNameText row.name
 passwd_text (n ∷ password ∷ uid ∷ gid ∷ gecos ∷ home ∷ shell ∷ []) made row is = by (eqb (length n) 0) refl is
   where
-    by : (b : Bool) → eqb (length n) 0 ≡ b → (if b then None else option_and_then (λ u. option_map (λ g. let r : PasswdRow = record { name = n; uid = u; gid = g } in r) (id_of gid)) (id_of uid)) ≡ Some row → IsNameText row.name
+    by : (b : Bool) → eqb (length n) 0 ≡ b
+        → (if b then None else option_and_then (λ u. option_map (λ g. let r : PasswdRow = record { name = n; uid = u; gid = g } in r) (id_of gid)) (id_of uid)) ≡ Some row → IsNameText row.name
     by true e h = absurd (none_is_not_some row h)
     by false e h = subst IsNameText (sym (user_made n row (id_of uid) (id_of gid) h)) (first_text n (password ∷ uid ∷ gid ∷ gecos ∷ home ∷ shell ∷ []) made e)
 passwd_text _ made row is = absurd (none_is_not_some row is)
@@ -45,7 +41,8 @@ passwd_text _ made row is = absurd (none_is_not_some row is)
 group_text : (fields : List (List ℕ)) → are_texts fields ≡ true → (row : GroupRow) → group_row fields ≡ Some row → IsNameText row.name
 group_text (n ∷ password ∷ gid ∷ names ∷ []) made row is = by (eqb (length n) 0) refl is
   where
-    by : (b : Bool) → eqb (length n) 0 ≡ b → (if b then None else option_map (λ g. let r : GroupRow = record { name = n; gid = g; names = names_of names } in r) (id_of gid)) ≡ Some row → IsNameText row.name
+    by : (b : Bool) → eqb (length n) 0 ≡ b
+        → (if b then None else option_map (λ g. let r : GroupRow = record { name = n; gid = g; names = names_of names } in r) (id_of gid)) ≡ Some row → IsNameText row.name
     by true e h = absurd (none_is_not_some row h)
     by false e h = subst IsNameText (sym (group_made n (names_of names) row (id_of gid) h)) (first_text n (password ∷ gid ∷ names ∷ []) made e)
 group_text _ made row is = absurd (none_is_not_some row is)

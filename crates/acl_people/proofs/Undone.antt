@@ -7,6 +7,7 @@ use Rattle.std.specs.Cmp.Lexicographic.{nat_list_eq_equiv}
 use Rattle.std.proofs.lemmas.List.{set-set, set-get_or}
 use Rattle.std.proofs.lemmas.List.Elements.{filter-append}
 use Rattle.std.proofs.lemmas.Option.{get_or_from_slice_get}
+use Rattle.acl_names.proofs.Basics.{slice_get-last}
 use Rattle.acl_text.specs.declared.rows.PasswdRow.{PasswdRow}
 use Rattle.acl_text.specs.declared.rows.GroupRow.{GroupRow}
 use Rattle.acl_people.specs.KnownPeople.{KnownPeople, names_user}
@@ -19,7 +20,9 @@ use Rattle.acl_people.proofs.Moving.{slice_get-set_same}
 -- the name at the end of a row that did not name the user
 row_again : (name : List ℕ) (row : GroupRow) → names_user name row ≡ false → name_removed name (name_added name row) ≡ row
 row_again name row absent =
-    ap (λ names. group_row row.name row.gid names) (filter-append (λ member. not (bytes_eq member name)) row.names (name ∷ []) ∙ ap (λ rest. filter (λ member. not (bytes_eq member name)) row.names ++ rest) last ∙ no_more (filter (λ member. not (bytes_eq member name)) row.names))
+    ap (λ names. group_row row.name row.gid names)
+    (filter-append (λ member. not (bytes_eq member name)) row.names (name ∷ [])
+    ∙ ap (λ rest. filter (λ member. not (bytes_eq member name)) row.names ++ rest) last ∙ no_more (filter (λ member. not (bytes_eq member name)) row.names))
     ∙ name_removed-absent name row absent
   where
     last : filter (λ member. not (bytes_eq member name)) (name ∷ []) ≡ []
@@ -29,7 +32,8 @@ row_again name row absent =
     no_more [] = refl
     no_more (x ∷ xs) = ap (λ l. x ∷ l) (no_more xs)
 
-rows_again : (name : List ℕ) (at : ℕ) (rows : List GroupRow) → option_map_or (names_user name) (slice_get rows at) false ≡ false → change_at at (name_removed name) (change_at at (name_added name) rows) ≡ rows
+rows_again : (name : List ℕ) (at : ℕ) (rows : List GroupRow) → option_map_or (names_user name) (slice_get rows at) false ≡ false
+    → change_at at (name_removed name) (change_at at (name_added name) rows) ≡ rows
 rows_again name at rows absent = by (slice_get rows at) refl absent
   where
     by : (o : Option GroupRow) → slice_get rows at ≡ o → option_map_or (names_user name) o false ≡ false → change_at at (name_removed name) (change_at at (name_added name) rows) ≡ rows
@@ -45,12 +49,12 @@ rows_again name at rows absent = by (slice_get rows at) refl absent
 
 pub member_again : AddedMemberIsRemoved
 member_again user group known absent =
-    ap (λ (b : Bool). without_member user group (if b then known else (let r : KnownPeople = record { users = known.users; groups = change_at group (name_added (name_of user known)) known.groups; passwd_loaded = known.passwd_loaded; group_loaded = known.group_loaded } in r))) absent
-    ∙ ap (λ (rows : List GroupRow). let r : KnownPeople = record { users = known.users; groups = rows; passwd_loaded = known.passwd_loaded; group_loaded = known.group_loaded } in r) (rows_again (name_of user known) group known.groups absent)
-
-slice_get-last : {A : Type 0} (xs : List A) (x : A) → slice_get (xs ++ x ∷ []) (length xs) ≡ Some x
-slice_get-last [] x = refl
-slice_get-last (y ∷ ys) x = slice_get-last ys x
+    ap (λ (b : Bool). without_member user group
+    (if b then known else
+    (let r : KnownPeople =
+    record { users = known.users; groups = change_at group (name_added (name_of user known)) known.groups; passwd_loaded = known.passwd_loaded; group_loaded = known.group_loaded } in r))) absent
+    ∙ ap (λ (rows : List GroupRow). let r : KnownPeople =
+    record { users = known.users; groups = rows; passwd_loaded = known.passwd_loaded; group_loaded = known.group_loaded } in r) (rows_again (name_of user known) group known.groups absent)
 
 remove-last : {A : Type 0} (xs : List A) (x : A) → remove (xs ++ x ∷ []) (length xs) ≡ xs
 remove-last [] x = refl
@@ -60,7 +64,8 @@ none_named : (name : List ℕ) (rows : List GroupRow) → list_any (names_user n
 none_named name [] absent = refl
 none_named name (row ∷ rows) absent = by (names_user name row) refl absent (λ rest. none_named name rows rest)
   where
-    by : (b : Bool) → names_user name row ≡ b → (b || list_any (names_user name) rows) ≡ false → (list_any (names_user name) rows ≡ false → map (name_removed name) rows ≡ rows) → name_removed name row ∷ map (name_removed name) rows ≡ row ∷ rows
+    by : (b : Bool) → names_user name row ≡ b → (b || list_any (names_user name) rows) ≡ false
+        → (list_any (names_user name) rows ≡ false → map (name_removed name) rows ≡ rows) → name_removed name row ∷ map (name_removed name) rows ≡ row ∷ rows
     by true is h more = cc
     by false is h more = λ i. name_removed-absent name row is i ∷ more h i
 

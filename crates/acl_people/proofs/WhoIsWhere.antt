@@ -1,5 +1,6 @@
 -- Places of the users who pass a test, where one user comes or is another one.
-use Rattle.std.proofs.Common.{◌≡◌, ℕ, zero, suc, ◌+◌, ◌<◌, ◌==◌, ◌&&◌, ◌||◌, Bool, true, false, not, List, [], ◌∷◌, ◌++◌, length, map, take, drop, get_or, set, if◌then◌else◌, Some, option_map, slice_get, refl, ap, sym, subst, ◌∙◌, arith}
+use Rattle.std.proofs.Common.{◌≡◌, ℕ, zero, suc, ◌+◌, ◌<◌, ◌==◌, ◌&&◌, ◌||◌, Bool, true, false, not, List, [], ◌∷◌, ◌++◌, length, map, take, drop, get_or, set}
+use Rattle.std.proofs.Common.{if◌then◌else◌, Some, option_map, slice_get, refl, ap, sym, subst, ◌∙◌, arith}
 use Rattle.std.proofs.lemmas.Bool.{ne_eqb, eqb-true}
 use Rattle.std.proofs.lemmas.Option.{slice_get-map, slice_get_within, get_or_from_slice_get}
 use Rattle.std.proofs.Math.Dec.{eqb-suc-suc}
@@ -78,14 +79,16 @@ moved_is group users w u i at old new lt is was now =
     elsewhere false false true = refl
     elsewhere false false false = refl
 
-    by : (b : Bool) → (i == at) ≡ b → ((old && not ((is_in group w && not (is_in group u)) && b)) || ((is_in group u && not (is_in group w)) && b)) ≡ (if b then is_in group u else passes_at (is_in group) users at)
+    by : (b : Bool) → (i == at) ≡ b → ((old && not ((is_in group w && not (is_in group u)) && b)) || ((is_in group u && not (is_in group w)) && b))
+        ≡ (if b then is_in group u else passes_at (is_in group) users at)
     by true same =
         let had : old ≡ is_in group w = was ∙ ap (passes_at (is_in group) users) (sym (eqb-true i at same)) ∙ passes_here (is_in group) users w i lt is in
         ap (λ a. (a && not ((is_in group w && not (is_in group u)) && true)) || ((is_in group u && not (is_in group w)) && true)) had ∙ there (is_in group w) (is_in group u)
     by false other = elsewhere old (is_in group w) (is_in group u) ∙ was
 
 -- where the user before and the new one pass alike
-pub passes_at-same : (test : Person → Bool) (users : List Person) (w u : Person) (i at : ℕ) → i < length users → w ≡ get_or users i w → test w ≡ test u → passes_at test (set users i u) at ≡ passes_at test users at
+pub passes_at-same : (test : Person → Bool) (users : List Person) (w u : Person) (i at : ℕ) → i < length users → w ≡ get_or users i w → test w ≡ test u
+    → passes_at test (set users i u) at ≡ passes_at test users at
 passes_at-same test users w u i at lt is alike = passes_at-set test users u i at lt ∙ by (i == at) refl
   where
     by : (b : Bool) → (i == at) ≡ b → (if b then test u else passes_at test users at) ≡ passes_at test users at

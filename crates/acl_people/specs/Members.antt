@@ -27,18 +27,18 @@ row_gids name row = map (λ _. row.gid) (filter (λ member. bytes_eq member name
 abbrev pub rows_gids : List ℕ → List GroupRow → List ℕ
 rows_gids name rows = flat_map (row_gids name) rows
 
--- a group is noted for a name
+-- a group is listed for a name
 abbrev pub Joins : Members → Members → List ℕ → ℕ → Type 0
 Joins old new name gid = (q : List ℕ) → gids_at new q ≡ (if bytes_eq name q then gids_at old q ++ gid ∷ [] else gids_at old q)
 
--- a row's group is noted for each name in it
+-- a row's group is listed for each name in it
 abbrev pub JoinsAll : Members → Members → GroupRow → Type 0
 JoinsAll old new row = (name : List ℕ) → gids_at new name ≡ gids_at old name ++ row_gids name row
 
--- the groups of these rows are noted
+-- the groups of these rows are listed
 abbrev pub AreMembers : List GroupRow → Members → Type 0
 AreMembers rows members = (name : List ℕ) → gids_at members name ≡ rows_gids name rows
 
--- a user, whose groups are those that are noted for the name
+-- a user, whose groups are those that are listed for the name
 abbrev pub person_among : Members → PasswdRow → Person
 person_among members row = record { uid = row.uid; groups = from_list (row.gid ∷ gids_at members row.name) }

@@ -1,4 +1,4 @@
--- Where users are: the places that are noted for an id, and those of the users who pass a test.
+-- Where users are: the places that are listed for an id, and those of the users who pass a test.
 use Rattle.std.specs.Prelude.{◌≡◌, ℕ, ◌==◌, ◌&&◌, ◌||◌, Bool, false, not, List, [], slice_get}
 use Rattle.std.specs.List.{list_any}
 use Rattle.std.specs.Option.{option_map_or}
@@ -32,15 +32,15 @@ of_both id at n = (n.id == id) && (n.place == at)
 abbrev pub is_noted : ℕ → ℕ → List Note → Bool
 is_noted id at notes = list_any (of_both id at) notes
 
--- the places that are noted for an id
+-- the places that are listed for an id
 abbrev pub noted_for : PlacesById → ℕ → List ℕ
 noted_for n id = option_map_or (λ places. places.value.items) (get nat_cmp n.lists id) []
 
--- whether a place is noted for a group, if it was, after the user who is here or not became u in place of w
+-- whether a place is listed for a group, if it was, after the user who is here or not became u in place of w
 abbrev pub after_move : ℕ → Person → Person → Bool → Bool → Bool
 after_move group w u here was = (was && not ((is_in group w && not (is_in group u)) && here)) || ((is_in group u && not (is_in group w)) && here)
 
--- for each id, the places of the users of it are noted
+-- for each id, the places of the users of it are listed
 abbrev pub AreNoted : (ℕ → Person → Bool) → PlacesById → List Person → Type 0
 AreNoted test n users = (id : ℕ) → AreThose (test id) users (noted_for n id)
 
@@ -48,7 +48,7 @@ AreNoted test n users = (id : ℕ) → AreThose (test id) users (noted_for n id)
 abbrev pub AreNotes : (ℕ → Person → Bool) → List Person → List Note → Type 0
 AreNotes test users notes = (id at : ℕ) → is_noted id at notes ≡ passes_at (test id) users at
 
--- for each id, just these places are noted
+-- for each id, just these places are listed
 abbrev pub AreListed : PlacesById → (ℕ → List ℕ) → Type 0
 AreListed noted lists = (id : ℕ) → noted_for noted id ≡ lists id
 
@@ -56,15 +56,15 @@ AreListed noted lists = (id : ℕ) → noted_for noted id ≡ lists id
 abbrev pub ArePlaces : PlacesById → (ℕ → ℕ → Bool) → Type 0
 ArePlaces noted some = (id at : ℕ) → is_one_of at (noted_for noted id) ≡ some id at
 
--- a place is noted for some more ids
+-- a place is listed for some more ids
 abbrev pub AddsNotes : List Note → List Note → List ℕ → ℕ → Type 0
 AddsNotes old new ids place = (id at : ℕ) → is_noted id at new ≡ (is_noted id at old || (is_one_of id ids && (place == at)))
 
--- more places are noted, for each id
+-- more places are listed, for each id
 abbrev pub Notes : PlacesById → PlacesById → (ℕ → ℕ → Bool) → Type 0
 Notes old new more = (id at : ℕ) → is_one_of at (noted_for new id) ≡ (is_one_of at (noted_for old id) || more id at)
 
--- some places are noted no more, for each id
+-- some places are listed no more, for each id
 abbrev pub Forgets : PlacesById → PlacesById → (ℕ → ℕ → Bool) → Type 0
 Forgets old new some = (id at : ℕ) → is_one_of at (noted_for new id) ≡ (is_one_of at (noted_for old id) && not (some id at))
 

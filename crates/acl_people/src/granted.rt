@@ -32,7 +32,7 @@ fn add(row: &mut [Requests], places: &[usize], requests: Requests)
     }
 }
 
-/// What permissions grant, met with the mask, if there is one.
+/// What permissions grant, and where there is a mask what it grants too.
 fn under(mask: &Option<Perm>, perm: Perm) -> Requests
     ensures { result ≡ granted_by (masked_by mask.now perm) }
 {

@@ -1,4 +1,4 @@
-//! For each id, or group, the places of users that are noted for it, in lists that copies share.
+//! For each id, or group, the places of users that are listed for it, in lists that copies share.
 
 ghost use Rattle.std.specs.Prelude.{◌≡◌, ◌==◌, ◌&&◌, ◌≤◌, ◌++◌, [], not, if◌then◌else◌, map, filter, take, length, IfOk, OnOk};
 ghost use Rattle.std.specs.List.{All};
@@ -11,14 +11,14 @@ use std::alloc::{AllocError, Global};
 use std::collections::BTreeMap;
 use std::rc::Rc;
 
-/// A place to be noted for an id.
+/// A place to be listed for an id.
 #[derive(Clone, Copy)]
 pub(crate) struct Note {
     pub id: Id,
     pub place: usize,
 }
 
-/// For each id the places that are noted for it.
+/// For each id the places that are listed for it.
 #[derive(Drop)]
 pub(crate) struct PlacesById {
     lists: BTreeMap<Id, Rc<Vec<usize>>>,
@@ -81,7 +81,7 @@ impl PlacesById {
         })
     }
 
-    /// The places that are noted for an id.
+    /// The places that are listed for an id.
     pub fn get(&self, id: Id) -> &[usize]
         ensures { result.now ≡ noted_for self.now id }
     {
@@ -91,7 +91,7 @@ impl PlacesById {
         }
     }
 
-    /// Puts places in the place of those that are noted for an id.
+    /// Puts places in the place of those that are listed for an id.
     fn put(&mut self, alloc: Global, id: Id, places: Vec<usize>) -> Result<(), AllocError>
         ensures { OnOk result (AreListed self.new (λ q. if id == q then places.items else noted_for self.old q)) }
     {
@@ -100,7 +100,7 @@ impl PlacesById {
         Ok(())
     }
 
-    /// Notes the places of some notes for an id. Fails only if memory runs out.
+    /// Lists the places of some notes for an id. Fails only if memory runs out.
     fn add_all(&mut self, alloc: Global, id: Id, notes: &[Note]) -> Result<(), AllocError>
         ensures { OnOk result (Notes self.old self.new (λ q at. (id == q) && is_one_of at (map (λ n. n.place) notes.now))) }
     {

@@ -45,7 +45,7 @@ fn copied(alloc: Global, users: &[Rc<Subject>]) -> Result<Vec<Rc<Subject>>, Allo
 }
 
 impl Subjects {
-    /// Users with the places that are noted for them.
+    /// Users with the places that are listed for them.
     fn found_by(
         alloc: Global,
         users: Vec<Rc<Subject>>,

@@ -14,7 +14,7 @@ use Rattle.acl_tree.specs.Files.{Files}
 use Rattle.acl_people.specs.KnownPeople.{person, persons}
 use Rattle.acl_tree.specs.State.{State}
 use Rattle.acl_rights.specs.Rows.{Verdict, Rows, cells_of, rows_of, places_from, who_in, grants_to, may_in}
-use Rattle.acl_rights.specs.Tables.{VerdictTable, IsWhole, cell_at, verdict_at, users_granted, files_granted}
+use Rattle.acl_rights.specs.Tables.{VerdictTable, IsWhole, cell_at, verdict_at, users_granted_alone, files_granted_alone}
 use Rattle.acl_rights.proofs.Maps.{find-values}
 
 pub got-map : {A B : Type 0} (f : A → B) (xs : List A) (i : ℕ) → slice_get (map f xs) i ≡ option_map f (slice_get xs i)
@@ -43,7 +43,8 @@ module _ (V : Verdict) (s : State) (t : VerdictTable) (whole : IsWhole V s t) wh
   pub row_is : (p : PathOf) → find path_cmp p t.rows ≡ option_map (cells_of V us) (find path_cmp p s.tree.files)
   row_is p = ap (λ (rows : Rows). find path_cmp p rows) whole.rows ∙ find-values (cells_of V us) p s.tree.files
 
-  one_cell : (user : ℕ) (o : Option Node) → option_and_then (λ (cells : List ℕ). slice_get cells user) (option_map (cells_of V us) o) ≡ option_and_then (λ n. option_map (λ u. V u n.label) (slice_get us user)) o
+  one_cell : (user : ℕ) (o : Option Node) → option_and_then (λ (cells : List ℕ). slice_get cells user) (option_map (cells_of V us) o)
+      ≡ option_and_then (λ n. option_map (λ u. V u n.label) (slice_get us user)) o
   one_cell user None = refl
   one_cell user (Some n) = got-map (λ u. V u n.label) us user
 
@@ -54,13 +55,14 @@ module _ (V : Verdict) (s : State) (t : VerdictTable) (whole : IsWhole V s t) wh
   some_users q None = refl
   some_users q (Some n) = ap Some (places-map (λ c. has c q) (λ u. V u n.label) 0 us)
 
-  pub who_is : (p : PathOf) (q : Perms) → option_map (who_in q) (find path_cmp p t.rows) ≡ users_granted V s p q
+  pub who_is : (p : PathOf) (q : Perms) → option_map (who_in q) (find path_cmp p t.rows) ≡ users_granted_alone V s p q
   who_is p q = ap (option_map (who_in q)) (row_is p) ∙ some_users q (find path_cmp p s.tree.files)
 
   some_files : (q : Perms) (user : ℕ) (u : Person) → slice_get us user ≡ Some u → (fs : Files) → may_in q user (rows_of V us fs) ≡ map (λ e. e.0) (filter (λ e. has (V u e.1.label) q) fs)
   some_files q user u is [] = refl
   some_files q user u is (e ∷ fs) =
-      let here : grants_to q user (e.0, cells_of V us e.1) ≡ has (V u e.1.label) q = ap (λ o. option_map_or (λ c. has c q) o false) (got-map (λ w. V w e.1.label) us user ∙ ap (option_map (λ w. V w e.1.label)) is) in
+      let here : grants_to q user (e.0, cells_of V us e.1) ≡ has (V u e.1.label) q =
+      ap (λ o. option_map_or (λ c. has c q) o false) (got-map (λ w. V w e.1.label) us user ∙ ap (option_map (λ w. V w e.1.label)) is) in
       ap (λ b. map (λ (r : PathOf × List ℕ). r.0) (cond b ((e.0, cells_of V us e.1) ∷ filter (grants_to q user) (rows_of V us fs)) (filter (grants_to q user) (rows_of V us fs)))) here
       ∙ by (has (V u e.1.label) q) (some_files q user u is fs)
     where
@@ -70,21 +72,21 @@ module _ (V : Verdict) (s : State) (t : VerdictTable) (whole : IsWhole V s t) wh
       by true rest = ap (λ ps. e.0 ∷ ps) rest
       by false rest = rest
 
-  pub may_is : (user : ℕ) (q : Perms) → user < t.users → Some (may_in q user t.rows) ≡ files_granted V s user q
+  pub may_is : (user : ℕ) (q : Perms) → user < t.users → Some (may_in q user t.rows) ≡ files_granted_alone V s user q
   may_is user q lt =
       let long = length-map s.people.users (person s.people.groups) in
       let x = got us user (omega (arith, long, whole.users, lt)) in
       ap (λ rows. Some (may_in q user rows)) whole.rows ∙ ap Some (some_files q user x.0 x.1 s.tree.files)
       ∙ ap (option_map (λ u. map (λ (e : PathOf × Node). e.0) (filter (λ e. has (V u e.1.label) q) s.tree.files))) (sym x.1)
 
-  pub may_not : (user : ℕ) (q : Perms) → t.users ≤ user → None ≡ files_granted V s user q
+  pub may_not : (user : ℕ) (q : Perms) → t.users ≤ user → None ≡ files_granted_alone V s user q
   may_not user q le =
       let long = length-map s.people.users (person s.people.groups) in
       ap (option_map (λ u. map (λ (e : PathOf × Node). e.0) (filter (λ e. has (V u e.1.label) q) s.tree.files))) (sym (none_got us user (omega (arith, long, whole.users, le))))
 
-  pub may_all : (user : ℕ) (q : Perms) → (if nat_lt user t.users then Some (may_in q user t.rows) else None) ≡ files_granted V s user q
+  pub may_all : (user : ℕ) (q : Perms) → (if nat_lt user t.users then Some (may_in q user t.rows) else None) ≡ files_granted_alone V s user q
   may_all user q = by (nat_lt user t.users) refl
     where
-      by : (b : Bool) → nat_lt user t.users ≡ b → (if b then Some (may_in q user t.rows) else None) ≡ files_granted V s user q
+      by : (b : Bool) → nat_lt user t.users ≡ b → (if b then Some (may_in q user t.rows) else None) ≡ files_granted_alone V s user q
       by true is = may_is user q (ltb-true user t.users is)
       by false is = may_not user q (ltb-false user t.users is)

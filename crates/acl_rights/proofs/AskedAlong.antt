@@ -41,20 +41,22 @@ module _ (V : Verdict) (s : State) where
   pub can_alone : (user : ℕ) (p : PathOf) → verdict_at V s user p ≡ can_requests V false s user p
   can_alone user p = by (find path_cmp p s.tree.files)
     where
-      by : (o : Option Node) → option_and_then (λ n. option_map (λ u. V u n.label) (slice_get (persons s.people) user)) o ≡ option_and_then (λ n. option_map (λ row. granted V false s row (p, n)) (slice_get us user)) o
+      by : (o : Option Node) → option_and_then (λ n. option_map (λ u. V u n.label) (slice_get (persons s.people) user)) o
+          ≡ option_and_then (λ n. option_map (λ row. granted V false s row (p, n)) (slice_get us user)) o
       by None = refl
       by (Some n) = one_user (λ u. V u n.label) user
 
   pub can_along : (user : ℕ) (p : PathOf) → reach_at V s user p ≡ can_requests V true s user p
   can_along user p = by (find path_cmp p s.tree.files)
     where
-      by : (o : Option Node) → option_and_then (λ n. option_map (λ u. reach V s.tree.files u (p, n)) (slice_get (persons s.people) user)) o ≡ option_and_then (λ n. option_map (λ row. granted V true s row (p, n)) (slice_get us user)) o
+      by : (o : Option Node) → option_and_then (λ n. option_map (λ u. reach V s.tree.files u (p, n)) (slice_get (persons s.people) user)) o
+          ≡ option_and_then (λ n. option_map (λ row. granted V true s row (p, n)) (slice_get us user)) o
       by None = refl
       by (Some n) = one_user (λ u. reach V s.tree.files u (p, n)) user
 
   -- ---- of a file
 
-  pub who_alone : (p : PathOf) (q : Perms) → tables.users_granted V s p q ≡ users_granted V false s p q
+  pub who_alone : (p : PathOf) (q : Perms) → tables.users_granted_alone V s p q ≡ users_granted V false s p q
   who_alone p q = by (find path_cmp p s.tree.files)
     where
       by : (o : Option Node) → option_map (λ n. places_from (λ u. has (V u n.label) q) 0 (persons s.people)) o ≡ option_map (λ n. places_from (λ row. has (granted V false s row (p, n)) q) 0 us) o
@@ -64,7 +66,8 @@ module _ (V : Verdict) (s : State) where
   pub who_along : (p : PathOf) (q : Perms) → users_reaching V s p q ≡ users_granted V true s p q
   who_along p q = by (find path_cmp p s.tree.files)
     where
-      by : (o : Option Node) → option_map (λ n. places_from (λ u. has (reach V s.tree.files u (p, n)) q) 0 (persons s.people)) o ≡ option_map (λ n. places_from (λ row. has (granted V true s row (p, n)) q) 0 us) o
+      by : (o : Option Node) → option_map (λ n. places_from (λ u. has (reach V s.tree.files u (p, n)) q) 0 (persons s.people)) o
+          ≡ option_map (λ n. places_from (λ row. has (granted V true s row (p, n)) q) 0 us) o
       by None = refl
       by (Some n) = ap Some (places-map (λ u. has (reach V s.tree.files u (p, n)) q) as_person 0 us)
 
@@ -77,7 +80,7 @@ module _ (V : Verdict) (s : State) where
       by None = refl
       by (Some row) = refl
 
-  pub may_alone : (user : ℕ) (q : Perms) → tables.files_granted V s user q ≡ paths_granted V false s user q
+  pub may_alone : (user : ℕ) (q : Perms) → tables.files_granted_alone V s user q ≡ paths_granted V false s user q
   may_alone user q = one_list (λ u. map (λ (e : PathOf × Node). e.0) (filter (λ e. has (V u e.1.label) q) s.tree.files)) user
 
   pub may_along : (user : ℕ) (q : Perms) → files_reached V s user q ≡ paths_granted V true s user q

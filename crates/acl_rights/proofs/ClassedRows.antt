@@ -20,7 +20,8 @@ use Rattle.acl_rights.specs.ReachedRows.{reached_from}
 use Rattle.acl_rights.specs.Walks.{nearest_from, nearest, last_from, last_of, cut_from, AllBefore, IsLeftAbove}
 use Rattle.acl_rights.specs.RowsLeft.{rows_left, AreLeft, IsShrunk, IsReachPut, IsRowPut}
 use Rattle.acl_rights.specs.Classes.{KeepRows, IsFileTaken}
-use Rattle.acl_rights.specs.ClassRows.{NumberedRows, rows_by, HasRow, ClassRows, RowsAbove, IsPlaced, row_in, IsClassRow, IsClass, IsLonger, classed, AllPlaced, rows_above, IsClassPut, AreKept, numbers_left, AreClassed}
+use Rattle.acl_rights.specs.ClassRows.{NumberedRows, rows_by, HasRow, ClassRows, RowsAbove, IsPlaced, row_in, IsClassRow, IsClass, IsLonger, classed, AllPlaced}
+use Rattle.acl_rights.specs.ClassRows.{rows_above, IsClassPut, AreKept, numbers_left, AreClassed}
 use Rattle.acl_rights.specs.ClassLists.{AreClasses}
 use Rattle.acl_rights.proofs.Walks.{take_seen}
 use Rattle.acl_rights.proofs.Known.{cut_none}

@@ -4,6 +4,7 @@ use Rattle.std.specs.Prelude.{count_by, option_and_then, if◌then◌else◌}
 use Rattle.std.specs.Option.{option_map_or}
 use Rattle.std.specs.FinMap.{find}
 use Rattle.acl_names.specs.Paths.{path_cmp}
+use Rattle.acl_names.proofs.Basics.{none_times}
 use Rattle.std.proofs.lemmas.List.{length-map}
 use Rattle.std.proofs.lemmas.List.Sums.{length-filter}
 use Rattle.acl_edit.specs.declared.node.Node.{Node}
@@ -42,9 +43,6 @@ moved_cost t at groups is =
 
 -- ---- a line costs no more than every user at every file
 
-no_times : (u : ℕ) → 0 * u ≡ 0
-no_times u = grind arith
-
 some_times : (n u : ℕ) → 0 < u → n ≤ n * u
 some_times zero u h = omega arith
 some_times (suc n) u h = omega (arith, one_more n u, some_times n u h)
@@ -67,9 +65,10 @@ module _ (V : Verdict) (rows : Rows) (t : StagedState) (goes : GoesFrom V rows t
   no_change : t.state.tree ≡ goes.state.tree → length t.changed ≡ 0
   no_change same = ap length (nothing_changed same)
 
-  with_user : (n : ℕ) → n ≤ length t.state.tree.files → 0 < length t.state.people.users → length t.changed ≡ 0 → length t.changed * length t.state.people.users + n ≤ length t.state.tree.files * length t.state.people.users
+  with_user : (n : ℕ) → n ≤ length t.state.tree.files → 0 < length t.state.people.users → length t.changed ≡ 0
+      → length t.changed * length t.state.people.users + n ≤ length t.state.tree.files * length t.state.people.users
   with_user n le some none =
-      let zero_times : length t.changed * length t.state.people.users ≡ 0 = ap (λ k. k * length t.state.people.users) none ∙ no_times (length t.state.people.users) in
+      let zero_times : length t.changed * length t.state.people.users ≡ 0 = ap (λ k. k * length t.state.people.users) none ∙ none_times (length t.state.people.users) in
       omega (arith, zero_times, le, some_times (length t.state.tree.files) (length t.state.people.users) some)
 
   by_move : (m : UserChange) → t.user_change ≡ m → length t.changed * length t.state.people.users + moves_asked m t.state.tree.files ≤ length t.state.tree.files * length t.state.people.users

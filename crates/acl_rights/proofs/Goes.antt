@@ -24,7 +24,8 @@ module _ (V : Verdict) (rows : Rows) (t : StagedState) (goes : GoesFrom V rows t
     moves = let u = subst (λ m. UsersMoved goes.state t.state m) is goes.reports.users in (u.0, u.1)
 
     pub moved_user_in : at < length (persons t.state.people)
-    moved_user_in = subst (λ n. at < n) (sym (moved_long V (persons goes.state.people) (persons t.state.people) at groups moves.1)) (moved_in V (persons goes.state.people) (persons t.state.people) at groups moves.1)
+    moved_user_in = subst (λ n. at < n) (sym (moved_long V (persons goes.state.people) (persons t.state.people) at groups moves.1))
+        (moved_in V (persons goes.state.people) (persons t.state.people) at groups moves.1)
 
   module _ (is : t.user_change ≡ Added) where
     pub joins : (t.state.tree ≡ goes.state.tree) × JoinsUser (persons goes.state.people) (persons t.state.people)

@@ -1,5 +1,5 @@
 -- Paths whose rows grant a user a request.
-use Rattle.std.proofs.Common.{◌≡◌, ℕ, Bool, true, false, cond, List, [], ◌∷◌, map, refl, ap}
+use Rattle.std.proofs.Common.{◌≡◌, ℕ, Bool, true, false, cond, [], ◌∷◌, map, refl, ap}
 use Rattle.std.specs.Prelude.{filter}
 use Rattle.acl_entry.specs.Perms.{Perms}
 use Rattle.acl_names.specs.Paths.{PathOf}
@@ -19,6 +19,7 @@ module _ (q : Perms) (user : ℕ) where
       left : Rows
       left = filter (λ row. grants q user row.1) (rows_at es)
 
-      by : (b : Bool) → map (λ (x : PathOf × LabelRow). x.0) rest ≡ map (λ row. row.0) left → map (λ (x : PathOf × LabelRow). x.0) (cond b (e ∷ rest) rest) ≡ map (λ row. row.0) (cond b ((e.0, e.1.row) ∷ left) left)
+      by : (b : Bool) → map (λ (x : PathOf × LabelRow). x.0) rest ≡ map (λ row. row.0) left
+          → map (λ (x : PathOf × LabelRow). x.0) (cond b (e ∷ rest) rest) ≡ map (λ row. row.0) (cond b ((e.0, e.1.row) ∷ left) left)
       by true h = ap (λ l. e.0 ∷ l) h
       by false h = h

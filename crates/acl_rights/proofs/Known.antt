@@ -1,5 +1,6 @@
 -- What is known at the directories above, while rows are walked in path order.
-use Rattle.std.proofs.Common.{◌≡◌, ℕ, zero, suc, ◌+◌, Bool, true, false, not, ◌||◌, ◌&&◌, cond, List, [], ◌∷◌, ◌++◌, map, filter, take, Option, Some, None, Ordering, Less, Equal, Greater, append_assoc, append-nil, IsTrue, refl, sym, ap, subst, ◌∙◌, arith}
+use Rattle.std.proofs.Common.{◌≡◌, ℕ, zero, suc, ◌+◌, Bool, true, false, not, ◌||◌, ◌&&◌, cond, List, [], ◌∷◌, ◌++◌, map, filter, take, Option, Some, None}
+use Rattle.std.proofs.Common.{Ordering, Less, Equal, Greater, append_assoc, append-nil, IsTrue, refl, sym, ap, subst, ◌∙◌, arith}
 use Rattle.std.specs.Prelude.{slice_get, if◌then◌else◌}
 use Rattle.std.specs.Option.{option_map_or}
 use Rattle.std.specs.Ordering.{is_gt, is_lt}
@@ -13,22 +14,16 @@ use Rattle.acl_names.specs.Paths.{path_cmp, PathOf}
 use Rattle.acl_names.specs.Below.{encloses, is_above}
 use Rattle.acl_names.proofs.PathOrder.{path_total, exact_paths}
 use Rattle.acl_names.proofs.Below.{within_below, below_alike, below_less, below_trans, convex_below}
+use Rattle.acl_names.proofs.Basics.{is_less, and_true, not_both, false_from}
 use Rattle.path_map.specs.Entries.{IsInOrder}
-use Rattle.path_map.proofs.Places.{less, above}
+use Rattle.path_map.proofs.Places.{above}
 use Rattle.acl_rights.specs.Rows.{Rows, grants, grants_to, may_in}
 use Rattle.acl_rights.specs.ReachedRows.{execute, can_search, passes_in, reached_from}
 use Rattle.acl_rights.specs.Walks.{is_open, closed_after, IsBefore, nearest, lets, cut_from, AllBefore, IsFrom, AreKnown, AreFound, reached_of}
-use Rattle.acl_rights.proofs.Walks.{all_before, before_more, before_take, nearest-append, all-append, false_from, not_within}
-
-and_true : (b : Bool) → (b && true) ≡ b
-and_true true = refl
-and_true false = refl
-
-clash : (b : Bool) → b ≡ true → b ≡ false → ⊥
-clash b h k = cc
+use Rattle.acl_rights.proofs.Walks.{all_before, before_more, before_take, nearest-append, all-append, not_within}
 
 not_above_itself : (p r : PathOf) → path_cmp p r ≡ Less → is_above r p ≡ false
-not_above_itself p r lt = false_from (is_above r p) (λ b. clash (is_gt (path_cmp p r)) (ap is_gt (above r p (below_less r p b))) (ap is_gt lt))
+not_above_itself p r lt = false_from (is_above r p) (λ b. not_both (is_gt (path_cmp p r)) (ap is_gt (above r p (below_less r p b))) (ap is_gt lt))
 
 -- a path after one that is not before another is after it
 less_from : (r s p : PathOf) → path_cmp r s ≡ Less → is_gt (path_cmp s p) ≡ false → path_cmp r p ≡ Less
@@ -37,7 +32,7 @@ less_from r s p lt le = by (path_cmp s p) refl
     by : (o : Ordering) → path_cmp s p ≡ o → path_cmp r p ≡ Less
     by Less is = path_total.trans r s p lt is
     by Equal is = subst (λ z. path_cmp r z ≡ Less) (exact_paths s p is) lt
-    by Greater is = absurd (clash (is_gt (path_cmp s p)) (ap is_gt is) le)
+    by Greater is = absurd (not_both (is_gt (path_cmp s p)) (ap is_gt is) le)
 
 order_tail : {A : Type 0} (es fs : List (PathOf × A)) → IsInOrder (es ++ fs) → IsInOrder fs
 order_tail [] fs o = o
@@ -51,7 +46,7 @@ after_first {A = A} r (s ∷ rest) p o from =
     less_from r.0 s.0 p (first_less r.0 s rest all) from
   where
     first_less : (x : PathOf) (s : PathOf × A) (rest : List (PathOf × A)) → IsTrue (below_all path_cmp x (s ∷ rest)) → path_cmp x s.0 ≡ Less
-    first_less x s rest h = less (path_cmp x s.0) (and_parts (is_lt (path_cmp x s.0)) (below_all path_cmp x rest) h).0
+    first_less x s rest h = is_less (path_cmp x s.0) (and_parts (is_lt (path_cmp x s.0)) (below_all path_cmp x rest) h).0
 
 -- ---- who passes, by rows in two parts
 
@@ -66,14 +61,15 @@ module _ (user : ℕ) where
   passes_after x [] h = refl
   passes_after x (e ∷ es) h =
       let parts = and_parts (is_lt (path_cmp x e.0)) (below_all path_cmp x es) h in
-      passes_on e false es x (not_above_itself x e.0 (less (path_cmp x e.0) parts.0)) ∙ passes_after x es parts.1
+      passes_on e false es x (not_above_itself x e.0 (is_less (path_cmp x e.0) parts.0)) ∙ passes_after x es parts.1
 
   -- rows from a path on do not hold its user up
   pub passes_front : (done : Rows) (r : PathOf × List ℕ) (rest : Rows) → IsInOrder (done ++ r ∷ rest) → passes_in (done ++ r ∷ rest) user r.0 ≡ passes_in done user r.0
   passes_front done r rest order =
       let tail = order_tail done (r ∷ rest) order in
       let later = passes_after r.0 rest (and_parts (below_all path_cmp r.0 rest) (is_sorted path_cmp rest) tail).0 in
-      let own : is_above r.0 r.0 ≡ false = false_from (is_above r.0 r.0) (λ b. clash (is_gt (path_cmp r.0 r.0)) (ap is_gt (above r.0 r.0 (below_less r.0 r.0 b))) (ap is_gt (tied_itself path_total r.0))) in
+      let own : is_above r.0 r.0 ≡ false = false_from (is_above r.0 r.0)
+      (λ b. not_both (is_gt (path_cmp r.0 r.0)) (ap is_gt (above r.0 r.0 (below_less r.0 r.0 b))) (ap is_gt (tied_itself path_total r.0))) in
       passes_two done (r ∷ rest) r.0
       ∙ ap (λ b. passes_in done user r.0 && b) (passes_on r false rest r.0 own ∙ later)
       ∙ and_true (passes_in done user r.0)
@@ -113,7 +109,8 @@ module _ (user : ℕ) where
         ahead : (p : PathOf) → IsFrom p rest → AllBefore p (stack ++ (r.0, a) ∷ [])
         ahead p from = before_more stack (r.0, a) p (known.ahead p (ap is_gt (later p from))) (later p from)
 
-        by : (p : PathOf) → IsFrom p rest → (b : Bool) → is_above r.0 p ≡ b → (passes_in done user p && ((not b || can_search user r.1) && true)) ≡ option_map_or lets_on (if b then Some a else nearest p stack) true
+        by : (p : PathOf) → IsFrom p rest → (b : Bool) → is_above r.0 p ≡ b
+            → (passes_in done user p && ((not b || can_search user r.1) && true)) ≡ option_map_or lets_on (if b then Some a else nearest p stack) true
         by p from true below =
             ap (λ b. passes_in done user p && b) (and_true (can_search user r.1))
             ∙ ap (λ b. b && can_search user r.1) (sym (passes_alike done r.0 p (all_before done r rest order) below) ∙ sym (passes_front done r rest order))
@@ -147,7 +144,8 @@ pub search_reached : (all : Rows) (p : PathOf) (user : ℕ) (row : List ℕ) →
 search_reached all p user row = let e : 0 + user ≡ user = omega arith in search_from all p 0 user row ∙ ap (λ k. passes_in all k p && can_search user row) e
 
 -- where the rows above are known for all users, what is left of a row is what is reached
-pub cut_reached : (all : Rows) (p : PathOf) (o : Option (List ℕ)) (n : ℕ) (row : List ℕ) → ((user : ℕ) → passes_in all user p ≡ option_map_or (λ cells. can_search user cells) o true) → cut_from o n row ≡ reached_from all p n row
+pub cut_reached : (all : Rows) (p : PathOf) (o : Option (List ℕ)) (n : ℕ) (row : List ℕ)
+    → ((user : ℕ) → passes_in all user p ≡ option_map_or (λ cells. can_search user cells) o true) → cut_from o n row ≡ reached_from all p n row
 cut_reached all p o n [] h = refl
 cut_reached all p o n (c ∷ row) h = λ i. (if (by o ∙ sym (h n)) i then c else 0) ∷ cut_reached all p o (suc n) row h i
   where
@@ -155,14 +153,17 @@ cut_reached all p o n (c ∷ row) h = λ i. (if (by o ∙ sym (h n)) i then c el
     by None = refl
     by (Some cells) = refl
 
-grants_from : (all : Rows) (p : PathOf) (q : Perms) (n user : ℕ) (row : List ℕ) → grants q user (reached_from all p n row) ≡ option_map_or (λ c. has (if passes_in all (n + user) p then c else 0) q) (slice_get row user) false
+grants_from : (all : Rows) (p : PathOf) (q : Perms) (n user : ℕ) (row : List ℕ)
+    → grants q user (reached_from all p n row) ≡ option_map_or (λ c. has (if passes_in all (n + user) p then c else 0) q) (slice_get row user) false
 grants_from all p q n user [] = refl
 grants_from all p q n zero (c ∷ row) = let e : n ≡ n + 0 = omega arith in ap (λ k. has (if passes_in all k p then c else 0) q) e
 grants_from all p q n (suc user) (c ∷ row) =
     let e : suc n + user ≡ n + suc user = omega arith in grants_from all p q (suc n) user row ∙ ap (λ k. option_map_or (λ c. has (if passes_in all k p then c else 0) q) (slice_get row user) false) e
 
-pub grants_reached : (all : Rows) (p : PathOf) (q : Perms) (user : ℕ) (row : List ℕ) → grants q user (reached_from all p 0 row) ≡ option_map_or (λ c. has (if passes_in all user p then c else 0) q) (slice_get row user) false
-grants_reached all p q user row = let e : 0 + user ≡ user = omega arith in grants_from all p q 0 user row ∙ ap (λ k. option_map_or (λ c. has (if passes_in all k p then c else 0) q) (slice_get row user) false) e
+pub grants_reached : (all : Rows) (p : PathOf) (q : Perms) (user : ℕ) (row : List ℕ)
+    → grants q user (reached_from all p 0 row) ≡ option_map_or (λ c. has (if passes_in all user p then c else 0) q) (slice_get row user) false
+grants_reached all p q user row = let e : 0 + user ≡ user = omega arith in
+    grants_from all p q 0 user row ∙ ap (λ k. option_map_or (λ c. has (if passes_in all k p then c else 0) q) (slice_get row user) false) e
 
 -- ---- the paths that rows grant
 
@@ -170,9 +171,11 @@ grants_reached all p q user row = let e : 0 + user ≡ user = omega arith in gra
 pub may_step : (q : Perms) (user : ℕ) (r : PathOf × List ℕ) (rest : Rows) (b : Bool) (paths new all : List PathOf) → b ≡ grants q user r.1
     → new ≡ cond b (paths ++ r.0 ∷ []) paths → paths ++ may_in q user (r ∷ rest) ≡ all → new ++ may_in q user rest ≡ all
 may_step q user r rest b paths new all tested new_is so_far =
-    ap (λ l. l ++ may_in q user rest) new_is ∙ by b ∙ ap (λ g. paths ++ map (λ (r : PathOf × List ℕ). r.0) (cond g (r ∷ filter (grants_to q user) rest) (filter (grants_to q user) rest))) tested ∙ so_far
+    ap (λ l. l ++ may_in q user rest) new_is ∙ by b ∙ ap
+    (λ g. paths ++ map (λ (r : PathOf × List ℕ). r.0) (cond g (r ∷ filter (grants_to q user) rest) (filter (grants_to q user) rest))) tested ∙ so_far
   where
-    by : (c : Bool) → cond c (paths ++ r.0 ∷ []) paths ++ may_in q user rest ≡ paths ++ map (λ (r : PathOf × List ℕ). r.0) (cond c (r ∷ filter (grants_to q user) rest) (filter (grants_to q user) rest))
+    by : (c : Bool) → cond c (paths ++ r.0 ∷ []) paths ++ may_in q user rest
+        ≡ paths ++ map (λ (r : PathOf × List ℕ). r.0) (cond c (r ∷ filter (grants_to q user) rest) (filter (grants_to q user) rest))
     by true = append_assoc paths (r.0 ∷ []) (may_in q user rest)
     by false = refl
 
@@ -188,10 +191,12 @@ found_begins q user all left paths closed is none opens =
       found = ap (λ l. l ++ may_in q user (reached_of all all)) none;
     }))
 
-pub found_ends : (q : Perms) (user : ℕ) (all left : Rows) (paths : List PathOf) (closed : Option PathOf) → left ≡ [] → AreFound q user all left paths closed → paths ≡ may_in q user (reached_of all all)
+pub found_ends : (q : Perms) (user : ℕ) (all left : Rows) (paths : List PathOf) (closed : Option PathOf) → left ≡ [] → AreFound q user all left paths closed
+    → paths ≡ may_in q user (reached_of all all)
 found_ends q user all left paths closed none w = sym (append-nil paths) ∙ ap (λ l. paths ++ may_in q user (reached_of all l)) (sym none) ∙ w.found
 
-module _ (q : Perms) (user : ℕ) (all : Rows) (order : IsInOrder all) (r : PathOf × List ℕ) (rest : Rows) (paths : List PathOf) (closed : Option PathOf) (w : AreFound q user all (r ∷ rest) paths closed) where
+module _ (q : Perms) (user : ℕ) (all : Rows) (order : IsInOrder all) (r : PathOf × List ℕ) (rest : Rows) (paths : List PathOf) (closed : Option PathOf)
+    (w : AreFound q user all (r ∷ rest) paths closed) where
   ordered : IsInOrder (w.seen ++ r ∷ rest)
   ordered = subst IsInOrder (sym w.joined) order
 
@@ -217,7 +222,7 @@ module _ (q : Perms) (user : ℕ) (all : Rows) (order : IsInOrder all) (r : Path
 
       by : (o : Option PathOf) → IsBefore o r.0 → is_open o r.0 ≡ true → is_open o p ≡ true
       by None before opens = refl
-      by (Some t) before opens = ap not (false_from (is_above t p) (λ below. clash (is_above t r.0) (convex_below t r.0 p before lt below) (not_false (is_above t r.0) opens)))
+      by (Some t) before opens = ap not (false_from (is_above t p) (λ below. not_both (is_above t r.0) (convex_below t r.0 p before lt below) (not_false (is_above t r.0) opens)))
 
   -- what is closed at a row is closed below it
   shut : (p : PathOf) → path_cmp r.0 p ≡ Less → is_open closed r.0 ≡ false → (is_open closed p && (not (is_above r.0 p) || can_search user r.1)) ≡ is_open closed p
@@ -229,7 +234,7 @@ module _ (q : Perms) (user : ℕ) (all : Rows) (order : IsInOrder all) (r : Path
 
       either : (a b c : Bool) → (b ≡ true → a ≡ true) → (not a && (not b || c)) ≡ not a
       either true b c h = refl
-      either false true c h = absurd (clash false (h refl) refl)
+      either false true c h = absurd (not_both false (h refl) refl)
       either false false c h = refl
 
       by : (o : Option PathOf) → is_open o r.0 ≡ false → (is_open o p && (not (is_above r.0 p) || can_search user r.1)) ≡ is_open o p
@@ -260,10 +265,13 @@ module _ (q : Perms) (user : ℕ) (all : Rows) (order : IsInOrder all) (r : Path
         or_false true = refl
         or_false false = refl
 
-        by : (o l : Bool) → is_open closed r.0 ≡ o → (o ≡ true → l ≡ can_search user r.1) → (is_open closed p && (not (is_above r.0 p) || can_search user r.1)) ≡ is_open (closed_after o l r.0 closed) p
+        by : (o l : Bool) → is_open closed r.0 ≡ o → (o ≡ true → l ≡ can_search user r.1)
+            → (is_open closed p && (not (is_above r.0 p) || can_search user r.1)) ≡ is_open (closed_after o l r.0 closed) p
         by false l is h = shut p (later p from) is
-        by true true is h = ap (λ b. b && (not (is_above r.0 p) || can_search user r.1)) (stays p (later p from) is) ∙ ap (λ b. not (is_above r.0 p) || b) (sym (h refl)) ∙ or_true (not (is_above r.0 p))
-        by true false is h = ap (λ b. b && (not (is_above r.0 p) || can_search user r.1)) (stays p (later p from) is) ∙ ap (λ b. not (is_above r.0 p) || b) (sym (h refl)) ∙ or_false (not (is_above r.0 p))
+        by true true is h = ap (λ b. b && (not (is_above r.0 p) || can_search user r.1)) (stays p (later p from) is)
+            ∙ ap (λ b. not (is_above r.0 p) || b) (sym (h refl)) ∙ or_true (not (is_above r.0 p))
+        by true false is h = ap (λ b. b && (not (is_above r.0 p) || can_search user r.1)) (stays p (later p from) is)
+            ∙ ap (λ b. not (is_above r.0 p) || b) (sym (h refl)) ∙ or_false (not (is_above r.0 p))
 
     -- a row more is seen
     pub found_next : (more : List PathOf) → granted ≡ option_map_or (λ c. has (if opens then c else 0) q) (slice_get r.1 user) false → more ≡ cond granted (paths ++ r.0 ∷ []) paths

@@ -11,6 +11,7 @@ use Rattle.acl_entry.specs.Person.{Person}
 use Rattle.acl_entry.specs.declared.label.Label.{Label}
 use Rattle.acl_edit.specs.declared.node.Node.{Node}
 use Rattle.acl_names.specs.Paths.{PathOf}
+use Rattle.acl_names.proofs.Basics.{both_false}
 use Rattle.acl_tree.specs.Files.{Files}
 use Rattle.acl_people.specs.GroupsOfOne.{in_just_one}
 use Rattle.acl_people.specs.Moves.{MovesUser}
@@ -18,14 +19,10 @@ use Rattle.acl_rights.specs.Rows.{Verdict, cells_of, rows_of}
 
 -- ---- a user who moves
 
-or_false : (a b : Bool) → (a || b) ≡ false → (a ≡ false) × (b ≡ false)
-or_false true b h = cc
-or_false false b h = (refl, h)
-
 pub not_met : (ms groups : List ℕ) (g : ℕ) → meets ms groups ≡ false → is_one_of g ms ≡ true → is_one_of g groups ≡ false
 not_met [] groups g h is = cc
 not_met (m ∷ ms) groups g h is =
-    let parts = or_false (is_one_of m groups) (meets ms groups) h in
+    let parts = both_false (is_one_of m groups) (meets ms groups) h in
     by (eqb m g) refl parts.0 is (not_met ms groups g parts.1)
   where
     by : (b : Bool) → eqb m g ≡ b → is_one_of m groups ≡ false → (b || is_one_of g ms) ≡ true → (is_one_of g ms ≡ true → is_one_of g groups ≡ false) → is_one_of g groups ≡ false

@@ -1,5 +1,6 @@
 -- How many entries lie at one that passes a test, or below it, counted by one walk.
-use Rattle.std.proofs.Common.{◌≡◌, ℕ, zero, suc, ◌+◌, ◌<◌, ◌≤◌, Bool, true, false, cond, ◌||◌, List, [], ◌∷◌, ◌++◌, length, filter, map, get_or, Option, Some, None, Less, append_assoc, IsTrue, refl, sym, ap, ◌∙◌, arith}
+use Rattle.std.proofs.Common.{◌≡◌, ℕ, zero, suc, ◌+◌, ◌<◌, ◌≤◌, Bool, true, false, cond, ◌||◌, List, [], ◌∷◌, ◌++◌, length, filter, map, get_or, Option, Some}
+use Rattle.std.proofs.Common.{None, Less, append_assoc, IsTrue, refl, sym, ap, ◌∙◌, arith}
 use Rattle.std.specs.Prelude.{count_by}
 use Rattle.std.specs.List.{AllByRecursion}
 use Rattle.std.specs.Ordering.{is_gt, is_lt, ordering_reverse}
@@ -12,6 +13,7 @@ use Rattle.acl_names.specs.Paths.{path_cmp, PathOf}
 use Rattle.acl_names.specs.Below.{encloses}
 use Rattle.acl_names.proofs.PathOrder.{path_total}
 use Rattle.acl_names.proofs.Below.{within_itself, early_not_within}
+use Rattle.acl_names.proofs.Basics.{or_false, or_true, is_less}
 use Rattle.path_map.specs.Entries.{IsInOrder}
 use Rattle.path_map.specs.Below.{lies_in}
 use Rattle.kinds.specs.Kinds.{KindsOf}
@@ -19,7 +21,7 @@ use Rattle.kinds.specs.Numbered.{Numbers, with_node, entries_by, AreUsed}
 use Rattle.acl_rights.specs.Walks.{AllBefore}
 use Rattle.acl_rights.specs.Subtrees.{covers, lying_from}
 use Rattle.acl_rights.proofs.Counted.{entries_counted}
-use Rattle.acl_rights.proofs.Tops.{less, lies_more, lies_trans, lies_late}
+use Rattle.acl_rights.proofs.Tops.{lies_more, lies_trans, lies_late}
 
 -- ---- lists that come before a path
 
@@ -31,11 +33,12 @@ before_more : {A : Type 0} (seen : List (PathOf × A)) (t : PathOf × A) (p : Pa
 before_more [] t p h lt = (lt, tt)
 before_more (s ∷ seen) t p h lt = (h.0, before_more seen t p h.1 lt)
 
-after_more : {A : Type 0} (seen : List (PathOf × A)) (t : PathOf × A) (es : List (PathOf × A)) → AllByRecursion (λ e. AllBefore e.0 seen) es → IsTrue (below_all path_cmp t.0 es) → AllByRecursion (λ e. AllBefore e.0 (seen ++ t ∷ [])) es
+after_more : {A : Type 0} (seen : List (PathOf × A)) (t : PathOf × A) (es : List (PathOf × A)) → AllByRecursion (λ e. AllBefore e.0 seen) es
+    → IsTrue (below_all path_cmp t.0 es) → AllByRecursion (λ e. AllBefore e.0 (seen ++ t ∷ [])) es
 after_more seen t [] all h = tt
 after_more seen t (e ∷ es) all h =
     let parts = and_parts (is_lt (path_cmp t.0 e.0)) (below_all path_cmp t.0 es) h in
-    (before_more seen t e.0 all.0 (less (path_cmp t.0 e.0) parts.0), after_more seen t es all.1 parts.1)
+    (before_more seen t e.0 all.0 (is_less (path_cmp t.0 e.0) parts.0), after_more seen t es all.1 parts.1)
 
 lies_append : {A : Type 0} (seen more : List (PathOf × A)) (p : PathOf) → lies_in (seen ++ more) p ≡ (lies_in seen p || lies_in more p)
 lies_append [] more p = refl
@@ -44,14 +47,6 @@ lies_append (s ∷ seen) more p = ap (λ b. encloses s.0 p || b) (lies_append se
     assoc : (a b c : Bool) → (a || (b || c)) ≡ ((a || b) || c)
     assoc true b c = refl
     assoc false b c = refl
-
-or_nothing : (b : Bool) → (b || false) ≡ b
-or_nothing true = refl
-or_nothing false = refl
-
-or_true : (b : Bool) → (b || true) ≡ true
-or_true true = refl
-or_true false = refl
 
 module _ {A : Type 0} (test : A → Bool) where
   abbrev passing : List (PathOf × A) → List (PathOf × A)
@@ -62,7 +57,7 @@ module _ {A : Type 0} (test : A → Bool) where
   none_later p [] h = refl
   none_later p (e ∷ es) h =
       let parts = and_parts (is_lt (path_cmp p e.0)) (below_all path_cmp p es) h in
-      let out = early_not_within e.0 p (ap is_gt (path_total.antisymm e.0 p ∙ ap ordering_reverse (less (path_cmp p e.0) parts.0))) in
+      let out = early_not_within e.0 p (ap is_gt (path_total.antisymm e.0 p ∙ ap ordering_reverse (is_less (path_cmp p e.0) parts.0))) in
       by (test e.1) out (none_later p es parts.1)
     where
       by : (b : Bool) → encloses e.0 p ≡ false → lies_in (passing es) p ≡ false → lies_in (cond b (e ∷ passing es) (passing es)) p ≡ false
@@ -79,7 +74,8 @@ module _ {A : Type 0} (test : A → Bool) where
       by false true old new = omega (arith, new)
       by false false old new = omega (arith, old)
 
-  lying_all : (seen : List (PathOf × A)) (last : Option PathOf) (es : List (PathOf × A)) → IsInOrder es → AllByRecursion (λ e. AllBefore e.0 seen) es → ((p : PathOf) → AllBefore p seen → lies_in seen p ≡ covers last p)
+  lying_all : (seen : List (PathOf × A)) (last : Option PathOf) (es : List (PathOf × A)) → IsInOrder es → AllByRecursion (λ e. AllBefore e.0 seen) es
+      → ((p : PathOf) → AllBefore p seen → lies_in seen p ≡ covers last p)
       → lying_from test last es ≡ count_by (λ e. lies_in (seen ++ passing es) e.0) es
   lying_all seen last [] order all h = refl
   lying_all seen last (e ∷ es) order all h =
@@ -97,11 +93,13 @@ module _ {A : Type 0} (test : A → Bool) where
 
       inside : covers last e.0 ≡ true → (p : PathOf) → (b : Bool) → encloses e.0 p ≡ b → (lies_in seen p || b) ≡ lies_in seen p
       inside is p true within = let lies = lies_trans seen e.0 p (here ∙ is) within in ap (λ b. b || true) lies ∙ sym lies
-      inside is p false within = or_nothing (lies_in seen p)
+      inside is p false within = or_false (lies_in seen p)
 
       by : (c b : Bool) → covers last e.0 ≡ c → IsTrue (below_all path_cmp e.0 es) → lying_from test last es ≡ count_by (λ d. lies_in (seen ++ passing es) d.0) es
-          → ((next : Option PathOf) → ((p : PathOf) → AllBefore p (seen ++ e ∷ []) → lies_in (seen ++ e ∷ []) p ≡ covers next p) → lying_from test next es ≡ count_by (λ d. lies_in ((seen ++ e ∷ []) ++ passing es) d.0) es)
-          → cond c (suc (lying_from test last es)) (cond b (suc (lying_from test (Some e.0) es)) (lying_from test last es)) ≡ count_by (λ d. lies_in (seen ++ cond b (e ∷ passing es) (passing es)) d.0) (e ∷ es)
+          → ((next : Option PathOf) → ((p : PathOf) → AllBefore p (seen ++ e ∷ []) → lies_in (seen ++ e ∷ []) p ≡ covers next p)
+          → lying_from test next es ≡ count_by (λ d. lies_in ((seen ++ e ∷ []) ++ passing es) d.0) es)
+          → cond c (suc (lying_from test last es)) (cond b (suc (lying_from test (Some e.0) es)) (lying_from test last es))
+          ≡ count_by (λ d. lies_in (seen ++ cond b (e ∷ passing es) (passing es)) d.0) (e ∷ es)
       by true true is later rest more =
           count_more true true (lies_append seen (e ∷ passing es) e.0 ∙ ap (λ b. b || lies_in (e ∷ passing es) e.0) (here ∙ is)) (lying_from test last es)
           (
@@ -133,7 +131,8 @@ module _ {A : Type 0} (test : A → Bool) where
       let one = ap (lying_from test last) is ∙ ap (λ b. cond b (suc (lying_from test last more)) (cond (test e.1) (suc (lying_from test (Some e.0) more)) (lying_from test last more))) covered in
       omega (arith, one)
 
-  pub lying_passed : (last : Option PathOf) (es : List (PathOf × A)) (e : PathOf × A) (more : List (PathOf × A)) → es ≡ e ∷ more → covers last e.0 ≡ false → test e.1 ≡ true → 0 < lying_from test last es
+  pub lying_passed : (last : Option PathOf) (es : List (PathOf × A)) (e : PathOf × A) (more : List (PathOf × A)) → es ≡ e ∷ more → covers last e.0 ≡ false
+      → test e.1 ≡ true → 0 < lying_from test last es
   lying_passed last es e more is apart passes =
       let one = ap (lying_from test last) is ∙ (λ i. cond (apart i) (suc (lying_from test last more)) (cond (passes i) (suc (lying_from test (Some e.0) more)) (lying_from test last more))) in
       omega (arith, one)
@@ -179,7 +178,8 @@ module _ {N : Type 0} (test : N → Bool) (k : KindsOf N) where
       by true same = ap (λ b. encloses e.0 p || b) same
       by false same = same
 
-  pub lying_numbers : (ns : Numbers) → AreUsed k ns → count_by (λ e. lies_in (filter (λ d. is_set d.1) ns) e.0) ns ≡ count_by (λ e. lies_in (filter (λ d. test d.1) (entries_by k ns)) e.0) (entries_by k ns)
+  pub lying_numbers : (ns : Numbers) → AreUsed k ns → count_by (λ e. lies_in (filter (λ d. is_set d.1) ns) e.0) ns
+      ≡ count_by (λ e. lies_in (filter (λ d. test d.1) (entries_by k ns)) e.0) (entries_by k ns)
   lying_numbers ns used =
       (λ i. count_by (λ e. same_lying e.0 ns used i) ns)
       ∙ entries_counted k (lies_in (filter (λ d. test d.1) (entries_by k ns))) ns used

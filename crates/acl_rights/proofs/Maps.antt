@@ -1,21 +1,14 @@
 -- Ordered maps from paths.
-use Rattle.std.proofs.Common.{◌≡◌, ℕ, zero, suc, ◌+◌, ◌*◌, ◌≤◌, arith, Bool, true, false, cond, ◌&&◌, List, [], ◌∷◌, map, filter, Option, Some, None, Ordering, Less, Equal, Greater, refl, sym, ap, subst, ◌∙◌}
-use Rattle.std.specs.Prelude.{T, option_map, option_and_then, if◌then◌else◌}
+use Rattle.std.proofs.Common.{◌≡◌, ℕ, zero, suc, ◌+◌, ◌*◌, ◌≤◌, arith, Bool, true, false, cond, List, [], ◌∷◌, map, filter, Option, Some, None, Ordering, Less, Equal, Greater, refl, sym, ap, ◌∙◌}
+use Rattle.std.specs.Prelude.{option_map, option_and_then, if◌then◌else◌}
 use Rattle.std.specs.Ordering.{is_eq, is_lt}
 use Rattle.std.specs.FinMap.{find, is_sorted}
 use Rattle.std.specs.FinMap.Entries.{below_all, same_entries}
 use Rattle.std.proofs.lemmas.Bool.{and_parts}
 use Rattle.acl_names.specs.Paths.{path_cmp, PathOf}
 use Rattle.acl_names.proofs.PathOrder.{path_total, exact_paths}
+use Rattle.acl_names.proofs.Basics.{is_less, both_true, to_T}
 use Rattle.path_map.specs.Entries.{IsInOrder}
-
-less : (o : Ordering) → is_lt o ≡ true → o ≡ Less
-less Less h = refl
-less Equal h = cc
-less Greater h = cc
-
-both : (a b : Bool) → a ≡ true → b ≡ true → (a && b) ≡ true
-both a b p q = cc
 
 -- ---- values by a function
 
@@ -43,7 +36,7 @@ module _ {A : Type 0} (test : PathOf × A → Bool) where
       by (test e) parts.0 (below-filter x es parts.1)
     where
       by : (b : Bool) → is_lt (path_cmp x e.0) ≡ true → below_all path_cmp x (filter test es) ≡ true → below_all path_cmp x (cond b (e ∷ filter test es) (filter test es)) ≡ true
-      by true first rest = both _ _ first rest
+      by true first rest = both_true _ _ first rest
       by false first rest = rest
 
   pub map_filter : (es : List (PathOf × A)) → IsInOrder es → IsInOrder (filter test es)
@@ -53,14 +46,14 @@ module _ {A : Type 0} (test : PathOf × A → Bool) where
       by (test e) (below-filter e.0 es parts.0) (map_filter es parts.1)
     where
       by : (b : Bool) → below_all path_cmp e.0 (filter test es) ≡ true → is_sorted path_cmp (filter test es) ≡ true → is_sorted path_cmp (cond b (e ∷ filter test es) (filter test es)) ≡ true
-      by true first rest = both _ _ first rest
+      by true first rest = both_true _ _ first rest
       by false first rest = rest
 
   none_before : (p : PathOf) (es : List (PathOf × A)) → below_all path_cmp p es ≡ true → find path_cmp p es ≡ None
   none_before p [] h = refl
   none_before p (e ∷ es) h =
       let parts = and_parts (is_lt (path_cmp p e.0)) (below_all path_cmp p es) h in
-      ap (λ o. cond (is_eq o) (Some e.1) (find path_cmp p es)) (less (path_cmp p e.0) parts.0) ∙ none_before p es parts.1
+      ap (λ o. cond (is_eq o) (Some e.1) (find path_cmp p es)) (is_less (path_cmp p e.0) parts.0) ∙ none_before p es parts.1
 
   -- a path is found among those that pass exactly if it is found, and passes
   pub find-filter : (p : PathOf) (es : List (PathOf × A)) → IsInOrder es → find path_cmp p (filter test es) ≡ if_passes test p (find path_cmp p es)
@@ -91,11 +84,8 @@ module _ {A : Type 0} (test : PathOf × A → Bool) where
 
 -- ---- maps with the same look-ups are the same
 
-truth : (b : Bool) → b ≡ true → T b
-truth b h = subst T (sym h) tt
-
 pub same_found : {B : Type 0} (es fs : List (PathOf × B)) → IsInOrder es → IsInOrder fs → ((p : PathOf) → find path_cmp p es ≡ find path_cmp p fs) → es ≡ fs
-same_found es fs g h is = same_entries path_cmp path_total exact_paths es fs (truth (is_sorted path_cmp es) g) (truth (is_sorted path_cmp fs) h) is
+same_found es fs g h is = same_entries path_cmp path_total exact_paths es fs (to_T (is_sorted path_cmp es) g) (to_T (is_sorted path_cmp fs) h) is
 
 -- ---- products
 

@@ -56,7 +56,8 @@ seen_paths fs ls are =
     ∙ label_paths fs (map with_label ls) are
 
 -- what is asked for labels of changed files
-pub files_cost : (t : StagedState) (labels : List (Bor PathOf × Bor Label)) (users : List Person) → map with_label labels ≡ labels_of t.changed → users ≡ persons t.state.people → length labels * length users ≤ most_asked t
+pub files_cost : (t : StagedState) (labels : List (Bor PathOf × Bor Label)) (users : List Person) → map with_label labels ≡ labels_of t.changed
+    → users ≡ persons t.state.people → length labels * length users ≤ most_asked t
 files_cost t labels users are same =
     let files : length labels ≡ length t.changed = sym (length-map labels with_label) ∙ ap length are ∙ length-map t.changed (λ (f : PathOf × Node). (f.0, f.1.label)) in
     let people : length users ≡ length t.state.people.users = ap length same ∙ all_users t.state.people in
@@ -108,7 +109,8 @@ module _ (V : Verdict) (es : RowedPaths) (t : StagedState) (b : AreBefore V es t
     pub gone_order : {W : Type 0} (gone : List (PathOf × W)) → paths gone ≡ paths t.gone → IsInOrder gone
     gone_order gone are = same_order gone t.gone are (subst IsInOrder (sym b.goes.reports.gone) (map_filter _ fs old_order))
 
-    pub rows_after : {W : Type 0} (labels : List (PathOf × Label)) (gone : List (PathOf × W)) (users : List Person) (new : RowedPaths) → labels ≡ labels_of t.changed → paths gone ≡ paths t.gone → users ≡ us
+    pub rows_after : {W : Type 0} (labels : List (PathOf × Label)) (gone : List (PathOf × W)) (users : List Person) (new : RowedPaths)
+        → labels ≡ labels_of t.changed → paths gone ≡ paths t.gone → users ≡ us
         → new ≡ merged (rowed_labels V users labels) gone es → new ≡ rowed V us gs
     rows_after labels gone users new are are_gone same made =
         made

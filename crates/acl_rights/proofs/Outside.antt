@@ -1,5 +1,6 @@
 -- A part of the tree that holds what changed: outside it all rows are the same.
-use Rattle.std.proofs.Common.{◌≡◌, ℕ, suc, ◌<◌, Bool, true, false, cond, not, ◌||◌, ◌&&◌, List, [], ◌∷◌, length, map, filter, is_some, Option, Some, None, Ordering, Less, Equal, Greater, refl, sym, ap, subst, ◌∙◌, arith}
+use Rattle.std.proofs.Common.{◌≡◌, ℕ, suc, ◌<◌, Bool, true, false, cond, not, ◌||◌, ◌&&◌, List, [], ◌∷◌, length, map, filter, is_some, Option, Some, None}
+use Rattle.std.proofs.Common.{Ordering, Less, Equal, Greater, refl, sym, ap, subst, ◌∙◌, arith}
 use Rattle.std.specs.Prelude.{option_map, option_and_then, unwrap_or, if◌then◌else◌, Result, Ok, Err, IfOk}
 use Rattle.std.specs.Option.{option_map_or}
 use Rattle.std.specs.Ordering.{is_eq}
@@ -11,6 +12,7 @@ use Rattle.acl_names.specs.Below.{encloses, is_above, parent}
 use Rattle.acl_names.proofs.Below.{within_itself, within_trans, below_within}
 use Rattle.acl_names.proofs.Parents.{parent_one, parent_more, below_parent}
 use Rattle.acl_names.proofs.PathOrder.{exact_paths}
+use Rattle.acl_names.proofs.Basics.{not_both, false_from}
 use Rattle.acl_edit.specs.declared.node.Node.{Node}
 use Rattle.acl_people.specs.KnownPeople.{persons}
 use Rattle.acl_tree.specs.declared.user_change.UserChange.TheVariants.{Unchanged}
@@ -28,13 +30,6 @@ use Rattle.acl_rights.specs.Outside.{is_outside, outside, SameOutside, SameRows,
 use Rattle.acl_rights.proofs.Maps.{find-values, find-filter, map_filter, same_found}
 use Rattle.acl_rights.proofs.Orders.{in_order-values}
 
-clash : (b : Bool) → b ≡ true → b ≡ false → ⊥
-clash b h k = cc
-
-false_from : (b : Bool) → (b ≡ true → ⊥) → b ≡ false
-false_from true h = absurd (h refl)
-false_from false h = refl
-
 out : (b : Bool) → not b ≡ true → b ≡ false
 out true h = cc
 out false h = refl
@@ -46,7 +41,7 @@ yes false h = cc
 -- ---- a path that encloses another one
 
 pub not_root : (top p : PathOf) → encloses top p ≡ false → top ≡ [] → ⊥
-not_root top p apart root = clash (encloses top p) (ap (λ (t : PathOf). encloses t p) root) apart
+not_root top p apart root = not_both (encloses top p) (ap (λ (t : PathOf). encloses t p) root) apart
 
 pub parent_wider : (top p q : PathOf) → encloses top p ≡ false → encloses top q ≡ true → encloses (parent top) q ≡ true
 parent_wider top p q apart holds =
@@ -65,14 +60,14 @@ raised_shorter top p apart = parent_shorter top (not_root top p apart)
 -- ---- a part that holds more
 
 pub wider : (new top : PathOf) → encloses new top ≡ true → (p : PathOf) → not (encloses new p) ≡ true → not (encloses top p) ≡ true
-wider new top holds p apart = ap not (false_from (encloses top p) (λ w. clash (encloses new p) (within_trans new top p holds w) (out (encloses new p) apart)))
+wider new top holds p apart = ap not (false_from (encloses top p) (λ w. not_both (encloses new p) (within_trans new top p holds w) (out (encloses new p) apart)))
 
 pub holds_wider : (new top : PathOf) → encloses new top ≡ true → Holds (Some new) (Some top) []
 holds_wider new top holds p apart = (wider new top holds p apart, refl)
 
 -- nothing is outside the whole tree
 pub none_outside : (top p : PathOf) → top ≡ [] → not (encloses top p) ≡ true → ⊥
-none_outside top p root apart = clash (encloses top p) (ap (λ (t : PathOf). encloses t p) root) (out (encloses top p) apart)
+none_outside top p root apart = not_both (encloses top p) (ap (λ (t : PathOf). encloses t p) root) (out (encloses top p) apart)
 
 -- a part holds another one and the files before some that are left
 abbrev pub HoldsRead : (new old : Option PathOf) → (files left : Files) → Type 0
@@ -90,7 +85,7 @@ find_outside {A = A} top p (e ∷ es) apart = by (encloses top e.0) refl (path_c
     by false is o cmp more = ap (λ o. cond (is_eq o) (Some e.1) (find path_cmp p left)) cmp ∙ ap (λ r. cond (is_eq o) (Some e.1) r) more
     by true is Less cmp more = more
     by true is Greater cmp more = more
-    by true is Equal cmp more = absurd (clash (encloses top e.0) is (ap (encloses top) (sym (exact_paths p e.0 cmp)) ∙ apart))
+    by true is Equal cmp more = absurd (not_both (encloses top e.0) is (ap (encloses top) (sym (exact_paths p e.0 cmp)) ∙ apart))
 
 not_here : {A : Type 0} (p : PathOf) (e : PathOf × A) (more : List (PathOf × A)) → encloses e.0 p ≡ false → find path_cmp p (e ∷ more) ≡ find path_cmp p more
 not_here p e more apart = by (path_cmp p e.0) refl
@@ -98,7 +93,7 @@ not_here p e more apart = by (path_cmp p e.0) refl
     by : (o : Ordering) → path_cmp p e.0 ≡ o → cond (is_eq o) (Some e.1) (find path_cmp p more) ≡ find path_cmp p more
     by Less is = refl
     by Greater is = refl
-    by Equal is = absurd (clash (encloses e.0 p) (ap (λ (q : PathOf). encloses q p) (sym (exact_paths p e.0 is)) ∙ within_itself p) apart)
+    by Equal is = absurd (not_both (encloses e.0 p) (ap (λ (q : PathOf). encloses q p) (sym (exact_paths p e.0 is)) ∙ within_itself p) apart)
 
 -- a file is read, with what is below it
 pub read_more : (new : PathOf) (before old : Option PathOf) (files rest left more : Files) (e : PathOf × Node) → rest ≡ e ∷ more → left ≡ filter (λ d. not (encloses e.0 d.0)) more
@@ -121,11 +116,12 @@ module _ {A : Type 0} (new old : Option PathOf) (holds : (p : PathOf) → is_out
       by : (b : Bool) → is_outside old e.0 ≡ b → (c : Bool) → is_outside new e.0 ≡ c → outside new (outside old es) ≡ outside new es
           → outside new (cond b (e ∷ outside old es) (outside old es)) ≡ cond c (e ∷ outside new es) (outside new es)
       by true is c at more = ap (λ c. cond c (e ∷ outside new (outside old es)) (outside new (outside old es))) at ∙ ap (λ l. cond c (e ∷ l) l) more
-      by false is true at more = absurd (clash (is_outside old e.0) (holds e.0 at) is)
+      by false is true at more = absurd (not_both (is_outside old e.0) (holds e.0 at) is)
       by false is false at more = more
 
 -- a line leaves the label of a path that it does not report
-module _ (fs gs : Files) (order : IsInOrder fs) (ordered : IsInOrder gs) (p : PathOf) (no_change : find path_cmp p (changed_between fs gs) ≡ None) (not_gone : find path_cmp p (gone_between fs gs) ≡ None) where
+module _ (fs gs : Files) (order : IsInOrder fs) (ordered : IsInOrder gs) (p : PathOf) (no_change : find path_cmp p (changed_between fs gs) ≡ None)
+    (not_gone : find path_cmp p (gone_between fs gs) ≡ None) where
   unreported : (b : Bool) (n : Node) → (if b then Some n else None) ≡ None → b ≡ false
   unreported true n h = cc
   unreported false n h = refl
@@ -138,15 +134,16 @@ module _ (fs gs : Files) (order : IsInOrder fs) (ordered : IsInOrder gs) (p : Pa
   old_file m is =
       yes (is_some (find path_cmp p gs))
       (unreported (not (is_some (find path_cmp p gs))) m
-      (sym (find-filter (λ (e : PathOf × Node). not (is_some (find path_cmp e.0 gs))) p fs order ∙ ap (λ o. option_and_then (λ (a : Node). if not (is_some (find path_cmp p gs)) then Some a else None) o) is) ∙ not_gone))
+      (sym (find-filter (λ (e : PathOf × Node). not (is_some (find path_cmp e.0 gs))) p fs order
+      ∙ ap (λ o. option_and_then (λ (a : Node). if not (is_some (find path_cmp p gs)) then Some a else None) o) is) ∙ not_gone))
 
   same_labels : option_map (λ (n : Node). n.label) (find path_cmp p fs) ≡ option_map (λ (n : Node). n.label) (find path_cmp p gs)
   same_labels = by (find path_cmp p fs) (find path_cmp p gs) refl refl
     where
       by : (a b : Option Node) → find path_cmp p fs ≡ a → find path_cmp p gs ≡ b → option_map (λ (m : Node). m.label) a ≡ option_map (λ (m : Node). m.label) b
       by None None was is = refl
-      by None (Some n) was is = absurd (clash true refl (ap (λ o. option_map_or (λ (k : Node). not (same_label k.label n.label)) o true) (sym was) ∙ new_file n is))
-      by (Some m) None was is = absurd (clash (is_some (find path_cmp p gs)) (old_file m was) (ap is_some is))
+      by None (Some n) was is = absurd (not_both true refl (ap (λ o. option_map_or (λ (k : Node). not (same_label k.label n.label)) o true) (sym was) ∙ new_file n is))
+      by (Some m) None was is = absurd (not_both (is_some (find path_cmp p gs)) (old_file m was) (ap is_some is))
       by (Some m) (Some n) was is =
           ap Some (label_is_same m.label n.label (yes (same_label m.label n.label) (ap (λ o. option_map_or (λ (k : Node). not (same_label k.label n.label)) o true) (sym was) ∙ new_file n is)))
 
@@ -157,7 +154,8 @@ module _ (fs gs : Files) (order : IsInOrder fs) (ordered : IsInOrder gs) (p : Pa
       twice None = refl
       twice (Some n) = refl
 
-module _ (V : Verdict) (before : State) (t : StagedState) (old new : Option PathOf) (reports : Reports before t) (holds : HoldsChanges new old t) (order : IsInOrder before.tree.files) (ordered : IsInOrder t.state.tree.files) where
+module _ (V : Verdict) (before : State) (t : StagedState) (old new : Option PathOf) (reports : Reports before t) (holds : HoldsChanges new old t)
+    (order : IsInOrder before.tree.files) (ordered : IsInOrder t.state.tree.files) where
   abbrev rows_before : Rows
   rows_before = rows_of V (persons before.people) before.tree.files
 
@@ -169,7 +167,8 @@ module _ (V : Verdict) (before : State) (t : StagedState) (old new : Option Path
       let kept = holds p apart in
       let users : persons t.state.people ≡ persons before.people = subst (λ m. UsersMoved before t.state m) kept.users reports.users in
       find-values (cells_of V (persons before.people)) p before.tree.files
-      ∙ same_cells before.tree.files t.state.tree.files order ordered p (ap (λ (fs : Files). find path_cmp p fs) (sym reports.changed) ∙ kept.changed) (ap (λ (fs : Files). find path_cmp p fs) (sym reports.gone) ∙ kept.gone) V (persons before.people)
+      ∙ same_cells before.tree.files t.state.tree.files order ordered p (ap (λ (fs : Files). find path_cmp p fs) (sym reports.changed) ∙ kept.changed)
+      (ap (λ (fs : Files). find path_cmp p fs) (sym reports.gone) ∙ kept.gone) V (persons before.people)
       ∙ ap (λ (us : List Person). option_map (cells_of V us) (find path_cmp p t.state.tree.files)) (sym users)
       ∙ sym (find-values (cells_of V (persons t.state.people)) p t.state.tree.files)
 
@@ -191,7 +190,8 @@ module _ (V : Verdict) (before : State) (t : StagedState) (old new : Option Path
 
       by : (p : PathOf) (b : Bool) → is_outside new p ≡ b → find path_cmp p (outside new rows_before) ≡ find path_cmp p (outside new rows_after)
       by p true apart =
-          find-filter test p rows_before order_before ∙ ap (λ o. option_and_then (λ (a : List ℕ). if is_outside new p then Some a else None) o) (row_kept p apart) ∙ sym (find-filter test p rows_after order_after)
+          find-filter test p rows_before order_before
+          ∙ ap (λ o. option_and_then (λ (a : List ℕ). if is_outside new p then Some a else None) o) (row_kept p apart) ∙ sym (find-filter test p rows_after order_after)
       by p false inside =
           find-filter test p rows_before order_before ∙ none (find path_cmp p rows_before) (is_outside new p) inside ∙ sym (none (find path_cmp p rows_after) (is_outside new p) inside)
           ∙ sym (find-filter test p rows_after order_after)
@@ -212,7 +212,7 @@ module _ (top : Option PathOf) where
     where
       by : (o : Option PathOf) → is_outside o r ≡ false → is_outside o p ≡ true → is_above r p ≡ true → ⊥
       by None inside apart below = cc
-      by (Some t) inside apart below = clash (encloses t p) (within_trans t r p (yes (encloses t r) inside) (below_within r p below)) (out (encloses t p) apart)
+      by (Some t) inside apart below = not_both (encloses t p) (within_trans t r p (yes (encloses t r) inside) (below_within r p below)) (out (encloses t p) apart)
 
   passes_outside : (rows : Rows) (user : ℕ) (p : PathOf) → is_outside top p ≡ true → passes_in rows user p ≡ passes_in (outside top rows) user p
   passes_outside [] user p apart = refl
@@ -232,7 +232,8 @@ module _ (top : Option PathOf) where
   outside_reached all (r ∷ rows) = by (is_outside top r.0) refl (outside_reached all rows)
     where
       by : (b : Bool) → is_outside top r.0 ≡ b → outside top (reached_of all rows) ≡ reached_of (outside top all) (outside top rows)
-          → cond b ((r.0, reached_from all r.0 0 r.1) ∷ outside top (reached_of all rows)) (outside top (reached_of all rows)) ≡ reached_of (outside top all) (cond b (r ∷ outside top rows) (outside top rows))
+          → cond b ((r.0, reached_from all r.0 0 r.1) ∷ outside top (reached_of all rows)) (outside top (reached_of all rows))
+          ≡ reached_of (outside top all) (cond b (r ∷ outside top rows) (outside top rows))
       by true is more = λ i. (r.0, reached_outside all r.0 is 0 r.1 i) ∷ more i
       by false is more = more
 
@@ -245,9 +246,11 @@ same_outside V top loaded now same false = same
 
 -- ---- out of what is inside
 
-pub same_part : (V : Verdict) (w pair : StatePair) (changed top : Option PathOf) → pair ≡ w → changed ≡ top → SameRows V changed (loaded_state pair) pair.state → SameOutside V top (loaded_state w) w.state
+pub same_part : (V : Verdict) (w pair : StatePair) (changed top : Option PathOf) → pair ≡ w → changed ≡ top → SameRows V changed (loaded_state pair) pair.state
+    → SameOutside V top (loaded_state w) w.state
 same_part V w pair changed top view is same =
-    subst (λ (x : StatePair). SameOutside V top (loaded_state x) x.state) view (same_outside V top (loaded_state pair) pair.state (subst (λ (t : Option PathOf). SameRows V t (loaded_state pair) pair.state) is same))
+    subst (λ (x : StatePair). SameOutside V top (loaded_state x) x.state) view
+    (same_outside V top (loaded_state pair) pair.state (subst (λ (t : Option PathOf). SameRows V t (loaded_state pair) pair.state) is same))
 
 pub raised_holds : {E : Type 0} (r : Result PathOf E) (old : Option PathOf) (top : PathOf) → old ≡ Some top → IfOk r (λ new. encloses new top ≡ true) → IfOk r (λ new. Holds (Some new) old [])
 raised_holds (Ok new) old top is h = subst (λ (o : Option PathOf). Holds (Some new) o []) (sym is) (holds_wider new top h)
@@ -274,7 +277,8 @@ holds_changes both new old top staged changed gone is are_changed are_gone users
 pub all_changes : (path : PathOf) (top : Option PathOf) (staged : StagedState) → path ≡ [] → HoldsChanges (Some path) top staged
 all_changes path top staged root p apart = absurd (none_outside path p root apart)
 
-pub same_next : (V : Verdict) (w pair : StatePair) (t : StagedState) (old new : Option PathOf) → pair ≡ w → Reports w.state t → IsInOrder w.state.tree.files → IsInOrder t.state.tree.files → SameRows V old (loaded_state pair) pair.state
+pub same_next : (V : Verdict) (w pair : StatePair) (t : StagedState) (old new : Option PathOf) → pair ≡ w → Reports w.state t → IsInOrder w.state.tree.files
+    → IsInOrder t.state.tree.files → SameRows V old (loaded_state pair) pair.state
     → HoldsChanges new old t → SameRows V new (loaded_state w) t.state
 same_next V w pair t old new view reports order ordered same holds =
     same_after V w.state t old new reports holds order ordered (loaded_state w) (subst (λ (x : StatePair). SameRows V old (loaded_state x) x.state) view same)
@@ -284,7 +288,8 @@ loaded_or None s = refl
 loaded_or (Some l) s = refl
 
 -- the state that is kept is the one after the texts were loaded
-pub same_put : (V : Verdict) (w pair : StatePair) (changed new : Option PathOf) (next now kept before : State) → pair ≡ w → before ≡ pair.state → kept ≡ unwrap_or pair.loaded before → new ≡ changed → now ≡ next
+pub same_put : (V : Verdict) (w pair : StatePair) (changed new : Option PathOf) (next now kept before : State) → pair ≡ w → before ≡ pair.state
+    → kept ≡ unwrap_or pair.loaded before → new ≡ changed → now ≡ next
     → SameRows V changed (loaded_state w) next → SameRows V new kept now
 same_put V w pair changed new next now kept before view is_before is_kept is_new is_now same =
     let is : kept ≡ loaded_state w = is_kept ∙ ap (λ (s : State). unwrap_or pair.loaded s) is_before ∙ loaded_or pair.loaded pair.state ∙ ap loaded_state view in

@@ -1,5 +1,6 @@
 -- What is reached along paths, in a whole table.
-use Rattle.std.proofs.Common.{◌≡◌, ℕ, zero, suc, ◌+◌, Bool, true, false, cond, not, ◌||◌, ◌&&◌, List, [], ◌∷◌, length, map, filter, Option, Some, None, Ordering, Less, Equal, Greater, ◌++◌, append_assoc, refl, sym, ap, ◌∙◌, arith}
+use Rattle.std.proofs.Common.{◌≡◌, ℕ, zero, suc, ◌+◌, Bool, true, false, cond, not, ◌||◌, ◌&&◌, List, [], ◌∷◌, length, map, filter, Option, Some, None}
+use Rattle.std.proofs.Common.{Ordering, Less, Equal, Greater, ◌++◌, append_assoc, refl, sym, ap, ◌∙◌, arith}
 use Rattle.std.specs.Prelude.{option_map, option_and_then, slice_get, if◌then◌else◌, nat_lt}
 use Rattle.std.specs.Option.{option_map_or}
 use Rattle.std.specs.FinMap.{find}
@@ -55,7 +56,8 @@ module _ (V : Verdict) (us : List Person) where
       ∙ ap (option_map (λ cells. reached_from (rows_of V us fs) p 0 cells)) (find-values (cells_of V us) p fs)
       ∙ twice (find path_cmp p fs)
     where
-      twice : (o : Option Node) → option_map (λ cells. reached_from (rows_of V us fs) p 0 cells) (option_map (cells_of V us) o) ≡ option_map (λ n. reached_from (rows_of V us fs) p 0 (cells_of V us n)) o
+      twice : (o : Option Node) → option_map (λ cells. reached_from (rows_of V us fs) p 0 cells) (option_map (cells_of V us) o)
+          ≡ option_map (λ n. reached_from (rows_of V us fs) p 0 (cells_of V us n)) o
       twice None = refl
       twice (Some n) = refl
 
@@ -63,7 +65,8 @@ module _ (V : Verdict) (us : List Person) where
       → option_and_then (λ (cells : List ℕ). slice_get cells user) (option_map (λ n. reached_from (rows_of V us fs) p 0 (cells_of V us n)) o)
       ≡ option_and_then (λ n. option_map (λ u. reach V fs u (p, n)) (slice_get us user)) o
   cell_reached fs p user None = refl
-  cell_reached fs p user (Some n) = got-from (rows_of V us fs) p 0 (cells_of V us n) user ∙ first ∙ ap (option_map (reach_cell (rows_of V us fs) user p)) (got-map (λ u. V u n.label) us user) ∙ by (slice_get us user) refl
+  cell_reached fs p user (Some n) = got-from (rows_of V us fs) p 0 (cells_of V us n) user ∙ first
+      ∙ ap (option_map (reach_cell (rows_of V us fs) user p)) (got-map (λ u. V u n.label) us user) ∙ by (slice_get us user) refl
     where
       nothing : 0 + user ≡ user
       nothing = omega arith
@@ -113,7 +116,8 @@ module _ (V : Verdict) (us : List Person) where
       ap (λ b. map (λ (r : PathOf × List ℕ). r.0) (cond b (first ∷ filter (grants_to q user) rest) (filter (grants_to q user) rest))) here
       ∙ by (has (reach V all u e) q) first rest refl (paths_reached all q user u is fs)
     where
-      by : (b : Bool) (first : PathOf × List ℕ) (rest : Rows) → first.0 ≡ e.0 → map (λ (r : PathOf × List ℕ). r.0) (filter (grants_to q user) rest) ≡ map (λ (x : PathOf × Node). x.0) (filter (λ x. has (reach V all u x) q) fs)
+      by : (b : Bool) (first : PathOf × List ℕ) (rest : Rows) → first.0 ≡ e.0
+          → map (λ (r : PathOf × List ℕ). r.0) (filter (grants_to q user) rest) ≡ map (λ (x : PathOf × Node). x.0) (filter (λ x. has (reach V all u x) q) fs)
           → map (λ (r : PathOf × List ℕ). r.0) (cond b (first ∷ filter (grants_to q user) rest) (filter (grants_to q user) rest))
           ≡ map (λ (x : PathOf × Node). x.0) (cond b (e ∷ filter (λ x. has (reach V all u x) q) fs) (filter (λ x. has (reach V all u x) q) fs))
       by true first rest same more = λ i. same i ∷ more i

@@ -34,8 +34,10 @@ use Rattle.acl_rights.proofs.Lines.{agree, got_in, set_here}
 use Rattle.acl_rights.proofs.Reached.{reached_is, cell_reached}
 use Rattle.acl_rights.proofs.Goes.{moves, joins, leaves, old_order}
 use Rattle.acl_names.proofs.Below.{below_within, within_cases, within_itself}
+use Rattle.acl_names.proofs.Basics.{not_both, false_from, times_one, times_none}
 use Rattle.acl_rights.proofs.Maps.{map_twice}
-use Rattle.acl_rights.proofs.RowCounts.{clash, false_from, missed_most, missed_none, missed_one, any_found, any_filter, each_found, alike_above, some_same, long_row, sum_le, finds, times_one, times_none, sum_parts, set_other, joined_was, left_was, person_same}
+use Rattle.acl_rights.proofs.RowCounts.{missed_most, missed_none, missed_one, any_found, any_filter, each_found, alike_above, some_same, long_row, sum_le}
+use Rattle.acl_rights.proofs.RowCounts.{finds, sum_parts, set_other, joined_was, left_was, person_same}
 
 module _ (V : Verdict) (us ws : List Person) (fs gs : Files) (fo : IsInOrder fs) (go : IsInOrder gs) where
   -- a user's answer at a file was there before
@@ -88,7 +90,8 @@ module _ (V : Verdict) (us ws : List Person) (fs gs : Files) (fo : IsInOrder fs)
 
   row_one : (move : UserChange) (j : ℕ) (e : PathOf × Node) → ((i : ℕ) (w : Person) → slice_get ws i ≡ Some w → (i ≡ j → ⊥) → IsKept move e i w) → row_missed move e ≤ 1
   row_one move j e kept =
-      missed_one (row_test move e) j 0 (row_cells e) (λ i c is apart. ap (λ k. row_test move e k c) (from_none i) ∙ cell_kept move e i c is (λ w here. kept i w here (λ same. apart (from_none i ∙ same))))
+      missed_one (row_test move e) j 0 (row_cells e)
+      (λ i c is apart. ap (λ k. row_test move e k c) (from_none i) ∙ cell_kept move e i c is (λ w here. kept i w here (λ same. apart (from_none i ∙ same))))
 
   -- as many are missed as each file allows
   rows_missed : (move : UserChange) (a : PathOf × Node → ℕ) → ((e : PathOf × Node) → find path_cmp e.0 gs ≡ Some e.1 → row_missed move e ≤ a e)
@@ -103,7 +106,8 @@ module _ (V : Verdict) (us ws : List Person) (fs gs : Files) (fo : IsInOrder fs)
 
   -- ---- what is the same at a path and above it is reached alike
 
-  module _ (u w : Person) (p : PathOf) (h : (q : PathOf) → encloses q p ≡ true → option_map (λ (n : Node). V u n.label) (find path_cmp q fs) ≡ option_map (λ (n : Node). V w n.label) (find path_cmp q gs)) where
+  module _ (u w : Person) (p : PathOf)
+      (h : (q : PathOf) → encloses q p ≡ true → option_map (λ (n : Node). V u n.label) (find path_cmp q fs) ≡ option_map (λ (n : Node). V w n.label) (find path_cmp q gs)) where
     passes_kept : passes V fs u p ≡ passes V gs w p
     passes_kept =
         alike_above (λ (n : Node). has (V u n.label) execute) (λ (n : Node). has (V w n.label) execute) p fs gs fo go
@@ -121,11 +125,12 @@ module _ (V : Verdict) (us ws : List Person) (fs gs : Files) (fo : IsInOrder fs)
 
   -- ---- files that neither changed nor lie below one that did
 
-  module _ (apart : AllByRecursion (λ e. holds_below gs e.0 ≡ false) (gone_between fs gs)) (p : PathOf) (n : Node) (here : find path_cmp p gs ≡ Some n) (out : lies_in (changed_between fs gs) p ≡ false) where
+  module _ (apart : AllByRecursion (λ e. holds_below gs e.0 ≡ false) (gone_between fs gs)) (p : PathOf) (n : Node) (here : find path_cmp p gs ≡ Some n)
+      (out : lies_in (changed_between fs gs) p ≡ false) where
     not_changed : (q : PathOf) (m : Node) → encloses q p ≡ true → find path_cmp q gs ≡ Some m → is_changed fs (q, m) ≡ false
     not_changed q m w is =
         let none = any_found (λ e. is_changed fs e && encloses e.0 p) gs q m (sym (any_filter (λ e. encloses e.0 p) (is_changed fs) gs) ∙ out) is in
-        false_from (is_changed fs (q, m)) (λ c. clash (is_changed fs (q, m) && encloses q p) (and_from _ _ c w) none)
+        false_from (is_changed fs (q, m)) (λ c. not_both (is_changed fs (q, m) && encloses q p) (and_from _ _ c w) none)
 
     not_gone : (q : PathOf) (m : Node) → encloses q p ≡ true → find path_cmp q gs ≡ None → find path_cmp q fs ≡ Some m → ⊥
     not_gone q m w none is =
@@ -147,7 +152,7 @@ module _ (V : Verdict) (us ws : List Person) (fs gs : Files) (fo : IsInOrder fs)
             yes false h = cc
 
         new_one : (m : Node) → find path_cmp q fs ≡ None → find path_cmp q gs ≡ Some m → ⊥
-        new_one m was is = clash true refl (ap (λ o. option_map_or (λ (k : Node). not (same_label k.label m.label)) o true) (sym was) ∙ not_changed q m w is)
+        new_one m was is = not_both true refl (ap (λ o. option_map_or (λ (k : Node). not (same_label k.label m.label)) o true) (sym was) ∙ not_changed q m w is)
 
         by : (a b : Option Node) → find path_cmp q fs ≡ a → find path_cmp q gs ≡ b → option_map (λ (m : Node). m.label) a ≡ option_map (λ (m : Node). m.label) b
         by None None was is = refl
@@ -209,7 +214,8 @@ module _ (V : Verdict) (us ws : List Person) (fs gs : Files) (fo : IsInOrder fs)
 
   -- a user with the same groups keeps the answers at files that neither changed nor lie below one that did
   module _ (apart : AllByRecursion (λ e. holds_below gs e.0 ≡ false) (gone_between fs gs)) where
-    same_kept : (move : UserChange) (e : PathOf × Node) → find path_cmp e.0 gs ≡ Some e.1 → lies_in (changed_between fs gs) e.0 ≡ false → (i : ℕ) (w : Person) → slice_get us (place_before (place_left move) i) ≡ Some w → IsKept move e i w
+    same_kept : (move : UserChange) (e : PathOf × Node) → find path_cmp e.0 gs ≡ Some e.1 → lies_in (changed_between fs gs) e.0 ≡ false → (i : ℕ) (w : Person)
+        → slice_get us (place_before (place_left move) i) ≡ Some w → IsKept move e i w
     same_kept move e found out i w was =
         let there = was_there apart e.0 e.1 found out (find path_cmp e.0 fs) refl in
         record {
@@ -256,11 +262,12 @@ module _ (V : Verdict) (us ws : List Person) (fs gs : Files) (fo : IsInOrder fs)
           where
             pick : (i : ℕ) (w : Person) → slice_get ws i ≡ Some w → (b : Bool) → eqb i j ≡ b → IsKept move e i w
             pick i w at true same = here i w e at (eqb-true i j same) found is
-            pick i w at false other = same_kept move e found out i w (was i w at (λ same. clash (eqb i j) (eq-eqb i j same) other))
+            pick i w at false other = same_kept move e found out i w (was i w at (λ same. not_both (eqb i j) (eq-eqb i j same) other))
 
 -- ---- a line
 
-module _ (V : Verdict) (local : (u w : Person) (f : Label) → AgreeOnMentions u w f → V u f ≡ V w f) (rows : Rows) (t : StagedState) (goes : GoesFrom V rows t) (ro : IsInOrder rows) (go : IsInOrder t.state.tree.files) where
+module _ (V : Verdict) (local : (u w : Person) (f : Label) → AgreeOnMentions u w f → V u f ≡ V w f) (rows : Rows) (t : StagedState) (goes : GoesFrom V rows t)
+    (ro : IsInOrder rows) (go : IsInOrder t.state.tree.files) where
   abbrev us : List Person
   us = persons goes.state.people
 
@@ -301,7 +308,8 @@ module _ (V : Verdict) (local : (u w : Person) (f : Label) → AgreeOnMentions u
       nothing : (l : ℕ) → 0 * l ≡ 0
       nothing l = grind arith
 
-  line_moved : (at : ℕ) (groups : List ℕ) → t.user_change ≡ Memberships at groups → line_missed (Memberships at groups) ≤ at_changed + count_by (λ (e : PathOf × Node). lies_in (filter (mentions_one groups) gs) e.0) gs
+  line_moved : (at : ℕ) (groups : List ℕ) → t.user_change ≡ Memberships at groups
+      → line_missed (Memberships at groups) ≤ at_changed + count_by (λ (e : PathOf × Node). lies_in (filter (mentions_one groups) gs) e.0) gs
   line_moved at groups is =
       one_moved V us ws fs gs fo go alone (Memberships at groups) at (λ (e : PathOf × Node). lies_in (filter (mentions_one groups) gs) e.0) others him
     where
@@ -316,7 +324,8 @@ module _ (V : Verdict) (local : (u w : Person) (f : Label) → AgreeOnMentions u
 
       next_is : (i : ℕ) (w : Person) → slice_get ws i ≡ Some w → i ≡ at → m.change.after ≡ w
       next_is i w got same =
-          person_same m.change.after w (sym (ap (λ (l : List Person). slice_get l at) m.change.becomes ∙ set_here us at m.change.after (got_in us at m.change.before m.change.was)) ∙ ap (slice_get ws) (sym same) ∙ got)
+          person_same m.change.after w
+          (sym (ap (λ (l : List Person). slice_get l at) m.change.becomes ∙ set_here us at m.change.after (got_in us at m.change.before m.change.was)) ∙ ap (slice_get ws) (sym same) ∙ got)
 
       verdicts : (w : Person) → m.change.after ≡ w → (e : PathOf × Node) → lies_in (filter (mentions_one groups) gs) e.0 ≡ false → (q : PathOf) → encloses q e.0 ≡ true
           → option_map (λ (n : Node). V m.change.before n.label) (find path_cmp q fs) ≡ option_map (λ (n : Node). V w n.label) (find path_cmp q gs)
@@ -326,10 +335,11 @@ module _ (V : Verdict) (local : (u w : Person) (f : Label) → AgreeOnMentions u
           by None here = refl
           by (Some n) here =
               let none = any_found (λ x. mentions_one groups x && encloses x.0 e.0) gs q n (sym (any_filter (λ x. encloses x.0 e.0) (mentions_one groups) gs) ∙ out) here in
-              let unmet = false_from (mentions_one groups (q, n)) (λ c. clash (mentions_one groups (q, n) && encloses q e.0) (and_from _ _ c within) none) in
+              let unmet = false_from (mentions_one groups (q, n)) (λ c. not_both (mentions_one groups (q, n) && encloses q e.0) (and_from _ _ c within) none) in
               ap Some (sym (local m.change.after m.change.before n.label (agree us ws at groups m n.label unmet)) ∙ ap (λ u. V u n.label) next)
 
-      him : (i : ℕ) (w : Person) (e : PathOf × Node) → slice_get ws i ≡ Some w → i ≡ at → find path_cmp e.0 gs ≡ Some e.1 → lies_in (filter (mentions_one groups) gs) e.0 ≡ false → IsKept V us ws fs gs fo go (Memberships at groups) e i w
+      him : (i : ℕ) (w : Person) (e : PathOf × Node) → slice_get ws i ≡ Some w → i ≡ at → find path_cmp e.0 gs ≡ Some e.1
+          → lies_in (filter (mentions_one groups) gs) e.0 ≡ false → IsKept V us ws fs gs fo go (Memberships at groups) e i w
       him i w e got same found out =
           let there : find path_cmp e.0 fs ≡ Some e.1 = ap (find path_cmp e.0) files ∙ found in
           record {

@@ -26,7 +26,8 @@ count_paths {A = A} {B = B} f (e ∷ es) (g ∷ fs) h =
     ∙ (let more = count_paths f es fs rest in λ i. cond (f (first i)) 1 0 + more i)
     ∙ sym (sum_by-cons (λ (x : PathOf × B). cond (f x.0) 1 0) g fs)
 
-pub lies_paths : {A B : Type 0} (tops : List (PathOf × A)) (others : List (PathOf × B)) → map (λ (t : PathOf × A). t.0) tops ≡ map (λ (t : PathOf × B). t.0) others → (p : PathOf) → lies_in tops p ≡ list_any (λ (t : PathOf × B). encloses t.0 p) others
+pub lies_paths : {A B : Type 0} (tops : List (PathOf × A)) (others : List (PathOf × B))
+    → map (λ (t : PathOf × A). t.0) tops ≡ map (λ (t : PathOf × B). t.0) others → (p : PathOf) → lies_in tops p ≡ list_any (λ (t : PathOf × B). encloses t.0 p) others
 lies_paths [] [] h p = refl
 lies_paths [] (o ∷ others) h p = cc
 lies_paths (t ∷ tops) [] h p = cc
@@ -44,7 +45,8 @@ count_alike f g h (x ∷ xs) =
     ∙ sym (sum_by-cons (λ y. cond (g y) 1 0) x xs)
 
 -- how many files are at some paths or below them
-pub count_lying : {A B : Type 0} (tops : List (PathOf × A)) (es : List (PathOf × B)) (others fs : Files) → map (λ (t : PathOf × A). t.0) tops ≡ map (λ (t : PathOf × Node). t.0) others → map (λ (e : PathOf × B). e.0) es ≡ map (λ (e : PathOf × Node). e.0) fs
+pub count_lying : {A B : Type 0} (tops : List (PathOf × A)) (es : List (PathOf × B)) (others fs : Files)
+    → map (λ (t : PathOf × A). t.0) tops ≡ map (λ (t : PathOf × Node). t.0) others → map (λ (e : PathOf × B). e.0) es ≡ map (λ (e : PathOf × Node). e.0) fs
     → count_by (λ (e : PathOf × B). lies_in tops e.0) es ≡ count_by (λ (e : PathOf × Node). lies_in others e.0) fs
 count_lying tops es others fs same paths =
     count_paths (lies_in tops) es fs paths ∙ count_alike (λ (e : PathOf × Node). lies_in tops e.0) (λ (e : PathOf × Node). lies_in others e.0) (λ e. lies_paths tops others same e.0) fs
@@ -55,7 +57,8 @@ count_none (f ∷ fs) = sum_by-cons (λ (e : PathOf × Node). 0) f fs ∙ ap (λ
 
 module _ (t : StagedState) where
   -- files change
-  pub files_refreshed : (walked users : ℕ) → t.user_change ≡ Unchanged → walked ≡ count_by (λ (e : PathOf × Node). lies_in t.changed e.0) t.state.tree.files → users ≡ length t.state.people.users → walked * users ≡ verdicts_refreshed t
+  pub files_refreshed : (walked users : ℕ) → t.user_change ≡ Unchanged → walked ≡ count_by (λ (e : PathOf × Node). lies_in t.changed e.0) t.state.tree.files
+      → users ≡ length t.state.people.users → walked * users ≡ verdicts_refreshed t
   files_refreshed walked users is w u =
       (λ i. w i * u i)
       ∙ swapped (count_by (λ (e : PathOf × Node). lies_in t.changed e.0) t.state.tree.files) (length t.state.people.users)
@@ -64,7 +67,8 @@ module _ (t : StagedState) where
       swapped : (a b : ℕ) → a * b ≡ b * a + 0
       swapped a b = grind arith
 
-  pub files_fit : (walked users : ℕ) → walked ≡ count_by (λ (e : PathOf × Node). lies_in t.changed e.0) t.state.tree.files → users ≡ length t.state.people.users → length t.state.tree.files * length t.state.people.users < 2 ^ 64 → walked * users < 2 ^ 64
+  pub files_fit : (walked users : ℕ) → walked ≡ count_by (λ (e : PathOf × Node). lies_in t.changed e.0) t.state.tree.files
+      → users ≡ length t.state.people.users → length t.state.tree.files * length t.state.people.users < 2 ^ 64 → walked * users < 2 ^ 64
   files_fit walked users w u fits =
       let most = count_by-le-length (λ (e : PathOf × Node). lies_in t.changed e.0) t.state.tree.files in
       let le = times_le walked (length t.state.tree.files) users (omega (arith, w, most)) in
@@ -74,7 +78,9 @@ module _ (t : StagedState) where
   -- no file changes
   pub users_refreshed : (n : ℕ) → t.changed ≡ [] → n ≡ moves_refreshed t.user_change t.state.tree.files → n ≡ verdicts_refreshed t
   users_refreshed n none is =
-      let all : length t.state.people.users * count_by (λ (e : PathOf × Node). lies_in t.changed e.0) t.state.tree.files ≡ 0 = ap (λ (es : Files). length t.state.people.users * count_by (λ (e : PathOf × Node). lies_in es e.0) t.state.tree.files) none ∙ ap (λ k. length t.state.people.users * k) (count_none t.state.tree.files) ∙ times_none (length t.state.people.users) in
+      let all : length t.state.people.users * count_by (λ (e : PathOf × Node). lies_in t.changed e.0) t.state.tree.files ≡ 0 =
+      ap (λ (es : Files). length t.state.people.users * count_by (λ (e : PathOf × Node). lies_in es e.0) t.state.tree.files) none
+      ∙ ap (λ k. length t.state.people.users * k) (count_none t.state.tree.files) ∙ times_none (length t.state.people.users) in
       is ∙ plus (length t.state.people.users * count_by (λ (e : PathOf × Node). lies_in t.changed e.0) t.state.tree.files) (moves_refreshed t.user_change t.state.tree.files) all
     where
       times_none : (u : ℕ) → u * 0 ≡ 0

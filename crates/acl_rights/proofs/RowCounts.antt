@@ -1,5 +1,6 @@
 -- Counts over rows of verdicts and over files, look-ups of files, and the places of users before and after a line.
-use Rattle.std.proofs.Common.{◌≡◌, ℕ, zero, suc, ◌+◌, ◌*◌, ◌<◌, ◌≤◌, Bool, true, false, cond, not, eqb, ◌||◌, ◌&&◌, List, [], ◌∷◌, length, map, filter, take, drop, set, Option, Some, None, Ordering, Less, Equal, Greater, ◌++◌, append_assoc, IsTrue, refl, sym, ap, subst, ◌∙◌, arith}
+use Rattle.std.proofs.Common.{◌≡◌, ℕ, zero, suc, ◌+◌, ◌*◌, ◌<◌, ◌≤◌, Bool, true, false, cond, not, eqb, ◌||◌, ◌&&◌, List, [], ◌∷◌, length, map, filter, take}
+use Rattle.std.proofs.Common.{drop, set, Option, Some, None, ◌++◌, append_assoc, IsTrue, refl, sym, ap, subst, ◌∙◌, arith}
 use Rattle.std.specs.Prelude.{option_map, option_and_then, slice_get, count_by, if◌then◌else◌, nat_lt}
 use Rattle.std.specs.List.{list_all, list_any, sum_by, AllByRecursion, remove}
 use Rattle.std.specs.Ordering.{is_eq, is_lt}
@@ -12,6 +13,7 @@ use Rattle.acl_entry.specs.Person.{Person}
 use Rattle.acl_names.specs.Paths.{path_cmp, PathOf}
 use Rattle.acl_names.proofs.PathOrder.{path_total, exact_paths}
 use Rattle.acl_names.specs.Below.{is_above}
+use Rattle.acl_names.proofs.Basics.{not_both, both_false, is_less, is_equal, times_none}
 use Rattle.path_map.proofs.Places.{above}
 use Rattle.path_map.specs.Entries.{IsInOrder}
 use Rattle.acl_rights.specs.Rows.{Rows}
@@ -19,17 +21,6 @@ use Rattle.acl_rights.specs.ReachedRows.{reached_from}
 use Rattle.acl_rights.specs.Differing.{fails_from}
 use Rattle.acl_rights.proofs.Maps.{map_filter, find-values, find-filter, same_found}
 use Rattle.acl_rights.proofs.Orders.{in_order-values}
-
-pub clash : (b : Bool) → b ≡ true → b ≡ false → ⊥
-clash b h k = cc
-
-pub false_from : (b : Bool) → (b ≡ true → ⊥) → b ≡ false
-false_from true h = absurd (h refl)
-false_from false h = refl
-
-or_false : (a b : Bool) → (a || b) ≡ false → (a ≡ false) × (b ≡ false)
-or_false true b h = cc
-or_false false b h = (refl, h)
 
 -- ---- counts of cells
 
@@ -66,7 +57,7 @@ missed_one t j n (c ∷ cells) h = by (eqb n j) refl (missed_one t j (suc n) cel
         omega (arith, unit (t n c), rest)
     by false is more =
         let e : n + 0 ≡ n = omega arith in
-        let head : mark (t n c) ≡ 0 = ap mark (ap (λ k. t k c) (sym e) ∙ h 0 c refl (λ at. clash (eqb n j) (eq-eqb n j (sym e ∙ at)) is)) in
+        let head : mark (t n c) ≡ 0 = ap mark (ap (λ k. t k c) (sym e) ∙ h 0 c refl (λ at. not_both (eqb n j) (eq-eqb n j (sym e ∙ at)) is)) in
         let rest = more (λ i d got apart. ap (λ k. t k d) (next i) ∙ h (suc i) d got (λ at. apart (next i ∙ at))) in
         omega (arith, head, rest)
 
@@ -76,31 +67,21 @@ first_before : {A : Type 0} (x : PathOf) (es : List (PathOf × A)) (e : PathOf �
 first_before x [] e fs h = (and_parts (is_lt (path_cmp x e.0)) (below_all path_cmp x fs) h).0
 first_before x (d ∷ es) e fs h = first_before x es e fs (and_parts (is_lt (path_cmp x d.0)) (below_all path_cmp x (es ++ e ∷ fs)) h).1
 
-less : (o : Ordering) → is_lt o ≡ true → o ≡ Less
-less Less h = refl
-less Equal h = cc
-less Greater h = cc
-
-equal : (o : Ordering) → is_eq o ≡ true → o ≡ Equal
-equal Less h = cc
-equal Equal h = refl
-equal Greater h = cc
-
 found_mid : {A : Type 0} (pre : List (PathOf × A)) (e : PathOf × A) (es : List (PathOf × A)) → IsInOrder (pre ++ e ∷ es) → find path_cmp e.0 (pre ++ e ∷ es) ≡ Some e.1
 found_mid [] e es h = ap (λ o. cond (is_eq o) (Some e.1) (find path_cmp e.0 es)) (tied_itself path_total e.0)
 found_mid (d ∷ pre) e es h =
     let parts = and_parts (below_all path_cmp d.0 (pre ++ e ∷ es)) (is_sorted path_cmp (pre ++ e ∷ es)) h in
-    ap (λ o. cond (is_eq o) (Some d.1) (find path_cmp e.0 (pre ++ e ∷ es))) (above d.0 e.0 (less (path_cmp d.0 e.0) (first_before d.0 pre e es parts.0))) ∙ found_mid pre e es parts.1
+    ap (λ o. cond (is_eq o) (Some d.1) (find path_cmp e.0 (pre ++ e ∷ es))) (above d.0 e.0 (is_less (path_cmp d.0 e.0) (first_before d.0 pre e es parts.0))) ∙ found_mid pre e es parts.1
 
 pub any_found : {A : Type 0} (f : PathOf × A → Bool) (es : List (PathOf × A)) (q : PathOf) (a : A) → list_any f es ≡ false → find path_cmp q es ≡ Some a → f (q, a) ≡ false
 any_found f [] q a none is = cc
-any_found f (e ∷ es) q a none is = by (is_eq (path_cmp q e.0)) refl is (any_found f es q a (or_false (f e) (list_any f es) none).1)
+any_found f (e ∷ es) q a none is = by (is_eq (path_cmp q e.0)) refl is (any_found f es q a (both_false (f e) (list_any f es) none).1)
   where
     by : (b : Bool) → is_eq (path_cmp q e.0) ≡ b → cond b (Some e.1) (find path_cmp q es) ≡ Some a → (find path_cmp q es ≡ Some a → f (q, a) ≡ false) → f (q, a) ≡ false
     by true same here more =
-        let path = exact_paths q e.0 (equal (path_cmp q e.0) same) in
+        let path = exact_paths q e.0 (is_equal (path_cmp q e.0) same) in
         let back : a ≡ e.1 = cc in
-        ap f (λ i. (path i, back i)) ∙ (or_false (f e) (list_any f es) none).0
+        ap f (λ i. (path i, back i)) ∙ (both_false (f e) (list_any f es) none).0
     by false other there more = more there
 
 pub any_filter : {A : Type 0} (f t : A → Bool) (es : List A) → list_any f (filter t es) ≡ list_any (λ e. t e && f e) es
@@ -111,7 +92,8 @@ any_filter f t (e ∷ es) = by (any_filter f t es) (t e)
     by more true = ap (λ b. f e || b) more
     by more false = more
 
-pub each_found : {A : Type 0} (P : PathOf → Type 0) (t : PathOf × A → Bool) (es : List (PathOf × A)) (q : PathOf) (a : A) → AllByRecursion (λ e. P e.0) (filter t es) → find path_cmp q es ≡ Some a → t (q, a) ≡ true → P q
+pub each_found : {A : Type 0} (P : PathOf → Type 0) (t : PathOf × A → Bool) (es : List (PathOf × A)) (q : PathOf) (a : A)
+    → AllByRecursion (λ e. P e.0) (filter t es) → find path_cmp q es ≡ Some a → t (q, a) ≡ true → P q
 each_found P t [] q a all is ok = cc
 each_found P t (e ∷ es) q a all is ok = by (is_eq (path_cmp q e.0)) refl is (λ h there. each_found P t es q a h there ok)
   where
@@ -125,7 +107,7 @@ each_found P t (e ∷ es) q a all is ok = by (is_eq (path_cmp q e.0)) refl is (�
 
     by : (b : Bool) → is_eq (path_cmp q e.0) ≡ b → cond b (Some e.1) (find path_cmp q es) ≡ Some a → (AllByRecursion (λ e. P e.0) (filter t es) → find path_cmp q es ≡ Some a → P q) → P q
     by true same here more =
-        let path = exact_paths q e.0 (equal (path_cmp q e.0) same) in
+        let path = exact_paths q e.0 (is_equal (path_cmp q e.0) same) in
         let value : e.1 ≡ a = cc in
         let back = sym path in
         subst P (sym path) (first (t e) all (ap t (λ i. (back i, value i)) ∙ ok))
@@ -133,11 +115,15 @@ each_found P t (e ∷ es) q a all is ok = by (is_eq (path_cmp q e.0)) refl is (�
 
 -- ---- who passes depends only on what is above
 
-all_kept : {A : Type 0} (f : A → Bool) (p : PathOf) (es : List (PathOf × A)) → list_all (λ e. not (is_above e.0 p) || f e.1) es ≡ list_all (λ (e : PathOf × Bool). e.1) (map (λ (e : PathOf × A). (e.0, f e.1)) (filter (λ e. is_above e.0 p) es))
+all_kept : {A : Type 0} (f : A → Bool) (p : PathOf) (es : List (PathOf × A))
+    → list_all (λ e. not (is_above e.0 p) || f e.1) es ≡ list_all (λ (e : PathOf × Bool). e.1) (map (λ (e : PathOf × A). (e.0, f e.1)) (filter (λ e. is_above e.0 p) es))
 all_kept {A = A} f p [] = refl
 all_kept {A = A} f p (e ∷ es) = by (all_kept f p es) (is_above e.0 p)
   where
-    by : list_all (λ e. not (is_above e.0 p) || f e.1) es ≡ list_all (λ (e : PathOf × Bool). e.1) (map (λ (e : PathOf × A). (e.0, f e.1)) (filter (λ e. is_above e.0 p) es)) → (b : Bool) → ((not b || f e.1) && list_all (λ e. not (is_above e.0 p) || f e.1) es) ≡ list_all (λ (e : PathOf × Bool). e.1) (map (λ (e : PathOf × A). (e.0, f e.1)) (cond b (e ∷ filter (λ e. is_above e.0 p) es) (filter (λ e. is_above e.0 p) es)))
+    by : list_all (λ e. not (is_above e.0 p) || f e.1) es
+        ≡ list_all (λ (e : PathOf × Bool). e.1) (map (λ (e : PathOf × A). (e.0, f e.1)) (filter (λ e. is_above e.0 p) es)) → (b : Bool)
+        → ((not b || f e.1) && list_all (λ e. not (is_above e.0 p) || f e.1) es)
+        ≡ list_all (λ (e : PathOf × Bool). e.1) (map (λ (e : PathOf × A). (e.0, f e.1)) (cond b (e ∷ filter (λ e. is_above e.0 p) es) (filter (λ e. is_above e.0 p) es)))
     by more true = ap (λ b. f e.1 && b) more
     by more false = more
 
@@ -156,7 +142,8 @@ pub alike_above : {A B : Type 0} (f : A → Bool) (g : B → Bool) (p : PathOf) 
     → list_all (λ e. not (is_above e.0 p) || f e.1) es ≡ list_all (λ e. not (is_above e.0 p) || g e.1) fs
 alike_above {A = A} {B = B} f g p es fs o r h =
     all_kept f p es
-    ∙ ap (list_all (λ (e : PathOf × Bool). e.1)) (same_found (map (λ (e : PathOf × A). (e.0, f e.1)) (filter (λ e. is_above e.0 p) es)) (map (λ (e : PathOf × B). (e.0, g e.1)) (filter (λ e. is_above e.0 p) fs))
+    ∙ ap (list_all (λ (e : PathOf × Bool). e.1))
+    (same_found (map (λ (e : PathOf × A). (e.0, f e.1)) (filter (λ e. is_above e.0 p) es)) (map (λ (e : PathOf × B). (e.0, g e.1)) (filter (λ e. is_above e.0 p) fs))
     (in_order-values (λ (e : PathOf × A). f e.1) (filter (λ e. is_above e.0 p) es) (map_filter (λ e. is_above e.0 p) es o))
     (in_order-values (λ (e : PathOf × B). g e.1) (filter (λ e. is_above e.0 p) fs) (map_filter (λ e. is_above e.0 p) fs r))
     (λ q. found_kept f p q es o ∙ by q (is_above q p) refl ∙ sym (found_kept g p q fs r)))
@@ -185,12 +172,6 @@ pub finds : {A : Type 0} (all pre es : List (PathOf × A)) → pre ++ es ≡ all
 finds all pre [] is o = tt
 finds all pre (e ∷ es) is o =
     (ap (find path_cmp e.0) (sym is) ∙ found_mid pre e es (subst IsInOrder (sym is) o), finds all (pre ++ e ∷ []) es (append_assoc pre (e ∷ []) es ∙ is) o)
-
-pub times_one : (l : ℕ) → l * 1 ≡ l
-times_one l = grind arith
-
-pub times_none : (l : ℕ) → l * 0 ≡ 0
-times_none l = grind arith
 
 times_more : (l a b : ℕ) → l * (a + b) ≡ l * a + l * b
 times_more l a b = grind arith

@@ -1,5 +1,6 @@
 -- Rows by kinds: those of a state with what a line changes are those of the state after it.
-use Rattle.std.proofs.Common.{◌≡◌, ℕ, ◌+◌, ◌<◌, ◌++◌, Bool, true, false, cond, not, Ordering, Less, Equal, Greater, List, [], ◌∷◌, length, map, filter, is_some, Option, Some, None, set, refl, sym, ap, subst, ◌∙◌, arith}
+use Rattle.std.proofs.Common.{◌≡◌, ℕ, ◌+◌, ◌<◌, ◌++◌, Bool, true, false, cond, not, Ordering, Less, Equal, Greater, List, [], ◌∷◌, length, map, filter, is_some}
+use Rattle.std.proofs.Common.{Option, Some, None, set, refl, sym, ap, subst, ◌∙◌, arith}
 use Rattle.std.specs.Prelude.{◌&&◌, nat_lt, slice_get, option_map, count_by, if◌then◌else◌}
 use Rattle.std.specs.Option.{option_map_or}
 use Rattle.std.specs.List.{remove}
@@ -51,7 +52,8 @@ module _ (V : Verdict) (us : List Person) where
   rowed_rows es fs are = ap rows_at are ∙ map_twice (λ (f : PathOf × Node). (f.0, label_row V us f.1.label)) (λ (e : PathOf × LabelRow). (e.0, e.1.row)) fs
 
   pub rowed_labels_are : (es : RowedPaths) (fs : Files) → es ≡ rowed V us fs → HaveLabels fs es
-  rowed_labels_are es fs are = ap (map (λ (e : PathOf × LabelRow). (e.0, e.1.label))) are ∙ map_twice (λ (f : PathOf × Node). (f.0, label_row V us f.1.label)) (λ (e : PathOf × LabelRow). (e.0, e.1.label)) fs
+  rowed_labels_are es fs are = ap (map (λ (e : PathOf × LabelRow). (e.0, e.1.label))) are
+      ∙ map_twice (λ (f : PathOf × Node). (f.0, label_row V us f.1.label)) (λ (e : PathOf × LabelRow). (e.0, e.1.label)) fs
 
   pub rowed_paths : (es : RowedPaths) (fs : Files) → es ≡ rowed V us fs → map (λ (e : PathOf × LabelRow). e.0) es ≡ map (λ (f : PathOf × Node). f.0) fs
   rowed_paths es fs are = ap (map (λ (e : PathOf × LabelRow). e.0)) are ∙ map_twice (λ (f : PathOf × Node). (f.0, label_row V us f.1.label)) (λ (e : PathOf × LabelRow). e.0) fs
@@ -70,7 +72,8 @@ same_gone {C = C} gs hs same puts es = ap (put_all puts) (kept es)
     same_has p [] [] same = refl
     same_has p [] (h ∷ hs) same = cc
     same_has p (g ∷ gs) [] same = cc
-    same_has {A = A} {B = B} p (g ∷ gs) (h ∷ hs) same = by (path_cmp p g.0) (same_has p gs hs (same_tails same)) ∙ ap (λ q. is_some (cond (is_eq (path_cmp p q)) (Some h.1) (find path_cmp p hs))) (same_heads same)
+    same_has {A = A} {B = B} p (g ∷ gs) (h ∷ hs) same = by (path_cmp p g.0) (same_has p gs hs (same_tails same))
+        ∙ ap (λ q. is_some (cond (is_eq (path_cmp p q)) (Some h.1) (find path_cmp p hs))) (same_heads same)
       where
         by : (o : Ordering) → has p gs ≡ has p hs → is_some (cond (is_eq o) (Some g.1) (find path_cmp p gs)) ≡ is_some (cond (is_eq o) (Some h.1) (find path_cmp p hs))
         by Less more = more
@@ -117,7 +120,8 @@ each_changed V us ws f same es fs are =
 abbrev with_cells : Label → List ℕ → LabelRow
 with_cells l cells = record { label = l; row = cells }
 
-module _ (V : Verdict) (us ws : List Person) (at : ℕ) (groups : List ℕ) (m : MovesUser us ws at groups) (local : (u w : Person) (f : Label) → AgreeOnMentions u w f → V u f ≡ V w f) (u : Person) (next : slice_get ws at ≡ Some u) where
+module _ (V : Verdict) (us ws : List Person) (at : ℕ) (groups : List ℕ) (m : MovesUser us ws at groups)
+    (local : (u w : Person) (f : Label) → AgreeOnMentions u w f → V u f ≡ V w f) (u : Person) (next : slice_get ws at ≡ Some u) where
   row_moved : (n : Node) → with_again V at u groups (label_row V us n.label) ≡ label_row V ws n.label
   row_moved n = by (meets (mentions n.label) groups) refl
     where
@@ -143,7 +147,8 @@ module _ (V : Verdict) (us : List Person) where
     where
       row_left : (n : Node) → without_at at (label_row V us n.label) ≡ label_row V (remove us at) n.label
       row_left n =
-          ap (λ b. with_cells n.label (if b then remove (cells_of V us n) at else cells_of V us n)) (lt-ltb at (length (cells_of V us n)) (subst (λ k. at < k) (sym (length-map us (λ w. V w n.label))) lt))
+          ap (λ b. with_cells n.label (if b then remove (cells_of V us n) at else cells_of V us n))
+          (lt-ltb at (length (cells_of V us n)) (subst (λ k. at < k) (sym (length-map us (λ w. V w n.label))) lt))
           ∙ ap (with_cells n.label) (remove_seen (λ w. V w n.label) us at)
 
 -- ---- labels that mention groups
@@ -166,7 +171,8 @@ filter_seen f g test (x ∷ xs) = by (test (f x)) (filter_seen f g test xs)
 
 module _ (V : Verdict) (us : List Person) (groups : List ℕ) (es : RowedPaths) (fs : Files) (are : es ≡ rowed V us fs) where
   pub rows_mentioning : count_by (λ (e : PathOf × LabelRow). mentions_any groups e.1) es ≡ count_by (mentions_one groups) fs
-  rows_mentioning = ap (count_by (λ (e : PathOf × LabelRow). mentions_any groups e.1)) are ∙ count_seen (λ (f : PathOf × Node). (f.0, label_row V us f.1.label)) (λ (e : PathOf × LabelRow). mentions_any groups e.1) fs
+  rows_mentioning = ap (count_by (λ (e : PathOf × LabelRow). mentions_any groups e.1)) are
+      ∙ count_seen (λ (f : PathOf × Node). (f.0, label_row V us f.1.label)) (λ (e : PathOf × LabelRow). mentions_any groups e.1) fs
 
   pub paths_mentioning : map (λ (e : PathOf × LabelRow). e.0) (filter (λ (e : PathOf × LabelRow). mentions_any groups e.1) es) ≡ map (λ (f : PathOf × Node). f.0) (filter (mentions_one groups) fs)
   paths_mentioning =
@@ -174,9 +180,11 @@ module _ (V : Verdict) (us : List Person) (groups : List ℕ) (es : RowedPaths) 
       ∙ filter_seen (λ (f : PathOf × Node). (f.0, label_row V us f.1.label)) (λ (e : PathOf × LabelRow). e.0) (λ (e : PathOf × LabelRow). mentions_any groups e.1) fs
 
 -- where no label mentions one of the groups, no row changes
-pub rows_unmoved : (V : Verdict) (at : ℕ) (u : Person) (groups : List ℕ) (es : RowedPaths) → count_by (λ (e : PathOf × LabelRow). mentions_any groups e.1) es ≡ 0 → each_row (with_again V at u groups) es ≡ es
+pub rows_unmoved : (V : Verdict) (at : ℕ) (u : Person) (groups : List ℕ) (es : RowedPaths)
+    → count_by (λ (e : PathOf × LabelRow). mentions_any groups e.1) es ≡ 0 → each_row (with_again V at u groups) es ≡ es
 rows_unmoved V at u groups [] none = refl
-rows_unmoved V at u groups (e ∷ es) none = by (mentions_any groups e.1) refl (sym (sum_by-cons (λ (x : PathOf × LabelRow). cond (mentions_any groups x.1) 1 0) e es) ∙ none) (rows_unmoved V at u groups es)
+rows_unmoved V at u groups (e ∷ es) none = by (mentions_any groups e.1) refl
+    (sym (sum_by-cons (λ (x : PathOf × LabelRow). cond (mentions_any groups x.1) 1 0) e es) ∙ none) (rows_unmoved V at u groups es)
   where
     by : (b : Bool) → mentions_any groups e.1 ≡ b → cond b 1 0 + count_by (λ (x : PathOf × LabelRow). mentions_any groups x.1) es ≡ 0
         → (count_by (λ (x : PathOf × LabelRow). mentions_any groups x.1) es ≡ 0 → each_row (with_again V at u groups) es ≡ es)

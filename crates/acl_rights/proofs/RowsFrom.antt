@@ -1,5 +1,7 @@
 -- Rows from a path on, and what is reached above it.
-use Rattle.std.proofs.Common.{◌≡◌, ℕ, ◌<◌, Bool, true, false, cond, not, ◌||◌, ◌&&◌, List, [], ◌∷◌, ◌++◌, length, map, filter, reverse, drop, get_or, ◌+◌, ◌≤◌, add-one, drop-cons, Option, Some, None, Ordering, Less, Equal, Greater, append-nil, append_assoc, IsTrue, refl, sym, ap, subst, ◌∙◌, arith}
+use Rattle.std.proofs.Common.{◌≡◌, ℕ, ◌<◌, Bool, true, false, cond, not, ◌||◌, ◌&&◌, List, [], ◌∷◌, ◌++◌, length, map, filter, reverse, drop, get_or, ◌+◌, ◌≤◌}
+use Rattle.std.proofs.Common.{add-one, drop-cons, Option, Some, None, Ordering, Less, Equal, Greater, append-nil, append_assoc, IsTrue, refl, sym, ap, subst}
+use Rattle.std.proofs.Common.{◌∙◌, arith}
 use Rattle.std.specs.Borrow.{Bor}
 use Rattle.std.specs.Ordering.{is_gt, is_lt}
 use Rattle.std.specs.FinMap.{is_sorted}
@@ -10,10 +12,11 @@ use Rattle.acl_names.specs.Paths.{path_cmp, PathOf}
 use Rattle.acl_names.specs.Below.{is_above}
 use Rattle.acl_names.proofs.Below.{below_less}
 use Rattle.acl_names.proofs.PathOrder.{path_total, exact_paths}
+use Rattle.acl_names.proofs.Basics.{is_less, not_both, false_from}
 use Rattle.path_map.specs.Entries.{IsInOrder}
 use Rattle.path_map.specs.Below.{from, nearest_above}
 use Rattle.path_map.proofs.AllAbove.{nearest_empty, nearest_last}
-use Rattle.path_map.proofs.Places.{less, below}
+use Rattle.path_map.proofs.Places.{below}
 use Rattle.kinds.specs.Puts.{borrowed}
 use Rattle.acl_rights.specs.declared.kind_rows.LabelRow.{LabelRow}
 use Rattle.acl_rights.specs.KindRows.{RowedPaths, rows_at}
@@ -21,12 +24,9 @@ use Rattle.acl_rights.specs.Rows.{Rows}
 use Rattle.acl_rights.specs.ReachedRows.{can_search, passes_in, reached_from, rows_along}
 use Rattle.acl_rights.specs.Walks.{AllBefore, IsFrom, AreKnown, reached_of}
 use Rattle.acl_rights.specs.RowsLeft.{rows_left, AreLeft, IsReachPut, those, AreAbove}
-use Rattle.acl_rights.proofs.Walks.{false_from, not_above}
+use Rattle.acl_rights.proofs.Walks.{not_above}
 use Rattle.acl_rights.proofs.Orders.{in_order-values}
 use Rattle.acl_rights.proofs.RowsLeft.{left_begins, left_before, left_next}
-
-clash : (b : Bool) → b ≡ true → b ≡ false → ⊥
-clash b h k = cc
 
 -- ---- from a path on
 
@@ -78,7 +78,7 @@ module _ {A : Type 0} (top : PathOf) where
   all_later q (e ∷ es) le h =
       let parts = and_parts (is_lt (path_cmp q e.0)) (below_all path_cmp q es) h in
       let more = all_later q es le parts.1 in
-      let here = later_not top q e.0 le (less (path_cmp q e.0) parts.0) in
+      let here = later_not top q e.0 le (is_less (path_cmp q e.0) parts.0) in
       (ap (λ b. cond b (e ∷ early es) (early es)) here ∙ more.0, ap (λ b. cond (not b) (e ∷ from top es) (from top es)) here ∙ ap (λ l. e ∷ l) more.1)
 
   pub parted : (es : List (PathOf × A)) → IsInOrder es → early es ++ from top es ≡ es
@@ -87,7 +87,8 @@ module _ {A : Type 0} (top : PathOf) where
       let parts = and_parts (below_all path_cmp e.0 es) (is_sorted path_cmp es) h in
       by (is_gt (path_cmp top e.0)) refl (parted es parts.1) parts.0
     where
-      by : (b : Bool) → is_gt (path_cmp top e.0) ≡ b → early es ++ from top es ≡ es → IsTrue (below_all path_cmp e.0 es) → cond b (e ∷ early es) (early es) ++ cond (not b) (e ∷ from top es) (from top es) ≡ e ∷ es
+      by : (b : Bool) → is_gt (path_cmp top e.0) ≡ b → early es ++ from top es ≡ es → IsTrue (below_all path_cmp e.0 es)
+          → cond b (e ∷ early es) (early es) ++ cond (not b) (e ∷ from top es) (from top es) ≡ e ∷ es
       by true is more after = ap (λ l. e ∷ l) more
       by false is more after =
           let later = all_later e.0 es is after in
@@ -108,7 +109,8 @@ module _ {A : Type 0} (top : PathOf) where
   those_early (e ∷ es) = by (path_cmp top e.0) refl (those_early es)
     where
       not_over : (o : Ordering) → path_cmp top e.0 ≡ o → is_gt o ≡ false → is_above e.0 top ≡ false
-      not_over o is le = false_from (is_above e.0 top) (λ over. clash (is_gt o) (ap is_gt (sym is ∙ path_total.antisymm top e.0 ∙ ap Rattle.std.specs.Ordering.ordering_reverse (below_less e.0 top over))) le)
+      not_over o is le = false_from (is_above e.0 top)
+          (λ over. not_both (is_gt o) (ap is_gt (sym is ∙ path_total.antisymm top e.0 ∙ ap Rattle.std.specs.Ordering.ordering_reverse (below_less e.0 top over))) le)
 
       by : (o : Ordering) → path_cmp top e.0 ≡ o → those top es ≡ those top (early es) → those top (e ∷ es) ≡ those top (cond (is_gt o) (e ∷ early es) (early es))
       by Greater is more = ap (λ l. cond (is_above e.0 top) (e ∷ l) l) more
@@ -143,7 +145,8 @@ module _ {A : Type 0} (top : PathOf) where
 
   -- those above a path, and those from it on, are in path order
   pub above_order : (es : List (PathOf × A)) → IsInOrder es → IsInOrder (those top es ++ from top es)
-  above_order es h = subst (λ (l : List (PathOf × A)). IsInOrder (l ++ from top es)) (sym (those_early es)) (order_part (λ e. is_above e.0 top) (early es) (from top es) (subst IsInOrder (sym (parted es h)) h))
+  above_order es h = subst (λ (l : List (PathOf × A)). IsInOrder (l ++ from top es)) (sym (those_early es))
+      (order_part (λ e. is_above e.0 top) (early es) (from top es) (subst IsInOrder (sym (parted es h)) h))
 
 -- ---- what is known above a path
 
@@ -170,7 +173,8 @@ from_top : {A : Type 0} (top p : PathOf) (es : List (PathOf × A)) → IsFrom p 
 from_top {A = A} top p [] h = absurd h
 from_top {A = A} top p (e ∷ es) h = by (is_gt (path_cmp top e.0)) refl h (from_top top p es)
   where
-    by : (b : Bool) → is_gt (path_cmp top e.0) ≡ b → IsFrom p (cond (not b) (e ∷ from top es) (from top es)) → (IsFrom p (from top es) → is_gt (path_cmp top p) ≡ false) → is_gt (path_cmp top p) ≡ false
+    by : (b : Bool) → is_gt (path_cmp top e.0) ≡ b → IsFrom p (cond (not b) (e ∷ from top es) (from top es))
+        → (IsFrom p (from top es) → is_gt (path_cmp top p) ≡ false) → is_gt (path_cmp top p) ≡ false
     by true is h more = more h
     by false is h more = not_less top e.0 p is h
 
@@ -212,7 +216,8 @@ module _ {A : Type 0} where
   abbrev pub IsClimbed : PathOf → List (PathOf × A) → Option (PathOf × A) → List (PathOf × A) → Type 0
   IsClimbed p es found files = to_come found es ++ reverse files ≡ those p es
 
-  pub climb_begins : (p : PathOf) (es : List (PathOf × A)) (found : Option (PathOf × A)) (files : List (PathOf × A)) → IsInOrder es → found ≡ nearest_above p es → files ≡ [] → IsClimbed p es found files
+  pub climb_begins : (p : PathOf) (es : List (PathOf × A)) (found : Option (PathOf × A)) (files : List (PathOf × A)) → IsInOrder es
+      → found ≡ nearest_above p es → files ≡ [] → IsClimbed p es found files
   climb_begins p es found files order is none = ap (λ l. to_come found es ++ reverse l) none ∙ append-nil (to_come found es) ∙ ap (λ o. to_come o es) is ∙ nearest_leads p es order
 
   module _ (p : PathOf) (es : List (PathOf × A)) (found next : Option (PathOf × A)) (e : PathOf × A) (order : IsInOrder es) (is : found ≡ Some e) (leads : next ≡ nearest_above e.0 es) where

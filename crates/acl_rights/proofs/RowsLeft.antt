@@ -88,7 +88,8 @@ module _ (along : Bool) (all : Rows) (r : PathOf × List ℕ) (rest above : Rows
       known h k user =
           let is : reached ≡ reached_from all r.0 0 r.1 = k.cut ∙ cut_reached all r.0 (nearest r.0 above) 0 r.1 (passes_above h) in
           subst (AreKnown user (λ cells. can_search user cells) (w.seen ++ r ∷ []) rest) (sym k.put)
-          (known_more user (λ cells. can_search user cells) w.seen rest r k.left reached ordered (known_left user (λ cells. can_search user cells) w.seen rest r above k.left k.shrunk.depth k.shrunk.taken k.shrunk.kept (w.known h user))
+          (known_more user (λ cells. can_search user cells) w.seen rest r k.left reached ordered
+          (known_left user (λ cells. can_search user cells) w.seen rest r above k.left k.shrunk.depth k.shrunk.taken k.shrunk.kept (w.known h user))
           (ap (can_search user) is ∙ search_reached all r.0 user r.1 ∙ ap (λ rs. passes_in rs user r.0 && can_search user r.1) (sym w.joined)))
 
 pub shrunk_itself : (p : PathOf) (stack : Rows) → IsShrunk p stack stack

@@ -1,12 +1,13 @@
 -- Rows of verdicts by kinds.
 use Rattle.std.proofs.Common.{◌≡◌, ℕ, zero, suc, Bool, true, false, cond, ◌+◌, ◌*◌, ◌<◌, ◌≤◌, ◌++◌, List, [], ◌∷◌, length, map, take, get_or, Some, None, refl, sym, ap, subst, ◌∙◌, arith}
-use Rattle.std.specs.Prelude.{slice_get, slice_set, nat_lt, ◌&&◌, not, filter}
+use Rattle.std.specs.Prelude.{slice_get, slice_set, nat_lt, ◌&&◌, not}
 use Rattle.std.specs.Borrow.{Bor}
-use Rattle.std.specs.List.{sum_by, AllByRecursion}
+use Rattle.std.specs.List.{sum_by}
 use Rattle.std.specs.FinMap.{is_sorted}
 use Rattle.std.proofs.lemmas.List.{length-append, map-append, take_more}
 use Rattle.std.proofs.lemmas.List.Sums.{sum_by-cons}
 use Rattle.acl_names.specs.Paths.{path_cmp, PathOf}
+use Rattle.acl_names.proofs.Basics.{none_times, slice_get-last, some_same, all_filter}
 use Rattle.path_map.specs.Entries.{IsInOrder}
 use Rattle.path_map.proofs.Rows.{sorted_rows}
 use Rattle.path_map.specs.Merged.{has, without_all}
@@ -20,27 +21,21 @@ use Rattle.acl_entry.specs.Person.{Person}
 use Rattle.acl_entry.specs.declared.label.Label.{Label}
 use Rattle.acl_rights.specs.Rows.{Verdict, row_of}
 use Rattle.kinds.specs.Renewed.{changed_where}
-use Rattle.acl_rights.specs.KindRows.{RowedPaths, with_again, asked_again, mentions_any, label_row, rowed, some_row, rowed_labels, AreRowsOf, HasLabel, borrowed_labels, labels_at, some_labels, IsPlaced, ArePlaced}
+use Rattle.acl_rights.specs.KindRows.{RowedPaths, with_again, asked_again, mentions_any, label_row, rowed, some_row, rowed_labels, AreRowsOf, HasLabel}
+use Rattle.acl_rights.specs.KindRows.{borrowed_labels, labels_at, some_labels, IsPlaced, ArePlaced}
 
 times_more : (n u : ℕ) → suc n * u ≡ u + n * u
 times_more n u = grind arith
 
-times_none : (u : ℕ) → 0 * u ≡ 0
-times_none u = grind arith
-
 -- as much for each
 pub sum_of_each : {A : Type 0} (u : ℕ) (xs : List A) → sum_by (λ x. u) xs ≡ length xs * u
-sum_of_each u [] = sym (times_none u)
+sum_of_each u [] = sym (none_times u)
 sum_of_each u (x ∷ xs) = sum_by-cons (λ x. u) x xs ∙ ap (λ n. u + n) (sum_of_each u xs) ∙ sym (times_more (length xs) u)
 
 pub items_more : {A B : Type 0} (f : A → B) (xs : List A) (i : ℕ) (x : A) → i < length xs → x ≡ get_or xs i x → map f (take (i + 1) xs) ≡ map f (take i xs) ++ f x ∷ []
 items_more f xs i x lt is = ap (map f) (take_more xs i x lt) ∙ map-append f (take i xs) (get_or xs i x ∷ []) ∙ ap (λ y. map f (take i xs) ++ f y ∷ []) (sym is)
 
 -- ---- labels that differ
-
-slice_here : {A : Type 0} (xs : List A) (y : A) → slice_get (xs ++ y ∷ []) (length xs) ≡ Some y
-slice_here [] y = refl
-slice_here (x ∷ xs) y = slice_here xs y
 
 slice_kept : {A : Type 0} (xs ys : List A) (n : ℕ) (m : A) → slice_get xs n ≡ Some m → slice_get (xs ++ ys) n ≡ Some m
 slice_kept [] ys n m h = cc
@@ -57,13 +52,10 @@ was_placed l ls at h = record { here = h; kept = λ n m is. is; few = omega arit
 
 pub newly_placed : (l : Label) (ls new : List Label) (at : ℕ) → new ≡ ls ++ l ∷ [] → at ≡ length ls → IsPlaced l ls new at
 newly_placed l ls new at is is_at = record {
-  here = (λ i. slice_get (is i) (is_at i)) ∙ slice_here ls l;
+  here = (λ i. slice_get (is i) (is_at i)) ∙ slice_get-last ls l;
   kept = λ n m h. ap (λ xs. slice_get xs n) is ∙ slice_kept ls (l ∷ []) n m h;
   few = omega (arith, ap length is, length-append ls (l ∷ []));
 }
-
-some_same : {A : Type 0} {x y : A} → Some x ≡ Some y → x ≡ y
-some_same e = cc
 
 same_heads : {A : Type 0} {x y : A} {xs ys : List A} → x ∷ xs ≡ y ∷ ys → x ≡ y
 same_heads e = cc
@@ -99,13 +91,6 @@ node_of : {A B : Type 0} (f : A → B) (xs : List A) (n : ℕ) (x : A) → slice
 node_of f [] n x h = cc
 node_of f (y ∷ xs) zero x h = some_with f h
 node_of f (y ∷ xs) (suc n) x h = node_of f xs n x h
-
-all_filter : {A : Type 0} (P : A → Type 0) (t : A → Bool) (es : List A) → AllByRecursion P es → AllByRecursion P (filter t es)
-all_filter P t [] h = tt
-all_filter P t (e ∷ es) h = elim (t e) as (λ b. AllByRecursion P (cond b (e ∷ filter t es) (filter t es))) [
-  | true ↦ (h.0, all_filter P t es h.1)
-  | false ↦ all_filter P t es h.1
-]
 
 module _ (V : Verdict) (us : List Person) where
   pub rows_all : (ls : List (Bor Label)) (n : ℕ) → length ls ≤ n → map (λ x. some_row V us x.now) (take n ls) ≡ map (some_row V us) (borrowed_labels ls)

@@ -4,6 +4,7 @@ use Rattle.std.specs.Prelude.{Some, slice_get, option_map}
 use Rattle.std.specs.List.{AllByRecursion}
 use Rattle.std.specs.declared.rc.Rc.{Rc}
 use Rattle.std.proofs.lemmas.List.{map-append, length-map}
+use Rattle.acl_names.proofs.Basics.{some_same, all_end, sum_times}
 use Rattle.kinds.specs.Kinds.{KindsOf}
 use Rattle.kinds.specs.Numbered.{Numbers, AreSound, entries_by}
 use Rattle.kinds.specs.Renewed.{renewed_before}
@@ -19,33 +20,23 @@ use Rattle.acl_rights.specs.Rows.{Verdict, row_of}
 use Rattle.acl_rights.specs.KindRows.{RowedPaths, label_row, node_row, rowed, shared_rows, AreRowsOf, AreRows, AreOfEntries, IsAmongRows}
 use Rattle.acl_rights.proofs.RowsOfKinds.{row_at}
 
-some_same : {A : Type 0} {x y : A} → Some x ≡ Some y → x ≡ y
-some_same e = cc
-
-all_end : {A : Type 0} (P : A → Type 0) (xs : List A) (x : A) → AllByRecursion P xs → P x → AllByRecursion P (xs ++ x ∷ [])
-all_end P [] x h p = (p, tt)
-all_end P (y ∷ xs) x h p = (h.0, all_end P xs x h.1 p)
-
 all_item : {A : Type 0} (P : A → Type 0) (xs : List A) (at : ℕ) (x : A) → AllByRecursion P xs → slice_get xs at ≡ Some x → P x
 all_item P [] at x h is = cc
 all_item P (y ∷ xs) zero x h is = subst P (some_same is) h.0
 all_item P (y ∷ xs) (suc at) x h is = all_item P xs at x h.1 is
 
 -- what counts for one number more is no more than what counts for all
-times_more : (a b u : ℕ) → (a + b) * u ≡ a * u + b * u
-times_more a b u = grind arith
-
 times_one : (u : ℕ) → 1 * u ≡ u
 times_one u = grind arith
 
 pub one_more : (n u : ℕ) → (n + 1) * u ≡ n * u + u
-one_more n u = times_more n 1 u ∙ ap (λ x. n * u + x) (times_one u)
+one_more n u = sum_times n 1 u ∙ ap (λ x. n * u + x) (times_one u)
 
 pub fits : (n m u : ℕ) → n < m → n * u + u ≤ m * u
 fits n m u lt =
     let left = m - (n + 1) in
     let is : m ≡ (n + 1) + left = omega (arith, lt) in
-    let parts : m * u ≡ (n + 1) * u + left * u = ap (λ x. x * u) is ∙ times_more (n + 1) left u in
+    let parts : m * u ≡ (n + 1) * u + left * u = ap (λ x. x * u) is ∙ sum_times (n + 1) left u in
     omega (arith, parts, one_more n u)
 
 -- ---- rows that are known

@@ -1,5 +1,5 @@
 -- What the directories above a path leave of a row: those of the nearest, and of the ones above it.
-use Rattle.std.proofs.Common.{◌≡◌, ℕ, zero, suc, ◌+◌, ◌&&◌, ◌||◌, not, Bool, true, false, cond, List, [], ◌∷◌, map, Option, Some, None, Ordering, Less, Equal, Greater, refl, sym, ap, ◌∙◌, arith}
+use Rattle.std.proofs.Common.{◌≡◌, ℕ, zero, suc, ◌+◌, ◌&&◌, ◌||◌, not, Bool, true, false, cond, List, [], ◌∷◌, map, Option, Some, None, refl, sym, ap, ◌∙◌, arith}
 use Rattle.std.specs.Prelude.{slice_get, option_map, option_and_then}
 use Rattle.std.specs.List.{list_all}
 use Rattle.std.specs.Ordering.{is_eq}
@@ -8,6 +8,7 @@ use Rattle.std.proofs.lemmas.List.Folds.{list_all-append}
 use Rattle.acl_names.specs.Paths.{path_cmp, PathOf}
 use Rattle.acl_names.specs.Below.{is_above}
 use Rattle.acl_names.proofs.PathOrder.{exact_paths}
+use Rattle.acl_names.proofs.Basics.{and_true, is_equal}
 use Rattle.path_map.specs.Entries.{IsInOrder}
 use Rattle.path_map.specs.Below.{nearest_above}
 use Rattle.path_map.proofs.AllAbove.{those, nearest_empty, nearest_last, nearest_valued, count_up, count_nearest}
@@ -27,10 +28,6 @@ passes_those (r ∷ rows) u p = ap (λ b. (not (is_above r.0 p) || can_search u 
     by : (b : Bool) → ((not b || can_search u r.1) && list_all (λ r. can_search u r.1) (those p rows)) ≡ list_all (λ r. can_search u r.1) (cond b (r ∷ those p rows) (those p rows))
     by true = refl
     by false = refl
-
-and_true : (b : Bool) → (b && true) ≡ b
-and_true true = refl
-and_true false = refl
 
 -- where none is above, all do
 passes_none : (rows : Rows) (u : ℕ) (p : PathOf) → nearest_above p rows ≡ None → passes_in rows u p ≡ true
@@ -116,7 +113,8 @@ reached_none : (rows : Rows) (p : PathOf) (n : ℕ) (row : List ℕ) → nearest
 reached_none rows p n [] none = refl
 reached_none rows p n (c ∷ row) none = λ i. sym (ap (λ b. cond b c 0) (passes_none rows n p none)) i ∷ reached_none rows p (suc n) row none i
 
-reached_some : (rows : Rows) (p : PathOf) (r : PathOf × List ℕ) → IsInOrder rows → nearest_above p rows ≡ Some r → (n : ℕ) (row : List ℕ) → reached_from rows r.0 n (cut_from (Some r.1) n row) ≡ reached_from rows p n row
+reached_some : (rows : Rows) (p : PathOf) (r : PathOf × List ℕ) → IsInOrder rows → nearest_above p rows ≡ Some r → (n : ℕ) (row : List ℕ)
+    → reached_from rows r.0 n (cut_from (Some r.1) n row) ≡ reached_from rows p n row
 reached_some rows p r order is n [] = refl
 reached_some rows p r order is n (c ∷ row) =
     λ i. (by (passes_in rows n r.0) (can_search n r.1) ∙ ap (λ b. cond b c 0) (sym (passes_some rows n p r order is))) i ∷ reached_some rows p r order is (suc n) row i
@@ -129,7 +127,8 @@ pub cut_first : (es : RowedPaths) (p : PathOf) (whole : List ℕ) (found : Optio
 cut_first es p whole None order is = reached_none (rows_at es) p 0 whole (nearest_row p es None is)
 cut_first es p whole (Some e) order is = reached_some (rows_at es) p (row_of_entry e) (in_order_at es order) (nearest_row p es (Some e) is) 0 whole
 
-pub cut_next : (es : RowedPaths) (p : PathOf) (whole : List ℕ) (found next : Option (PathOf × LabelRow)) (e : PathOf × LabelRow) (row cut : List ℕ) → IsInOrder es → found ≡ Some e → next ≡ nearest_above e.0 es
+pub cut_next : (es : RowedPaths) (p : PathOf) (whole : List ℕ) (found next : Option (PathOf × LabelRow)) (e : PathOf × LabelRow) (row cut : List ℕ)
+    → IsInOrder es → found ≡ Some e → next ≡ nearest_above e.0 es
     → cut ≡ cut_from (Some e.1.row) 0 row → IsCutBy es p whole found row → IsCutBy es p whole next cut
 cut_next es p whole found next e row cut order is leads made so_far =
     cut_first es e.0 cut next order leads
@@ -137,15 +136,11 @@ cut_next es p whole found next e row cut order is leads made so_far =
     ∙ ap (λ o. left_by o (rows_at es) row) (sym is)
     ∙ so_far
 
-pub cut_all : (es : RowedPaths) (p : PathOf) (whole : List ℕ) (found : Option (PathOf × LabelRow)) (row : List ℕ) → IsCutBy es p whole found row → found ≡ None → row ≡ reached_from (rows_at es) p 0 whole
+pub cut_all : (es : RowedPaths) (p : PathOf) (whole : List ℕ) (found : Option (PathOf × LabelRow)) (row : List ℕ) → IsCutBy es p whole found row → found ≡ None
+    → row ≡ reached_from (rows_at es) p 0 whole
 cut_all es p whole found row so_far none = ap (λ o. left_by o (rows_at es) row) (sym none) ∙ so_far
 
 -- ---- what is reached at a path
-
-equal : (o : Ordering) → is_eq o ≡ true → o ≡ Equal
-equal Less h = cc
-equal Equal h = refl
-equal Greater h = cc
 
 pub find_reached : (p : PathOf) (rows : Rows) → find path_cmp p (reached_rows rows) ≡ option_map (reached_from rows p 0) (find path_cmp p rows)
 find_reached p rows = go rows
@@ -155,8 +150,9 @@ find_reached p rows = go rows
     go (r ∷ rest) = by (is_eq (path_cmp p r.0)) refl (go rest)
       where
         by : (b : Bool) → is_eq (path_cmp p r.0) ≡ b → find path_cmp p (map (λ r. (r.0, reached_from rows r.0 0 r.1)) rest) ≡ option_map (reached_from rows p 0) (find path_cmp p rest)
-            → cond b (Some (reached_from rows r.0 0 r.1)) (find path_cmp p (map (λ r. (r.0, reached_from rows r.0 0 r.1)) rest)) ≡ option_map (reached_from rows p 0) (cond b (Some r.1) (find path_cmp p rest))
-        by true is more = ap (λ q. Some (reached_from rows q 0 r.1)) (sym (exact_paths p r.0 (equal (path_cmp p r.0) is)))
+            → cond b (Some (reached_from rows r.0 0 r.1)) (find path_cmp p (map (λ r. (r.0, reached_from rows r.0 0 r.1)) rest))
+            ≡ option_map (reached_from rows p 0) (cond b (Some r.1) (find path_cmp p rest))
+        by true is more = ap (λ q. Some (reached_from rows q 0 r.1)) (sym (exact_paths p r.0 (is_equal (path_cmp p r.0) is)))
         by false is more = more
 
 reached_get : (rows : Rows) (p : PathOf) (n u : ℕ) (row : List ℕ) → slice_get (reached_from rows p n row) u ≡ option_map (λ c. reach_cell rows (u + n) p c) (slice_get row u)
@@ -191,5 +187,6 @@ module _ (es : RowedPaths) (p : PathOf) where
   pub cell_of_none : (u : ℕ) (n : LabelRow) → find path_cmp p es ≡ Some n → slice_get n.row u ≡ None → reached_at (rows_at es) u p ≡ None
   cell_of_none u n is none = cell_at u n is ∙ ap (option_map (λ c. reach_cell (rows_at es) u p c)) none
 
-  pub cell_here : (u : ℕ) (n : LabelRow) (c : ℕ) (passes : Bool) → find path_cmp p es ≡ Some n → slice_get n.row u ≡ Some c → passes ≡ passes_in (rows_at es) u p → reached_at (rows_at es) u p ≡ Some (cond passes c 0)
+  pub cell_here : (u : ℕ) (n : LabelRow) (c : ℕ) (passes : Bool) → find path_cmp p es ≡ Some n → slice_get n.row u ≡ Some c
+      → passes ≡ passes_in (rows_at es) u p → reached_at (rows_at es) u p ≡ Some (cond passes c 0)
   cell_here u n c passes is has lets_through = cell_at u n is ∙ ap (option_map (λ c. reach_cell (rows_at es) u p c)) has ∙ ap (λ b. Some (cond b c 0)) (sym lets_through)

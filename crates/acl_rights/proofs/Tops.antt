@@ -1,25 +1,13 @@
 -- What lies at some tops or below them.
 use Rattle.std.proofs.Common.{◌≡◌, Bool, true, false, ◌||◌, List, [], ◌∷◌, Ordering, Less, Equal, Greater, ◌++◌, refl, ap, ◌∙◌}
-use Rattle.std.specs.Ordering.{is_gt, is_lt}
+use Rattle.std.specs.Ordering.{is_gt}
 use Rattle.acl_names.specs.Paths.{path_cmp, PathOf}
 use Rattle.acl_names.proofs.PathOrder.{exact_paths}
 use Rattle.acl_names.specs.Below.{encloses}
 use Rattle.path_map.specs.Below.{lies_in}
 use Rattle.acl_names.proofs.Below.{convex, within_trans}
+use Rattle.acl_names.proofs.Basics.{not_both, both_false, false_from}
 use Rattle.acl_rights.specs.Walks.{AllBefore}
-use Rattle.acl_rights.proofs.Walks.{false_from}
-
-pub less : (o : Ordering) → is_lt o ≡ true → o ≡ Less
-less Less h = refl
-less Equal h = cc
-less Greater h = cc
-
-clash : (b : Bool) → b ≡ true → b ≡ false → ⊥
-clash b h k = cc
-
-or_false : (a b : Bool) → (a || b) ≡ false → (a ≡ false) × (b ≡ false)
-or_false true b h = cc
-or_false false b h = (refl, h)
 
 -- ---- what lies at some tops or below them
 
@@ -52,10 +40,10 @@ module _ {A : Type 0} where
   pub lies_late : (seen : List (PathOf × A)) (t p : PathOf) → AllBefore t seen → lies_in seen t ≡ false → is_gt (path_cmp t p) ≡ false → lies_in seen p ≡ false
   lies_late [] t p h out le = refl
   lies_late (s ∷ seen) t p h out le =
-      let parts = or_false (encloses s.0 t) (lies_in seen t) out in
-      ap (λ b. b || lies_in seen p) (false_from (encloses s.0 p) (λ w. clash (encloses s.0 t) (by (path_cmp t p) refl w) parts.0)) ∙ lies_late seen t p h.1 parts.1 le
+      let parts = both_false (encloses s.0 t) (lies_in seen t) out in
+      ap (λ b. b || lies_in seen p) (false_from (encloses s.0 p) (λ w. not_both (encloses s.0 t) (by (path_cmp t p) refl w) parts.0)) ∙ lies_late seen t p h.1 parts.1 le
     where
       by : (o : Ordering) → path_cmp t p ≡ o → encloses s.0 p ≡ true → encloses s.0 t ≡ true
       by Less is w = convex s.0 t p (ap is_gt h.0) is w
       by Equal is w = ap (encloses s.0) (exact_paths t p is) ∙ w
-      by Greater is w = absurd (clash (is_gt (path_cmp t p)) (ap is_gt is) le)
+      by Greater is w = absurd (not_both (is_gt (path_cmp t p)) (ap is_gt is) le)

@@ -1,5 +1,6 @@
 -- Entries in path order: those above a path, and the nearest of them.
-use Rattle.std.proofs.Common.{◌≡◌, ℕ, zero, suc, ◌-◌, ◌<◌, ◌≤◌, Bool, true, false, ◌&&◌, List, [], ◌∷◌, length, map, take, get_or, Option, Some, None, Ordering, Less, Equal, Greater, ◌++◌, IsTrue, refl, sym, ap, subst, ◌∙◌, arith}
+use Rattle.std.proofs.Common.{◌≡◌, ℕ, zero, suc, ◌-◌, ◌<◌, ◌≤◌, Bool, true, false, ◌&&◌, List, [], ◌∷◌, length, map, take, get_or, Option, Some, None, Ordering}
+use Rattle.std.proofs.Common.{Less, Equal, Greater, ◌++◌, IsTrue, refl, sym, ap, subst, ◌∙◌, arith}
 use Rattle.std.specs.Prelude.{if◌then◌else◌}
 use Rattle.std.specs.List.{list_all}
 use Rattle.std.specs.Ordering.{is_gt, is_lt}
@@ -12,20 +13,9 @@ use Rattle.acl_names.specs.Paths.{path_cmp, PathOf}
 use Rattle.acl_names.proofs.PathOrder.{path_total, exact_paths}
 use Rattle.acl_names.specs.Below.{encloses, is_above}
 use Rattle.acl_names.proofs.Below.{below_within, convex_below}
+use Rattle.acl_names.proofs.Basics.{is_less, false_from}
 use Rattle.path_map.specs.Entries.{IsInOrder}
 use Rattle.acl_rights.specs.Walks.{nearest_from, nearest, last_from, last_of, cut_from, AllBefore}
-
-less : (o : Ordering) → is_lt o ≡ true → o ≡ Less
-less Less h = refl
-less Equal h = cc
-less Greater h = cc
-
-pub both : (a b : Bool) → a ≡ true → b ≡ true → (a && b) ≡ true
-both a b p q = cc
-
-pub false_from : (b : Bool) → (b ≡ true → ⊥) → b ≡ false
-false_from true h = absurd (h refl)
-false_from false h = refl
 
 -- ---- lists that come before a path
 
@@ -48,7 +38,7 @@ before_take (suc n) [] p h = tt
 before_take (suc n) (e ∷ es) p h = (h.0, before_take n es p h.1)
 
 first_before : {A : Type 0} (x : PathOf) (es : List (PathOf × A)) (e : PathOf × A) (fs : List (PathOf × A)) → IsTrue (below_all path_cmp x (es ++ e ∷ fs)) → path_cmp x e.0 ≡ Less
-first_before x [] e fs h = less (path_cmp x e.0) (and_parts (is_lt (path_cmp x e.0)) (below_all path_cmp x fs) h).0
+first_before x [] e fs h = is_less (path_cmp x e.0) (and_parts (is_lt (path_cmp x e.0)) (below_all path_cmp x fs) h).0
 first_before x (d ∷ es) e fs h = first_before x es e fs (and_parts (is_lt (path_cmp x d.0)) (below_all path_cmp x (es ++ e ∷ fs)) h).1
 
 -- in path order, what is before a path comes before it
@@ -119,7 +109,8 @@ shrunk es n d q p before lt apart le =
     ∙ nearest-append None p (take n es) (get_or es n d)
     ∙ ap (λ b. if b then Some (get_or es n d).1 else nearest p (take n es)) (not_above (get_or es n d).0 q p (before_at es n d q before lt) apart le))
 
-pub last_above : {A : Type 0} (es : List (PathOf × A)) (n : ℕ) (d : PathOf × A) (q : PathOf) → n < length es → is_above (get_or es n d).0 q ≡ true → last_of (take (suc n) es) ≡ nearest q (take (suc n) es)
+pub last_above : {A : Type 0} (es : List (PathOf × A)) (n : ℕ) (d : PathOf × A) (q : PathOf) → n < length es → is_above (get_or es n d).0 q ≡ true
+    → last_of (take (suc n) es) ≡ nearest q (take (suc n) es)
 last_above es n d q lt here =
     ap last_of (take_more n es d lt) ∙ last-append None (take n es) (get_or es n d)
     ∙ sym (ap (nearest q) (take_more n es d lt) ∙ nearest-append None q (take n es) (get_or es n d) ∙ ap (λ b. if b then Some (get_or es n d).1 else nearest q (take n es)) here)

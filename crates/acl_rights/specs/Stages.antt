@@ -5,7 +5,7 @@ use Rattle.acl_tree.specs.State.{State}
 use Rattle.acl_tree.specs.Reports.{StagedState, Reports}
 use Rattle.acl_tree.specs.declared.user_change.UserChange.{UserChange}
 use Rattle.acl_tree.specs.declared.user_change.UserChange.TheVariants.{Unchanged, Loaded, Memberships, Added, Removed}
-use Rattle.acl_rights.specs.Groups.{mentions_one, mentioning, sum_mentioning}
+use Rattle.acl_rights.specs.Groups.{mentions_one, sum_mentioning}
 use Rattle.acl_rights.specs.Rows.{Verdict}
 use Rattle.acl_rights.specs.Tables.{VerdictTable, IsWhole}
 

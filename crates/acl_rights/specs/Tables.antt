@@ -38,7 +38,8 @@ pub record StagedTable : Type 0 where
   pub refreshed : ℕ
 
 abbrev pub coded_staged : Coded StagedTable
-coded_staged = code_by (VerdictTable × (ℕ × ℕ)) (coded× coded_table (coded× coded_ℕ coded_ℕ)) (λ s. (s.table, (s.looked, s.refreshed))) (λ p. record { table = p.0; looked = p.1.0; refreshed = p.1.1 }) (λ _. refl)
+coded_staged = code_by (VerdictTable × (ℕ × ℕ)) (coded× coded_table (coded× coded_ℕ coded_ℕ)) (λ s. (s.table, (s.looked, s.refreshed)))
+    (λ p. record { table = p.0; looked = p.1.0; refreshed = p.1.1 }) (λ _. refl)
 
 -- ---- what is asked of a table
 
@@ -70,9 +71,9 @@ abbrev pub row_at : Verdict → State → PathOf → Option (List ℕ)
 row_at V s p = option_map (cells_of V (persons s.people)) (find path_cmp p s.tree.files)
 
 -- the users to whom a request is granted on a file
-abbrev pub users_granted : Verdict → State → PathOf → Perms → Option (List ℕ)
-users_granted V s p q = option_map (λ n. places_from (λ u. has (V u n.label) q) 0 (persons s.people)) (find path_cmp p s.tree.files)
+abbrev pub users_granted_alone : Verdict → State → PathOf → Perms → Option (List ℕ)
+users_granted_alone V s p q = option_map (λ n. places_from (λ u. has (V u n.label) q) 0 (persons s.people)) (find path_cmp p s.tree.files)
 
 -- the files on which a request is granted to a user
-abbrev pub files_granted : Verdict → State → ℕ → Perms → Option (List PathOf)
-files_granted V s user q = option_map (λ u. map (λ e. e.0) (filter (λ e. has (V u e.1.label) q) s.tree.files)) (slice_get (persons s.people) user)
+abbrev pub files_granted_alone : Verdict → State → ℕ → Perms → Option (List PathOf)
+files_granted_alone V s user q = option_map (λ u. map (λ e. e.0) (filter (λ e. has (V u e.1.label) q) s.tree.files)) (slice_get (persons s.people) user)

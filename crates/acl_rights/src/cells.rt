@@ -188,10 +188,7 @@ pub(crate) fn without(
 pub(crate) fn search() -> Perm
     ensures { result ≡ execute }
 {
-    match Perm::from_number(1) {
-        Some(perm) => perm,
-        None => unreachable!(),
-    }
+    Perm::EXECUTE
 }
 
 /// Whether a row lets a user search.

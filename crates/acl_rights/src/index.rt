@@ -156,8 +156,8 @@ impl<J: Judge> Index<J> {
         })
     }
 
-    /// The table of the state after a line. The judge is asked for verdicts that the line can have changed, and
-    /// for no others. Fails only if memory runs out.
+    /// The table of the state after a line. The judge is asked for at most as many verdicts as the line can have
+    /// changed. Fails only if memory runs out.
     pub fn stage(&self, alloc: Global, judge: &mut J, staged: &Staged) -> Result<Rows, NoMemory>
         requires room { J.asked_of judge.old + all_pairs staged.now.state < 2 ^ 64 }
         requires goes { CanStage J.verdict_of self.now staged.now }

@@ -61,8 +61,8 @@ impl<J: Judge> IndexedState<J> {
         }
     }
 
-    /// The prepared state after a line, with its index. The judge is asked for verdicts that the line can have changed,
-    /// and for no others. Fails only if memory runs out; then the prepared state is discarded.
+    /// The prepared state after a line, with its index. The judge is asked for at most as many verdicts as the line can
+    /// have changed. Fails only if memory runs out; then the prepared state is discarded.
     pub fn after(
         &self,
         alloc: Global,
@@ -335,7 +335,7 @@ impl<J: Judge> IndexedStates<J> {
     /// Puts a prepared state with its index in place of the present one; where a load prepared it, it is the state after
     /// the texts were loaded too. The index is made first, which fails only if memory runs out: then the prepared state
     /// is discarded, and all is as it was.
-    fn accept(
+    fn replace(
         &mut self,
         alloc: Global,
         judge: &mut J,
@@ -360,7 +360,7 @@ impl<J: Judge> IndexedStates<J> {
     /// Puts a prepared state, if there is one, with its index in place of the present one; after a load it is the state
     /// after the texts were loaded too. Fails only if memory runs out: then both states stay, and the prepared one is
     /// discarded.
-    pub fn accept_if(
+    pub fn replace_if(
         &mut self,
         alloc: Global,
         judge: &mut J,
@@ -375,7 +375,7 @@ impl<J: Judge> IndexedStates<J> {
         ensures few { J.asked_of judge.new ≤ J.asked_of judge.old + most_pairs }
     {
         match staged {
-            Some(staged) => self.accept(alloc, judge, staged, loads),
+            Some(staged) => self.replace(alloc, judge, staged, loads),
             None => {
                 self.begin_again(loads);
                 Ok(())

@@ -17,7 +17,7 @@ use acl_names::Path;
 use std::alloc::Global;
 
 impl<J: Judge> Index<J> {
-    ghost use Rattle.acl_rights.specs.Tables.{IsWhole, FindsUsers, FindsFiles, cell_at, users_at, files_at, verdict_at, row_at, users_granted, files_granted};
+    ghost use Rattle.acl_rights.specs.Tables.{IsWhole, FindsUsers, FindsFiles, cell_at, users_at, files_at, verdict_at, row_at, users_granted_alone, files_granted_alone};
     ghost use Rattle.acl_rights.specs.ReachedRows.{rows_along, reached_rows, reached_at};
     ghost use Rattle.acl_rights.specs.Reach.{reach_at, users_reaching, files_reached};
 
@@ -65,7 +65,7 @@ impl<J: Judge> Index<J> {
         request: Perm,
     ) -> Result<Option<Vec<usize>>, NoMemory>
         ensures reported { FindsUsers result (users_at self.now.rows path.now request) }
-        ensures whole { (s : states.State) → IsWhole J.verdict_of s self.now → FindsUsers result (users_granted J.verdict_of s path.now request) }
+        ensures whole { (s : states.State) → IsWhole J.verdict_of s self.now → FindsUsers result (users_granted_alone J.verdict_of s path.now request) }
     {
         self.users(alloc, path, request)
     }
@@ -96,7 +96,7 @@ impl<J: Judge> Index<J> {
         request: Perm,
     ) -> Result<Option<Vec<&Path>>, NoMemory>
         ensures reported { FindsFiles result (files_at self.now.users self.now.rows user request) }
-        ensures whole { (s : states.State) → IsWhole J.verdict_of s self.now → FindsFiles result (files_granted J.verdict_of s user request) }
+        ensures whole { (s : states.State) → IsWhole J.verdict_of s self.now → FindsFiles result (files_granted_alone J.verdict_of s user request) }
     {
         self.paths(alloc, user, request)
     }

@@ -13,6 +13,8 @@ mod changed;
 #[cfg(test)]
 mod classes;
 #[cfg(test)]
+mod cost_rows;
+#[cfg(test)]
 mod costs;
 #[cfg(test)]
 mod followed;

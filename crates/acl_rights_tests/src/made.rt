@@ -2,7 +2,7 @@
 use crate::lines::path;
 use acl_edit::Node;
 use acl_names::Path;
-use acl_tree::{Command, Found, State, Table, Tree};
+use acl_tree::{Command, FoundFile, State, Table, Tree};
 use std::alloc::Global;
 use std::process::Abort;
 
@@ -42,7 +42,7 @@ fn found<'a>(
     tree: &'a Tree,
     name: &[u8],
     has_below: bool,
-) -> Found<'a> {
+) -> FoundFile<'a> {
     let path = path(alloc, name).expect(rt, "a path");
     let mut found: Option<(&'a Path, &'a Node)> = None;
     for file in tree.iter() {
@@ -51,7 +51,7 @@ fn found<'a>(
         }
     }
     let file = found.expect(rt, "a file");
-    Found::new(file.0, file.1, has_below)
+    FoundFile::new(file.0, file.1, has_below)
 }
 
 /// Files of the tree, in this order.
@@ -61,7 +61,7 @@ pub fn all_found<'a>(
     tree: &'a Tree,
     names: &[&[u8]],
     have_below: bool,
-) -> Vec<Found<'a>> {
+) -> Vec<FoundFile<'a>> {
     let mut files = Vec::new(alloc);
     for name in names {
         files

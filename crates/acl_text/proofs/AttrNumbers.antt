@@ -3,6 +3,7 @@ use Rattle.std.proofs.Common.{◌≡◌, ℕ, ◌≤◌, false, cond, ltb, eqb, 
 use Rattle.std.specs.Prelude.{◌||◌, not, option_map, option_and_then}
 use Rattle.std.specs.FinMap as maps
 use Rattle.std.proofs.lemmas.Bool.{cases_Bool, or_parts, ltb-true, ltb-false, eqb-true, not-false}
+use Rattle.acl_names.proofs.Basics.{none_is_not_some, some_eq}
 use Rattle.acl_entry.specs.declared.entry.Entry.{Entry}
 use Rattle.acl_entry.specs.declared.entry.Key.{Key}
 use Rattle.acl_entry.specs.declared.entry.Key.TheVariants.{Owner, User, OwningGroup, Group, Mask, Other}
@@ -15,12 +16,6 @@ use Rattle.acl_text.specs.declared.decode.Reading.{Reading}
 use Rattle.acl_text.specs.Attr.{tag_of, id_from, key_of, perm_of, with_key, with_entry}
 use Rattle.acl_text.specs.Encoded.{IsIdOf, Encodes}
 
-none_is_not_some : {A : Type 0} (x : A) → None ≡ Some x → ⊥
-none_is_not_some x e = cc
-
-some_same : {A : Type 0} (x y : A) → Some x ≡ Some y → x ≡ y
-some_same x y e = cc
-
 -- ---- the parts of an entry
 
 perm_is : (n : ℕ) (p : Perms) → perm_of n ≡ Some p → n ≡ number p
@@ -28,7 +23,7 @@ perm_is n p e =
     elim (cases_Bool (ltb 7 n)) [
       | inl large ↦ absurd (none_is_not_some p (sym (ap (λ b. cond b None (Some (numbered n))) large) ∙ e))
       | inr small ↦
-          let same : numbered n ≡ p = some_same _ p (sym (ap (λ b. cond b None (Some (numbered n))) small) ∙ e) in
+          let same : numbered n ≡ p = some_eq _ p (sym (ap (λ b. cond b None (Some (numbered n))) small) ∙ e) in
           sym (ap number (sym same) ∙ number-numbered n (omega (arith, ltb-false 7 n small)))
     ]
 
@@ -41,7 +36,7 @@ named : (make : ℕ → Key) (tag id : ℕ) (k : Key) → ((n : ℕ) → tag_of 
 named make tag id k tags ids e =
     elim (cases_Bool (ltb id nobody)) [
       | inl small ↦
-          let same : make id ≡ k = some_same _ k (sym (ap (λ b. option_map make (cond b (Some id) None)) small) ∙ e) in
+          let same : make id ≡ k = some_eq _ k (sym (ap (λ b. option_map make (cond b (Some id) None)) small) ∙ e) in
           record {
             tag_is = sym (tags id) ∙ ap tag_of same;
             id_is = rw (← same) (rw (ids id) (refl, ltb-true id nobody small));
@@ -51,7 +46,7 @@ named make tag id k tags ids e =
 
 unnamed : (made : Key) (tag id : ℕ) (k : Key) → tag_of made ≡ tag → named_id made ≡ None → Some made ≡ Some k → IsKeyOf tag id k
 unnamed made tag id k tags ids e =
-    let same : made ≡ k = some_same made k e in
+    let same : made ≡ k = some_eq made k e in
     record { tag_is = sym tags ∙ ap tag_of same; id_is = rw (← same) (rw ids tt) }
 
 key_is : (tag id : ℕ) (k : Key) → key_of tag id ≡ Some k → IsKeyOf tag id k
@@ -107,7 +102,8 @@ module _ (at : ℕ) (reading new : Reading) (bytes : List ℕ) where
   abbrev id : ℕ
   id = little_number 4 (drop 4 bytes)
 
-  by_key : (p : Perms) (k : Key) → length bytes ≡ 8 → at ≤ most_entries → reading.last_tag ≤ tag → perm_of perm ≡ Some p → key_of tag id ≡ Some k → with_key reading tag p k ≡ Some new → IsRead at reading new bytes
+  by_key : (p : Perms) (k : Key) → length bytes ≡ 8 → at ≤ most_entries → reading.last_tag ≤ tag → perm_of perm ≡ Some p → key_of tag id ≡ Some k
+      → with_key reading tag p k ≡ Some new → IsRead at reading new bytes
   by_key p k eight few rises is_perm is_key e =
       let parts = key_is tag id k is_key in
       elim (cases_Bool (maps.contains_key reading.entries k)) [
@@ -120,7 +116,7 @@ module _ (at : ℕ) (reading new : Reading) (bytes : List ℕ) where
           apart = apart;
           is =
               let made : Reading = record { entries = maps.insert reading.entries k p; last_tag = tag } in
-              sym (some_same made new (rw apart at e)) ∙ ap (λ (t : ℕ). record { entries = maps.insert reading.entries k p; last_tag = t }) parts.tag_is;
+              sym (some_eq made new (rw apart at e)) ∙ ap (λ (t : ℕ). record { entries = maps.insert reading.entries k p; last_tag = t }) parts.tag_is;
         }
       ]
 

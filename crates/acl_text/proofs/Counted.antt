@@ -13,7 +13,8 @@ use Rattle.acl_names.specs.Pieces.{pieces}
 use Rattle.acl_text.specs.Rows.{has_no_content, is_repeated, most_rows, one_line}
 use Rattle.acl_text.specs.Seen.{SeenNames, SeenNamesAre}
 
-module _ {R : Type 0} (name_of : R → List ℕ) (row_of : List (List ℕ) → Option R) (rows : List R) (line : List ℕ) (row : R) (means : has_no_content line ≡ false) (fields : Some row ≡ row_of (pieces 58 line)) where
+module _ {R : Type 0} (name_of : R → List ℕ) (row_of : List (List ℕ) → Option R) (rows : List R) (line : List ℕ) (row : R)
+    (means : has_no_content line ≡ false) (fields : Some row ≡ row_of (pieces 58 line)) where
   pub line_known : is_repeated name_of rows (name_of row) ≡ true → one_line name_of row_of rows line ≡ Ok rows
   line_known known = rw (means, ← fields, known) refl
 

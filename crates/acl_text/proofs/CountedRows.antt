@@ -1,5 +1,6 @@
 -- The counted rows of a text are the first of their names.
-use Rattle.std.proofs.Common.{◌≡◌, ℕ, ◌+◌, ◌≤◌, Bool, true, false, leb, List, [], ◌∷◌, ◌++◌, length, map, take, Option, Some, None, Result, Ok, refl, sym, ap, ◌∙◌, inl, inr, arith, append_assoc, append-nil, length-append}
+use Rattle.std.proofs.Common.{◌≡◌, ℕ, ◌+◌, ◌≤◌, Bool, true, false, leb, List, [], ◌∷◌, ◌++◌, length, map, take, Option, Some, None, Result, Ok, refl, sym, ap}
+use Rattle.std.proofs.Common.{◌∙◌, inl, inr, arith, append_assoc, append-nil, length-append}
 use Rattle.std.specs.Prelude.{◌||◌, ◌↔◌, if◌then◌else◌, not, filter}
 use Rattle.std.specs.List.{enumerate_from}
 use Rattle.std.specs.Str.{bytes_eq}
@@ -139,7 +140,8 @@ module _ {R : Type 0} (name_of : R → List ℕ) where
     module _ (at : ℕ) (some all : List R) (line : List ℕ) (lines : List (List ℕ)) where
       reads_row : (rows : List R) → HaveSameNames some all → has_no_content line ≡ false → row_of (pieces 58 line) ∷ rows_on lines ≡ map (λ row. Some row) rows
           → length (some ++ new_rows all rows) ≤ most_rows
-          → ((more others rest : List R) → HaveSameNames more others → rows_on lines ≡ map (λ row. Some row) rest → length (more ++ new_rows others rest) ≤ most_rows → reads_rows (at + 1) more lines ≡ Ok (more ++ new_rows others rest))
+          → ((more others rest : List R) → HaveSameNames more others → rows_on lines ≡ map (λ row. Some row) rest
+          → length (more ++ new_rows others rest) ≤ most_rows → reads_rows (at + 1) more lines ≡ Ok (more ++ new_rows others rest))
           → reads_rows at some (line ∷ lines) ≡ Ok (some ++ new_rows all rows)
       reads_row [] names means are few goes_on = absurd cc
       reads_row (row ∷ rows) names means are few goes_on =
@@ -151,7 +153,8 @@ module _ {R : Type 0} (name_of : R → List ℕ) where
                 rw (means, is, known, there) (goes_on some (all ++ row ∷ []) rows (known_more some all row names there) others (rw there at few))
             | inr new ↦
                 let absent : repeated all row ≡ false = sym (names.same (name_of row)) ∙ new in
-                let along : some ++ (row ∷ new_rows (all ++ row ∷ []) rows) ≡ (some ++ row ∷ []) ++ new_rows (all ++ row ∷ []) rows = sym (append_assoc some (row ∷ []) (new_rows (all ++ row ∷ []) rows)) in
+                let along : some ++ (row ∷ new_rows (all ++ row ∷ []) rows) ≡ (some ++ row ∷ []) ++ new_rows (all ++ row ∷ []) rows =
+                sym (append_assoc some (row ∷ []) (new_rows (all ++ row ∷ []) rows)) in
                 let short : length (some ++ (row ∷ new_rows (all ++ row ∷ []) rows)) ≤ most_rows = rw absent at few in
                 let room : leb most_rows (length some) ≡ false = lt-leb most_rows (length some) (omega (arith, short, length-append some (row ∷ new_rows (all ++ row ∷ []) rows))) in
                 rw (means, is, new, room, absent, along) (goes_on (some ++ row ∷ []) (all ++ row ∷ []) rows (new_more some all row names) others (rw along at short))

@@ -6,6 +6,7 @@ use Rattle.std.proofs.lemmas.List.Splits.{join_with_byte-slice_split}
 use Rattle.std.proofs.lemmas.Bool.Decides.{Decides-eqb}
 use Rattle.std.proofs.lemmas.Slice.Eq.{starts_is}
 use Rattle.acl_names.specs.Pieces.{pieces}
+use Rattle.acl_names.proofs.Basics.{same_bools}
 use Rattle.acl_text.specs.Blanks.{is_blank, trim_front, trimmed}
 use Rattle.acl_text.proofs.Plain.{pieces_at}
 use Rattle.acl_text.specs.Entries.{content}
@@ -39,7 +40,8 @@ head_is a b xs bs e = cc
 tail_is : (a b : List ℕ) (xs bs : List (List ℕ)) → a ∷ xs ≡ b ∷ bs → xs ≡ bs
 tail_is a b xs bs e = cc
 
-put_after : (c : Bool) (b : ℕ) (ps after tail each : List (List ℕ)) → (ps ≡ [] → ⊥) → put c b ps ≡ each ++ [] ∷ [] → ((ls : List (List ℕ)) → ps ≡ ls ++ [] ∷ [] → after ≡ ls ++ tail) → put c b after ≡ each ++ tail
+put_after : (c : Bool) (b : ℕ) (ps after tail each : List (List ℕ)) → (ps ≡ [] → ⊥) → put c b ps ≡ each ++ [] ∷ []
+    → ((ls : List (List ℕ)) → ps ≡ ls ++ [] ∷ [] → after ≡ ls ++ tail) → put c b after ≡ each ++ tail
 put_after true b ps after tail [] some e again = absurd (some (tail_is [] [] ps [] e))
 put_after true b ps after tail (l ∷ ls) some e again =
     ap (λ t. [] ∷ t) (again ls (tail_is [] l ps (ls ++ [] ∷ []) e)) ∙ ap (λ k. k ∷ (ls ++ tail)) (head_is [] l ps (ls ++ [] ∷ []) e)
@@ -70,7 +72,8 @@ clean : (line : List ℕ) → list_any (λ b. b == 10) line ≡ false → AllByR
 clean [] e = tt
 clean (b ∷ bs) e = by (b == 10) refl e (λ e. clean bs e)
   where
-    by : (c : Bool) → (b == 10) ≡ c → (c || list_any (λ b. b == 10) bs) ≡ false → (list_any (λ b. b == 10) bs ≡ false → AllByRecursion (λ b. (b == 10) ≡ false) bs) → ((b == 10) ≡ false) × AllByRecursion (λ b. (b == 10) ≡ false) bs
+    by : (c : Bool) → (b == 10) ≡ c → (c || list_any (λ b. b == 10) bs) ≡ false
+        → (list_any (λ b. b == 10) bs ≡ false → AllByRecursion (λ b. (b == 10) ≡ false) bs) → ((b == 10) ≡ false) × AllByRecursion (λ b. (b == 10) ≡ false) bs
     by true is e again = absurd (cc e)
     by false is e again = (is, again e)
 
@@ -120,7 +123,9 @@ kind_begins c = begins_record c.0
 header_begins : (text : List ℕ) → kind_begins (header_of text) ≡ starts text
 header_begins text = by (begins_with text (codes "file:")) (begins_with text (codes "owner:")) (begins_with text (codes "group:")) (begins_with text (codes "flags:"))
   where
-    by : (a b c d : Bool) → kind_begins (if a then (File, without_space (drop 5 text)) else (if b then (Owner, trimmed (drop 6 text)) else (if c then (OwningGroup, trimmed (drop 6 text)) else (if d then (Flags, trimmed (drop 6 text)) else (Nothing, []))))) ≡ a
+    by : (a b c d : Bool)
+        → kind_begins (if a then (File, without_space (drop 5 text))
+        else (if b then (Owner, trimmed (drop 6 text)) else (if c then (OwningGroup, trimmed (drop 6 text)) else (if d then (Flags, trimmed (drop 6 text)) else (Nothing, []))))) ≡ a
     by true b c d = refl
     by false true c d = refl
     by false false true d = refl
@@ -155,16 +160,11 @@ word_within (q ∷ qs) (b ∷ bs) y more is e =
     let w = word_within qs bs y more is.1 tails in
     (w.0, ap (λ t. b ∷ t) w.1 ∙ ap (λ (h : ℕ). h ∷ (qs ++ w.0)) heads)
 
-same_test : (a b : Bool) → (a ≡ true → b ≡ true) → (b ≡ true → a ≡ true) → a ≡ b
-same_test true b to from = sym (to refl)
-same_test false true to from = from refl
-same_test false false to from = refl
-
 begins_alike : (word line y : List ℕ) → IsLine word → begins_with (line ++ 10 ∷ y) word ≡ begins_with line word
 begins_alike word line y is =
     let whole = starts_is Decides-eqb (line ++ 10 ∷ y) word (begins_with (line ++ 10 ∷ y) word) refl in
     let part = starts_is Decides-eqb line word (begins_with line word) refl in
-    same_test (begins_with (line ++ 10 ∷ y) word) (begins_with line word)
+    same_bools (begins_with (line ++ 10 ∷ y) word) (begins_with line word)
     (λ yes. let w = word_within word line y _ is (whole.0 yes) in part.1 w.0 w.1)
     (λ yes. whole.1 (drop (length word) line ++ 10 ∷ y) (ap (λ t. t ++ 10 ∷ y) (part.0 yes) ∙ append_assoc word (drop (length word) line) (10 ∷ y)))
 

@@ -7,6 +7,7 @@ use Rattle.acl_text.specs.declared.fault.FaultKind.TheVariants.{BadHeader, BadPa
 use Rattle.acl_text.specs.declared.fault.TextFault.{TextFault}
 use Rattle.acl_text.specs.InTurn.{at_place, ◌>>=◌, or_fault}
 use Rattle.acl_names.specs.Paths.{path_of}
+use Rattle.acl_names.proofs.Basics.{cases_Result}
 use Rattle.acl_text.specs.declared.record.DumpUse.{DumpUse}
 use Rattle.acl_text.specs.declared.record.DumpRecord.{DumpRecord}
 use Rattle.acl_text.specs.declared.draft.RecordDraft.{RecordDraft}
@@ -17,7 +18,7 @@ use Rattle.acl_text.specs.Lines.{content_of}
 use Rattle.acl_text.specs.Records.{Numbered, begins, opened_draft, open_record, line_in, close, item_of, add, may_head, with_entry, is_repeated, ends_in_slash, record_of}
 use Rattle.acl_text.specs.Faults.{added, IsOfALine, IsOfTheRecord, records_in, IsOfALaterRecord, IsFirstFault}
 use Rattle.acl_text.proofs.Streams.{streamed_by_groups}
-use Rattle.acl_text.proofs.FirstFaults.{InPiece, InWhole, InLater, cases_Result, reported_found, group_reported, later_reported}
+use Rattle.acl_text.proofs.FirstFaults.{InPiece, InWhole, InLater, reported_found, group_reported, later_reported}
 
 module _ (naming : Naming) where
   abbrev line : Option RecordDraft → Numbered → Result (Option RecordDraft) TextFault
@@ -71,7 +72,8 @@ module _ (naming : Naming) where
   added_at at [] old d is_at e = let same : old ≡ d = cc in subst (IsAtLine at) same is_at
   added_at at (l ∷ ls) old d is_at e =
       elim (cases_Result (line old l)) [
-        | inl fine ↦ added_at at ls fine.0 d (judged_at at l.0 (item_of naming l.0 (content_of l.1).0 (content_of l.1).1) old fine.0 is_at fine.1) (sym (ap (λ r. r >>= (λ more. in_turn line more ls)) fine.1) ∙ e)
+        | inl fine ↦ added_at at ls fine.0 d (judged_at at l.0 (item_of naming l.0 (content_of l.1).0 (content_of l.1).1) old fine.0 is_at fine.1)
+            (sym (ap (λ r. r >>= (λ more. in_turn line more ls)) fine.1) ∙ e)
         | inr bad ↦ absurd (cc (sym (ap (λ r. r >>= (λ more. in_turn line more ls)) bad.1) ∙ e))
       ]
 
@@ -89,16 +91,41 @@ module _ (naming : Naming) where
     by_stream ls = streamed_by_groups begins open_record line (close dump_use) [] None ls
 
     of_piece : (draft : Option RecordDraft) (ls : List Numbered) (fault : TextFault) → InPiece begins open_record line (close dump_use) draft ls fault → IsOfALine naming draft ls fault
-    of_piece draft ls fault w = record { before = w.before; line = w.piece; after = w.after; parts = w.parts; same_record = w.same_group; begins_none = w.begins_none; so_far = w.so_far; no_fault_before = w.no_fault_before; faulty = w.faulty }
+    of_piece draft ls fault w =
+        record {
+          before = w.before;
+          line = w.piece;
+          after = w.after;
+          parts = w.parts;
+          same_record = w.same_group;
+          begins_none = w.begins_none;
+          so_far =
+              w.so_far;
+          no_fault_before = w.no_fault_before;
+          faulty = w.faulty;
+        }
 
     to_piece : (draft : Option RecordDraft) (ls : List Numbered) (fault : TextFault) → IsOfALine naming draft ls fault → InPiece begins open_record line (close dump_use) draft ls fault
-    to_piece draft ls fault w = record { before = w.before; piece = w.line; after = w.after; parts = w.parts; same_group = w.same_record; begins_none = w.begins_none; so_far = w.so_far; no_fault_before = w.no_fault_before; faulty = w.faulty }
+    to_piece draft ls fault w =
+        record {
+          before = w.before;
+          piece = w.line;
+          after = w.after;
+          parts = w.parts;
+          same_group = w.same_record;
+          begins_none = w.begins_none;
+          so_far =
+              w.so_far;
+          no_fault_before = w.no_fault_before;
+          faulty = w.faulty;
+        }
 
     -- an open record keeps its place
     opened_at : (records : List DumpRecord) (l : Numbered) (d : Option RecordDraft) → open_record records l ≡ Ok d → IsAtLine l.0 d
     opened_at records l d e = from_value (content_of l.1).1 d e
       where
-        from_path : (bytes : List ℕ) (o : Option (List (List ℕ))) (d : Option RecordDraft) → at_place l.0 (or_fault o BadPath >>= new_draft records l.0 bytes) (λ draft. Ok (Some draft)) ≡ Ok d → IsAtLine l.0 d
+        from_path : (bytes : List ℕ) (o : Option (List (List ℕ))) (d : Option RecordDraft)
+            → at_place l.0 (or_fault o BadPath >>= new_draft records l.0 bytes) (λ draft. Ok (Some draft)) ≡ Ok d → IsAtLine l.0 d
         from_path bytes None d e = absurd cc
         from_path bytes (Some path) d e = by (is_repeated records path) e
           where
@@ -119,19 +146,41 @@ module _ (naming : Naming) where
         by (Err kind) e = let same : record { kind = kind; at = d.at } ≡ fault = cc in sym (ap (λ (f : TextFault). f.at) same)
 
     of_group : (at : ℕ) (records : List DumpRecord) (draft : Option RecordDraft) (ls : List Numbered) (fault : TextFault) → IsAtLine at draft
-        → InPiece begins open_record line (close dump_use) draft ls fault ⊎ InWhole begins open_record line (close dump_use) records draft ls fault → IsOfTheRecord naming dump_use at records draft ls fault
+        → InPiece begins open_record line (close dump_use) draft ls fault ⊎ InWhole begins open_record line (close dump_use) records draft ls fault
+        → IsOfTheRecord naming dump_use at records draft ls fault
     of_group at records draft ls fault is_at found =
         elim found [
           | inl w ↦ inl (of_piece draft ls fault w)
-          | inr w ↦ inr (record { place = whole_at at records w.so_far fault (added_at at w.others draft w.so_far is_at w.no_faulty_piece) w.faulty; others = w.others; after = w.after; parts = w.parts; same_record = w.same_group; ended = w.ends; so_far = w.so_far; no_faulty_line = w.no_faulty_piece; faulty = w.faulty })
+          | inr w ↦ inr (record {
+            place = whole_at at records w.so_far fault (added_at at w.others draft w.so_far is_at w.no_faulty_piece) w.faulty;
+            others =
+                w.others;
+            after = w.after;
+            parts = w.parts;
+            same_record = w.same_group;
+            ended = w.ends;
+            so_far = w.so_far;
+            no_faulty_line = w.no_faulty_piece;
+            faulty = w.faulty;
+          })
         ]
 
     to_group : (at : ℕ) (records : List DumpRecord) (draft : Option RecordDraft) (ls : List Numbered) (fault : TextFault)
-        → IsOfTheRecord naming dump_use at records draft ls fault → InPiece begins open_record line (close dump_use) draft ls fault ⊎ InWhole begins open_record line (close dump_use) records draft ls fault
+        → IsOfTheRecord naming dump_use at records draft ls fault
+        → InPiece begins open_record line (close dump_use) draft ls fault ⊎ InWhole begins open_record line (close dump_use) records draft ls fault
     to_group at records draft ls fault found =
         elim found [
           | inl w ↦ inl (to_piece draft ls fault w)
-          | inr w ↦ inr (record { others = w.others; after = w.after; parts = w.parts; same_group = w.same_record; ends = w.ended; so_far = w.so_far; no_faulty_piece = w.no_faulty_line; faulty = w.faulty })
+          | inr w ↦ inr (record {
+            others = w.others;
+            after = w.after;
+            parts = w.parts;
+            same_group = w.same_record;
+            ends = w.ended;
+            so_far = w.so_far;
+            no_faulty_piece = w.no_faulty_line;
+            faulty = w.faulty;
+          })
         ]
 
     of_later : (ls : List Numbered) (fault : TextFault) → InLater begins open_record line (close dump_use) [] None ls fault → IsOfALaterRecord naming dump_use ls fault

@@ -3,14 +3,11 @@ use Rattle.std.proofs.Common.{◌≡◌, List, [], ◌∷◌, ◌++◌, Bool, tr
 use Rattle.std.specs.Prelude.{◌⊎◌}
 use Rattle.std.specs.List.{AllByRecursion}
 use Rattle.std.proofs.lemmas.Bool.{cases_Bool}
+use Rattle.acl_names.proofs.Basics.{cases_Result}
 use Rattle.acl_text.specs.declared.fault.TextFault.{TextFault}
 use Rattle.acl_text.specs.InTurn.{◌>>=◌}
 use Rattle.acl_text.specs.Groups.{in_turn, streamed}
 use Rattle.acl_text.proofs.Streams.{next_assoc}
-
-pub cases_Result : {A E : Type 0} (r : Result A E) → ((x : A) × (r ≡ Ok x)) ⊎ ((e : E) × (r ≡ Err e))
-cases_Result (Ok x) = inl (x, refl)
-cases_Result (Err e) = inr (e, refl)
 
 same_fault : {A : Type 0} (e f : TextFault) → (let r : Result A TextFault = Err e in r ≡ Err f) → e ≡ f
 same_fault e f h = cc
@@ -141,7 +138,8 @@ module _ {S D P : Type 0} (begins : P → Bool) (first : S → P → Result D Te
       ]
 
   -- a fault after a piece that begins a group and is not faulty
-  after_head : (item more : S) (draft new : D) (p : P) (ps : List P) (fault : TextFault) → begins p ≡ true → close item draft ≡ Ok more → first more p ≡ Ok new → Found more new ps fault → Found item draft (p ∷ ps) fault
+  after_head : (item more : S) (draft new : D) (p : P) (ps : List P) (fault : TextFault) → begins p ≡ true → close item draft ≡ Ok more → first more p ≡ Ok new
+      → Found more new ps fault → Found item draft (p ∷ ps) fault
   after_head item more draft new p ps fault heads closed fine found =
       elim found [
         | inl here ↦ inr (record {
@@ -170,10 +168,12 @@ module _ {S D P : Type 0} (begins : P → Bool) (first : S → P → Result D Te
   whole_here item draft ps fault ends bad = inl (inr (record { others = []; after = ps; parts = refl; same_group = tt; ends = ends; so_far = draft; no_faulty_piece = refl; faulty = bad }))
 
   head_here : (item more : S) (draft : D) (p : P) (ps : List P) (fault : TextFault) → begins p ≡ true → close item draft ≡ Ok more → first more p ≡ Err fault → Found item draft (p ∷ ps) fault
-  head_here item more draft p ps fault heads closed bad = inr (record { before = []; head = p; following = ps; parts = refl; begins_one = heads; more = more; no_fault_before = closed; faulty = inl bad })
+  head_here item more draft p ps fault heads closed bad =
+      inr (record { before = []; head = p; following = ps; parts = refl; begins_one = heads; more = more; no_fault_before = closed; faulty = inl bad })
 
   piece_here : (item : S) (draft : D) (p : P) (ps : List P) (fault : TextFault) → begins p ≡ false → line draft p ≡ Err fault → Found item draft (p ∷ ps) fault
-  piece_here item draft p ps fault plain bad = inl (inl (record { before = []; piece = p; after = ps; parts = refl; same_group = tt; begins_none = plain; so_far = draft; no_fault_before = refl; faulty = bad }))
+  piece_here item draft p ps fault plain bad =
+      inl (inl (record { before = []; piece = p; after = ps; parts = refl; same_group = tt; begins_none = plain; so_far = draft; no_fault_before = refl; faulty = bad }))
 
   pub reported_found : (item : S) (draft : D) (ps : List P) (fault : TextFault) → stream item draft ps ≡ Err fault → Found item draft ps fault
   reported_found item draft [] fault e = whole_here item draft [] fault tt e
@@ -184,8 +184,10 @@ module _ {S D P : Type 0} (begins : P → Bool) (first : S → P → Result D Te
           | inl closed ↦
               let rest = sym (on_head item closed.0 draft p ps heads closed.1) ∙ e in
               elim (cases_Result (first closed.0 p)) [
-                | inr bad ↦ head_here item closed.0 draft p ps fault heads closed.1 (bad.1 ∙ ap (λ x. Err x) (same_fault {A = S} bad.0 fault (sym (ap (λ r. r >>= (λ new. stream closed.0 new ps)) bad.1) ∙ rest)))
-                | inl fine ↦ after_head item closed.0 draft fine.0 p ps fault heads closed.1 fine.1 (reported_found closed.0 fine.0 ps fault (sym (ap (λ r. r >>= (λ new. stream closed.0 new ps)) fine.1) ∙ rest))
+                | inr bad ↦ head_here item closed.0 draft p ps fault heads closed.1
+                    (bad.1 ∙ ap (λ x. Err x) (same_fault {A = S} bad.0 fault (sym (ap (λ r. r >>= (λ new. stream closed.0 new ps)) bad.1) ∙ rest)))
+                | inl fine ↦ after_head item closed.0 draft fine.0 p ps fault heads closed.1 fine.1
+                    (reported_found closed.0 fine.0 ps fault (sym (ap (λ r. r >>= (λ new. stream closed.0 new ps)) fine.1) ∙ rest))
               ]
         ]
         | inr plain ↦ elim (cases_Result (line draft p)) [
@@ -208,7 +210,8 @@ module _ {S D P : Type 0} (begins : P → Bool) (first : S → P → Result D Te
       ]
 
   -- whole groups, without a fault
-  past : (item more : S) (draft : D) (before : List P) (p : P) (ps : List P) → begins p ≡ true → stream item draft before ≡ Ok more → stream item draft (before ++ p ∷ ps) ≡ (first more p >>= (λ new. stream more new ps))
+  past : (item more : S) (draft : D) (before : List P) (p : P) (ps : List P) → begins p ≡ true → stream item draft before ≡ Ok more
+      → stream item draft (before ++ p ∷ ps) ≡ (first more p >>= (λ new. stream more new ps))
   past item more draft [] p ps heads fine = on_head item more draft p ps heads fine
   past item more draft (q ∷ before) p ps heads fine =
       elim (cases_Bool (begins q)) [
@@ -237,8 +240,10 @@ module _ {S D P : Type 0} (begins : P → Bool) (first : S → P → Result D Te
   pub group_reported : (item : S) (draft : D) (ps : List P) (fault : TextFault) → InPiece draft ps fault ⊎ InWhole item draft ps fault → stream item draft ps ≡ Err fault
   group_reported item draft ps fault found =
       elim found [
-        | inl w ↦ ap (λ (qs : List P). stream item draft qs) w.parts ∙ (along item draft w.so_far w.before (w.piece ∷ w.after) w.same_group w.no_fault_before ∙ bad_line item w.so_far w.piece w.after fault w.begins_none w.faulty)
-        | inr w ↦ ap (λ (qs : List P). stream item draft qs) w.parts ∙ (along item draft w.so_far w.others w.after w.same_group w.no_faulty_piece ∙ whole_reported item w.so_far w.after fault w.ends w.faulty)
+        | inl w ↦ ap (λ (qs : List P). stream item draft qs) w.parts
+            ∙ (along item draft w.so_far w.before (w.piece ∷ w.after) w.same_group w.no_fault_before ∙ bad_line item w.so_far w.piece w.after fault w.begins_none w.faulty)
+        | inr w ↦ ap (λ (qs : List P). stream item draft qs) w.parts
+            ∙ (along item draft w.so_far w.others w.after w.same_group w.no_faulty_piece ∙ whole_reported item w.so_far w.after fault w.ends w.faulty)
       ]
 
   pub later_reported : (item : S) (draft : D) (ps : List P) (fault : TextFault) → InLater item draft ps fault → stream item draft ps ≡ Err fault

@@ -78,7 +78,8 @@ module _ (naming : Naming) (sep : Sep) (rules : Rules) where
         | inr means ↦ added_one at some p ps means out (read (at, content sep p)) refl e (λ more room goes. added (at + 1) more ps out room goes)
       ]
 
-  reads_added : (at : ℕ) (some : List Spec) (ps : List (List ℕ)) (specs : List Spec) → map read (entries_from at ps) ≡ map (λ spec. Ok spec) specs → length (some ++ specs) ≤ most_text_entries → reads_specs at some ps ≡ Ok (some ++ specs)
+  reads_added : (at : ℕ) (some : List Spec) (ps : List (List ℕ)) (specs : List Spec) → map read (entries_from at ps) ≡ map (λ spec. Ok spec) specs
+      → length (some ++ specs) ≤ most_text_entries → reads_specs at some ps ≡ Ok (some ++ specs)
   reads_added at some [] [] are few = ap (λ (ss : List Spec). Ok ss) (sym (append-nil some))
   reads_added at some [] (spec ∷ specs) are few = absurd cc
   reads_added at some (p ∷ ps) specs are few =

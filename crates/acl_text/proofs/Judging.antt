@@ -1,13 +1,9 @@
 -- The fault that is returned is the first, and the first is returned.
 use Rattle.std.proofs.Common.{◌≡◌, ℕ, ◌+◌, List, [], ◌∷◌, ◌++◌, length, Result, Ok, Err, refl, sym, ap, ◌∙◌, subst, arith, inl, inr}
-use Rattle.std.specs.Prelude.{◌⊎◌}
+use Rattle.acl_names.proofs.Basics.{cases_Result}
 use Rattle.acl_text.specs.declared.fault.FaultKind.{FaultKind}
 use Rattle.acl_text.specs.declared.fault.TextFault.{TextFault}
 use Rattle.acl_text.specs.InTurn.{at_place, read_each_from, IsFirstFault}
-
-cases_Result : {A E : Type 0} (r : Result A E) → ((x : A) × (r ≡ Ok x)) ⊎ ((e : E) × (r ≡ Err e))
-cases_Result (Ok x) = inl (x, refl)
-cases_Result (Err e) = inr (e, refl)
 
 module _ {S P : Type 0} (judge : ℕ → S → P → Result S FaultKind) where
   pub fault_is_first : (at : ℕ) (state : S) (ps : List P) (fault : TextFault) → read_each_from judge at state ps ≡ Err fault → IsFirstFault judge at state ps fault
@@ -43,7 +39,8 @@ module _ {S P : Type 0} (judge : ℕ → S → P → Result S FaultKind) where
             }
       ]
 
-  reads_after : (at : ℕ) (start state : S) (before ps : List P) → read_each_from judge at start before ≡ Ok state → read_each_from judge at start (before ++ ps) ≡ read_each_from judge (at + length before) state ps
+  reads_after : (at : ℕ) (start state : S) (before ps : List P) → read_each_from judge at start before ≡ Ok state
+      → read_each_from judge at start (before ++ ps) ≡ read_each_from judge (at + length before) state ps
   reads_after at start state [] ps e =
       let same : start ≡ state = cc in
       ap (λ (x : S). read_each_from judge at x ps) same ∙ ap (λ (n : ℕ). read_each_from judge n state ps) (omega arith)
@@ -51,10 +48,14 @@ module _ {S P : Type 0} (judge : ℕ → S → P → Result S FaultKind) where
       elim (cases_Result (judge at start p)) [
         | inl fine ↦
             let rest : read_each_from judge (at + 1) fine.0 before ≡ Ok state = sym (ap (λ j. at_place at j (λ more. read_each_from judge (at + 1) more before)) fine.1) ∙ e in
-            ap (λ j. at_place at j (λ more. read_each_from judge (at + 1) more (before ++ ps))) fine.1 ∙ (reads_after (at + 1) fine.0 state before ps rest ∙ ap (λ (n : ℕ). read_each_from judge n state ps) (omega arith))
+            ap (λ j. at_place at j (λ more. read_each_from judge (at + 1) more (before ++ ps))) fine.1
+            ∙ (reads_after (at + 1) fine.0 state before ps rest ∙ ap (λ (n : ℕ). read_each_from judge n state ps) (omega arith))
         | inr bad ↦ absurd (cc (ap (λ j. at_place at j (λ more. read_each_from judge (at + 1) more before)) bad.1))
       ]
 
   pub first_is_fault : (at : ℕ) (state : S) (ps : List P) (fault : TextFault) → IsFirstFault judge at state ps fault → read_each_from judge at state ps ≡ Err fault
   first_is_fault at state ps fault first =
-      ap (read_each_from judge at state) first.parts ∙ (reads_after at state first.state first.before (first.piece ∷ first.after) first.no_fault_before ∙ (ap (λ (n : ℕ). read_each_from judge n first.state (first.piece ∷ first.after)) (sym first.place) ∙ ap (λ j. at_place fault.at j (λ more. read_each_from judge (fault.at + 1) more first.after)) first.faulty))
+      ap (read_each_from judge at state) first.parts
+      ∙ (reads_after at state first.state first.before (first.piece ∷ first.after) first.no_fault_before
+      ∙ (ap (λ (n : ℕ). read_each_from judge n first.state (first.piece ∷ first.after)) (sym first.place)
+      ∙ ap (λ j. at_place fault.at j (λ more. read_each_from judge (fault.at + 1) more first.after)) first.faulty))

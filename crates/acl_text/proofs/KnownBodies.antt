@@ -34,7 +34,8 @@ module _ (naming : Naming) (dump_use : DumpUse) where
     says = λ d. subst (Says naming dump_use k.body.bytes.now) (sym (get_or_append_left records more d k.place known.place)) (known.says d);
   }
 
-  pub known_last : (records : List DumpRecord) (r : DumpRecord) (k : Known) → k.place ≡ length records → IsBody k.body.bytes.now k.body.lines → Says naming dump_use k.body.bytes.now r → IsKnown naming dump_use (records ++ r ∷ []) k
+  pub known_last : (records : List DumpRecord) (r : DumpRecord) (k : Known) → k.place ≡ length records → IsBody k.body.bytes.now k.body.lines
+      → Says naming dump_use k.body.bytes.now r → IsKnown naming dump_use (records ++ r ∷ []) k
   known_last records r k place body says = record {
     body = body;
     place = let all = length-append records (r ∷ []) in omega (arith, place, all);
@@ -80,7 +81,8 @@ module _ (naming : Naming) (dump_use : DumpUse) where
   begins_next true records all draft at l ls e closes = ap (λ r. on (at + 1) ls (r >>= (λ more. open_record false more (at, l) >>= (λ new. Ok (more, new))))) closes
   begins_next false records all draft at l ls e closes = absurd (cc e)
 
-  pub closed_before : (records all : List DumpRecord) (draft : Option RecordDraft) (at : ℕ) (after : List ℕ) → Ends after → close dump_use records draft ≡ Ok all → reading records draft at (pieces 10 after) ≡ reading all None at (pieces 10 after)
+  pub closed_before : (records all : List DumpRecord) (draft : Option RecordDraft) (at : ℕ) (after : List ℕ) → Ends after
+      → close dump_use records draft ≡ Ok all → reading records draft at (pieces 10 after) ≡ reading all None at (pieces 10 after)
   closed_before records all draft at after ends closes =
       elim ends [
         | inl empty ↦ ap (λ t. reading records draft at (pieces 10 t)) empty ∙ (closes ∙ sym (ap (λ t. reading all None at (pieces 10 t)) empty))
@@ -91,7 +93,8 @@ module _ (naming : Naming) (dump_use : DumpUse) where
       ]
 
   -- an empty line at the end adds nothing
-  last_empty : (ls : List (List ℕ)) (draft more : Option RecordDraft) (at : ℕ) → in_turn (line_in naming) draft (enumerate_from at (ls ++ [] ∷ [])) ≡ Ok more → in_turn (line_in naming) draft (enumerate_from at ls) ≡ Ok more
+  last_empty : (ls : List (List ℕ)) (draft more : Option RecordDraft) (at : ℕ) → in_turn (line_in naming) draft (enumerate_from at (ls ++ [] ∷ [])) ≡ Ok more
+      → in_turn (line_in naming) draft (enumerate_from at ls) ≡ Ok more
   last_empty [] draft more at e = e
   last_empty (l ∷ ls) draft more at e =
       let s = next-ok (line_in naming draft (at, l)) (λ d. in_turn (line_in naming) d (enumerate_from (at + 1) (ls ++ [] ∷ []))) more e in
@@ -109,7 +112,8 @@ module _ (naming : Naming) (dump_use : DumpUse) where
       ∙ ap (λ n. reading more None (at + n) (pieces 10 after)) is.counted))
 
   -- one line of the open record
-  pub line_read : (records : List DumpRecord) (draft more : Option RecordDraft) (at k : ℕ) (rest line after : List ℕ) → BeginsWithPiece 10 rest line after → begins_one line ≡ false → line_in naming draft (k, line) ≡ Ok more
+  pub line_read : (records : List DumpRecord) (draft more : Option RecordDraft) (at k : ℕ) (rest line after : List ℕ) → BeginsWithPiece 10 rest line after
+      → begins_one line ≡ false → line_in naming draft (k, line) ≡ Ok more
       → reading records draft at (pieces 10 rest) ≡ reading records more (at + 1) (pieces 10 after)
   line_read records draft more at k rest line after cut begins_none adds =
       let adds_here = line_at naming k at line draft more adds in
@@ -133,8 +137,10 @@ module _ (naming : Naming) (dump_use : DumpUse) where
       (s.0 ∷ [], sym (ok-is (records ++ s.0 ∷ []) all s.1.1))
 
   -- a `file:` line, and what it opens
-  pub file_read : (records more : List DumpRecord) (draft : RecordDraft) (at count : ℕ) (rest line text after : List ℕ) (c : LineKind × List ℕ) → pieces 10 rest ≡ line ∷ pieces 10 text → c ≡ content_of line → c.0 ≡ lines.File
-      → opened_draft false records at c.1 ≡ Ok draft → ReadsTo naming dump_use records draft text more count after → rest_of naming dump_use records at rest ≡ rest_of naming dump_use more (at + (count + 1)) after
+  pub file_read : (records more : List DumpRecord) (draft : RecordDraft) (at count : ℕ) (rest line text after : List ℕ) (c : LineKind × List ℕ)
+      → pieces 10 rest ≡ line ∷ pieces 10 text → c ≡ content_of line → c.0 ≡ lines.File
+      → opened_draft false records at c.1 ≡ Ok draft → ReadsTo naming dump_use records draft text more count after
+      → rest_of naming dump_use records at rest ≡ rest_of naming dump_use more (at + (count + 1)) after
   file_read records more draft at count rest line text after c parts same is opens reads =
       let ls = pieces 10 text in
       ap (λ ls. reading records None at ls) parts

@@ -11,7 +11,7 @@ pub mod CountedRows
 pub mod Means
 pub mod InOrder
 pub mod Chunks
-pub mod ReadAgain
+pub mod EntryRoundTrips
 pub mod AttrNumbers
 pub mod ReadBack
 pub mod Appending

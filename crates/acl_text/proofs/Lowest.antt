@@ -81,7 +81,7 @@ pub or_fault-kind : {A : Type 0} (o : Option A) (kind k : FaultKind) → or_faul
 or_fault-kind None kind k e = cc
 or_fault-kind (Some x) kind k e = absurd cc
 
-or_fault-none : {A : Type 0} (o : Option A) (kind k : FaultKind) → or_fault o kind ≡ Err k → o ≡ None
+pub or_fault-none : {A : Type 0} (o : Option A) (kind k : FaultKind) → or_fault o kind ≡ Err k → o ≡ None
 or_fault-none None kind k e = refl
 or_fault-none (Some x) kind k e = absurd cc
 

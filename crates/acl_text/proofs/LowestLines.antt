@@ -1,5 +1,5 @@
 -- The fault of a line is the lowest that it has.
-use Rattle.std.proofs.Common.{◌≡◌, ℕ, ◌≤◌, Bool, true, false, List, [], ◌∷◌, map, Option, Some, None, is_some, Result, Ok, Err, Less, Equal, Greater, Ordering, refl, sym, ap, ◌∙◌, arith, inl, inr}
+use Rattle.std.proofs.Common.{◌≡◌, ℕ, ◌≤◌, Bool, true, false, List, [], ◌∷◌, map, Option, Some, None, is_some, Result, Ok, Err, refl, sym, ap, ◌∙◌, arith, inl, inr}
 use Rattle.std.specs.Prelude.{◌⊎◌, not, if◌then◌else◌}
 use Rattle.std.specs.List.{Contains}
 use Rattle.std.specs.Ordering.{is_eq}
@@ -8,6 +8,7 @@ use Rattle.std.proofs.lemmas.Cmp.{tied_itself}
 use Rattle.std.proofs.lemmas.List.Elements.{Contains-append_left, Contains-append_right, Contains-append_cases, Contains-push, Contains-push_cases}
 use Rattle.acl_names.specs.Paths.{path_of, path_cmp}
 use Rattle.acl_names.proofs.PathOrder.{path_total, exact_paths}
+use Rattle.acl_names.proofs.Basics.{is_equal}
 use Rattle.acl_text.specs.Naming.{Naming}
 use Rattle.acl_text.specs.declared.fault.FaultKind.{FaultKind}
 use Rattle.acl_text.specs.declared.fault.FaultKind.TheVariants as kinds
@@ -16,7 +17,7 @@ use Rattle.acl_text.specs.Entries.{entry_of}
 use Rattle.acl_text.specs.Fields.{default_of, entry_fields}
 use Rattle.acl_text.specs.Words.{word_id}
 use Rattle.acl_text.specs.Lowest.{number, ReportsLowest, EntryHas}
-use Rattle.acl_text.proofs.Lowest.{alone, in_turn, made, or_fault-kind, fields-kind, entry_lowest}
+use Rattle.acl_text.proofs.Lowest.{alone, in_turn, made, or_fault-kind, fields-kind, entry_lowest, or_fault-none, or_fault-some}
 use Rattle.acl_text.specs.declared.line.LineKind.{LineKind}
 use Rattle.acl_text.specs.declared.line.LineKind.TheVariants.{Nothing, File, Owner, OwningGroup, Flags, Entry}
 use Rattle.acl_text.specs.declared.draft.RecordDraft.{RecordDraft}
@@ -26,14 +27,6 @@ use Rattle.acl_text.specs.declared.item.Item.TheVariants as item
 use Rattle.acl_text.specs.Lines.{content_of}
 use Rattle.acl_text.specs.Records.{Numbered, rules, named, flags_of, entry_item, item_of, judged, may_head, add, same_path, is_repeated, ends_in_slash, opened_draft}
 use Rattle.acl_text.specs.DumpLowest.{belongs, is_late, IsEmpty, NamesNobody, AreNoFlags, IsNoPath, IsOfAnEarlier, FileHas, HasInItself, HasNoRecord, IsLate, LineHas}
-
-or_fault-none : {A : Type 0} (o : Option A) (kind k : FaultKind) → or_fault o kind ≡ Err k → o ≡ None
-or_fault-none None kind k e = refl
-or_fault-none (Some x) kind k e = absurd cc
-
-or_fault-some : {A : Type 0} (o : Option A) (kind : FaultKind) (x : A) → or_fault o kind ≡ Ok x → o ≡ Some x
-or_fault-some None kind x e = absurd cc
-or_fault-some (Some y) kind x e = let same : y ≡ x = cc in ap (λ z. Some z) same
 
 -- ---- the value of a header
 
@@ -54,11 +47,6 @@ flags_check value =
     (λ k e. record { is = sym (or_fault-kind (flags_of value) kinds.BadHeader k e); no_flags = or_fault-none (flags_of value) kinds.BadHeader k e })
 
 -- ---- a `file:` line
-
-is_equal : (o : Ordering) → is_eq o ≡ true → o ≡ Equal
-is_equal Less e = absurd cc
-is_equal Equal e = refl
-is_equal Greater e = absurd cc
 
 same_is_true : (p : List (List ℕ)) → same_path p p ≡ true
 same_is_true p = ap is_eq (tied_itself path_total p)
@@ -95,7 +83,8 @@ module _ (records : List DumpRecord) (at : ℕ) where
       (λ k h. ap (λ o. or_fault o kinds.BadPath) h.no_path ∙ ap (λ j. Err j) (sym h.is))
       (λ k e. record { is = sym (or_fault-kind (path_of value) kinds.BadPath k e); no_path = or_fault-none (path_of value) kinds.BadPath k e })
 
-  new_check : (value : List ℕ) (path : List (List ℕ)) (draft : RecordDraft) → path_of value ≡ Some path → ReportsLowest (IsOfAnEarlier records value) (if is_repeated records path then Err kinds.RepeatedFile else Ok draft)
+  new_check : (value : List ℕ) (path : List (List ℕ)) (draft : RecordDraft) → path_of value ≡ Some path
+      → ReportsLowest (IsOfAnEarlier records value) (if is_repeated records path then Err kinds.RepeatedFile else Ok draft)
   new_check value path draft is_path =
       alone (IsOfAnEarlier records value) (if is_repeated records path then Err kinds.RepeatedFile else Ok draft)
       (λ k h.
@@ -113,7 +102,8 @@ module _ (records : List DumpRecord) (at : ℕ) where
 
   not_empty_check : (b : ℕ) (bs : List ℕ) → ReportsLowest (NotEmptyHas (b ∷ bs)) (opened_draft records at (b ∷ bs))
   not_empty_check b bs =
-      in_turn (IsNoPath records (b ∷ bs)) (IsOfAnEarlier records (b ∷ bs)) (or_fault (path_of (b ∷ bs)) kinds.BadPath) (λ path. if is_repeated records path then Err kinds.RepeatedFile else Ok (opened_with (b ∷ bs) path))
+      in_turn (IsNoPath records (b ∷ bs)) (IsOfAnEarlier records (b ∷ bs)) (or_fault (path_of (b ∷ bs)) kinds.BadPath)
+      (λ path. if is_repeated records path then Err kinds.RepeatedFile else Ok (opened_with (b ∷ bs) path))
       (λ j k h later. omega (arith, ap number h.is, ap number later.is)) (no_path_check (b ∷ bs))
       (λ path is. new_check (b ∷ bs) path (opened_with (b ∷ bs) path) (or_fault-some (path_of (b ∷ bs)) kinds.BadPath path is))
 
@@ -158,7 +148,8 @@ record IsOfKind (kind : LineKind) (s : Option Item) : Type 0 where
   lone : is_some s ≡ belongs kind
   late_is : (draft : RecordDraft) → late s draft ≡ is_late kind draft
 
-reads_of_kind : {A : Type 0} (r : Result A FaultKind) (item_from : A → Item) (kind : LineKind) (s : Option Item) → ((x : A) → IsOfKind kind (Some (item_from x))) → (r >>= (λ x. Ok (Some (item_from x)))) ≡ Ok s → IsOfKind kind s
+reads_of_kind : {A : Type 0} (r : Result A FaultKind) (item_from : A → Item) (kind : LineKind) (s : Option Item)
+    → ((x : A) → IsOfKind kind (Some (item_from x))) → (r >>= (λ x. Ok (Some (item_from x)))) ≡ Ok s → IsOfKind kind s
 reads_of_kind (Ok x) item_from kind s is e = let same : Some (item_from x) ≡ s = cc in rw (← same) (is x)
 reads_of_kind (Err j) item_from kind s is e = absurd cc
 
@@ -173,7 +164,8 @@ module _ (naming : Naming) (at : ℕ) where
   itself_check Nothing value = none_check
   itself_check File value = none_check
   itself_check Owner value = made (HasInItself naming Owner value) (named naming.user_id kinds.UnknownUser value) (λ id. Some (item.Owner id)) (named_check naming.user_id kinds.UnknownUser value)
-  itself_check OwningGroup value = made (HasInItself naming OwningGroup value) (named naming.group_id kinds.UnknownGroup value) (λ id. Some (item.OwningGroup id)) (named_check naming.group_id kinds.UnknownGroup value)
+  itself_check OwningGroup value = made (HasInItself naming OwningGroup value) (named naming.group_id kinds.UnknownGroup value)
+      (λ id. Some (item.OwningGroup id)) (named_check naming.group_id kinds.UnknownGroup value)
   itself_check Flags value = made (HasInItself naming Flags value) (or_fault (flags_of value) kinds.BadHeader) (λ flags. Some (item.Flags flags)) (flags_check value)
   itself_check Entry value = made (EntryHas naming rules value) (entry_of naming rules at value) (λ spec. Some (entry_item spec)) (entry_lowest naming rules at value)
 

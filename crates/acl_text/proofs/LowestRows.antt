@@ -23,7 +23,8 @@ module _ {R : Type 0} (name_of : R → List ℕ) (row_of : List (List ℕ) → O
         | inr new ↦
             let read_each = rw new at e in
             elim (cases_Bool (leb most_rows (length rows))) [
-              | inl full ↦ let last = rw full at read_each in let same : kinds.TooMany ≡ k = cc in inr (record { is = sym same; row = row; is_row = is; new = new; full = leb-true most_rows (length rows) full })
+              | inl full ↦ let last = rw full at read_each in let same : kinds.TooMany ≡ k = cc in
+                  inr (record { is = sym same; row = row; is_row = is; new = new; full = leb-true most_rows (length rows) full })
               | inr room ↦ let last = rw room at read_each in absurd cc
             ]
       ]

@@ -55,7 +55,8 @@ module _ (w : List ℕ) where
   abbrev is_either : List ℕ → List ℕ → Bool
   is_either a b = bytes_eq w a || bytes_eq w b
 
-  chosen_word : (tag : Tag) → tag_named w ≡ Some tag → IsChosen tag (is_either (codes "u") (codes "user")) (is_either (codes "g") (codes "group")) (is_either (codes "m") (codes "mask")) (is_either (codes "o") (codes "other"))
+  chosen_word : (tag : Tag) → tag_named w ≡ Some tag → IsChosen tag (is_either (codes "u") (codes "user")) (is_either (codes "g") (codes "group"))
+      (is_either (codes "m") (codes "mask")) (is_either (codes "o") (codes "other"))
   chosen_word tag e = chosen (is_either (codes "u") (codes "user")) (is_either (codes "g") (codes "group")) (is_either (codes "m") (codes "mask")) (is_either (codes "o") (codes "other")) tag e
 
   word_for : (tag : Tag) → tag_named w ≡ Some tag → IsWordFor tag w
@@ -101,9 +102,11 @@ written_two (b ∷ bs) second row None is e = rw (← same_row _ row e) (inr (re
 written_three : (first second third : List ℕ) (row : EntryRow) (o : Option Tag) → tag_named first ≡ o → three_fields o second third ≡ Some row → IsWritten (first ∷ second ∷ third ∷ []) row
 written_three first second third row (Some tags.User) is e = rw (← same_row _ row e) (inl (record { tag_word = first; for_tag = word_for first tags.User is; are = refl }))
 written_three first second third row (Some tags.Group) is e = rw (← same_row _ row e) (record { tag_word = first; for_tag = word_for first tags.Group is; are = refl })
-written_three first [] third row (Some tags.Mask) is e = rw (← same_row _ row e) (inr (record { tag_word = first; for_tag = word_for first tags.Mask is; no_name = refl; perms = third; are_perms = refl; are = refl }))
+written_three first [] third row (Some tags.Mask) is e =
+    rw (← same_row _ row e) (inr (record { tag_word = first; for_tag = word_for first tags.Mask is; no_name = refl; perms = third; are_perms = refl; are = refl }))
 written_three first (b ∷ bs) third row (Some tags.Mask) is e = absurd cc
-written_three first [] third row (Some tags.Other) is e = rw (← same_row _ row e) (inr (record { tag_word = first; for_tag = word_for first tags.Other is; no_name = refl; perms = third; are_perms = refl; are = refl }))
+written_three first [] third row (Some tags.Other) is e =
+    rw (← same_row _ row e) (inr (record { tag_word = first; for_tag = word_for first tags.Other is; no_name = refl; perms = third; are_perms = refl; are = refl }))
 written_three first (b ∷ bs) third row (Some tags.Other) is e = absurd cc
 written_three first second third row None is e = absurd cc
 
@@ -172,7 +175,8 @@ record IsSplit (rules : Rules) (all : List (List ℕ)) (dflt : Bool) (row : Entr
 default_word : (w : List ℕ) → IsDefaultWord w → is_default_word w ≡ true
 default_word w is = elim is [ inl e ↦ ap is_default_word e | inr e ↦ ap is_default_word e ]
 
-split_default : (rules : Rules) (first second : List ℕ) (more : List (List ℕ)) (row : EntryRow) → is_default_word first ≡ true → tagged rules (true, second ∷ more) ≡ Some row → IsSplit rules (first ∷ second ∷ more) true row
+split_default : (rules : Rules) (first second : List ℕ) (more : List (List ℕ)) (row : EntryRow) → is_default_word first ≡ true
+    → tagged rules (true, second ∷ more) ≡ Some row → IsSplit rules (first ∷ second ∷ more) true row
 split_default rules first second more row is e =
     elim (cases_Bool rules.takes_default) [
       | inl takes ↦ record {
@@ -336,7 +340,8 @@ perms_from takes_x field perm h =
 abbrev perms_by : Bool → Bool → Option (List ℕ) → Result (Option PermSpec) FaultKind
 perms_by takes_perms takes_x field = if takes_perms then given_perms takes_x field else no_perms field
 
-given : (takes_x : Bool) (field : List ℕ) (perm : Option PermSpec) (o : Option PermSpec) → perms_of takes_x field ≡ o → given_perms takes_x (Some field) ≡ Ok perm → HasPerms true takes_x (Some field) perm
+given : (takes_x : Bool) (field : List ℕ) (perm : Option PermSpec) (o : Option PermSpec) → perms_of takes_x field ≡ o
+    → given_perms takes_x (Some field) ≡ Ok perm → HasPerms true takes_x (Some field) perm
 given takes_x field perm None is e = let read_each = rw is at e in absurd cc
 given takes_x field None (Some p) is e = let read_each = rw is at e in absurd cc
 given takes_x field (Some q) (Some p) is e =
@@ -398,7 +403,8 @@ module _ (naming : Naming) (rules : Rules) (at : ℕ) (entry : List ℕ) (spec :
 
   means : entry_of naming rules at entry ≡ Ok spec → Means naming rules at entry spec
   means e =
-      let tag = bound (or_fault (tagged rules (default_of all)) kinds.BadTag) (λ row. wanted_perms rules row.perms >>= (λ perm. key_of naming row.tag row.word >>= (λ key. allowed_key rules key >>= (λ allowed. Ok (spec_with perm allowed))))) spec e in
+      let tag = bound (or_fault (tagged rules (default_of all)) kinds.BadTag)
+      (λ row. wanted_perms rules row.perms >>= (λ perm. key_of naming row.tag row.word >>= (λ key. allowed_key rules key >>= (λ allowed. Ok (spec_with perm allowed))))) spec e in
       let row = tag.value in
       let perms = bound (wanted_perms rules row.perms) (λ perm. key_of naming row.tag row.word >>= (λ key. allowed_key rules key >>= (λ allowed. Ok (spec_with perm allowed)))) spec tag.after in
       let key = bound (key_of naming row.tag row.word) (λ key. allowed_key rules key >>= (λ allowed. Ok (spec_with perms.value allowed))) spec perms.after in

@@ -1,10 +1,10 @@
 -- The records of a dump have different paths: a record is opened only where no earlier record has its path.
 use Rattle.std.proofs.Common.{◌≡◌, ℕ, List, [], ◌∷◌, ◌++◌, Bool, true, false, cond, not, Option, Some, None, Result, Ok, Err, refl, sym, ap, subst, ◌∙◌}
 use Rattle.std.specs.Prelude.{IfOk, ◌||◌, ◌&&◌}
-use Rattle.std.proofs.lemmas.Cmp.{eq_by_cmp_equiv}
 use Rattle.std.proofs.lemmas.List.Folds.{list_any-append}
+use Rattle.acl_entry.proofs.Basics.{first_false, second_false}
 use Rattle.acl_names.specs.Paths.{path_of}
-use Rattle.acl_names.proofs.PathOrder.{path_total}
+use Rattle.acl_names.proofs.Basics.{not_first, and_second}
 use Rattle.acl_text.specs.Naming.{Naming}
 use Rattle.acl_text.specs.declared.fault.FaultKind.{FaultKind}
 use Rattle.acl_text.specs.declared.fault.FaultKind.TheVariants.{BadHeader, BadPath, MissingHeader, RepeatedFile}
@@ -19,7 +19,9 @@ use Rattle.acl_text.specs.declared.item.Item.TheVariants as item
 use Rattle.acl_text.specs.OwnPaths.{have_own_paths}
 use Rattle.acl_text.proofs.Streams.{streamed_by_groups}
 use Rattle.acl_text.specs.Lines.{content_of}
-use Rattle.acl_text.specs.Records.{Numbered, same_path, is_repeated, ends_in_slash, opened_draft, open_record, begins, close, list_of, default_list_of, whole, has_headers, record_of, with_item, may_head, add, item_of, judged, line_in, lines_of, dump_of, dump_stream}
+use Rattle.acl_text.specs.Records.{Numbered, same_path, is_repeated, ends_in_slash, opened_draft, open_record, begins, close, list_of, default_list_of, whole}
+use Rattle.acl_text.specs.Records.{has_headers, record_of, with_item, may_head, add, item_of, judged, line_in, lines_of, dump_of, dump_stream}
+use Rattle.acl_text.proofs.ApartPaths.{flips}
 
 -- ---- what is true of the values of steps that may fail
 
@@ -41,43 +43,24 @@ given_ok view (Err fault) is Q gives holds = tt
 
 -- ---- one record more
 
-same_path-sym : (p q : List (List ℕ)) → same_path p q ≡ same_path q p
-same_path-sym p q = (eq_by_cmp_equiv path_total).symm p q
-
 both : (a b : Bool) → not a ≡ true → b ≡ true → (not a && b) ≡ true
 both false true x y = refl
 both true b x y = x
 both false false x y = y
-
-left : (a b : Bool) → (not a && b) ≡ true → a ≡ false
-left true b h = sym h
-left false b h = refl
-
-right : (a b : Bool) → (not a && b) ≡ true → b ≡ true
-right true false h = h
-right true true h = refl
-right false b h = h
 
 neither : (a b : Bool) → a ≡ false → b ≡ false → not (a || (b || false)) ≡ true
 neither false false x y = refl
 neither true b x y = sym x
 neither false true x y = sym y
 
-or_left : (a b : Bool) → (a || b) ≡ false → a ≡ false
-or_left false b h = refl
-or_left true b h = h
-
-or_right : (a b : Bool) → (a || b) ≡ false → b ≡ false
-or_right false b h = h
-or_right true false h = refl
-or_right true true h = h
-
 one_more : (rs : List DumpRecord) (r : DumpRecord) → have_own_paths rs ≡ true → is_repeated rs r.path ≡ false → have_own_paths (rs ++ r ∷ []) ≡ true
 one_more [] r apart fresh = refl
 one_more (s ∷ rs) r apart fresh =
     both (is_repeated (rs ++ r ∷ []) s.path) (have_own_paths (rs ++ r ∷ []))
-    (ap (λ b. not b) (list_any-append (λ (x : DumpRecord). same_path s.path x.path) rs (r ∷ [])) ∙ neither (is_repeated rs s.path) (same_path s.path r.path) (left (is_repeated rs s.path) (have_own_paths rs) apart) (same_path-sym s.path r.path ∙ or_left (same_path r.path s.path) (is_repeated rs r.path) fresh))
-    (one_more rs r (right (is_repeated rs s.path) (have_own_paths rs) apart) (or_right (same_path r.path s.path) (is_repeated rs r.path) fresh))
+    (ap (λ b. not b) (list_any-append (λ (x : DumpRecord). same_path s.path x.path) rs (r ∷ []))
+    ∙ neither (is_repeated rs s.path) (same_path s.path r.path) (not_first (is_repeated rs s.path) (have_own_paths rs) apart)
+    (flips s.path r.path ∙ first_false (same_path r.path s.path) (is_repeated rs r.path) fresh))
+    (one_more rs r (and_second (is_repeated rs s.path) (have_own_paths rs) apart) (second_false (same_path r.path s.path) (is_repeated rs r.path) fresh))
 
 -- ---- the open record
 
@@ -90,12 +73,15 @@ Keeps old new = new.path ≡ old.path
 
 with_item_keeps : (s : Item) (draft : RecordDraft) → IfOk (with_item s draft) (Keeps draft)
 with_item_keeps (item.Owner id) draft = elim (may_head draft.owner draft) as (λ b. IfOk (cond b (Ok (record draft { owner = Some id })) (Err BadHeader)) (Keeps draft)) [ true ↦ refl | false ↦ tt ]
-with_item_keeps (item.OwningGroup id) draft = elim (may_head draft.group draft) as (λ b. IfOk (cond b (Ok (record draft { group = Some id })) (Err BadHeader)) (Keeps draft)) [ true ↦ refl | false ↦ tt ]
-with_item_keeps (item.Flags flags) draft = elim (may_head draft.flags draft) as (λ b. IfOk (cond b (Ok (record draft { flags = Some flags })) (Err BadHeader)) (Keeps draft)) [ true ↦ refl | false ↦ tt ]
+with_item_keeps (item.OwningGroup id) draft =
+    elim (may_head draft.group draft) as (λ b. IfOk (cond b (Ok (record draft { group = Some id })) (Err BadHeader)) (Keeps draft)) [ true ↦ refl | false ↦ tt ]
+with_item_keeps (item.Flags flags) draft =
+    elim (may_head draft.flags draft) as (λ b. IfOk (cond b (Ok (record draft { flags = Some flags })) (Err BadHeader)) (Keeps draft)) [ true ↦ refl | false ↦ tt ]
 with_item_keeps (item.Entry true entry) draft = refl
 with_item_keeps (item.Entry false entry) draft = refl
 
-fresh_by : (records : List DumpRecord) (draft : RecordDraft) (r : Result RecordDraft FaultKind) → is_repeated records draft.path ≡ false → IfOk r (Keeps draft) → IfOk (r >>= λ new. Ok (Some new)) (Fresh records)
+fresh_by : (records : List DumpRecord) (draft : RecordDraft) (r : Result RecordDraft FaultKind) → is_repeated records draft.path ≡ false → IfOk r (Keeps draft)
+    → IfOk (r >>= λ new. Ok (Some new)) (Fresh records)
 fresh_by records draft (Ok new) fresh keeps = ap (λ p. is_repeated records p) keeps ∙ fresh
 fresh_by records draft (Err kind) fresh keeps = tt
 
@@ -115,12 +101,14 @@ opened_fresh records at (b ∷ bs) = by_path (path_of (b ∷ bs))
     by_test path true is = tt
     by_test path false is = is
 
-    by_path : (o : Option (List (List ℕ))) → IfOk (or_fault o BadPath >>= λ path. cond (is_repeated records path) (Err RepeatedFile) (Ok (draft_of path))) (λ draft. is_repeated records draft.path ≡ false)
+    by_path : (o : Option (List (List ℕ))) → IfOk (or_fault o BadPath >>= λ path. cond (is_repeated records path) (Err RepeatedFile) (Ok (draft_of path)))
+        (λ draft. is_repeated records draft.path ≡ false)
     by_path None = tt
     by_path (Some path) = by_test path (is_repeated records path) refl
 
 open_fresh : (records : List DumpRecord) (l : Numbered) → IfOk (open_record records l) (Fresh records)
-open_fresh records l = at_place_ok l.0 (opened_draft records l.0 (content_of l.1).1) (λ draft. Ok (Some draft)) (λ draft. is_repeated records draft.path ≡ false) (Fresh records) (opened_fresh records l.0 (content_of l.1).1) (λ draft fresh. fresh)
+open_fresh records l = at_place_ok l.0 (opened_draft records l.0 (content_of l.1).1) (λ draft. Ok (Some draft))
+    (λ draft. is_repeated records draft.path ≡ false) (Fresh records) (opened_fresh records l.0 (content_of l.1).1) (λ draft fresh. fresh)
 
 -- ---- a record as a whole
 
@@ -138,7 +126,8 @@ Apart records = have_own_paths records ≡ true
 close_apart : (dump_use : DumpUse) (records : List DumpRecord) (draft : Option RecordDraft) → Apart records → Fresh records draft → IfOk (close dump_use records draft) Apart
 close_apart dump_use records None apart fresh = apart
 close_apart dump_use records (Some draft) apart fresh =
-    at_place_ok draft.at (record_of dump_use draft) (λ r. Ok (records ++ r ∷ [])) (λ r. r.path ≡ draft.path) Apart (record_keeps dump_use draft) (λ r same. one_more records r apart (ap (λ p. is_repeated records p) same ∙ fresh))
+    at_place_ok draft.at (record_of dump_use draft) (λ r. Ok (records ++ r ∷ [])) (λ r. r.path ≡ draft.path) Apart (record_keeps dump_use draft)
+    (λ r same. one_more records r apart (ap (λ p. is_repeated records p) same ∙ fresh))
 
 -- ---- the whole dump
 

@@ -1,4 +1,4 @@
--- Bytes that stand for themselves within a field, and the pieces and fields that they make.
+-- Bytes that mean themselves within a field, and the pieces and fields that they make.
 use Rattle.std.proofs.Common.{◌≡◌, ℕ, ◌≤◌, Bool, true, false, List, [], ◌∷◌, ◌++◌, length, refl, ap, ◌∙◌, arith}
 use Rattle.std.specs.Prelude.{◌==◌, ◌||◌, not, reverse}
 use Rattle.std.specs.List.{position_or_len, before_first, list_all, AllByRecursion}
@@ -7,6 +7,7 @@ use Rattle.std.proofs.lemmas.List.{take_all, reverse-append, reverse-reverse}
 use Rattle.std.proofs.lemmas.List.Elements.{All-from_recursion}
 use Rattle.std.proofs.lemmas.List.Splits.{slice_split_at, slice_split_none}
 use Rattle.acl_names.specs.Pieces.{pieces}
+use Rattle.acl_names.proofs.Basics.{all-append}
 use Rattle.acl_text.specs.Blanks.{is_blank, trim_front, trim_back, trimmed}
 use Rattle.acl_text.specs.Fields.{entry_fields}
 
@@ -63,15 +64,11 @@ pub none_of : (p q : ℕ → Bool) → ((b : ℕ) → p b ≡ true → q b ≡ f
 none_of p q why [] h = tt
 none_of p q why (b ∷ bs) h = let parts = and_parts (p b) (list_all p bs) h in (why b parts.0, none_of p q why bs parts.1)
 
-pub all-append : (P : ℕ → Type 0) (xs ys : List ℕ) → AllByRecursion P xs → AllByRecursion P ys → AllByRecursion P (xs ++ ys)
-all-append P [] ys hx hy = hy
-all-append P (x ∷ xs) ys hx hy = (hx.0, all-append P xs ys hx.1 hy)
-
 pub list_all-append : (p : ℕ → Bool) (xs ys : List ℕ) → list_all p xs ≡ true → list_all p ys ≡ true → list_all p (xs ++ ys) ≡ true
 list_all-append p [] ys hx hy = hy
 list_all-append p (x ∷ xs) ys hx hy = let parts = and_parts (p x) (list_all p xs) hx in and_from (p x) (list_all p (xs ++ ys)) parts.0 (list_all-append p xs ys parts.1 hy)
 
-all-reverse : (P : ℕ → Type 0) (xs : List ℕ) → AllByRecursion P xs → AllByRecursion P (reverse xs)
+pub all-reverse : (P : ℕ → Type 0) (xs : List ℕ) → AllByRecursion P xs → AllByRecursion P (reverse xs)
 all-reverse P [] h = tt
 all-reverse P (x ∷ xs) h = rw (reverse-append (x ∷ []) xs) (all-append P (reverse xs) (x ∷ []) (all-reverse P xs h.1) (h.0, tt))
 
@@ -106,5 +103,7 @@ before_first_none p xs none = take_all (position_or_len p xs) xs (whole p xs non
 pub fields_again : (w v p : List ℕ) → list_all is_plain w ≡ true → list_all is_plain v ≡ true → list_all is_plain p ≡ true → entry_fields (w ++ 58 ∷ (v ++ 58 ∷ p)) ≡ w ∷ v ∷ p ∷ []
 fields_again w v p hw hv hp =
     let cuts : pieces 58 (w ++ 58 ∷ (v ++ 58 ∷ p)) ≡ w ∷ v ∷ p ∷ [] =
-    pieces_at 58 w (v ++ 58 ∷ p) (none_of is_plain (λ b. b == 58) plain-colon w hw) ∙ ap (λ (ps : List (List ℕ)). w ∷ ps) (pieces_at 58 v p (none_of is_plain (λ b. b == 58) plain-colon v hv) ∙ ap (λ (ps : List (List ℕ)). v ∷ ps) (pieces_none 58 p (none_of is_plain (λ b. b == 58) plain-colon p hp))) in
+    pieces_at 58 w (v ++ 58 ∷ p) (none_of is_plain (λ b. b == 58) plain-colon w hw)
+    ∙ ap (λ (ps : List (List ℕ)). w ∷ ps)
+    (pieces_at 58 v p (none_of is_plain (λ b. b == 58) plain-colon v hv) ∙ ap (λ (ps : List (List ℕ)). v ∷ ps) (pieces_none 58 p (none_of is_plain (λ b. b == 58) plain-colon p hp))) in
     rw (cuts, trimmed_plain w hw, trimmed_plain v hv, trimmed_plain p hp) refl

@@ -1,12 +1,14 @@
 -- An attribute is read as a list exactly where its bytes are that list's entries.
-use Rattle.std.proofs.Common.{◌≡◌, ℕ, zero, suc, ◌+◌, ◌*◌, ◌/◌, ◌≤◌, true, false, cond, eqb, List, [], ◌∷◌, ◌++◌, length, take, drop, Option, Some, None, is_some, Result, Ok, Err, refl, sym, ap, subst, ◌∙◌, arith, inl, inr, append_assoc, length-append, length-drop}
+use Rattle.std.proofs.Common.{◌≡◌, ℕ, zero, suc, ◌+◌, ◌*◌, ◌/◌, ◌≤◌, true, false, cond, eqb, List, [], ◌∷◌, ◌++◌, length, take, drop, Option, Some, None}
+use Rattle.std.proofs.Common.{is_some, Result, Ok, Err, refl, sym, ap, subst, ◌∙◌, arith, inl, inr, append_assoc, length-append, length-drop}
 use Rattle.std.specs.Prelude.{◌⊎◌, ◌||◌, not, option_map, option_and_then}
 use Rattle.std.specs.List.{flat_map}
 use Rattle.std.specs.Simd.{first_chunks}
 use Rattle.std.specs.FinMap as maps
 use Rattle.std.proofs.lemmas.Bool.{cases_Bool, lt-ltb, le-ltb, eq-eqb}
-use Rattle.std.proofs.lemmas.List.{append-nil, take-append-drop, map-append}
+use Rattle.std.proofs.lemmas.List.{append-nil, take-append-drop}
 use Rattle.std.proofs.Math.Seq.{take-append_seam, drop-append_seam}
+use Rattle.acl_names.proofs.Basics.{is_none, cases_Result}
 use Rattle.acl_entry.specs.declared.entry.Entry.{Entry}
 use Rattle.acl_entry.specs.declared.entry.ListFault.{ListFault}
 use Rattle.acl_entry.specs.declared.entry.Key.{Key}
@@ -16,7 +18,7 @@ use Rattle.acl_entry.specs.Keys.{key_cmp, named_id}
 use Rattle.acl_entry.specs.Lists.{KeyMap, IsValid, keys, pairs, is_among, repeated_from, map_of, entries, fault, most_entries}
 use Rattle.acl_entry.specs.Perms.{number}
 use Rattle.acl_entry.proofs.Maps.{get-map_of}
-use Rattle.acl_entry.proofs.Faults.{is_among-keys}
+use Rattle.acl_entry.proofs.Faults.{is_among-keys, keys-append}
 use Rattle.acl_text.specs.declared.fault.FaultKind.{FaultKind}
 use Rattle.acl_text.specs.declared.fault.FaultKind.TheVariants.{BadAttr}
 use Rattle.acl_text.specs.declared.fault.TextFault.{TextFault}
@@ -28,22 +30,11 @@ use Rattle.acl_text.specs.Attr.{tag_of, id_from, key_of, perm_of, start, with_ke
 use Rattle.acl_text.specs.Encoded.{IsIdOf, Encodes, EncodeEach, TagsRise, Read, IsAttribute, IsOfAnEntry, IsFaultyAt}
 use Rattle.acl_text.proofs.Chunks.{entries_step}
 use Rattle.acl_text.proofs.AttrNumbers.{is_read}
-use Rattle.acl_text.proofs.ReadAgain.{perm_again, one_more, lasting}
-
-keys-append : (es fs : List Entry) → keys (es ++ fs) ≡ keys es ++ keys fs
-keys-append es fs = map-append (λ (e : Entry). e.key) es fs
-
-none_if : {A : Type 0} (o : Option A) → is_some o ≡ false → o ≡ None
-none_if None h = refl
-none_if (Some x) h = absurd cc
+use Rattle.acl_text.proofs.EntryRoundTrips.{perm_again, one_more, lasting}
 
 cases_Option : {A : Type 0} (o : Option A) → ((x : A) × (o ≡ Some x)) ⊎ (o ≡ None)
 cases_Option (Some x) = inl (x, refl)
 cases_Option None = inr refl
-
-cases_Result : {A E : Type 0} (r : Result A E) → ((x : A) × (r ≡ Ok x)) ⊎ ((e : E) × (r ≡ Err e))
-cases_Result (Ok x) = inl (x, refl)
-cases_Result (Err e) = inr (e, refl)
 
 -- the pieces and the bytes
 abbrev together : List (List ℕ) → List ℕ
@@ -85,17 +76,19 @@ abbrev pub reading_of : ℕ → List Entry → Reading
 reading_of tag done = record { entries = map_of done; last_tag = tag }
 
 not_found : (done : List Entry) (k : Key) → maps.contains_key (map_of done) k ≡ false → maps.find key_cmp k (pairs done) ≡ None
-not_found done k apart = none_if (maps.find key_cmp k (pairs done)) (sym (ap is_some (get-map_of done k)) ∙ apart)
+not_found done k apart = is_none (maps.find key_cmp k (pairs done)) (sym (ap is_some (get-map_of done k)) ∙ apart)
 
 not_among : (done : List Entry) (k : Key) → maps.contains_key (map_of done) k ≡ false → is_among k (keys done) ≡ false
 not_among done k apart = is_among-keys k done ∙ (sym (ap is_some (get-map_of done k)) ∙ apart)
 
-later_once : (n : ℕ) (done : List Entry) (e : Entry) (es : List Entry) → is_among e.key (keys done) ≡ false → repeated_from (keys done) n (keys (e ∷ es)) ≡ repeated_from (keys (done ++ e ∷ [])) (n + 1) (keys es)
+later_once : (n : ℕ) (done : List Entry) (e : Entry) (es : List Entry) → is_among e.key (keys done) ≡ false
+    → repeated_from (keys done) n (keys (e ∷ es)) ≡ repeated_from (keys (done ++ e ∷ [])) (n + 1) (keys es)
 later_once n done e es apart =
     ap (λ b. cond b (Some n) (repeated_from (keys done ++ e.key ∷ []) (n + 1) (keys es))) apart
     ∙ ap (λ (ks : List Key). repeated_from ks (n + 1) (keys es)) (sym (keys-append done (e ∷ [])))
 
-pub read_encoded : (at tag : ℕ) (done : List Entry) (pieces : List (List ℕ)) (new : Reading) → at ≤ 4097 → read_each_from one_entry at (reading_of tag done) pieces ≡ Ok new → AreRead at tag done pieces new
+pub read_encoded : (at tag : ℕ) (done : List Entry) (pieces : List (List ℕ)) (new : Reading) → at ≤ 4097
+    → read_each_from one_entry at (reading_of tag done) pieces ≡ Ok new → AreRead at tag done pieces new
 read_encoded at tag done [] new fits e =
     let same : reading_of tag done ≡ new = cc in
     record { es = []; encoded = tt; few = omega arith; tags = tt; once = λ n. refl; list = ap (λ (r : Reading). r.entries) (sym same) ∙ ap map_of (sym (append-nil done)) }
@@ -104,9 +97,11 @@ read_encoded at tag done (p ∷ ps) new fits e =
       | inr none ↦ absurd (cc (ap (λ o. at_place at (or_fault o BadAttr) (λ more. read_each_from one_entry (at + 1) more ps)) none))
       | inl mid ↦
           let r = is_read at (reading_of tag done) mid.0 p mid.1 in
-          let next : mid.0 ≡ reading_of (tag_of r.entry.key) (done ++ r.entry ∷ []) = r.is ∙ ap (λ m. record { entries = m; last_tag = tag_of r.entry.key }) (one_more done r.entry (not_found done r.entry.key r.apart)) in
+          let next : mid.0 ≡ reading_of (tag_of r.entry.key) (done ++ r.entry ∷ []) = r.is
+          ∙ ap (λ m. record { entries = m; last_tag = tag_of r.entry.key }) (one_more done r.entry (not_found done r.entry.key r.apart)) in
           let rest : read_each_from one_entry (at + 1) mid.0 ps ≡ Ok new = sym (ap (λ o. at_place at (or_fault o BadAttr) (λ more. read_each_from one_entry (at + 1) more ps)) mid.1) ∙ e in
-          let later = read_encoded (at + 1) (tag_of r.entry.key) (done ++ r.entry ∷ []) ps new (omega (arith, r.few)) (sym (ap (λ (x : Reading). read_each_from one_entry (at + 1) x ps) next) ∙ rest) in
+          let later = read_encoded (at + 1) (tag_of r.entry.key) (done ++ r.entry ∷ []) ps new (omega (arith, r.few))
+          (sym (ap (λ (x : Reading). read_each_from one_entry (at + 1) x ps) next) ∙ rest) in
           record {
             es = r.entry ∷ later.es;
             encoded = (r.encoded, later.encoded);
@@ -157,7 +152,8 @@ apart_from n done e es once =
       | inr apart ↦ apart
     ]
 
-pub encoded_read : (at tag n : ℕ) (done : List Entry) (pieces : List (List ℕ)) (es : List Entry) → at + length es ≤ 4097 → EncodeEach pieces es → TagsRise tag es → repeated_from (keys done) n (keys es) ≡ None
+pub encoded_read : (at tag n : ℕ) (done : List Entry) (pieces : List (List ℕ)) (es : List Entry) → at + length es ≤ 4097 → EncodeEach pieces es
+    → TagsRise tag es → repeated_from (keys done) n (keys es) ≡ None
     → read_each_from one_entry at (reading_of tag done) pieces ≡ Ok (reading_of (lasting tag es) (done ++ es))
 encoded_read at tag n done [] [] room encoded rise once = ap (λ (l : List Entry). Ok (reading_of tag l)) (sym (append-nil done))
 encoded_read at tag n done [] (e ∷ es) room encoded rise once = absurd encoded
@@ -167,7 +163,7 @@ encoded_read at tag n done (p ∷ ps) (e ∷ es) room encoded rise once =
     let none : is_some (maps.find key_cmp e.key (pairs done)) ≡ false = sym (is_among-keys e.key done) ∙ apart in
     let new : maps.contains_key (map_of done) e.key ≡ false = ap is_some (get-map_of done e.key) ∙ none in
     ap (λ j. at_place at j (λ more. read_each_from one_entry (at + 1) more ps)) (encoded_entry at (reading_of tag done) p e encoded.0 (omega arith) rise.0 new)
-    ∙ ap (λ m. read_each_from one_entry (at + 1) (record { entries = m; last_tag = tag_of e.key }) ps) (one_more done e (none_if (maps.find key_cmp e.key (pairs done)) none))
+    ∙ ap (λ m. read_each_from one_entry (at + 1) (record { entries = m; last_tag = tag_of e.key }) ps) (one_more done e (is_none (maps.find key_cmp e.key (pairs done)) none))
     ∙ encoded_read (at + 1) (tag_of e.key) (n + 1) (done ++ e ∷ []) ps es (omega arith) encoded.1 rise.1 (sym (later_once n done e es apart) ∙ once)
     ∙ ap (λ (l : List Entry). Ok (reading_of (lasting (tag_of e.key) es) l)) (append_assoc done (e ∷ []) es)
 
@@ -219,7 +215,8 @@ pub of_attribute : (bytes : List ℕ) (acl : KeyMap) → IsAttribute bytes acl �
 of_attribute bytes acl is =
     let cut : entries_in (drop 4 bytes) ≡ is.pieces = ap entries_in is.parts ∙ pieces_again is.pieces is.entries is.read.encoded in
     let last = length (entries_in (drop 4 bytes)) in
-    let whole : list_in (drop 4 bytes) ≡ whole_of last (map_of is.entries) = ap (λ (ps : List (List ℕ)). list_of last (read_each one_entry start ps)) cut ∙ ap (list_of last) (read_of is.pieces is.entries is.read) in
+    let whole : list_in (drop 4 bytes) ≡ whole_of last (map_of is.entries) = ap (λ (ps : List (List ℕ)). list_of last (read_each one_entry start ps)) cut
+    ∙ ap (list_of last) (read_of is.pieces is.entries is.read) in
     ap (λ b. cond b (list_in (drop 4 bytes)) (Err (bad_attr 0))) is.head
     ∙ (whole ∙ (ap (λ m. whole_of last m) is.list ∙ ap (list_from last acl) is.valid))
 
@@ -249,7 +246,8 @@ same_length (p ∷ ps) [] encoded = absurd encoded
 same_length (p ∷ ps) (f ∷ fs) encoded = ap suc (same_length ps fs encoded.1)
 
 -- an entry after those that were read is read too
-read_on : (before : List (List ℕ)) (piece : List ℕ) (es : List Entry) (e : Entry) → Read before es → Read (before ++ piece ∷ []) (es ++ e ∷ []) → one_entry (1 + length before) (reading_of (lasting 0 es) es) piece ≡ Ok (after (1 + length before) (reading_of (lasting 0 es) es) piece e)
+read_on : (before : List (List ℕ)) (piece : List ℕ) (es : List Entry) (e : Entry) → Read before es → Read (before ++ piece ∷ []) (es ++ e ∷ [])
+    → one_entry (1 + length before) (reading_of (lasting 0 es) es) piece ≡ Ok (after (1 + length before) (reading_of (lasting 0 es) es) piece e)
 read_on before piece es e r all =
     let none : is_some (maps.find key_cmp e.key (pairs es)) ≡ false = sym (is_among-keys e.key es) ∙ last_apart 1 [] es e all.once in
     let new : maps.contains_key (map_of es) e.key ≡ false = ap is_some (get-map_of es e.key) ∙ none in
@@ -281,7 +279,8 @@ bad_kind : (o : Option Reading) (k : FaultKind) → or_fault o BadAttr ≡ Err k
 bad_kind None k e = cc
 bad_kind (Some x) k e = absurd cc
 
-no_list_of : (last : ℕ) (m : KeyMap) (reported_fault : TextFault) (f : Option ListFault) → fault (entries m) ≡ f → list_from last m f ≡ Err reported_fault → (IsValid m → ⊥) × (bad_attr (last + 1) ≡ reported_fault)
+no_list_of : (last : ℕ) (m : KeyMap) (reported_fault : TextFault) (f : Option ListFault) → fault (entries m) ≡ f → list_from last m f ≡ Err reported_fault
+    → (IsValid m → ⊥) × (bad_attr (last + 1) ≡ reported_fault)
 no_list_of last m reported_fault None is e = absurd cc
 no_list_of last m reported_fault (Some x) is e = ((λ valid. cc (sym valid ∙ is)), cc)
 

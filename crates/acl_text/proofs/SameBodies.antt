@@ -25,7 +25,8 @@ use Rattle.acl_text.specs.declared.item.Item.{Item}
 use Rattle.acl_text.specs.declared.item.Item.TheVariants as item
 use Rattle.acl_text.specs.Groups.{in_turn}
 use Rattle.acl_text.specs.Lines.{content_of}
-use Rattle.acl_text.specs.Records.{may_head, with_entry, with_item, add, item_of, rules, entry_item, list_of, default_list_of, has_headers, record_with, ends_in_slash, whole, record_of, close, judged, line_in}
+use Rattle.acl_text.specs.Records.{may_head, with_entry, with_item, add, item_of, rules, entry_item, list_of, default_list_of, has_headers, record_with}
+use Rattle.acl_text.specs.Records.{ends_in_slash, whole, record_of, close, judged, line_in}
 use Rattle.acl_text.specs.Watched as watched
 use Rattle.acl_text.specs.SameBodies.{opened, moved, added, closed, Says}
 use Rattle.acl_text.proofs.WatchedPaths.{next-ok, at_place-ok, bind-ok, ok-is}
@@ -103,7 +104,8 @@ module _ (at : ℕ) (path : List (List ℕ)) (slash : Bool) where
         ∙ (ap (λ r. at_place n r (λ new. Ok new)) (added_same w.0 draft s.0 w.1.1)
         ∙ ap (λ d. Ok (draft_if d)) (ok-is s.0 more s.1.1))
 
-    lines_same : (k n : ℕ) (ls : List (List ℕ)) (draft more : Option RecordDraft) → in_turn (line_in naming) draft (enumerate_from k ls) ≡ Ok more → in_turn (line_in naming) (draft_if draft) (enumerate_from n ls) ≡ Ok (draft_if more)
+    lines_same : (k n : ℕ) (ls : List (List ℕ)) (draft more : Option RecordDraft) → in_turn (line_in naming) draft (enumerate_from k ls) ≡ Ok more
+        → in_turn (line_in naming) (draft_if draft) (enumerate_from n ls) ≡ Ok (draft_if more)
     lines_same k n [] draft more e = ap (λ d. Ok (draft_if d)) (ok-is draft more e)
     lines_same k n (l ∷ ls) draft more e =
         let s = next-ok (line_in naming draft (k, l)) (λ d. in_turn (line_in naming) d (enumerate_from (k + 1) ls)) more e in
@@ -123,7 +125,8 @@ module _ (at : ℕ) (path : List (List ℕ)) (slash : Bool) where
           ∙ (ap (λ d. d >>= (λ dacl. Ok (record_with (draft_of draft) access.0 dacl))) dacl.1.0
           ∙ ap (λ d. Ok (moved at path slash d)) (ok-is (record_with draft access.0 dacl.0) r dacl.1.1))
 
-      record_by : (b : Bool) (draft : RecordDraft) (r : DumpRecord) → (if b then whole draft else Err kinds.MissingHeader) ≡ Ok r → (if b then whole (draft_of draft) else Err kinds.MissingHeader) ≡ Ok (moved at path slash r)
+      record_by : (b : Bool) (draft : RecordDraft) (r : DumpRecord) → (if b then whole draft else Err kinds.MissingHeader) ≡ Ok r
+          → (if b then whole (draft_of draft) else Err kinds.MissingHeader) ≡ Ok (moved at path slash r)
       record_by true draft r e = whole_same draft r e
       record_by false draft r e = absurd cc
 
@@ -132,7 +135,8 @@ module _ (at : ℕ) (path : List (List ℕ)) (slash : Bool) where
           ap (λ b. if b then whole (draft_of draft) else Err kinds.MissingHeader) (headers_same dump_use draft)
           ∙ record_by (has_headers dump_use draft) draft r e
 
-      close_same : (records : List DumpRecord) (w : RecordDraft) (r : DumpRecord) → record_of dump_use w ≡ Ok r → close dump_use records (Some (draft_of w)) ≡ Ok (records ++ moved at path slash r ∷ [])
+      close_same : (records : List DumpRecord) (w : RecordDraft) (r : DumpRecord) → record_of dump_use w ≡ Ok r
+          → close dump_use records (Some (draft_of w)) ≡ Ok (records ++ moved at path slash r ∷ [])
       close_same records w r e = ap (λ d. at_place at d (λ r. Ok (records ++ r ∷ []))) (record_same w r e)
 
 module _ (naming : Naming) (dump_use : DumpUse) where

@@ -36,7 +36,9 @@ module _ {S D P : Type 0} (begins : P → Bool) (first : S → P → Result D Te
       next_assoc (first more p) (λ new. Ok (more, new)) (λ s. stream s.0 s.1 ps)
       ∙ next_same (first more p) (λ new. stream more new ps) (λ new. groups more new g) (λ new. again more new)
       ∙ sym (next_assoc (first more p) (λ new. in_turn line new g.0 >>= (λ whole. close more whole)) (λ last. in_turn (group_of begins first line close) last g.1)
-      ∙ next_same (first more p) (λ new. (in_turn line new g.0 >>= (λ whole. close more whole)) >>= (λ last. in_turn (group_of begins first line close) last g.1)) (λ new. groups more new g) (λ new. next_assoc (in_turn line new g.0) (λ whole. close more whole) (λ last. in_turn (group_of begins first line close) last g.1))))
+      ∙ next_same (first more p)
+      (λ new. (in_turn line new g.0 >>= (λ whole. close more whole)) >>= (λ last. in_turn (group_of begins first line close) last g.1))
+      (λ new. groups more new g) (λ new. next_assoc (in_turn line new g.0) (λ whole. close more whole) (λ last. in_turn (group_of begins first line close) last g.1))))
   by_case item draft p ps false again =
       let g = grouped begins ps in
       next_assoc (line draft p) (λ more. Ok (item, more)) (λ s. stream s.0 s.1 ps)

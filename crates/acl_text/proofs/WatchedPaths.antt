@@ -18,9 +18,10 @@ use Rattle.acl_text.specs.declared.item.Item.{Item}
 use Rattle.acl_text.specs.declared.item.Item.TheVariants as item
 use Rattle.acl_text.specs.Groups.{streamed}
 use Rattle.acl_text.specs.Lines.{content_of}
-use Rattle.acl_text.specs.Records.{Numbered, same_path, is_repeated, may_head, with_entry, with_item, add, item_of, opened_draft, open_record, begins, list_of, default_list_of, has_headers, whole, record_of, close, judged, line_in, lines_of, dump_of}
+use Rattle.acl_text.specs.Records.{Numbered, same_path, is_repeated, may_head, with_entry, with_item, add, item_of, opened_draft, open_record, begins, list_of}
+use Rattle.acl_text.specs.Records.{default_list_of, has_headers, whole, record_of, close, judged, line_in, lines_of, dump_of}
 use Rattle.acl_text.specs.Watched as watched
-use Rattle.acl_text.specs.Again.{paths}
+use Rattle.acl_text.specs.RoundTrips.{paths}
 use Rattle.acl_text.proofs.ApartPaths.{flips}
 use Rattle.acl_text.proofs.Streams.{streamed_by_groups}
 
@@ -37,7 +38,8 @@ not_repeated (r ∷ rs) path rest apart =
     let later = not_repeated rs path rest (IsDistinct-tail same_path r.path ((paths rs ++ path ∷ []) ++ rest) apart) in
     ap (λ b. b || is_repeated rs path) (flips path r.path ∙ here) ∙ later
 
-not_among : (all : List (List (List ℕ))) (records : List DumpRecord) (path : List (List ℕ)) (rest : List (List (List ℕ))) → all ≡ (paths records ++ path ∷ []) ++ rest → IsDistinct same_path all → is_repeated records path ≡ false
+not_among : (all : List (List (List ℕ))) (records : List DumpRecord) (path : List (List ℕ)) (rest : List (List (List ℕ)))
+    → all ≡ (paths records ++ path ∷ []) ++ rest → IsDistinct same_path all → is_repeated records path ≡ false
 not_among all records path rest parts apart = not_repeated records path rest (subst (IsDistinct same_path) parts apart)
 
 -- ---- what a value is made of
@@ -73,7 +75,8 @@ record_path : (b : Bool) (draft : RecordDraft) (r : DumpRecord) → (if b then w
 record_path true draft r e = list_path draft r e
 record_path false draft r e = absurd cc
 
-closed_paths : (dump_use : DumpUse) (records : List DumpRecord) (draft : Option RecordDraft) (more : List DumpRecord) → close dump_use records draft ≡ Ok more → paths more ≡ paths records ++ drafted draft
+closed_paths : (dump_use : DumpUse) (records : List DumpRecord) (draft : Option RecordDraft) (more : List DumpRecord) → close dump_use records draft ≡ Ok more
+    → paths more ≡ paths records ++ drafted draft
 closed_paths dump_use records None more e = ap paths (sym (ok-is records more e)) ∙ sym (append-nil (paths records))
 closed_paths dump_use records (Some draft) more e =
     let s = at_place-ok draft.at (record_of dump_use draft) (λ r. Ok (records ++ r ∷ [])) more e in
@@ -101,7 +104,8 @@ added_path (Some s) (Some draft) more e =
 
 -- ---- a record that begins
 
-opened_apart : (records : List DumpRecord) (at : ℕ) (value : List ℕ) (draft : RecordDraft) → watched.opened_draft false records at value ≡ Ok draft → is_repeated records draft.path ≡ false → watched.opened_draft true records at value ≡ Ok draft
+opened_apart : (records : List DumpRecord) (at : ℕ) (value : List ℕ) (draft : RecordDraft) → watched.opened_draft false records at value ≡ Ok draft
+    → is_repeated records draft.path ≡ false → watched.opened_draft true records at value ≡ Ok draft
 opened_apart records at [] draft e new = absurd cc
 opened_apart records at (b ∷ bs) draft e new =
     let s = bind-ok (or_fault (path_of (b ∷ bs)) kinds.BadPath) _ draft e in
@@ -149,7 +153,8 @@ module _ (naming : Naming) (dump_use : DumpUse) where
   further : {X : Type 0} (all more new rest front : List X) → all ≡ (more ++ new) ++ rest → more ≡ front → all ≡ front ++ (new ++ rest)
   further all more new rest front e same = e ∙ (append_assoc more new rest ∙ ap (λ p. p ++ (new ++ rest)) same)
 
-  continues_by : (b : Bool) (l : Numbered) (ls : List Numbered) (records : List DumpRecord) (draft : Option RecordDraft) (all : List DumpRecord) → (step_by false b records draft l >>= (λ s. stream false s.0 s.1 ls)) ≡ Ok all
+  continues_by : (b : Bool) (l : Numbered) (ls : List Numbered) (records : List DumpRecord) (draft : Option RecordDraft) (all : List DumpRecord)
+      → (step_by false b records draft l >>= (λ s. stream false s.0 s.1 ls)) ≡ Ok all
       → ((more : List DumpRecord) (new : Option RecordDraft) → stream false more new ls ≡ Ok all → Continues more new all) → Continues records draft all
   continues_by true l ls records draft all e again =
       let s = next-ok (step_by false true records draft l) (λ s. stream false s.0 s.1 ls) all e in
@@ -169,8 +174,10 @@ module _ (naming : Naming) (dump_use : DumpUse) where
   continues [] records draft all e = ([], closed_paths dump_use records draft all e ∙ sym (append-nil (paths records ++ drafted draft)))
   continues (l ∷ ls) records draft all e = continues_by (begins l) l ls records draft all e (λ more new f. continues ls more new all f)
 
-  watched_by : (b : Bool) (l : Numbered) (ls : List Numbered) (records : List DumpRecord) (draft : Option RecordDraft) (all : List DumpRecord) → IsDistinct same_path (paths all) → (step_by false b records draft l >>= (λ s. stream false s.0 s.1 ls)) ≡ Ok all
-      → ((more : List DumpRecord) (new : Option RecordDraft) → stream false more new ls ≡ Ok all → stream true more new ls ≡ Ok all) → (step_by true b records draft l >>= (λ s. stream true s.0 s.1 ls)) ≡ Ok all
+  watched_by : (b : Bool) (l : Numbered) (ls : List Numbered) (records : List DumpRecord) (draft : Option RecordDraft) (all : List DumpRecord)
+      → IsDistinct same_path (paths all) → (step_by false b records draft l >>= (λ s. stream false s.0 s.1 ls)) ≡ Ok all
+      → ((more : List DumpRecord) (new : Option RecordDraft) → stream false more new ls ≡ Ok all → stream true more new ls ≡ Ok all)
+      → (step_by true b records draft l >>= (λ s. stream true s.0 s.1 ls)) ≡ Ok all
   watched_by true l ls records draft all apart e again =
       let s = next-ok (step_by false true records draft l) (λ s. stream false s.0 s.1 ls) all e in
       let c = next-ok (close dump_use records draft) _ s.0 s.1.0 in
@@ -187,7 +194,8 @@ module _ (naming : Naming) (dump_use : DumpUse) where
       let pair = ok-is (records, n.0) s.0 n.1.1 in
       rw (n.1.0) (again records n.0 (ap (λ (p : List DumpRecord × Option RecordDraft). stream false p.0 p.1 ls) pair ∙ s.1.1))
 
-  pub watched_alike : (ls : List Numbered) (records : List DumpRecord) (draft : Option RecordDraft) (all : List DumpRecord) → stream false records draft ls ≡ Ok all → IsDistinct same_path (paths all) → stream true records draft ls ≡ Ok all
+  pub watched_alike : (ls : List Numbered) (records : List DumpRecord) (draft : Option RecordDraft) (all : List DumpRecord)
+      → stream false records draft ls ≡ Ok all → IsDistinct same_path (paths all) → stream true records draft ls ≡ Ok all
   watched_alike [] records draft all e apart = e
   watched_alike (l ∷ ls) records draft all e apart = watched_by (begins l) l ls records draft all apart e (λ more new f. watched_alike ls more new all f apart)
 

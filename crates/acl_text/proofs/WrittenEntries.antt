@@ -1,5 +1,6 @@
 -- What is written of an entry of a record is read as that entry.
-use Rattle.std.proofs.Common.{◌≡◌, ℕ, zero, suc, ◌+◌, ◌<◌, Bool, true, false, cond, List, [], ◌∷◌, ◌++◌, length, take, Option, Some, None, Result, Ok, Err, refl, sym, ap, subst, ◌∙◌, append_assoc, arith, inl, inr}
+use Rattle.std.proofs.Common.{◌≡◌, ℕ, zero, suc, ◌+◌, ◌<◌, Bool, true, false, cond, List, [], ◌∷◌, ◌++◌, length, take, Option, Some, None, Result, Ok, Err}
+use Rattle.std.proofs.Common.{refl, sym, ap, subst, ◌∙◌, append_assoc, arith, inl, inr}
 use Rattle.std.specs.Prelude.{◌==◌, ◌&&◌, codes, reverse, map}
 use Rattle.std.specs.List.{list_all, before_first, position_or_len, AllByRecursion}
 use Rattle.std.proofs.lemmas.Bool.{cases_Bool, eqb-true}
@@ -12,6 +13,7 @@ use Rattle.acl_entry.specs.Keys.{id_of, is_class}
 use Rattle.acl_entry.specs.Perms as perms
 use Rattle.acl_entry.specs.Perms.{Perms}
 use Rattle.acl_names.specs.Pieces.{pieces}
+use Rattle.acl_names.proofs.Basics.{all-append}
 use Rattle.acl_text.specs.Naming.{Naming}
 use Rattle.acl_text.specs.declared.fault.FaultKind.{FaultKind}
 use Rattle.acl_text.specs.declared.fault.FaultKind.TheVariants.{BadTag}
@@ -26,7 +28,7 @@ use Rattle.acl_text.specs.Blanks.{is_blank, trim_front, trim_back, trimmed}
 use Rattle.acl_text.specs.Fields.{EntryRow, entry_fields, row_of, is_default_word}
 use Rattle.acl_text.specs.Entries.{content, tagged, entry_from, wanted_perms, key_of, allowed_key}
 use Rattle.acl_text.specs.Writing.{tag_text, qualifier, entry_text, IsKeyNamed}
-use Rattle.acl_text.proofs.Plain.{is_plain, plain-line, plain-blank, plain-colon, plain-hash, none_of, all-append, trimmed_none, pieces_at, pieces_none, before_first_none}
+use Rattle.acl_text.proofs.Plain.{is_plain, plain-line, plain-blank, plain-colon, plain-hash, none_of, trimmed_none, pieces_at, pieces_none, before_first_none, all-reverse}
 use Rattle.acl_text.proofs.WrittenLists.{plain_text, tag_plain, qualifier_plain, key_again, in_entry}
 use Rattle.acl_text.specs.declared.line.LineKind.TheVariants as lines
 use Rattle.acl_text.specs.declared.effective.Effective.{Effective}
@@ -40,10 +42,6 @@ use Rattle.acl_text.specs.DumpWriting.{is_shown, tab_count, tabs, effective_text
 front_trimmed : (t xs : List ℕ) → AllByRecursion (λ b. is_blank b ≡ true) t → trim_front (t ++ xs) ≡ trim_front xs
 front_trimmed [] xs blank = refl
 front_trimmed (b ∷ t) xs blank = ap (λ c. cond c (trim_front (t ++ xs)) (b ∷ (t ++ xs))) blank.0 ∙ front_trimmed t xs blank.1
-
-all-reverse : (P : ℕ → Type 0) (xs : List ℕ) → AllByRecursion P xs → AllByRecursion P (reverse xs)
-all-reverse P [] h = tt
-all-reverse P (x ∷ xs) h = rw (reverse-append (x ∷ []) xs) (all-append P (reverse xs) (x ∷ []) (all-reverse P xs h.1) (h.0, tt))
 
 back_trimmed : (p t : List ℕ) → AllByRecursion (λ b. is_blank b ≡ true) t → trim_back (p ++ t) ≡ trim_back p
 back_trimmed p t blank = ap (λ xs. reverse (trim_front xs)) (reverse-append p t) ∙ ap reverse (front_trimmed (reverse t) (reverse p) (all-reverse (λ b. is_blank b ≡ true) t blank))
@@ -74,7 +72,8 @@ one_and n = omega arith
 
 before_first_at : (q : ℕ → Bool) (xs : List ℕ) (c : ℕ) (ys : List ℕ) → AllByRecursion (λ b. q b ≡ false) xs → q c ≡ true → before_first q (xs ++ c ∷ ys) ≡ xs
 before_first_at q [] c ys none is = rw is refl
-before_first_at q (x ∷ xs) c ys none is = rw none.0 (ap (λ (n : ℕ). take n (x ∷ (xs ++ c ∷ ys))) (one_and (position_or_len q (xs ++ c ∷ ys))) ∙ ap (λ (l : List ℕ). x ∷ l) (before_first_at q xs c ys none.1 is))
+before_first_at q (x ∷ xs) c ys none is =
+    rw none.0 (ap (λ (n : ℕ). take n (x ∷ (xs ++ c ∷ ys))) (one_and (position_or_len q (xs ++ c ∷ ys))) ∙ ap (λ (l : List ℕ). x ∷ l) (before_first_at q xs c ys none.1 is))
 
 -- ---- fields
 
@@ -136,7 +135,7 @@ abbrev as_default : Result Spec FaultKind → Result Spec FaultKind
 as_default (Ok spec) = Ok (record spec { dflt = true })
 as_default (Err kind) = Err kind
 
-bind_same : {A : Type 0} (r : Result A FaultKind) (f g : A → Result Spec FaultKind) → ((x : A) → f x ≡ as_default (g x)) → (r >>= f) ≡ as_default (r >>= g)
+pub bind_same : {A : Type 0} (r : Result A FaultKind) (f g : A → Result Spec FaultKind) → ((x : A) → f x ≡ as_default (g x)) → (r >>= f) ≡ as_default (r >>= g)
 bind_same (Ok x) f g same = same x
 bind_same (Err kind) f g same = refl
 
@@ -159,7 +158,8 @@ module _ (naming : Naming) where
       let fields = tag ∷ word ∷ perm ∷ [] in
       bind_same (or_fault (row_of fields) BadTag) (from_row at true) (from_row at false)
       (λ row. bind_same (wanted_perms rules row.perms) (from_perm at true row) (from_perm at false row)
-      (λ p. bind_same (key_of naming row.tag row.word) (from_key at true p) (from_key at false p) (λ k. bind_same (allowed_key rules k) (from_allowed at true p) (from_allowed at false p) (λ a. refl))))
+      (λ p. bind_same (key_of naming row.tag row.word) (from_key at true p) (from_key at false p)
+      (λ k. bind_same (allowed_key rules k) (from_allowed at true p) (from_allowed at false p) (λ a. refl))))
       ∙ ap (λ d. as_default (or_fault (tagged rules d) BadTag >>= from_row at d.0)) (ap (λ b. cond b (true, word ∷ perm ∷ []) (false, fields)) (sym plain))
 
   default_tag : (k : Key) → is_default_word (tag_text Long k) ≡ false
@@ -225,7 +225,8 @@ module _ (naming : Naming) where
   front_line Access = tt
   front_line Default = (refl, (refl, (refl, (refl, (refl, (refl, (refl, (refl, tt))))))))
 
-  in_shown : (q : ℕ → Bool) → ((b : ℕ) → is_plain b ≡ true → q b ≡ false) → q 58 ≡ false → (which : Which) → AllByRecursion (λ b. q b ≡ false) (front which) → (e : Entry) → id_of e.key < nobody → IsNamedKey e.key
+  in_shown : (q : ℕ → Bool) → ((b : ℕ) → is_plain b ≡ true → q b ≡ false) → q 58 ≡ false → (which : Which) → AllByRecursion (λ b. q b ≡ false) (front which)
+      → (e : Entry) → id_of e.key < nobody → IsNamedKey e.key
       → AllByRecursion (λ b. q b ≡ false) (shown naming which e)
   in_shown q why colon which none e lt named = all-append (λ b. q b ≡ false) (front which) (written e) none (in_entry true false naming q why colon Long e lt named)
 
@@ -239,11 +240,16 @@ module _ (naming : Naming) where
       let none = all-append (λ b. (b == 35) ≡ false) text [] (in_shown (λ b. b == 35) plain-hash refl which (front_hash which) e lt named) tt in
       (text ++ [], opened which e [] ∙ ap (λ (v : List ℕ). (lines.Entry, v)) (before_first_none (λ b. b == 35) (text ++ []) none), fields_again at which e [] lt named tt)
 
-  reads_commented : (at : ℕ) (which : Which) (e : Entry) (t ys : List ℕ) → id_of e.key < nobody → IsNamedKey e.key → AllByRecursion (λ b. is_blank b ≡ true) t → ReadsAs at which e (shown naming which e ++ (t ++ 35 ∷ ys))
+  reads_commented : (at : ℕ) (which : Which) (e : Entry) (t ys : List ℕ) → id_of e.key < nobody → IsNamedKey e.key → AllByRecursion (λ b. is_blank b ≡ true) t
+      → ReadsAs at which e (shown naming which e ++ (t ++ 35 ∷ ys))
   reads_commented at which e t ys lt named blank =
       let text = shown naming which e in
-      let none = all-append (λ b. (b == 35) ≡ false) text t (in_shown (λ b. b == 35) plain-hash refl which (front_hash which) e lt named) (no_hash t blank) in
-      (text ++ t, opened which e (t ++ 35 ∷ ys) ∙ ap (λ (v : List ℕ). (lines.Entry, v)) (ap (before_first (λ b. b == 35)) (sym (append_assoc text t (35 ∷ ys))) ∙ before_first_at (λ b. b == 35) (text ++ t) 35 ys none refl), fields_again at which e t lt named blank)
+      let none = all-append (λ b. (b == 35) ≡ false) text t (in_shown (λ b. b == 35) plain-hash refl which (front_hash which) e lt named) (no_hash t blank) in (
+        text ++ t,
+        opened which e (t ++ 35 ∷ ys) ∙ ap (λ (v : List ℕ). (lines.Entry, v))
+            (ap (before_first (λ b. b == 35)) (sym (append_assoc text t (35 ∷ ys))) ∙ before_first_at (λ b. b == 35) (text ++ t) 35 ys none refl),
+        fields_again at which e t lt named blank,
+      )
 
   -- a line of an entry, with or without its effective permissions
   pub line_again : (at : ℕ) (how : Effective) (which : Which) (mask : Option Perms) (e : Entry) → id_of e.key < nobody → IsNamedKey e.key
@@ -253,7 +259,8 @@ module _ (naming : Naming) where
       let bytes = length (shown naming which e) in
       let following = tabs bytes ++ (codes "#effective:" ++ perms.text (perms.meet e.perm mask)) in
       elim (cases_Bool (is_class e.key && is_shown how mask e.perm)) [
-        | inl shown_text ↦ subst (λ b. ReadsAs at which e (shown naming which e ++ cond b following [])) (sym shown_text) (reads_commented at which e (tabs bytes) _ lt named (blank_front (tab_count bytes)))
+        | inl shown_text ↦ subst (λ b. ReadsAs at which e (shown naming which e ++ cond b following [])) (sym shown_text)
+            (reads_commented at which e (tabs bytes) _ lt named (blank_front (tab_count bytes)))
         | inr without_comment ↦ subst (λ b. ReadsAs at which e (shown naming which e ++ cond b following [])) (sym without_comment) (reads_bare at which e lt named)
       ]
 
@@ -273,4 +280,5 @@ module _ (naming : Naming) where
       → AllByRecursion (λ b. (b == 10) ≡ false) (shown naming which e ++ effective_text how mask e (length (shown naming which e)))
   line_clean how which mask e lt named =
       let text = shown naming which e in
-      all-append (λ b. (b == 10) ≡ false) text (effective_text how mask e (length text)) (in_shown (λ b. b == 10) plain-line refl which (front_line which) e lt named) (comment_clean how mask e (length text))
+      all-append (λ b. (b == 10) ≡ false) text (effective_text how mask e (length text))
+      (in_shown (λ b. b == 10) plain-line refl which (front_line which) e lt named) (comment_clean how mask e (length text))

@@ -1,5 +1,6 @@
 -- What is written in the long or the short form is read as that list.
-use Rattle.std.proofs.Common.{◌≡◌, ℕ, ◌+◌, ◌<◌, ◌≤◌, Bool, true, false, leb, ltb, cond, inl, inr, List, [], ◌∷◌, ◌++◌, length, Option, Some, None, Result, Ok, refl, sym, ap, ◌∙◌, append_assoc, length-append, arith}
+use Rattle.std.proofs.Common.{◌≡◌, ℕ, ◌+◌, ◌<◌, ◌≤◌, Bool, true, false, leb, ltb, cond, inl, inr, List, [], ◌∷◌, ◌++◌, length, Option, Some, None, Result, Ok}
+use Rattle.std.proofs.Common.{refl, sym, ap, ◌∙◌, append_assoc, length-append, arith}
 use Rattle.std.specs.Prelude.{◌==◌}
 use Rattle.std.specs.List.{list_all, AllByRecursion}
 use Rattle.std.proofs.lemmas.Bool.{cases_Bool, ne_eqb, lt-leb, ltb-false}
@@ -16,6 +17,7 @@ use Rattle.acl_entry.specs.declared.entry.Key.{Key}
 use Rattle.acl_entry.specs.declared.entry.Key.TheVariants as keys
 use Rattle.acl_entry.specs.declared.entry.Entry.{Entry}
 use Rattle.acl_names.specs.Pieces.{pieces}
+use Rattle.acl_names.proofs.Basics.{all-append}
 use Rattle.acl_text.specs.Naming.{Naming}
 use Rattle.acl_text.specs.declared.fault.TextFault.{TextFault}
 use Rattle.acl_text.specs.declared.entries.Sep.{Sep}
@@ -31,7 +33,7 @@ use Rattle.acl_text.specs.Blanks.{is_blank, trimmed}
 use Rattle.acl_text.specs.Letters.{perms_of}
 use Rattle.acl_text.specs.Entries.{rules_of, content, entry_from, entry_of, most_text_entries, one_more, entries_of}
 use Rattle.acl_text.specs.Writing.{tag_text, id_text, qualifier, entry_text, long, short, spec_of, specs_from, IsKeyNamed, AreNamed}
-use Rattle.acl_text.proofs.Plain.{is_plain, plain-line, plain-blank, plain-comma, plain-hash, none_of, all-append, trimmed_none, pieces_at, pieces_none, before_first_none, fields_again}
+use Rattle.acl_text.proofs.Plain.{is_plain, plain-line, plain-blank, plain-comma, plain-hash, none_of, trimmed_none, pieces_at, pieces_none, before_first_none, fields_again}
 use Rattle.acl_text.proofs.WrittenWords.{IsWordOf, word_again}
 
 -- rules that take permissions
@@ -106,7 +108,8 @@ module _ (takes_default takes_x : Bool) (naming : Naming) where
   qualifier_plain keys.Other lt named = refl
 
   abbrev FromFields : ℕ → List ℕ → List ℕ → Key → Perms → Type 0
-  FromFields at tag word key p = entry_from naming (taking takes_default takes_x) at (tag ∷ word ∷ text p ∷ []) ≡ Ok (record { at = at; dflt = false; key = key; perm = Some (record { fixed = p; cond_x = false }) })
+  FromFields at tag word key p = entry_from naming (taking takes_default takes_x) at (tag ∷ word ∷ text p ∷ [])
+      ≡ Ok (record { at = at; dflt = false; key = key; perm = Some (record { fixed = p; cond_x = false }) })
 
   user_again : (form : Form) (at : ℕ) (w : List ℕ) (id : ℕ) → IsWordOf naming.user_id id w → (p : Perms) → FromFields at (tag_text form (keys.User id)) w (keys.User id) p
   user_again form at [] id is p = absurd (omega (arith, is.some))
@@ -134,17 +137,20 @@ module _ (takes_default takes_x : Bool) (naming : Naming) where
 
   pub entry_again : (form : Form) (at : ℕ) (e : Entry) → id_of e.key < nobody → IsNamedKey e.key → entry_of naming (taking takes_default takes_x) at (entry_text naming form e) ≡ Ok (spec_of at e)
   entry_again form at e lt named =
-      ap (entry_from naming (taking takes_default takes_x) at) (fields_again (tag_text form e.key) (qualifier naming e.key) (text e.perm) (tag_plain form e.key) (qualifier_plain e.key lt named) (plain_text e.perm))
+      ap (entry_from naming (taking takes_default takes_x) at)
+      (fields_again (tag_text form e.key) (qualifier naming e.key) (text e.perm) (tag_plain form e.key) (qualifier_plain e.key lt named) (plain_text e.perm))
       ∙ key_again form at e.key e.perm lt named
 
   -- a test that fails at plain bytes and at a colon fails in all of an entry
-  pub in_entry : (q : ℕ → Bool) → ((b : ℕ) → is_plain b ≡ true → q b ≡ false) → q 58 ≡ false → (form : Form) (e : Entry) → id_of e.key < nobody → IsNamedKey e.key → AllByRecursion (λ b. q b ≡ false) (entry_text naming form e)
+  pub in_entry : (q : ℕ → Bool) → ((b : ℕ) → is_plain b ≡ true → q b ≡ false) → q 58 ≡ false → (form : Form) (e : Entry) → id_of e.key < nobody
+      → IsNamedKey e.key → AllByRecursion (λ b. q b ≡ false) (entry_text naming form e)
   in_entry q why colon form e lt named =
       let word = qualifier naming e.key in
       all-append (λ b. q b ≡ false) (tag_text form e.key) (58 ∷ (word ++ 58 ∷ text e.perm)) (none_of is_plain q why (tag_text form e.key) (tag_plain form e.key))
       (colon, all-append (λ b. q b ≡ false) word (58 ∷ text e.perm) (none_of is_plain q why word (qualifier_plain e.key lt named)) (colon, none_of is_plain q why (text e.perm) (plain_text e.perm)))
 
-  one_from : (sep : Sep) (at : ℕ) (specs : List Spec) (piece : List ℕ) (spec : Spec) → content sep piece ≡ piece → trimmed piece ≡ piece → 0 < length piece → entry_of naming (taking takes_default takes_x) at piece ≡ Ok spec → length specs < most_text_entries
+  one_from : (sep : Sep) (at : ℕ) (specs : List Spec) (piece : List ℕ) (spec : Spec) → content sep piece ≡ piece → trimmed piece ≡ piece → 0 < length piece
+      → entry_of naming (taking takes_default takes_x) at piece ≡ Ok spec → length specs < most_text_entries
       → one_more naming sep (taking takes_default takes_x) at specs piece ≡ Ok (specs ++ spec ∷ [])
   one_from sep at specs piece spec whole bare some e room =
       let full : (length piece == 0) ≡ false = ne_eqb (length piece) 0 (λ zero. omega arith) in
@@ -155,7 +161,8 @@ module _ (takes_default takes_x : Bool) (naming : Naming) where
   content_again Comma form e lt named = refl
   content_again Line form e lt named = before_first_none (λ b. b == 35) (entry_text naming form e) (in_entry (λ b. b == 35) plain-hash refl form e lt named)
 
-  one_again : (sep : Sep) (form : Form) (at : ℕ) (specs : List Spec) (e : Entry) → id_of e.key < nobody → IsNamedKey e.key → length specs < most_text_entries → one_more naming sep (taking takes_default takes_x) at specs (entry_text naming form e) ≡ Ok (specs ++ spec_of at e ∷ [])
+  one_again : (sep : Sep) (form : Form) (at : ℕ) (specs : List Spec) (e : Entry) → id_of e.key < nobody → IsNamedKey e.key → length specs < most_text_entries
+      → one_more naming sep (taking takes_default takes_x) at specs (entry_text naming form e) ≡ Ok (specs ++ spec_of at e ∷ [])
   one_again sep form at specs e lt named room =
       one_from sep at specs (entry_text naming form e) (spec_of at e)
       (content_again sep form e lt named)
@@ -194,7 +201,8 @@ module _ (takes_default takes_x : Bool) (naming : Naming) where
       let entry = entry_text naming Short e in
       let first = one_again Comma Short at specs e ids.0 named.0 (omega arith) in
       let rest = others_read f es (at + 1) (specs ++ spec_of at e ∷ []) ids.1 named.1 (omega (arith, length-append specs (spec_of at e ∷ []))) in
-      let cut : pieces 44 (short naming (e ∷ f ∷ es)) ≡ entry ∷ pieces 44 (short naming (f ∷ es)) = pieces_at 44 entry (short naming (f ∷ es)) (in_entry (λ b. b == 44) plain-comma refl Short e ids.0 named.0) in
+      let cut : pieces 44 (short naming (e ∷ f ∷ es)) ≡ entry ∷ pieces 44 (short naming (f ∷ es)) =
+      pieces_at 44 entry (short naming (f ∷ es)) (in_entry (λ b. b == 44) plain-comma refl Short e ids.0 named.0) in
       ap (reading Comma at specs) cut
       ∙ (ap (λ j. at_place at j (λ more. reading Comma (at + 1) more (pieces 44 (short naming (f ∷ es))))) first
       ∙ (rest ∙ ap (λ (s : List Spec). Ok s) (append_assoc specs (spec_of at e ∷ []) (specs_from (at + 1) (f ∷ es)))))

@@ -1,5 +1,6 @@
 -- What is written of a path, with a final `/` or without, is read as that path.
-use Rattle.std.proofs.Common.{◌≡◌, ℕ, ◌+◌, ◌-◌, ◌/◌, ◌%◌, ◌<◌, Bool, true, false, cond, List, [], ◌∷◌, ◌++◌, length, drop, Option, Some, None, refl, sym, ap, subst, ◌∙◌, append_assoc, length-append, arith}
+use Rattle.std.proofs.Common.{◌≡◌, ℕ, ◌+◌, ◌-◌, ◌/◌, ◌%◌, ◌<◌, Bool, true, false, cond, List, [], ◌∷◌, ◌++◌, length, drop, Option, Some, None, refl, sym, ap}
+use Rattle.std.proofs.Common.{subst, ◌∙◌, append_assoc, length-append, arith}
 use Rattle.std.specs.Prelude.{◌==◌, ◌||◌, ◌&&◌, filter, not, nat_eq}
 use Rattle.std.specs.List.{list_any, list_all, flat_map, AllByRecursion}
 use Rattle.std.proofs.lemmas.Bool.{and_parts, or_parts, ne_eqb, eqb-false}
@@ -12,7 +13,8 @@ use Rattle.acl_names.specs.Pieces.{pieces}
 use Rattle.acl_names.specs.Names.{decoded, escape, byte_text, escaped_where, is_escaped_in_paths}
 use Rattle.acl_names.specs.Paths.{is_nothing, is_refused, is_component, components_of, path_of, after_slash, joined, path_text}
 use Rattle.acl_names.proofs.Escapes.{path_bytes_again}
-use Rattle.acl_names.proofs.PathText.{good, no_slash, joined_bytes, none_refused, all_kept, all-append, path_again}
+use Rattle.acl_names.proofs.PathText.{good, no_slash, joined_bytes, none_refused, all_kept, path_again}
+use Rattle.acl_names.proofs.Basics.{all-append}
 use Rattle.acl_text.proofs.Plain.{pieces_at, pieces_none}
 use Rattle.acl_text.specs.Records.{ends_in_slash}
 use Rattle.acl_text.specs.DumpWriting.{slash_text}
@@ -50,7 +52,8 @@ ends_clean b (c ∷ cs) none =
     record { before = b ∷ ends.before; last = ends.last; parts = ap (λ (l : List ℕ). b ∷ l) ends.parts; clean = ends.clean }
 
 prefixed_clean : (front bytes : List ℕ) → EndsClean bytes → EndsClean (front ++ bytes)
-prefixed_clean front bytes ends = record { before = front ++ ends.before; last = ends.last; parts = ap (λ (l : List ℕ). front ++ l) ends.parts ∙ sym (append_assoc front ends.before (ends.last ∷ [])); clean = ends.clean }
+prefixed_clean front bytes ends =
+    record { before = front ++ ends.before; last = ends.last; parts = ap (λ (l : List ℕ). front ++ l) ends.parts ∙ sym (append_assoc front ends.before (ends.last ∷ [])); clean = ends.clean }
 
 component_clean : (name : List ℕ) → is_component name ≡ true → EndsClean name
 component_clean [] is = absurd cc
@@ -72,7 +75,9 @@ escaped_append xs ys = flat_map-append (λ b. byte_text (is_escaped_in_paths b) 
 escaped_clean : (bytes : List ℕ) → EndsClean bytes → EndsClean (escaped_where is_escaped_in_paths bytes)
 escaped_clean bytes ends =
     let last = last_byte ends.last (is_escaped_in_paths ends.last) ends.clean in
-    subst EndsClean (sym (ap (escaped_where is_escaped_in_paths) ends.parts ∙ (escaped_append ends.before (ends.last ∷ []) ∙ ap (λ (l : List ℕ). escaped_where is_escaped_in_paths ends.before ++ l) (append-nil (byte_text (is_escaped_in_paths ends.last) ends.last)))))
+    subst EndsClean (sym
+    (ap (escaped_where is_escaped_in_paths) ends.parts
+    ∙ (escaped_append ends.before (ends.last ∷ []) ∙ ap (λ (l : List ℕ). escaped_where is_escaped_in_paths ends.before ++ l) (append-nil (byte_text (is_escaped_in_paths ends.last) ends.last)))))
     (prefixed_clean (escaped_where is_escaped_in_paths ends.before) (byte_text (is_escaped_in_paths ends.last) ends.last) last)
 
 path_clean : (path : List (List ℕ)) → list_all is_component path ≡ true → EndsClean (path_text path)
@@ -133,7 +138,8 @@ name_again (name ∷ names) true are =
     let parts = and_parts (is_component name) (list_all is_component names) are in
     let more = names ++ [] ∷ [] in
     let bytes : decoded (path_text path ++ 47 ∷ []) ≡ joined path ++ 47 ∷ [] =
-    ap decoded (sym (escaped_append (joined path) (47 ∷ []))) ∙ path_bytes_again (joined path ++ 47 ∷ []) (all-append (λ b. b < 256) (joined path) (47 ∷ []) (joined_bytes path are) (omega arith, tt)) in
+    ap decoded (sym (escaped_append (joined path) (47 ∷ [])))
+    ∙ path_bytes_again (joined path ++ 47 ∷ []) (all-append (λ b. b < 256) (joined path) (47 ∷ []) (joined_bytes path are) (omega arith, tt)) in
     let cut : pieces 47 (decoded (path_text path ++ 47 ∷ [])) ≡ path ++ [] ∷ [] =
     ap (pieces 47) (bytes ∙ (append_assoc name (flat_map after_slash names) (47 ∷ []) ∙ ap (λ (l : List ℕ). name ++ l) (sym (flat_map-append after_slash names ([] ∷ [])))))
     ∙ cut_all name more (no_slash name (good name parts.0).clean) (no_slashes names parts.1) in

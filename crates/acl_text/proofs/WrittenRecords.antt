@@ -35,9 +35,10 @@ use Rattle.acl_text.specs.declared.effective.Effective.TheVariants.{WhereMasked}
 use Rattle.acl_text.specs.declared.item.Item.{Item}
 use Rattle.acl_text.specs.declared.item.Item.TheVariants as item
 use Rattle.acl_text.specs.Lines.{content_of, begins_record}
-use Rattle.acl_text.specs.Records.{named, flags_of, item_of, add, opened_draft, ends_in_slash, is_repeated, same_path, list_of, list_unless, default_list_of, has_headers, whole, begins, open_record, close, line_in, lines_of, dump_of, dump_stream}
+use Rattle.acl_text.specs.Records.{named, flags_of, item_of, add, opened_draft, ends_in_slash, is_repeated, same_path, list_of, list_unless, default_list_of}
+use Rattle.acl_text.specs.Records.{has_headers, whole, begins, open_record, close, line_in, lines_of, dump_of, dump_stream}
 use Rattle.acl_text.specs.DumpWriting.{mark, marks, flags_text, slash_text, file_text, owner_text, group_text, shown, effective_text, entry_line, list_text, default_text, record_text}
-use Rattle.acl_text.specs.Again.{IsFoundIf, AreFlags, HasHeaders, IsListIf, IsReadable, AreApart, paths, lines_if, default_count, line_count, placed, dump_text}
+use Rattle.acl_text.specs.RoundTrips.{IsFoundIf, AreFlags, HasHeaders, IsListIf, IsReadable, AreApart, paths, lines_if, default_count, line_count, placed, dump_text}
 use Rattle.acl_text.proofs.Streams.{streamed_by_groups}
 use Rattle.acl_text.proofs.WrittenEntries.{line_again, line_clean}
 use Rattle.acl_text.proofs.WrittenNames.{name_clean, slash_again, name_some, name_again}
@@ -78,7 +79,8 @@ module _ (dump_use : DumpUse) (naming : Naming) where
 
   pub closed : (records : List DumpRecord) (r : DumpRecord) (at : ℕ) → Readable r → close dump_use records (Some (all_lines at r)) ≡ Ok (records ++ record r { at = at } ∷ [])
   closed records r at is =
-      let make : KeyMap → Option KeyMap → DumpRecord = λ access dacl. record { at = at; path = r.path; slash = r.slash; owner = r.owner; group = r.group; flags = r.flags; access = access; dacl = dacl } in
+      let make : KeyMap → Option KeyMap → DumpRecord =
+      λ access dacl. record { at = at; path = r.path; slash = r.slash; owner = r.owner; group = r.group; flags = r.flags; access = access; dacl = dacl } in
       ap (λ b. at_place at (cond b (whole (all_lines at r)) (Err MissingHeader)) (λ n. Ok (records ++ n ∷ []))) (headers r at is.headers)
       ∙ (ap (λ a. at_place at (a >>= (λ access. default_list_of (default_entries r.dacl) >>= (λ dacl. Ok (make access dacl)))) (λ n. Ok (records ++ n ∷ []))) (listed Access r.access is.access.valid)
       ∙ ap (λ d. at_place at (d >>= (λ dacl. Ok (make r.access dacl))) (λ n. Ok (records ++ n ∷ []))) (defaults r.dacl is.dacl))
@@ -100,17 +102,20 @@ module _ (dump_use : DumpUse) (naming : Naming) where
       ∙ ap (λ k. step records draft at k >>= (λ s. reading s.0 s.1 (at + 1) rest)) is
 
   -- a line that adds to the open record
-  pub read_one_item : (records : List DumpRecord) (draft new : Option RecordDraft) (at : ℕ) (line rest : List ℕ) (k : LineKind) (v : List ℕ) (s : Option Item) → AllByRecursion (λ b. (b == 10) ≡ false) line → content_of line ≡ (k, v)
+  pub read_one_item : (records : List DumpRecord) (draft new : Option RecordDraft) (at : ℕ) (line rest : List ℕ) (k : LineKind) (v : List ℕ) (s : Option Item)
+      → AllByRecursion (λ b. (b == 10) ≡ false) line → content_of line ≡ (k, v)
       → begins_record k ≡ false → item_of naming at k v ≡ Ok s → add s draft ≡ Ok new → reading records draft at (line ++ 10 ∷ rest) ≡ reading records new (at + 1) rest
   read_one_item records draft new at line rest k v s clean is other reads_as adds =
       let on = λ (r : Result (List DumpRecord × Option RecordDraft) TextFault). (r >>= (λ s. reading s.0 s.1 (at + 1) rest)) in
       cut records draft at line rest (k, v) clean is
-      ∙ (ap (λ b. on (cond b (close dump_use records draft >>= (λ more. at_place at (opened_draft more at v) (λ d. Ok (Some d)) >>= (λ new. Ok (more, new)))) ((at_place at (item_of naming at k v >>= (λ item. add item draft)) (λ new. Ok new)) >>= (λ more. Ok (records, more))))) other
+      ∙ (ap (λ b. on (cond b (close dump_use records draft >>= (λ more. at_place at (opened_draft more at v) (λ d. Ok (Some d)) >>= (λ new. Ok (more, new))))
+      ((at_place at (item_of naming at k v >>= (λ item. add item draft)) (λ new. Ok new)) >>= (λ more. Ok (records, more))))) other
       ∙ (ap (λ r. on ((at_place at (r >>= (λ item. add item draft)) (λ new. Ok new)) >>= (λ more. Ok (records, more)))) reads_as
       ∙ ap (λ r. on (at_place at r (λ new. Ok new) >>= (λ more. Ok (records, more)))) adds))
 
   -- a line that begins a record
-  pub opened : (records more : List DumpRecord) (draft : Option RecordDraft) (new : RecordDraft) (at : ℕ) (line rest v : List ℕ) → AllByRecursion (λ b. (b == 10) ≡ false) line → content_of line ≡ (lines.File, v)
+  pub opened : (records more : List DumpRecord) (draft : Option RecordDraft) (new : RecordDraft) (at : ℕ) (line rest v : List ℕ)
+      → AllByRecursion (λ b. (b == 10) ≡ false) line → content_of line ≡ (lines.File, v)
       → close dump_use records draft ≡ Ok more → opened_draft more at v ≡ Ok new → reading records draft at (line ++ 10 ∷ rest) ≡ reading more (Some new) (at + 1) rest
   opened records more draft new at line rest v clean is closes begins =
       let on = λ (r : Result (List DumpRecord × Option RecordDraft) TextFault). (r >>= (λ s. reading s.0 s.1 (at + 1) rest)) in
@@ -131,13 +136,15 @@ module _ (dump_use : DumpUse) (naming : Naming) where
       ap (λ o. or_fault o BadPath >>= (λ path. cond (is_repeated records path) (Err RepeatedFile) (Ok (make path (ends_in_slash (b ∷ bs)))))) is
       ∙ (ap (λ c. cond c (Err RepeatedFile) (Ok (make r.path (ends_in_slash (b ∷ bs))))) new ∙ ap (λ c. Ok (make r.path c)) slash)
 
-  file_chunk : (records more : List DumpRecord) (draft : Option RecordDraft) (at : ℕ) (r : DumpRecord) (rest : List ℕ) → close dump_use records draft ≡ Ok more → list_all is_component r.path ≡ true → is_repeated more r.path ≡ false
+  file_chunk : (records more : List DumpRecord) (draft : Option RecordDraft) (at : ℕ) (r : DumpRecord) (rest : List ℕ) → close dump_use records draft ≡ Ok more
+      → list_all is_component r.path ≡ true → is_repeated more r.path ≡ false
       → reading records draft at (file_text r.path r.slash ++ rest) ≡ reading more (drafted at r None None None [] []) (at + 1) rest
   file_chunk records more draft at r rest closes are new =
       let p = path_text r.path in
       let s = slash_text r.slash in
       let name = p ++ s in
-      let moved : (p ++ (s ++ 10 ∷ [])) ++ rest ≡ name ++ 10 ∷ rest = append_assoc p (s ++ 10 ∷ []) rest ∙ (ap (λ (l : List ℕ). p ++ l) (append_assoc s (10 ∷ []) rest) ∙ sym (append_assoc p s (10 ∷ rest))) in
+      let moved : (p ++ (s ++ 10 ∷ [])) ++ rest ≡ name ++ 10 ∷ rest = append_assoc p (s ++ 10 ∷ []) rest
+      ∙ (ap (λ (l : List ℕ). p ++ l) (append_assoc s (10 ∷ []) rest) ∙ sym (append_assoc p s (10 ∷ rest))) in
       ap (λ (l : List ℕ). reading records draft at (codes "# file: " ++ l)) moved
       ∙ opened records more draft (record { at = at; path = r.path; slash = r.slash; owner = None; group = None; flags = None; access = []; dacl = [] }) at (codes "# file: " ++ name) rest name
       (refl, (refl, (refl, (refl, (refl, (refl, (refl, (refl, name_clean r.path r.slash)))))))) refl closes
@@ -199,7 +206,8 @@ module _ (dump_use : DumpUse) (naming : Naming) where
   flags_chunk records first at r owner group (Some (a ∷ b ∷ [])) rest three = absurd (omega arith)
   flags_chunk records first at r owner group (Some (a ∷ b ∷ c ∷ [])) rest three =
       let flags = a ∷ b ∷ c ∷ [] in
-      read_one_item records (drafted first r owner group None [] []) (drafted first r owner group (Some flags) [] []) at (codes "# flags: " ++ marks flags) rest lines.Flags (trimmed (32 ∷ marks flags)) (Some (item.Flags flags))
+      read_one_item records (drafted first r owner group None [] []) (drafted first r owner group (Some flags) [] []) at
+      (codes "# flags: " ++ marks flags) rest lines.Flags (trimmed (32 ∷ marks flags)) (Some (item.Flags flags))
       (refl, (refl, (refl, (refl, (refl, (refl, (refl, (refl, (refl, ((mark_clean a).0, ((mark_clean b).0, ((mark_clean c).1, tt))))))))))))
       refl refl (ap (λ f. or_fault f BadHeader >>= (λ flags. Ok (Some (item.Flags flags)))) (flags_again a b c)) refl
   flags_chunk records first at r owner group (Some (a ∷ b ∷ c ∷ d ∷ more)) rest three = absurd (omega arith)
@@ -215,7 +223,8 @@ module _ (dump_use : DumpUse) (naming : Naming) where
   abbrev plain_line : Which → Option Perms → Entry → List ℕ
   plain_line which mask e = shown naming which e ++ effective_text WhereMasked mask e (length (shown naming which e))
 
-  moved_line : (which : Which) (mask : Option Perms) (e : Entry) (es : List Entry) (rest : List ℕ) → lines_text which mask (e ∷ es) ++ rest ≡ plain_line which mask e ++ 10 ∷ (lines_text which mask es ++ rest)
+  moved_line : (which : Which) (mask : Option Perms) (e : Entry) (es : List Entry) (rest : List ℕ)
+      → lines_text which mask (e ∷ es) ++ rest ≡ plain_line which mask e ++ 10 ∷ (lines_text which mask es ++ rest)
   moved_line which mask e es rest =
       let text = shown naming which e in
       let note = effective_text WhereMasked mask e (length text) in
@@ -224,10 +233,13 @@ module _ (dump_use : DumpUse) (naming : Naming) where
       ∙ (append_assoc text (note ++ 10 ∷ []) (more ++ rest)
       ∙ (ap (λ (l : List ℕ). text ++ l) (append_assoc note (10 ∷ []) (more ++ rest)) ∙ sym (append_assoc text note (10 ∷ (more ++ rest)))))
 
-  access_chunk : (records : List DumpRecord) (first at : ℕ) (r : DumpRecord) (mask : Option Perms) (xs es : List Entry) (rest : List ℕ) → AllByRecursion (λ e. id_of e.key < nobody) es → AllByRecursion NamedEntry es
-      → reading records (drafted first r r.owner r.group r.flags xs []) at (lines_text Access mask es ++ rest) ≡ reading records (drafted first r r.owner r.group r.flags (xs ++ es) []) (at + length es) rest
+  access_chunk : (records : List DumpRecord) (first at : ℕ) (r : DumpRecord) (mask : Option Perms) (xs es : List Entry) (rest : List ℕ)
+      → AllByRecursion (λ e. id_of e.key < nobody) es → AllByRecursion NamedEntry es
+      → reading records (drafted first r r.owner r.group r.flags xs []) at (lines_text Access mask es ++ rest)
+      ≡ reading records (drafted first r r.owner r.group r.flags (xs ++ es) []) (at + length es) rest
   access_chunk records first at r mask xs [] rest small found =
-      no_more records (drafted first r r.owner r.group r.flags xs []) at rest ∙ ap (λ (l : List Entry). reading records (drafted first r r.owner r.group r.flags l []) (at + 0) rest) (sym (append-nil xs))
+      no_more records (drafted first r r.owner r.group r.flags xs []) at rest
+      ∙ ap (λ (l : List Entry). reading records (drafted first r r.owner r.group r.flags l []) (at + 0) rest) (sym (append-nil xs))
   access_chunk records first at r mask xs (e ∷ es) rest small found =
       let draft = drafted first r r.owner r.group r.flags in
       let reads_as = line_again naming at WhereMasked Access mask e small.0 found.0 in
@@ -238,10 +250,13 @@ module _ (dump_use : DumpUse) (naming : Naming) where
       ∙ (ap (λ (l : List Entry). reading records (draft l []) (at + 1 + length es) rest) (append_assoc xs (e ∷ []) es)
       ∙ ap (λ (n : ℕ). reading records (draft (xs ++ e ∷ es) []) n rest) (omega arith))))
 
-  default_chunk : (records : List DumpRecord) (first at : ℕ) (r : DumpRecord) (mask : Option Perms) (access xs es : List Entry) (rest : List ℕ) → AllByRecursion (λ e. id_of e.key < nobody) es → AllByRecursion NamedEntry es
-      → reading records (drafted first r r.owner r.group r.flags access xs) at (lines_text Default mask es ++ rest) ≡ reading records (drafted first r r.owner r.group r.flags access (xs ++ es)) (at + length es) rest
+  default_chunk : (records : List DumpRecord) (first at : ℕ) (r : DumpRecord) (mask : Option Perms) (access xs es : List Entry) (rest : List ℕ)
+      → AllByRecursion (λ e. id_of e.key < nobody) es → AllByRecursion NamedEntry es
+      → reading records (drafted first r r.owner r.group r.flags access xs) at (lines_text Default mask es ++ rest)
+      ≡ reading records (drafted first r r.owner r.group r.flags access (xs ++ es)) (at + length es) rest
   default_chunk records first at r mask access xs [] rest small found =
-      no_more records (drafted first r r.owner r.group r.flags access xs) at rest ∙ ap (λ (l : List Entry). reading records (drafted first r r.owner r.group r.flags access l) (at + 0) rest) (sym (append-nil xs))
+      no_more records (drafted first r r.owner r.group r.flags access xs) at rest
+      ∙ ap (λ (l : List Entry). reading records (drafted first r r.owner r.group r.flags access l) (at + 0) rest) (sym (append-nil xs))
   default_chunk records first at r mask access xs (e ∷ es) rest small found =
       let draft = drafted first r r.owner r.group r.flags access in
       let reads_as = line_again naming at WhereMasked Default mask e small.0 found.0 in
@@ -253,7 +268,8 @@ module _ (dump_use : DumpUse) (naming : Naming) where
       ∙ ap (λ (n : ℕ). reading records (draft (xs ++ e ∷ es)) n rest) (omega arith))))
 
   defaults_chunk : (records : List DumpRecord) (first at : ℕ) (r : DumpRecord) (access : List Entry) (dacl : Option KeyMap) (rest : List ℕ) → IsListIf naming dacl
-      → reading records (drafted first r r.owner r.group r.flags access []) at (default_text naming WhereMasked dacl ++ rest) ≡ reading records (drafted first r r.owner r.group r.flags access (default_entries dacl)) (at + default_count dacl) rest
+      → reading records (drafted first r r.owner r.group r.flags access []) at (default_text naming WhereMasked dacl ++ rest)
+      ≡ reading records (drafted first r r.owner r.group r.flags access (default_entries dacl)) (at + default_count dacl) rest
   defaults_chunk records first at r access None rest is = no_more records (drafted first r r.owner r.group r.flags access []) at rest
   defaults_chunk records first at r access (Some acl) rest is =
       default_chunk records first at r (maps.get acl Mask) access [] (entries acl) rest (recursion_from_All (λ (e : Entry). id_of e.key < nobody) (entries acl) is.ids) is.named
@@ -261,10 +277,14 @@ module _ (dump_use : DumpUse) (naming : Naming) where
   -- ---- records
 
   apart_text : (r : DumpRecord) (rest : List ℕ) → record_text naming r ++ rest
-      ≡ file_text r.path r.slash ++ (owner_text naming.user_name r.owner ++ (group_text naming.group_name r.group ++ (flags_text r.flags ++ (list_text naming WhereMasked Access r.access ++ (default_text naming WhereMasked r.dacl ++ 10 ∷ rest)))))
-  apart_text r rest = five (file_text r.path r.slash) (owner_text naming.user_name r.owner) (group_text naming.group_name r.group) (flags_text r.flags) (list_text naming WhereMasked Access r.access) (default_text naming WhereMasked r.dacl) rest
+      ≡ file_text r.path r.slash
+      ++ (owner_text naming.user_name r.owner
+      ++ (group_text naming.group_name r.group ++ (flags_text r.flags ++ (list_text naming WhereMasked Access r.access ++ (default_text naming WhereMasked r.dacl ++ 10 ∷ rest)))))
+  apart_text r rest = five (file_text r.path r.slash) (owner_text naming.user_name r.owner) (group_text naming.group_name r.group) (flags_text r.flags)
+      (list_text naming WhereMasked Access r.access) (default_text naming WhereMasked r.dacl) rest
 
-  record_chunk : (records more : List DumpRecord) (draft : Option RecordDraft) (at : ℕ) (r : DumpRecord) (rest : List ℕ) → close dump_use records draft ≡ Ok more → is_repeated more r.path ≡ false → Readable r
+  record_chunk : (records more : List DumpRecord) (draft : Option RecordDraft) (at : ℕ) (r : DumpRecord) (rest : List ℕ)
+      → close dump_use records draft ≡ Ok more → is_repeated more r.path ≡ false → Readable r
       → reading records draft at (record_text naming r ++ rest) ≡ reading more (Some (all_lines at r)) (at + line_count r) rest
   record_chunk records more draft at r rest closes new is =
       let ending = default_text naming WhereMasked r.dacl ++ 10 ∷ rest in
@@ -281,7 +301,8 @@ module _ (dump_use : DumpUse) (naming : Naming) where
       ∙ (owner_chunk more at from_owner r r.owner grouping is.owner
       ∙ (group_chunk more at from_group r r.owner r.group flagged is.group
       ∙ (flags_chunk more at from_flags r r.owner r.group r.flags listing is.flags
-      ∙ (access_chunk more at from_access r (maps.get r.access Mask) [] (entries r.access) ending (recursion_from_All (λ (e : Entry). id_of e.key < nobody) (entries r.access) is.access.ids) is.access.named
+      ∙ (access_chunk more at from_access r (maps.get r.access Mask) [] (entries r.access) ending
+      (recursion_from_All (λ (e : Entry). id_of e.key < nobody) (entries r.access) is.access.ids) is.access.named
       ∙ (defaults_chunk more at from_default r (entries r.access) r.dacl (10 ∷ rest) is.dacl
       ∙ (read_one_item more (Some (all_lines at r)) (Some (all_lines at r)) (from_default + default_count r.dacl) [] rest lines.Nothing [] None tt refl refl refl refl
       ∙ ap (λ (n : ℕ). reading more (Some (all_lines at r)) n rest) (omega arith))))))))
@@ -290,7 +311,8 @@ module _ (dump_use : DumpUse) (naming : Naming) where
   any_paths path [] = refl
   any_paths path (r ∷ rs) = ap (λ b. same_path path r.path || b) (any_paths path rs)
 
-  all_again : (records more : List DumpRecord) (draft : Option RecordDraft) (at : ℕ) (rs : List DumpRecord) → close dump_use records draft ≡ Ok more → AllByRecursion Readable rs → AreApart (paths more) (paths rs)
+  all_again : (records more : List DumpRecord) (draft : Option RecordDraft) (at : ℕ) (rs : List DumpRecord) → close dump_use records draft ≡ Ok more
+      → AllByRecursion Readable rs → AreApart (paths more) (paths rs)
       → reading records draft at (dump_text naming rs) ≡ Ok (more ++ placed at rs)
   all_again records more draft at [] closes are apart = closes ∙ ap (λ (l : List DumpRecord). Ok l) (sym (append-nil more))
   all_again records more draft at (r ∷ rs) closes are apart =

@@ -3,11 +3,11 @@ use Rattle.std.proofs.Common.{◌≡◌, ℕ, ◌+◌, ◌-◌, ◌*◌, ◌/◌
 use Rattle.std.specs.Prelude.{◌==◌, ◌||◌, ◌&&◌, decimal, nat_lt}
 use Rattle.std.specs.List.{list_all, AllByRecursion}
 use Rattle.std.specs.Char.{is_ascii_digit}
-use Rattle.std.proofs.lemmas.Bool.{cases_Bool, and_parts, and_from, or_parts, ne_eqb, le-leb, lt-ltb, ltb-true, leb-true}
+use Rattle.std.proofs.lemmas.Bool.{cases_Bool, and_parts, and_from, or_parts, ne_eqb, le-leb, lt-ltb, leb-true}
 use Rattle.std.proofs.lemmas.Fmt.{decimal_by_steps}
-use Rattle.acl_names.specs.Pieces.{is_byte}
 use Rattle.acl_names.specs.Names.{decoded, escaped, escape, byte_text, is_escaped_in_paths, is_escaped_in_names}
 use Rattle.acl_names.proofs.Escapes.{name_again}
+use Rattle.acl_names.proofs.PathText.{are_bytes}
 use Rattle.acl_entry.specs.Ids.{nobody}
 use Rattle.acl_text.specs.Ids.{is_number, number_after}
 use Rattle.acl_text.specs.Words.{named_id, word_id}
@@ -72,10 +72,6 @@ number_again look_up n ds lt are =
 
 -- ---- names
 
-made_of : (name : List ℕ) → list_all is_byte name ≡ true → AllByRecursion (λ b. b < 256) name
-made_of [] are = tt
-made_of (b ∷ bs) are = let parts = and_parts (is_byte b) (list_all is_byte bs) are in (ltb-true b 256 parts.0, made_of bs parts.1)
-
 octal_plain : (b : ℕ) → b < 256 → list_all is_plain (escape b) ≡ true
 octal_plain b lt =
     let x = digit-plain (48 + b / 64) (omega arith) (omega arith) in
@@ -125,9 +121,10 @@ word_again look_up id None lt named =
     let are = decimal_digits id (omega arith) in
     record { again = number_again look_up id (decimal id) lt are; plain = digits_plain (decimal id) are.digits; some = are.some }
 word_again look_up id (Some name) lt named =
-    let bytes = made_of name named.made_of_bytes in
+    let bytes = are_bytes name named.made_of_bytes in
     record {
-      again = ap (λ (w : List ℕ). named_id look_up (decoded w)) (trimmed_plain (escaped name) (name_plain name bytes)) ∙ (ap (named_id look_up) (name_again name bytes) ∙ rw named.no_number named.found);
+      again = ap (λ (w : List ℕ). named_id look_up (decoded w)) (trimmed_plain (escaped name) (name_plain name bytes))
+          ∙ (ap (named_id look_up) (name_again name bytes) ∙ rw named.no_number named.found);
       plain = name_plain name bytes;
       some = name_some name named.not_empty;
     }

@@ -11,7 +11,7 @@ use Rattle.acl_text.specs.Records.{Numbered, begins, opened_draft, judged, lines
 use Rattle.acl_text.specs.Faults.{IsFirstFault}
 use Rattle.acl_text.specs.DumpLowest.{FileHas, LineHas}
 use Rattle.acl_text.specs.Lines.{content_of}
-use Rattle.acl_text.specs.Again.{IsReadable, AreApart, paths, placed, dump_text}
+use Rattle.acl_text.specs.RoundTrips.{IsReadable, AreApart, paths, placed, dump_text}
 
 abbrev pub DumpFaultIsFirst : Type 0
 DumpFaultIsFirst = (naming : Naming) (dump_use : DumpUse) (bytes : List ℕ) (fault : TextFault) →

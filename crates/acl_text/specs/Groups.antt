@@ -1,4 +1,4 @@
--- Lines in groups: each group is opened by its first line, goes on line by line, and is closed as a whole.
+-- Lines in groups: the first line opens a group, each later one adds to it, and it is closed as a whole.
 use Rattle.std.specs.Prelude.{List, [], ◌∷◌, Bool, true, false, if◌then◌else◌, Result, Ok}
 use Rattle.acl_text.specs.declared.fault.TextFault.{TextFault}
 use Rattle.acl_text.specs.InTurn.{◌>>=◌}

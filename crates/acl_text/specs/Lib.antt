@@ -28,5 +28,5 @@ pub mod Watched
 pub mod SameBodies
 pub mod KnownBodies
 pub mod DumpWriting
-pub mod Again
+pub mod RoundTrips
 pub mod DumpLaws

@@ -18,7 +18,8 @@ abbrev pub opened_draft : Bool → List DumpRecord → ℕ → List ℕ → Resu
 opened_draft watched records at [] = Err BadHeader
 opened_draft watched records at (b ∷ bs) = do
   path ← or_fault (path_of (b ∷ bs)) BadPath
-  if watched && is_repeated records path then Err RepeatedFile else Ok (record { at = at; path = path; slash = ends_in_slash (b ∷ bs); owner = None; group = None; flags = None; access = []; dacl = [] })
+  if watched && is_repeated records path then Err RepeatedFile
+      else Ok (record { at = at; path = path; slash = ends_in_slash (b ∷ bs); owner = None; group = None; flags = None; access = []; dacl = [] })
 
 abbrev pub open_record : Bool → List DumpRecord → Numbered → Result (Option RecordDraft) TextFault
 open_record watched records l = at_place l.0 (opened_draft watched records l.0 (content_of l.1).1) (λ draft. Ok (Some draft))

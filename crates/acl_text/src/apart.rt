@@ -5,7 +5,7 @@ ghost use Rattle.std.specs.List.{IsDistinct};
 ghost use Rattle.std.specs.List.Sorted.{IsStrictlySortedBy};
 ghost use Rattle.acl_names.specs.Paths.{path_cmp};
 ghost use Rattle.acl_text.specs.Records.{same_path};
-ghost use Rattle.acl_text.specs.Again.{paths};
+ghost use Rattle.acl_text.specs.RoundTrips.{paths};
 
 use crate::record::DumpRecord;
 use acl_names::Path;

@@ -109,7 +109,7 @@ fn push_front_and_entry<N: Names>(
 /// # Errors
 ///
 /// If memory runs out; then a part of it may be added.
-pub fn append_line<N: Names>(
+pub fn push_line<N: Names>(
     text: &mut Vec<u8>,
     how: Effective,
     which: Which,
@@ -137,7 +137,7 @@ fn push_list<N: Names>(
     ensures { Appends result text.old text.new (flat_map (entry_line (N.naming names.now) how which mask.now) entries.now) }
 {
     for entry in entries {
-        append_line(text, how, which, mask, entry, names)?;
+        push_line(text, how, which, mask, entry, names)?;
     }
     Ok(())
 }

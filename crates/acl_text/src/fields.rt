@@ -9,6 +9,7 @@ ghost use Rattle.acl_text.specs.Blanks.{is_blank, trim_front, trim_back, trimmed
 ghost use Rattle.std.specs.List.{list_all};
 ghost use Rattle.std.specs.Char.{is_ascii_digit};
 ghost use Rattle.acl_text.specs.Ids.{is_number, id_of};
+ghost use Rattle.acl_entry.specs.Perms.{none};
 ghost use Rattle.acl_text.specs.Letters.{is_letter, holds, letter_set, letters_of, is_octal_digit, perms_of};
 
 use crate::entries::PermSpec;
@@ -235,22 +236,25 @@ fn holds(letter: u8, field: &[u8]) -> bool
     field.contains(&letter)
 }
 
-/// The number of a permission, if its letter is in the field, and else 0.
-fn value_of(value: u8, letter: u8, field: &[u8]) -> u8
-    ensures { result ≡ (if holds letter field.now then value else 0) }
+/// A permission, if its letter is in the field, and else none.
+fn perm_by_letter(perm: Perm, letter: u8, field: &[u8]) -> Perm
+    ensures { result ≡ (if holds letter field.now then perm else none) }
 {
-    if holds(letter, field) { value } else { 0 }
+    if holds(letter, field) {
+        perm
+    } else {
+        Perm::none()
+    }
 }
 
 /// The permissions whose letters are in the field.
 fn letter_set(field: &[u8]) -> Perm
     ensures { result ≡ letter_set field.now }
 {
-    let number = value_of(4, b'r', field) + value_of(2, b'w', field) + value_of(1, b'x', field);
-    match Perm::from_number(number) {
-        Some(perm) => perm,
-        None => unreachable!(),
-    }
+    let read = perm_by_letter(Perm::READ, b'r', field);
+    let write = perm_by_letter(Perm::WRITE, b'w', field);
+    let execute = perm_by_letter(Perm::EXECUTE, b'x', field);
+    read.union(write).union(execute)
 }
 
 /// The permissions of a field of letters.

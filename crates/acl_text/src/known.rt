@@ -52,7 +52,7 @@ pub(crate) fn read_known<N: Names>(
     Ok(records)
 }
 
-/// Reads a record with which a dump goes on at a line, or a line that is empty or a comment. It returns the number of
+/// Reads the record that begins at a line of a dump, or a line that is empty or a comment. It returns the number of
 /// lines read, and what comes after them.
 fn read_next<'a, N: Names>(
     alloc: Global,

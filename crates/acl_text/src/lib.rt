@@ -44,7 +44,7 @@ pub use dump_laws::{
     dump_fault_is_first, dump_file_fault_is_lowest, dump_line_fault_is_lowest,
     records_are_read_again,
 };
-pub use dump_writing::{append_line, append_list};
+pub use dump_writing::{append_list, push_line};
 pub use effective::Effective;
 pub use encode::encode_attr;
 pub use entries::{Form, PermSpec, Rules, Sep, Spec, Want, read_entries};

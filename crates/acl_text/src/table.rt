@@ -20,7 +20,7 @@ pub(crate) trait TableRow {
     /// The row of the fields of a line, if they are one.
     ghost of_fields: { List (List ℕ) → Option Self };
 
-    /// The row of a line, after its name as it stands in the line. `None` where the line is no row. Fails only if memory
+    /// The row of a line, after its name as in the line. `None` where the line is no row. Fails only if memory
     /// runs out.
     fn read(alloc: Global, line: &[u8]) -> Result<Option<(&[u8], Self)>, AllocError>
         ensures row { IfOk result (λ found. option_map (λ f. f.1) found ≡ of_fields (pieces 58 line.now)) }

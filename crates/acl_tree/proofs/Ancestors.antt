@@ -27,7 +27,8 @@ module _ {V : Type 0} where
   abbrev pub IsClimbed : PathOf → List (PathOf × V) → Option (PathOf × V) → List PathOf → Type 0
   IsClimbed path t found paths = to_come found t ++ reverse paths ≡ ancestors path t
 
-  pub climb_begins : (path : PathOf) (t : List (PathOf × V)) (found : Option (PathOf × V)) (paths : List PathOf) → IsInOrder t → found ≡ nearest_above path t → paths ≡ [] → IsClimbed path t found paths
+  pub climb_begins : (path : PathOf) (t : List (PathOf × V)) (found : Option (PathOf × V)) (paths : List PathOf) → IsInOrder t → found ≡ nearest_above path t
+      → paths ≡ [] → IsClimbed path t found paths
   climb_begins path t found paths order is none =
       ap (λ l. to_come found t ++ reverse l) none ∙ append-nil (to_come found t) ∙ ap (λ u. to_come u t) is ∙ nearest_leads path t order
 

@@ -7,6 +7,7 @@ use Rattle.std.specs.Ordering.{eq_by_cmp}
 use Rattle.std.specs.FinMap.{find}
 use Rattle.acl_entry.specs.Lists.{KeyMap}
 use Rattle.acl_names.specs.Paths.{path_cmp, PathOf}
+use Rattle.acl_names.proofs.Basics.{some_eq}
 use Rattle.acl_text.specs.declared.record.DumpRecord.{DumpRecord}
 use Rattle.acl_edit.specs.Nodes.{IsSound}
 use Rattle.acl_text.specs.InTurn.{◌>>=◌}
@@ -61,9 +62,6 @@ module _ (t : Files) (p : PathOf) where
       by None rest true is = (sym (same_path r.path p is), all.0)
       by None rest false is = rest
 
-some_eq : {A : Type 0} (a b : A) → Some a ≡ Some b → a ≡ b
-some_eq a b h = cc
-
 module _ (t : Files) (records : List DumpRecord) (all : AllByRecursion (IsAsRecorded t) records) where
   -- a file of a record is left as it is
   one : (e : PathOf × Node) → find path_cmp e.0 t ≡ Some e.1 → IsSound e.1 → is_file false (paths_of records) e.0 ≡ true → restore_one records e.0 e.1 ≡ Ok e.1
@@ -82,7 +80,8 @@ module _ (t : Files) (records : List DumpRecord) (all : AllByRecursion (IsAsReco
       rest : Files
       rest = files_meant false (paths_of records) es
 
-      by : (b : Bool) → is_file false (paths_of records) e.0 ≡ b → edit_each (restore_one records) rest ≡ Ok rest → edit_each (restore_one records) (cond b (e ∷ rest) rest) ≡ Ok (cond b (e ∷ rest) rest)
+      by : (b : Bool) → is_file false (paths_of records) e.0 ≡ b → edit_each (restore_one records) rest ≡ Ok rest
+          → edit_each (restore_one records) (cond b (e ∷ rest) rest) ≡ Ok (cond b (e ∷ rest) rest)
       by true is more = (λ i. and_others e.0 (one e leads.0 placed.0.default is i) (more i))
       by false is more = more
 

@@ -3,6 +3,7 @@ use Rattle.std.proofs.Common.{◌≡◌, ◌≢◌, Bool, List, [], ◌∷◌, S
 use Rattle.acl_edit.specs.declared.edit.EditFault.{EditFault}
 use Rattle.acl_edit.specs.declared.node.Node.{Node}
 use Rattle.acl_names.specs.Paths.{PathOf, path_cmp}
+use Rattle.acl_names.proofs.Basics.{all_filter}
 use Rattle.path_map.specs.Entries.{IsInOrder}
 use Rattle.kinds.specs.declared.edit.Stop.{Stop}
 use Rattle.kinds.specs.declared.edit.Stop.TheVariants as stops
@@ -12,7 +13,7 @@ use Rattle.kinds.specs.Memo as by_kind
 use Rattle.kinds.specs.Memo.{ArePut}
 use Rattle.kinds.specs.Numbered.{Numbers, Kept, entries_by, entries_in, AreUsed, AreSound}
 use Rattle.kinds.specs.Stops.{IsFaultOf}
-use Rattle.kinds.proofs.Chosen.{all_filter, among_all, in_order-filter, entries_filter, used_filter}
+use Rattle.kinds.proofs.Chosen.{among_all, in_order-filter, entries_filter, used_filter}
 use Rattle.std.specs.FinMap.{find}
 use Rattle.acl_tree.specs.declared.edit.FileFault.{FileFault}
 use Rattle.acl_tree.specs.declared.edit.FileFault.TheVariants.{Edit, NoMemory}
@@ -40,7 +41,8 @@ edits_as edit (e ∷ es) = ap (and_others e.0 (edit e.1)) (edits_as edit es) ∙
     by (Ok n) (Err fault) = refl
     by (Ok n) (Ok es) = refl
 
-pub stops_as : (edit : OneEdit) (es : Files) (stop : Stop (PathOf × EditFault)) → IsFaultOf stop (by_kind.edit_each edit es) → fault_of stop ≢ NoMemory → edit_each (of_each edit) es ≡ Err (fault_of stop)
+pub stops_as : (edit : OneEdit) (es : Files) (stop : Stop (PathOf × EditFault)) → IsFaultOf stop (by_kind.edit_each edit es) → fault_of stop ≢ NoMemory
+    → edit_each (of_each edit) es ≡ Err (fault_of stop)
 stops_as edit es (stops.Fault fault) is some = edits_as edit es ∙ ap as_edits is
 stops_as edit es stops.NoMemory is some = absurd (some refl)
 
@@ -60,7 +62,8 @@ module _ (edit : OneEdit) (recursive : Bool) (paths : List PathOf) (k0 : KindsOf
   pub asked_used : AreUsed k0 olds
   asked_used = subst (λ (l : Numbers). AreUsed k0 l) (sym meant) (used_filter k0 (is_file recursive paths) ns sound.used)
 
-  pub stops_for : (stop : Stop (PathOf × EditFault)) → IsFaultOf stop (by_kind.edit_each edit (entries_by k0 olds)) → fault_of stop ≢ NoMemory → edit_all (of_each edit) recursive paths t ≡ Err (fault_of stop)
+  pub stops_for : (stop : Stop (PathOf × EditFault)) → IsFaultOf stop (by_kind.edit_each edit (entries_by k0 olds)) → fault_of stop ≢ NoMemory
+      → edit_all (of_each edit) recursive paths t ≡ Err (fault_of stop)
   stops_for stop h some = ap (λ r. with_edits t r) (ap (λ es. edit_each (of_each edit) es) (sym seen_files) ∙ stops_as edit (entries_by k0 olds) stop h some)
 
   module _ (new : Kept Node) (puts : Numbers) (made : by_kind.edit_each edit (entries_by k0 olds) ≡ Ok (entries_by new.0 puts)) (put : ArePut (k0, ns) new puts) (order : IsInOrder t.files) where

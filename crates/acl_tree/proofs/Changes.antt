@@ -1,5 +1,5 @@
 -- Labels; and the files of a state that are others in another state.
-use Rattle.std.proofs.Common.{◌≡◌, Bool, true, false, ◌&&◌, not, cond, eqb, if◌then◌else◌, is_some, List, [], ◌∷◌, filter, Option, Some, None, Ordering, Less, Equal, Greater, refl, sym, ap, subst, ◌∙◌}
+use Rattle.std.proofs.Common.{◌≡◌, Bool, true, false, ◌&&◌, not, cond, eqb, if◌then◌else◌, is_some, List, [], ◌∷◌, filter, Option, Some, None, refl, sym, ap, subst, ◌∙◌}
 use Rattle.std.specs.Bool.{Decides}
 use Rattle.std.specs.Option.{option_map_or}
 use Rattle.std.specs.Ordering.{is_eq}
@@ -13,7 +13,9 @@ use Rattle.acl_entry.specs.declared.entry.Entry.{Entry}
 use Rattle.acl_entry.specs.declared.label.Label.{Label}
 use Rattle.acl_entry.proofs.KeyLaws.{key_total, exact_keys}
 use Rattle.acl_entry.proofs.Maps.{map_of-entries}
+use Rattle.acl_entry.proofs.Same.{numbered_bools}
 use Rattle.acl_names.specs.Paths.{path_cmp, PathOf}
+use Rattle.acl_names.proofs.Basics.{is_equal, both_true}
 use Rattle.acl_edit.specs.declared.node.Node.{Node}
 use Rattle.acl_tree.specs.Files.{Files}
 use Rattle.path_map.specs.Entries.{IsInOrder}
@@ -23,33 +25,16 @@ use Rattle.path_map.proofs.Differences.{Leads, leads_all}
 
 -- ---- labels
 
-numbered_bools : (r w x : Bool) → numbered (number (record { read = r; write = w; execute = x })) ≡ record { read = r; write = w; execute = x }
-numbered_bools true true true = refl
-numbered_bools true true false = refl
-numbered_bools true false true = refl
-numbered_bools true false false = refl
-numbered_bools false true true = refl
-numbered_bools false true false = refl
-numbered_bools false false true = refl
-numbered_bools false false false = refl
-
-equal : (o : Ordering) → is_eq o ≡ true → o ≡ Equal
-equal Less h = cc
-equal Equal h = refl
-equal Greater h = cc
-
-both : (a b : Bool) → a ≡ true → b ≡ true → (a && b) ≡ true
-both a b p q = cc
-
 entry_is_same : (a b : Entry) → same_entry a b ≡ true → a ≡ b
 entry_is_same a b h =
     let parts = and_parts (same_key a.key b.key) _ h in
-    let keys = exact_keys a.key b.key (equal (key_cmp a.key b.key) parts.0) in
-    let perms : a.perm ≡ b.perm = sym (numbered_bools a.perm.read a.perm.write a.perm.execute) ∙ ap numbered (eqb-true (number a.perm) (number b.perm) parts.1) ∙ numbered_bools b.perm.read b.perm.write b.perm.execute in
+    let keys = exact_keys a.key b.key (is_equal (key_cmp a.key b.key) parts.0) in
+    let perms : a.perm ≡ b.perm = sym (numbered_bools a.perm.read a.perm.write a.perm.execute) ∙ ap numbered (eqb-true (number a.perm) (number b.perm) parts.1)
+    ∙ numbered_bools b.perm.read b.perm.write b.perm.execute in
     λ i. record { key = keys i; perm = perms i }
 
 entry_itself : (a : Entry) → same_entry a a ≡ true
-entry_itself a = both _ _ (ap is_eq (tied_itself key_total a.key)) (eq-eqb (number a.perm) (number a.perm) refl)
+entry_itself a = both_true _ _ (ap is_eq (tied_itself key_total a.key)) (eq-eqb (number a.perm) (number a.perm) refl)
 
 entries_are_same : (as' bs : List Entry) → same_entries as' bs ≡ true → as' ≡ bs
 entries_are_same [] [] h = refl
@@ -61,7 +46,7 @@ entries_are_same (a ∷ as') (b ∷ bs) h =
 
 entries_itself : (as' : List Entry) → same_entries as' as' ≡ true
 entries_itself [] = refl
-entries_itself (a ∷ as') = both _ _ (entry_itself a) (entries_itself as')
+entries_itself (a ∷ as') = both_true _ _ (entry_itself a) (entries_itself as')
 
 -- labels that are found to be the same are the same
 pub label_is_same : (a b : Label) → same_label a b ≡ true → a ≡ b
@@ -74,7 +59,7 @@ label_is_same a b h =
     λ i. record { owner = owners i; group = groups i; acl = lists i }
 
 pub label_itself : (a : Label) → same_label a a ≡ true
-label_itself a = both _ _ (eq-eqb a.owner a.owner refl) (both _ _ (eq-eqb a.group a.group refl) (entries_itself (entries a.acl)))
+label_itself a = both_true _ _ (eq-eqb a.owner a.owner refl) (both_true _ _ (eq-eqb a.group a.group refl) (entries_itself (entries a.acl)))
 
 pub label_decides : (a b : Label) → Decides (same_label a b) (a ≡ b)
 label_decides a b = (label_is_same a b, λ e. subst (λ x. same_label a x ≡ true) e (label_itself a))
@@ -96,7 +81,8 @@ module _ (test : PathOf → Bool) (g : PathOf → Node → Node) where
   found_edited p [] = refl
   found_edited p (e ∷ t) = by (is_eq (path_cmp p e.0)) (found_edited p t)
     where
-      by : (b : Bool) → is_some (find path_cmp p (edit_files test g t)) ≡ is_some (find path_cmp p t) → is_some (cond b (Some (if test e.0 then g e.0 e.1 else e.1)) (find path_cmp p (edit_files test g t))) ≡ is_some (cond b (Some e.1) (find path_cmp p t))
+      by : (b : Bool) → is_some (find path_cmp p (edit_files test g t)) ≡ is_some (find path_cmp p t)
+          → is_some (cond b (Some (if test e.0 then g e.0 e.1 else e.1)) (find path_cmp p (edit_files test g t))) ≡ is_some (cond b (Some e.1) (find path_cmp p t))
       by true rest = refl
       by false rest = rest
 

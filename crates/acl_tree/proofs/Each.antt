@@ -5,6 +5,7 @@ use Rattle.std.specs.Ordering.{is_eq}
 use Rattle.std.specs.FinMap.{find}
 use Rattle.acl_names.specs.Paths.{path_cmp, PathOf}
 use Rattle.acl_names.proofs.PathOrder.{exact_paths}
+use Rattle.acl_names.proofs.Basics.{err_is_not_ok, none_is_not_some, false_is_not_true}
 use Rattle.acl_text.specs.declared.record.DumpRecord.{DumpRecord}
 use Rattle.acl_edit.specs.declared.edit.Edit.{Edit}
 use Rattle.acl_edit.specs.declared.edit.EditFault.{EditFault}
@@ -24,15 +25,6 @@ use Rattle.acl_tree.proofs.Changes.{gone-edited}
 use Rattle.acl_tree.proofs.Edits.{put_edits}
 use Rattle.acl_tree.proofs.Selected.{filter_alike}
 
-err_is_not_ok : {A B : Type 0} (a : A) (b : B) → Err b ≡ Ok a → ⊥
-err_is_not_ok a b h = cc
-
-none_is_not_some : {A : Type 0} (a : A) → None ≡ Some a → ⊥
-none_is_not_some a h = cc
-
-false_is_not_true : false ≡ true → ⊥
-false_is_not_true h = cc
-
 pub same : {A : Type 0} (o : Option A) → option_map (λ a. a) o ≡ o
 same None = refl
 same (Some a) = refl
@@ -47,7 +39,8 @@ module _ (p : PathOf) where
   find-edited test g (e ∷ t) = by (path_cmp p e.0) refl (find-edited test g t)
     where
       by : (o : Ordering) → path_cmp p e.0 ≡ o → find path_cmp p (edit_files test g t) ≡ option_map (λ n. if test p then g p n else n) (find path_cmp p t)
-          → cond (is_eq o) (Some (if test e.0 then g e.0 e.1 else e.1)) (find path_cmp p (edit_files test g t)) ≡ option_map (λ n. if test p then g p n else n) (cond (is_eq o) (Some e.1) (find path_cmp p t))
+          → cond (is_eq o) (Some (if test e.0 then g e.0 e.1 else e.1)) (find path_cmp p (edit_files test g t))
+          ≡ option_map (λ n. if test p then g p n else n) (cond (is_eq o) (Some e.1) (find path_cmp p t))
       by Equal is rest = ap (λ q. Some (if test q then g q e.1 else e.1)) (sym (exact_paths p e.0 is))
       by Less is rest = rest
       by Greater is rest = rest
@@ -73,12 +66,14 @@ module _ (edit : PathOf → Node → Result Node EditFault) where
   each_ok p [] ns h n at = absurd (none_is_not_some n at)
   each_ok p (e ∷ es) ns h n at = by (path_cmp p e.0) refl (edit e.0 e.1) (edit_each edit es) refl (head_ok e.0 (edit e.0 e.1) (edit_each edit es) ns e.1 h) h (λ os is. each_ok p es os is n) at
     where
-      later : (o : Result Node EditFault) (r : Result Files FileFault) → edit_each edit es ≡ r → and_others e.0 o r ≡ Ok ns → ((os : Files) → edit_each edit es ≡ Ok os → find path_cmp p es ≡ Some n → edit p n ≡ Ok (node_after edit p n)) → find path_cmp p es ≡ Some n → edit p n ≡ Ok (node_after edit p n)
+      later : (o : Result Node EditFault) (r : Result Files FileFault) → edit_each edit es ≡ r → and_others e.0 o r ≡ Ok ns
+          → ((os : Files) → edit_each edit es ≡ Ok os → find path_cmp p es ≡ Some n → edit p n ≡ Ok (node_after edit p n)) → find path_cmp p es ≡ Some n → edit p n ≡ Ok (node_after edit p n)
       later (Ok m) (Ok os) is h rest at = rest os is at
       later (Ok m) (Err f) is h rest at = absurd (err_is_not_ok _ _ h)
       later (Err f) r is h rest at = absurd (err_is_not_ok _ _ h)
 
-      by : (c : Ordering) → path_cmp p e.0 ≡ c → (o : Result Node EditFault) (r : Result Files FileFault) → edit_each edit es ≡ r → edit e.0 e.1 ≡ Ok (node_after edit e.0 e.1) → and_others e.0 o r ≡ Ok ns
+      by : (c : Ordering) → path_cmp p e.0 ≡ c → (o : Result Node EditFault) (r : Result Files FileFault) → edit_each edit es ≡ r
+          → edit e.0 e.1 ≡ Ok (node_after edit e.0 e.1) → and_others e.0 o r ≡ Ok ns
           → ((os : Files) → edit_each edit es ≡ Ok os → find path_cmp p es ≡ Some n → edit p n ≡ Ok (node_after edit p n))
           → cond (is_eq c) (Some e.1) (find path_cmp p es) ≡ Some n → edit p n ≡ Ok (node_after edit p n)
       by Equal is o r rs first h rest at =
@@ -93,10 +88,12 @@ module _ (edit : PathOf → Node → Result Node EditFault) where
   files_in es (Err fault) = es
 
   -- what is edited
-  pub edited_files : (recursive : Bool) (paths : List PathOf) (old new : Recorded) → IsInOrder old.files → edit_all edit recursive paths old ≡ Ok new → new.files ≡ edit_files (is_file recursive paths) (node_after edit) old.files
+  pub edited_files : (recursive : Bool) (paths : List PathOf) (old new : Recorded) → IsInOrder old.files → edit_all edit recursive paths old ≡ Ok new
+      → new.files ≡ edit_files (is_file recursive paths) (node_after edit) old.files
   edited_files recursive paths old new order h = by (edit_each edit (files_meant recursive paths old.files)) refl h
     where
-      by : (r : Result Files FileFault) → edit_each edit (files_meant recursive paths old.files) ≡ r → with_edits old r ≡ Ok new → new.files ≡ edit_files (is_file recursive paths) (node_after edit) old.files
+      by : (r : Result Files FileFault) → edit_each edit (files_meant recursive paths old.files) ≡ r → with_edits old r ≡ Ok new
+          → new.files ≡ edit_files (is_file recursive paths) (node_after edit) old.files
       by (Err f) is h = absurd (err_is_not_ok _ _ h)
       by (Ok ns) is h = ap (files_in old.files) (sym h) ∙ put_edits edit recursive paths old.files ns order is
 
@@ -134,15 +131,18 @@ none_missing None (Ok t) new h = ap (λ t. Ok t) (ap (tree_in t) h)
     tree_in t (Err fault) = t
 none_missing None (Err fault) new h = absurd (err_is_not_ok _ _ h)
 
-pub edit_each_file : (recursive : Bool) (paths : List PathOf) (e : Edit) (old new : Recorded) → IsInOrder old.files → edited_tree recursive paths e old ≡ Ok new → EditsEach (edit_one e recursive) recursive paths old new
+pub edit_each_file : (recursive : Bool) (paths : List PathOf) (e : Edit) (old new : Recorded) → IsInOrder old.files
+    → edited_tree recursive paths e old ≡ Ok new → EditsEach (edit_one e recursive) recursive paths old new
 edit_each_file recursive paths e old new order h =
     edits_each (edit_one e recursive) recursive paths old new order (none_missing (first_missing paths old.files) (edit_all (edit_one e recursive) recursive paths old) new h)
 
 pub restore_each_file : (records : List DumpRecord) (old new : Recorded) → IsInOrder old.files → restored_tree records old ≡ Ok new → EditsEach (restore_one records) false (paths_of records) old new
 restore_each_file records old new order h =
-    edits_each (restore_one records) false (paths_of records) old new order (none_missing (first_missing (paths_of records) old.files) (edit_all (restore_one records) false (paths_of records) old) new h)
+    edits_each (restore_one records) false (paths_of records) old new order
+    (none_missing (first_missing (paths_of records) old.files) (edit_all (restore_one records) false (paths_of records) old) new h)
 
 -- no file is gone by a restore
 pub kept_restored : (records : List DumpRecord) (old new : Recorded) → IsInOrder old.files → restored_tree records old ≡ Ok new → gone_between old.files new.files ≡ []
 kept_restored records old new order h =
-    kept_edited (restore_one records) false (paths_of records) old new order (none_missing (first_missing (paths_of records) old.files) (edit_all (restore_one records) false (paths_of records) old) new h)
+    kept_edited (restore_one records) false (paths_of records) old new order
+    (none_missing (first_missing (paths_of records) old.files) (edit_all (restore_one records) false (paths_of records) old) new h)

@@ -5,19 +5,13 @@ use Rattle.std.specs.Ordering.{eq_by_cmp, is_eq}
 use Rattle.std.proofs.lemmas.Cmp.{tied_itself}
 use Rattle.acl_names.specs.Paths.{path_cmp, PathOf}
 use Rattle.acl_names.proofs.PathOrder.{path_total}
+use Rattle.acl_names.proofs.Basics.{none_is_not_some, or_second}
 use Rattle.acl_tree.specs.Operands.{is_file}
 use Rattle.acl_tree.proofs.Selected.{same_path}
 use Rattle.acl_tree.specs.Refusals.{IsAmong, place}
 
-none_is_not_some : {A : Type 0} (a : A) → None ≡ Some a → ⊥
-none_is_not_some a h = cc
-
 same_itself : (p : PathOf) → eq_by_cmp path_cmp p p ≡ true
 same_itself p = ap is_eq (tied_itself path_total p)
-
-later : (a b : Bool) → b ≡ true → (a || b) ≡ true
-later true b h = refl
-later false b h = h
 
 is_later : (a b : Bool) → a ≡ false → (a || b) ≡ true → b ≡ true
 is_later true b is h = absurd (true≢false is)
@@ -27,7 +21,7 @@ pub among_first : (p : PathOf) (paths : List PathOf) → IsAmong (p ∷ paths) p
 among_first p paths = ap (λ b. b || is_file false paths p) (same_itself p)
 
 pub among_later : (p q : PathOf) (paths : List PathOf) → IsAmong paths q → IsAmong (p ∷ paths) q
-among_later p q paths h = later (eq_by_cmp path_cmp q p) (is_file false paths q) h
+among_later p q paths h = or_second (eq_by_cmp path_cmp q p) (is_file false paths q) h
 
 place_first : (p : PathOf) (paths : List PathOf) → place p (p ∷ paths) ≡ 0
 place_first p paths = ap (λ b. cond b 0 (suc (place p paths))) (same_itself p)

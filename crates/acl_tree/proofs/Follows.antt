@@ -1,5 +1,5 @@
 -- Files in path order: what lies below a path follows it at once.
-use Rattle.std.proofs.Common.{◌≡◌, Bool, true, false, IsTrue, ◌||◌, [], ◌∷◌, ◌++◌, Ordering, Less, Equal, Greater, refl, sym, ap, ◌∙◌}
+use Rattle.std.proofs.Common.{◌≡◌, Bool, true, false, IsTrue, ◌||◌, [], ◌∷◌, ◌++◌, Less, Greater, refl, sym, ap, ◌∙◌}
 use Rattle.std.specs.Ordering.{is_lt}
 use Rattle.std.specs.FinMap.{is_sorted}
 use Rattle.std.specs.FinMap.Entries.{below_all}
@@ -12,27 +12,15 @@ use Rattle.acl_tree.specs.Files.{Files}
 use Rattle.path_map.specs.Entries.{IsInOrder}
 use Rattle.path_map.specs.Below.{holds_below}
 use Rattle.acl_names.specs.Below.{is_above}
+use Rattle.acl_names.proofs.Basics.{false_from, not_both, is_less}
 use Rattle.acl_tree.specs.Inner.{next_file_below}
 use Rattle.path_map.proofs.Places.{above}
-
-false_from : (b : Bool) → (b ≡ true → ⊥) → b ≡ false
-false_from true h = absurd (h refl)
-false_from false h = refl
-
-not_both : (b : Bool) → b ≡ true → b ≡ false → ⊥
-not_both true x y = cc
-not_both false x y = cc
-
-less : (o : Ordering) → is_lt o ≡ true → o ≡ Less
-less Less h = refl
-less Equal h = cc
-less Greater h = cc
 
 none_below : (p : PathOf) (s : PathOf × Node) (es : Files) → is_above p s.0 ≡ false → path_cmp p s.0 ≡ Less → IsTrue (below_all path_cmp s.0 es) → holds_below es p ≡ false
 none_below p s [] apart ps order = refl
 none_below p s (e ∷ es) apart ps order =
     let parts = and_parts (is_lt (path_cmp s.0 e.0)) (below_all path_cmp s.0 es) order in
-    ap (λ b. b || holds_below es p) (false_from (is_above p e.0) (λ below. not_both (is_above p s.0) (convex_below p s.0 e.0 ps (less (path_cmp s.0 e.0) parts.0) below) apart))
+    ap (λ b. b || holds_below es p) (false_from (is_above p e.0) (λ below. not_both (is_above p s.0) (convex_below p s.0 e.0 ps (is_less (path_cmp s.0 e.0) parts.0) below) apart))
     ∙ none_below p s es apart ps parts.1
 
 -- of the files after a path, those below it come first
@@ -45,10 +33,10 @@ below_next p (s ∷ es) after order = by (is_above p s.0) refl
     by false e =
         let first = and_parts (is_lt (path_cmp p s.0)) (below_all path_cmp p es) after in
         let rest = and_parts (below_all path_cmp s.0 es) (is_sorted path_cmp es) order in
-        ap (λ b. b || holds_below es p) e ∙ none_below p s es e (less (path_cmp p s.0) first.0) rest.0 ∙ sym e
+        ap (λ b. b || holds_below es p) e ∙ none_below p s es e (is_less (path_cmp p s.0) first.0) rest.0 ∙ sym e
 
-before_it : (q : PathOf) (pre : Files) (e : PathOf × Node) (es : Files) → IsTrue (below_all path_cmp q (pre ++ e ∷ es)) → path_cmp q e.0 ≡ Less
-before_it q [] e es order = less (path_cmp q e.0) (and_parts (is_lt (path_cmp q e.0)) (below_all path_cmp q es) order).0
+pub before_it : (q : PathOf) (pre : Files) (e : PathOf × Node) (es : Files) → IsTrue (below_all path_cmp q (pre ++ e ∷ es)) → path_cmp q e.0 ≡ Less
+before_it q [] e es order = is_less (path_cmp q e.0) (and_parts (is_lt (path_cmp q e.0)) (below_all path_cmp q es) order).0
 before_it q (s ∷ pre) e es order = before_it q pre e es (and_parts (is_lt (path_cmp q s.0)) (below_all path_cmp q (pre ++ e ∷ es)) order).1
 
 not_before_below : (pre : Files) (e : PathOf × Node) (es : Files) → IsInOrder (pre ++ e ∷ es) → holds_below pre e.0 ≡ false

@@ -1,5 +1,6 @@
 -- What an edit of a sound tree and what a load of a dump leave is a sound tree.
-use Rattle.std.proofs.Common.{◌≡◌, suc, ◌+◌, ◌≤◌, Bool, true, false, ◌||◌, eqb, List, [], ◌∷◌, length, Option, Some, None, is_some, if◌then◌else◌, Ordering, Less, Equal, Greater, refl, sym, ap, subst, ◌∙◌, arith}
+use Rattle.std.proofs.Common.{◌≡◌, suc, ◌+◌, ◌≤◌, Bool, true, false, ◌||◌, eqb, List, [], ◌∷◌, length, Option, Some, None, is_some, if◌then◌else◌, Ordering}
+use Rattle.std.proofs.Common.{Less, Equal, Greater, refl, sym, ap, subst, ◌∙◌, arith}
 use Rattle.std.specs.Prelude.{fold}
 use Rattle.std.specs.FinMap.Entries.{by_order}
 use Rattle.std.proofs.lemmas.List.{length-map}
@@ -10,13 +11,13 @@ use Rattle.acl_edit.specs.declared.node.Node.{Node}
 use Rattle.acl_edit.specs.declared.node.Kind.TheVariants.{Plain, Directory}
 use Rattle.acl_tree.specs.Files.{Files, Recorded, max_files}
 use Rattle.acl_names.specs.Below.{is_above}
+use Rattle.acl_names.proofs.Basics.{any-map}
 use Rattle.acl_tree.specs.Operands.{edit_files}
 use Rattle.acl_tree.specs.Edits.{KeepsPlace}
 use Rattle.acl_tree.specs.Loading.{insert_record, is_directory, node_of, has_below, as_files, files_of, in_path_order}
 use Rattle.path_map.specs.Below.{holds_below}
 use Rattle.acl_tree.specs.Sound.{IsPlaced, ArePlaced, IsSoundTree}
 use Rattle.acl_tree.proofs.Edited.{in_order-edited}
-use Rattle.acl_tree.proofs.Shared.{any-map}
 use Rattle.acl_tree.proofs.Loaded.{files_in_order}
 
 -- ---- an edit
@@ -74,7 +75,8 @@ loaded_placed all [] = tt
 loaded_placed all (r ∷ rs) = (
   record {
     directory = λ h. kind_is (is_directory (has_below all r.path) r)
-        (or_last r.slash (eqb (length r.path) 0) (is_some r.dacl) (has_below all r.path) (ap (λ b. eqb (length r.path) 0 || b) (sym (any-map (λ (e : PathOf × Node). is_above r.path e.0) (λ s. let e : PathOf × Node = (s.path, node_of (has_below all s.path) s) in e) all)) ∙ h));
+        (or_last r.slash (eqb (length r.path) 0) (is_some r.dacl) (has_below all r.path)
+        (ap (λ b. eqb (length r.path) 0 || b) (sym (any-map (λ (e : PathOf × Node). is_above r.path e.0) (λ s. let e : PathOf × Node = (s.path, node_of (has_below all s.path) s) in e) all)) ∙ h));
     default = λ h. only_directories r.slash (eqb (length r.path) 0) (has_below all r.path) r.dacl h;
   },
   loaded_placed all rs,

@@ -8,11 +8,11 @@ use Rattle.std.proofs.lemmas.Bool.{and_parts}
 use Rattle.std.proofs.lemmas.Cmp.{tied_itself}
 use Rattle.acl_names.specs.Paths.{path_cmp, PathOf}
 use Rattle.acl_names.proofs.PathOrder.{path_total}
+use Rattle.acl_names.proofs.Basics.{both_true}
 use Rattle.acl_edit.specs.declared.edit.EditFault.{EditFault}
 use Rattle.acl_edit.specs.declared.node.Node.{Node}
 use Rattle.path_map.specs.Inner.{After}
 use Rattle.path_map.specs.Merged.{put_all}
-use Rattle.path_map.proofs.Chunks.{both}
 use Rattle.path_map.proofs.Merges.{put_past, later_after}
 use Rattle.path_map.proofs.Rows.{in_order-filter}
 use Rattle.acl_tree.specs.Files.{Files}
@@ -32,20 +32,23 @@ module _ {A : Type 0} (file : A → PathOf × Node) (edit : A → Result Node Ed
   put_first x xs ks m made h = record { first = true; is = ((refl, made), h) }
 
   -- as files that are edited by their paths
-  pub by_path : (f : FileEdit) (xs : List A) (ks : Files) → AllByRecursion (λ x. f (file x).0 (file x).1 ≡ edit x) xs → SomeEdited file edit xs ks → SomeEdited (λ e. e) (λ e. f e.0 e.1) (map file xs) ks
+  pub by_path : (f : FileEdit) (xs : List A) (ks : Files) → AllByRecursion (λ x. f (file x).0 (file x).1 ≡ edit x) xs → SomeEdited file edit xs ks
+      → SomeEdited (λ e. e) (λ e. f e.0 e.1) (map file xs) ks
   by_path f [] [] all h = tt
   by_path f [] (k ∷ ks) all h = absurd h
   by_path f (x ∷ xs) [] all h = (all.0 ∙ h.0, by_path f xs [] all.1 h.1)
   by_path f (x ∷ xs) (k ∷ ks) all h = by (by_path f xs ks all.1) (by_path f xs (k ∷ ks) all.1) h.first h.is
     where
       by : (SomeEdited file edit xs ks → SomeEdited (λ e. e) (λ e. f e.0 e.1) (map file xs) ks)
-          → (SomeEdited file edit xs (k ∷ ks) → SomeEdited (λ e. e) (λ e. f e.0 e.1) (map file xs) (k ∷ ks)) → (b : Bool) → OneOf b ((((file x).0 ≡ k.0) × (edit x ≡ Ok k.1)) × SomeEdited file edit xs ks) ((edit x ≡ Ok (file x).1) × SomeEdited file edit xs (k ∷ ks))
+          → (SomeEdited file edit xs (k ∷ ks) → SomeEdited (λ e. e) (λ e. f e.0 e.1) (map file xs) (k ∷ ks)) → (b : Bool)
+          → OneOf b ((((file x).0 ≡ k.0) × (edit x ≡ Ok k.1)) × SomeEdited file edit xs ks) ((edit x ≡ Ok (file x).1) × SomeEdited file edit xs (k ∷ ks))
           → SomeEdited (λ e. e) (λ e. f e.0 e.1) (file x ∷ map file xs) (k ∷ ks)
       by more left true is = record { first = true; is = ((is.0.0, all.0 ∙ is.0.1), more is.1) }
       by more left false is = record { first = false; is = (all.0 ∙ is.0, left is.1) }
 
   -- so many are put already, and one more is put or left out
-  pub put_more : (found xs : List A) (x : A) (before after ms : Files) (m : Node) → edit x ≡ Ok m → PutsOrLeaves before (file x) m after → ((ks : Files) → SomeEdited file edit (x ∷ xs) ks → SomeEdited file edit found (before ++ ks))
+  pub put_more : (found xs : List A) (x : A) (before after ms : Files) (m : Node) → edit x ≡ Ok m → PutsOrLeaves before (file x) m after
+      → ((ks : Files) → SomeEdited file edit (x ∷ xs) ks → SomeEdited file edit found (before ++ ks))
       → SomeEdited file edit xs ms → SomeEdited file edit found (after ++ ms)
   put_more found xs x before after ms m made one whole h = by one.first one.is
     where
@@ -78,7 +81,8 @@ module _ (f : FileEdit) where
   each_some (e ∷ es) [] h = one_more e es e.1 h.0 (each_some es [] h.1)
   each_some (e ∷ es) (k ∷ ks) h = by (each_some es ks) (each_some es (k ∷ ks)) h.first h.is
     where
-      by : (Some_of es ks → edit_each f es ≡ Ok (all_after es)) → (Some_of es (k ∷ ks) → edit_each f es ≡ Ok (all_after es)) → (b : Bool) → First e es k ks b → edit_each f (e ∷ es) ≡ Ok (all_after (e ∷ es))
+      by : (Some_of es ks → edit_each f es ≡ Ok (all_after es)) → (Some_of es (k ∷ ks) → edit_each f es ≡ Ok (all_after es)) → (b : Bool) → First e es k ks b
+          → edit_each f (e ∷ es) ≡ Ok (all_after (e ∷ es))
       by more left true is = one_more e es k.1 is.0.1 (more is.1)
       by more left false is = one_more e es e.1 is.0 (left is.1)
 
@@ -90,8 +94,9 @@ module _ (f : FileEdit) where
       let parts = and_parts (is_lt (path_cmp p e.0)) (below_all path_cmp p es) below in
       by parts.0 (below_some p es ks parts.1) (below_some p es (k ∷ ks) parts.1) h.first h.is
     where
-      by : IsTrue (is_lt (path_cmp p e.0)) → (Some_of es ks → IsTrue (below_all path_cmp p ks)) → (Some_of es (k ∷ ks) → IsTrue (below_all path_cmp p (k ∷ ks))) → (b : Bool) → First e es k ks b → IsTrue (below_all path_cmp p (k ∷ ks))
-      by first more left true is = both _ _ (subst (λ q. IsTrue (is_lt (path_cmp p q))) is.0.0 first) (more is.1)
+      by : IsTrue (is_lt (path_cmp p e.0)) → (Some_of es ks → IsTrue (below_all path_cmp p ks))
+          → (Some_of es (k ∷ ks) → IsTrue (below_all path_cmp p (k ∷ ks))) → (b : Bool) → First e es k ks b → IsTrue (below_all path_cmp p (k ∷ ks))
+      by first more left true is = both_true _ _ (subst (λ q. IsTrue (is_lt (path_cmp p q))) is.0.0 first) (more is.1)
       by first more left false is = left is.1
 
   pub in_order-some : (es ks : Files) → IsInOrder es → Some_of es ks → IsInOrder ks
@@ -103,7 +108,7 @@ module _ (f : FileEdit) where
       by parts.0 (in_order-some es ks parts.1) (in_order-some es (k ∷ ks) parts.1) h.first h.is
     where
       by : IsTrue (below_all path_cmp e.0 es) → (Some_of es ks → IsInOrder ks) → (Some_of es (k ∷ ks) → IsInOrder (k ∷ ks)) → (b : Bool) → First e es k ks b → IsInOrder (k ∷ ks)
-      by below more left true is = both _ _ (subst (λ q. IsTrue (below_all path_cmp q ks)) is.0.0 (below_some e.0 es ks below is.1)) (more is.1)
+      by below more left true is = both_true _ _ (subst (λ q. IsTrue (below_all path_cmp q ks)) is.0.0 (below_some e.0 es ks below is.1)) (more is.1)
       by below more left false is = left is.1
 
   after_some : (p : PathOf) (es ks : Files) → After p es → Some_of es ks → After p ks

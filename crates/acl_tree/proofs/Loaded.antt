@@ -11,9 +11,10 @@ use Rattle.acl_edit.specs.declared.node.Node.{Node}
 use Rattle.path_map.specs.Entries.{IsInOrder}
 use Rattle.path_map.specs.Below.{holds_below}
 use Rattle.acl_names.specs.Below.{is_above}
+use Rattle.acl_names.proofs.Basics.{any-map}
 use Rattle.acl_tree.specs.Loading.{insert_record, in_path_order, node_of, has_below, as_files, files_of}
 use Rattle.acl_tree.specs.Inner.{next_below, files_from, next_file_below}
-use Rattle.acl_tree.proofs.Shared.{in_order-put, any-map}
+use Rattle.acl_tree.proofs.Shared.{in_order-put}
 use Rattle.acl_tree.proofs.Follows.{known_by_next}
 
 -- ---- path order
@@ -27,14 +28,16 @@ put_insert h r [] = refl
 put_insert {V = V} h r (s ∷ rs) = by (path_cmp r.path s.path) refl (put_insert h r rs)
   where
     by : (o : Ordering) → path_cmp r.path s.path ≡ o → seen h (insert_record r rs) ≡ put path_cmp r.path (h r) (seen h rs)
-        → seen h (by_order o (r ∷ s ∷ rs) (r ∷ rs) (s ∷ insert_record r rs)) ≡ by_order o ((r.path, h r) ∷ seen h (s ∷ rs)) ((s.path, h r) ∷ seen h rs) ((s.path, h s) ∷ put path_cmp r.path (h r) (seen h rs))
+        → seen h (by_order o (r ∷ s ∷ rs) (r ∷ rs) (s ∷ insert_record r rs))
+        ≡ by_order o ((r.path, h r) ∷ seen h (s ∷ rs)) ((s.path, h r) ∷ seen h rs) ((s.path, h s) ∷ put path_cmp r.path (h r) (seen h rs))
     by Less is rest = refl
     by Equal is rest = ap (λ p. (p, h r) ∷ seen h rs) (exact_paths r.path s.path is)
     by Greater is rest = ap (λ l. (s.path, h s) ∷ l) rest
 
 in_order-fold : {V : Type 0} (h : DumpRecord → V) (rs done : List DumpRecord) → IsInOrder (seen h done) → IsInOrder (seen h (fold (λ sorted r. insert_record r sorted) done rs))
 in_order-fold h [] done order = order
-in_order-fold {V = V} h (r ∷ rs) done order = in_order-fold h rs (insert_record r done) (subst (λ (es : List (PathOf × V)). IsInOrder es) (sym (put_insert h r done)) (in_order-put r.path (h r) (seen h done) order))
+in_order-fold {V = V} h (r ∷ rs) done order = in_order-fold h rs (insert_record r done)
+    (subst (λ (es : List (PathOf × V)). IsInOrder es) (sym (put_insert h r done)) (in_order-put r.path (h r) (seen h done) order))
 
 -- the records are in path order, whatever they become
 pub in_order-records : {V : Type 0} (h : DumpRecord → V) (rs : List DumpRecord) → IsInOrder (seen h (in_path_order rs))

@@ -9,15 +9,13 @@ use Rattle.acl_names.specs.Paths.{path_cmp, PathOf}
 use Rattle.acl_names.proofs.PathOrder.{path_total, exact_paths}
 use Rattle.acl_text.specs.declared.record.DumpRecord.{DumpRecord}
 use Rattle.acl_names.specs.Below.{is_above}
+use Rattle.acl_names.proofs.Basics.{or_none}
 use Rattle.acl_tree.specs.Loading.{insert_record, in_path_order, node_of, has_below, files_of, record_at, loaded_at}
 use Rattle.acl_tree.proofs.Loaded.{seen, put_insert}
 
-or_none : {V : Type 0} (o : Option V) → option_or o None ≡ o
-or_none None = refl
-or_none (Some n) = refl
-
 module _ {V : Type 0} (h : DumpRecord → V) (p : PathOf) where
-  one : (later : Option DumpRecord) (b : Bool) (r : DumpRecord) (old : Option V) → option_or (option_map h later) (cond b (Some (h r)) old) ≡ option_or (option_map h (option_or later (cond b (Some r) None))) old
+  one : (later : Option DumpRecord) (b : Bool) (r : DumpRecord) (old : Option V)
+      → option_or (option_map h later) (cond b (Some (h r)) old) ≡ option_or (option_map h (option_or later (cond b (Some r) None))) old
   one (Some s) b r old = refl
   one None true r old = refl
   one None false r old = refl

@@ -1,5 +1,5 @@
 -- The rules on masks, at each file of an edit.
-use Rattle.std.proofs.Common.{◌≡◌, Bool, true, false, List, Option, Some, Result, Ok, Err, if◌then◌else◌, refl, sym, ap, subst, ◌∙◌}
+use Rattle.std.proofs.Common.{◌≡◌, Bool, true, false, List, Option, Result, Ok, Err, if◌then◌else◌, refl, sym, ap, subst, ◌∙◌}
 use Rattle.std.specs.Prelude.{option_map}
 use Rattle.acl_entry.specs.Lists.{KeyMap}
 use Rattle.acl_text.specs.InTurn.{◌>>=◌}
@@ -11,17 +11,12 @@ use Rattle.acl_edit.specs.declared.edit.EditFault.TheVariants.{DefaultOnFile}
 use Rattle.acl_edit.specs.declared.node.Node.{Node}
 use Rattle.acl_edit.proofs.Lines.{makes_mask, shows_recalculated, bounds_recalculated}
 use Rattle.acl_names.specs.Paths.{PathOf}
+use Rattle.acl_names.proofs.Basics.{err_is_not_ok, some_eq}
 use Rattle.acl_tree.specs.Files.{Recorded}
 use Rattle.path_map.specs.Entries.{IsInOrder}
 use Rattle.acl_tree.specs.EditCommand.{edited_tree}
 use Rattle.acl_tree.specs.Laws.{KeepsMaskRules, MasksEach}
 use Rattle.acl_tree.proofs.Each.{edit_each_file}
-
-err_is_not_ok : {A B : Type 0} (a : A) (b : B) → Err b ≡ Ok a → ⊥
-err_is_not_ok a b h = cc
-
-some_eq : {A : Type 0} (a b : A) → Some a ≡ Some b → a ≡ b
-some_eq a b h = cc
 
 abbrev node_or : Node → Result Node EditFault → Node
 node_or n (Ok m) = m
@@ -49,7 +44,8 @@ module _ (n : Node) (line : Change) (m : Node) where
       by true h = absurd (err_is_not_ok _ _ h)
       by false h = lists (changed_access n line) refl h
 
-pub masks_each : (recursive : Bool) (paths : List PathOf) (line : Change) (old new : Recorded) → IsInOrder old.files → edited_tree recursive paths (edit_of line) old ≡ Ok new → MasksEach line recursive paths old new
+pub masks_each : (recursive : Bool) (paths : List PathOf) (line : Change) (old new : Recorded) → IsInOrder old.files
+    → edited_tree recursive paths (edit_of line) old ≡ Ok new → MasksEach line recursive paths old new
 masks_each recursive paths line old new order h p n m is before after =
     one n line m recursive
     (sym (some_eq (Ok m) (edit n (edit_of line) recursive) (sym (ap (λ o. option_map Ok o) after) ∙ (edit_each_file recursive paths (edit_of line) old new order h).edited p n is before)))

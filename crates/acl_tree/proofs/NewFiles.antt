@@ -1,5 +1,6 @@
 -- A file put among others: what it changes, and that the tree stays sound.
-use Rattle.std.proofs.Common.{◌≡◌, ℕ, suc, ◌<◌, ◌≤◌, arith, Bool, true, false, cond, eqb, ◌||◌, List, [], ◌∷◌, length, filter, Option, Some, None, is_some, Result, Ok, Err, if◌then◌else◌, nat_lt, ltb-false, Ordering, Less, Equal, Greater, refl, sym, ap, subst, ◌∙◌, true≢false}
+use Rattle.std.proofs.Common.{◌≡◌, ℕ, suc, ◌<◌, ◌≤◌, arith, Bool, true, false, cond, eqb, ◌||◌, List, [], ◌∷◌, length, filter, Option, Some, None, is_some}
+use Rattle.std.proofs.Common.{Result, Ok, Err, if◌then◌else◌, nat_lt, ltb-false, Ordering, Less, Equal, Greater, refl, sym, ap, subst, ◌∙◌, true≢false}
 use Rattle.std.specs.Prelude.{MatchOption}
 use Rattle.std.specs.List.{list_any}
 use Rattle.std.specs.Ordering.{is_eq, eq_by_cmp}
@@ -20,6 +21,7 @@ use Rattle.acl_names.proofs.Parents.{below_parent}
 use Rattle.path_map.proofs.Differences.{Leads, leads_all, has_put_all}
 use Rattle.acl_tree.specs.Files.{Files, Recorded, max_files}
 use Rattle.acl_names.specs.Below.{is_above, encloses, parent}
+use Rattle.acl_names.proofs.Basics.{or_first, or_second}
 use Rattle.acl_tree.specs.Changed.{gone_between}
 use Rattle.acl_tree.specs.Creat.{exists, only_directory, directory_at, creat_in, creat_by}
 use Rattle.acl_tree.specs.declared.command.NewFile.{NewFile}
@@ -49,8 +51,9 @@ any_some test (x ∷ xs) y ys h = by (test x) h (any_some test xs y ys)
     by true h rest = refl
     by false h rest = rest h
 
--- the first of those that pass a test, if there is one
-pub first_passes : {A B : Type 0} (f : A → B) (test : B → Bool) (xs rest all : List B) (o : Option A) → all ≡ filter test xs → MatchOption o ((all ≡ []) × (rest ≡ [])) (λ a. all ≡ f a ∷ rest) → is_some o ≡ list_any test xs
+-- the or_first of those that pass a test, if there is one
+pub first_passes : {A B : Type 0} (f : A → B) (test : B → Bool) (xs rest all : List B) (o : Option A) → all ≡ filter test xs
+    → MatchOption o ((all ≡ []) × (rest ≡ [])) (λ a. all ≡ f a ∷ rest) → is_some o ≡ list_any test xs
 first_passes f test xs rest all None is h = sym (any_none test xs (sym is ∙ h.0))
 first_passes f test xs rest all (Some a) is h = sym (any_some test xs (f a) rest (sym is ∙ h))
 
@@ -69,20 +72,14 @@ either true b c d f h = refl
 either false true c d f h = refl
 either false false c d f h = f h
 
-first : (a b : Bool) → a ≡ true → (a || b) ≡ true
-first a b h = cc
-
-later : (a b : Bool) → b ≡ true → (a || b) ≡ true
-later true b h = refl
-later false b h = h
-
 below_put : (q p : PathOf) (n : Node) (t : Files) → holds_below (put path_cmp p n t) q ≡ true → (is_above q p || holds_below t q) ≡ true
 below_put q p n [] h = h
 below_put q p n (e ∷ t) h = by (path_cmp p e.0) (below_put q p n t) h
   where
-    by : (o : Ordering) → (holds_below (put path_cmp p n t) q ≡ true → (is_above q p || holds_below t q) ≡ true) → holds_below (by_order o ((p, n) ∷ e ∷ t) ((e.0, n) ∷ t) (e ∷ put path_cmp p n t)) q ≡ true → (is_above q p || (is_above q e.0 || holds_below t q)) ≡ true
+    by : (o : Ordering) → (holds_below (put path_cmp p n t) q ≡ true → (is_above q p || holds_below t q) ≡ true)
+        → holds_below (by_order o ((p, n) ∷ e ∷ t) ((e.0, n) ∷ t) (e ∷ put path_cmp p n t)) q ≡ true → (is_above q p || (is_above q e.0 || holds_below t q)) ≡ true
     by Less rest h = h
-    by Equal rest h = later (is_above q p) (is_above q e.0 || holds_below t q) h
+    by Equal rest h = or_second (is_above q p) (is_above q e.0 || holds_below t q) h
     by Greater rest h = either (is_above q p) (is_above q e.0) (holds_below (put path_cmp p n t) q) (holds_below t q) rest h
 
 same_path : (p q : PathOf) → eq_by_cmp path_cmp p q ≡ true → p ≡ q
@@ -99,15 +96,16 @@ recorded_below q p d [] h below = cc
 recorded_below q p d (e ∷ t) h below = by (eq_by_cmp path_cmp p e.0) refl h (λ h. recorded_below q p d t h below)
   where
     by : (b : Bool) → eq_by_cmp path_cmp p e.0 ≡ b → cond b (Some e.1) (find path_cmp p t) ≡ Some d → (find path_cmp p t ≡ Some d → holds_below t q ≡ true) → (is_above q e.0 || holds_below t q) ≡ true
-    by true is h rest = first (is_above q e.0) (holds_below t q) (subst (λ z. is_above q z ≡ true) (same_path p e.0 is) below)
-    by false is h rest = later (is_above q e.0) (holds_below t q) (rest h)
+    by true is h rest = or_first (is_above q e.0) (holds_below t q) (subst (λ z. is_above q z ≡ true) (same_path p e.0 is) below)
+    by false is h rest = or_second (is_above q e.0) (holds_below t q) (rest h)
 
 -- a path with no file at it or below it is not recorded, and none is below it
 absent_found : (p : PathOf) (t : Files) → exists p t ≡ false → find path_cmp p t ≡ None
 absent_found p [] h = refl
 absent_found p (e ∷ t) h = by (encloses p e.0) refl (eq_by_cmp path_cmp p e.0) refl h (absent_found p t)
   where
-    by : (b : Bool) → encloses p e.0 ≡ b → (c : Bool) → eq_by_cmp path_cmp p e.0 ≡ c → (b || exists p t) ≡ false → (exists p t ≡ false → find path_cmp p t ≡ None) → cond c (Some e.1) (find path_cmp p t) ≡ None
+    by : (b : Bool) → encloses p e.0 ≡ b → (c : Bool) → eq_by_cmp path_cmp p e.0 ≡ c → (b || exists p t) ≡ false
+        → (exists p t ≡ false → find path_cmp p t ≡ None) → cond c (Some e.1) (find path_cmp p t) ≡ None
     by true is c same h rest = absurd (true≢false h)
     by false is true same h rest = absurd (true≢false (sym (subst (λ z. encloses p z ≡ true) (same_path p e.0 same) (within_itself p)) ∙ is))
     by false is false same h rest = rest h
@@ -156,7 +154,8 @@ module _ (t : Recorded) (sound : IsSoundTree t) (e : PathOf × Node) (new : IsNe
       within = above_parent x.0 e.0 below
 
       by : (o : Ordering) → path_cmp x.0 (parent e.0) ≡ o → x.1.kind ≡ Directory
-      by Less is_less = is.directory (later (eqb (length x.0) 0) (holds_below t.files x.0) (recorded_below x.0 (parent e.0) new.directory t.files new.recorded (within_below x.0 (parent e.0) within is_less)))
+      by Less is_less = is.directory
+          (or_second (eqb (length x.0) 0) (holds_below t.files x.0) (recorded_below x.0 (parent e.0) new.directory t.files new.recorded (within_below x.0 (parent e.0) within is_less)))
       by Equal same = ap (λ n. n.kind) (some_eq x.1 new.directory (sym found ∙ ap (λ p. find path_cmp p t.files) (exact_paths x.0 (parent e.0) same) ∙ new.recorded)) ∙ new.is_directory
       by Greater gt = absurd (true≢false (sym (ap greater gt) ∙ not_before x.0 (parent e.0) within))
         where
@@ -176,11 +175,11 @@ module _ (t : Recorded) (sound : IsSoundTree t) (e : PathOf × Node) (new : IsNe
       split false b h f g = g h
 
       by : (b : Bool) → eqb (length x.0) 0 ≡ b → (b || holds_below all x.0) ≡ true → x.1.kind ≡ Directory
-      by true root h = is.directory (first (eqb (length x.0) 0) (holds_below t.files x.0) root)
+      by true root h = is.directory (or_first (eqb (length x.0) 0) (holds_below t.files x.0) root)
       by false other h =
           split (is_above x.0 e.0) (holds_below t.files x.0) (below_put x.0 e.0 e.1 t.files h)
           (above_new x found is)
-          (λ k. is.directory (later (eqb (length x.0) 0) (holds_below t.files x.0) k))
+          (λ k. is.directory (or_second (eqb (length x.0) 0) (holds_below t.files x.0) k))
 
   all_placed : (es : Files) → Leads t.files es → ArePlaced t.files es → ArePlaced all es
   all_placed [] leads h = tt
@@ -203,7 +202,8 @@ module _ (t : Recorded) (sound : IsSoundTree t) (e : PathOf × Node) (new : IsNe
 
       -- the root is its own parent, which is recorded
       no_root : (p : PathOf) → p ≡ e.0 → (eqb (length e.0) 0 || holds_below all e.0) ≡ true → ⊥
-      no_root [] is h = some_is_not_none new.directory (sym new.recorded ∙ ap (λ p. find path_cmp (parent p) t.files) (sym is) ∙ ap (λ p. find path_cmp p t.files) is ∙ absent_found e.0 t.files new.absent)
+      no_root [] is h = some_is_not_none new.directory
+          (sym new.recorded ∙ ap (λ p. find path_cmp (parent p) t.files) (sym is) ∙ ap (λ p. find path_cmp p t.files) is ∙ absent_found e.0 t.files new.absent)
       no_root (x ∷ p) is h = nothing (other (eqb (length e.0) 0) refl (holds_below all e.0) h)
         where
           long : suc (length p) ≡ 0 → ⊥
@@ -226,7 +226,7 @@ module _ (t : Recorded) (sound : IsSoundTree t) (e : PathOf × Node) (new : IsNe
 
   -- no file is gone
   pub gone_with : gone_between t.files all ≡ []
-  gone_with = none_gone t.files all sound.order (λ p h. has_put_all p (e ∷ []) t.files ∙ later (has p (e ∷ [])) (has p t.files) h)
+  gone_with = none_gone t.files all sound.order (λ p h. has_put_all p (e ∷ []) t.files ∙ or_second (has p (e ∷ [])) (has p t.files) h)
 
 -- ---- the new file of a user
 
@@ -256,7 +256,8 @@ is_room n m h = by (nat_lt n m) refl
     by true is = is
     by false is = absurd (omega (arith, ltb-false n m is, h))
 
-module _ (new : NewFile) (row : PasswdRow) (t : Recorded) (d : Node) (e : PathOf × Node) (absent : exists new.path t.files ≡ false) (at : directory_at (parent new.path) t.files ≡ Ok d) (room : length t.files < max_files) (is : e ≡ (new.path, inherit d new.kind new.mode new.umask row.uid row.gid)) where
+module _ (new : NewFile) (row : PasswdRow) (t : Recorded) (d : Node) (e : PathOf × Node) (absent : exists new.path t.files ≡ false)
+    (at : directory_at (parent new.path) t.files ≡ Ok d) (room : length t.files < max_files) (is : e ≡ (new.path, inherit d new.kind new.mode new.umask row.uid row.gid)) where
   pub made_new : creat_by new t (Some row) ≡ Ok (record t { files = put path_cmp e.0 e.1 t.files })
   made_new =
       ap (λ b. if b then Err (Exists new.path) else creat_in new row t (directory_at (parent new.path) t.files)) absent

@@ -1,10 +1,11 @@
 -- A user that is added and removed again.
-use Rattle.std.proofs.Common.{◌≡◌, ℕ, Bool, true, false, not, ◌&&◌, eqb, nat_le, length, List, [], ◌∷◌, Option, Some, None, is_some, Result, Ok, Err, if◌then◌else◌, refl, sym, ap, ◌∙◌, true≢false}
+use Rattle.std.proofs.Common.{◌≡◌, ℕ, Bool, true, false, not, ◌&&◌, eqb, nat_le, length, List, [], ◌∷◌, Some, None, Result, Ok, Err, if◌then◌else◌, refl, sym, ap, ◌∙◌}
 use Rattle.std.specs.Prelude.{position, option_and_then}
 use Rattle.std.specs.Option.{option_or, ok_or}
 use Rattle.std.specs.List.{list_any}
 use Rattle.std.proofs.lemmas.List.{map-append, length-map}
 use Rattle.std.proofs.lemmas.Slice.Eq.{bytes_eq-Decides}
+use Rattle.acl_names.proofs.Basics.{err_is_not_ok, is_none}
 use Rattle.acl_text.specs.Ids.{is_number, id_of}
 use Rattle.acl_text.specs.declared.rows.PasswdRow.{PasswdRow}
 use Rattle.acl_people.specs.Changes.{gid_of, with_user}
@@ -24,13 +25,6 @@ use Rattle.acl_tree.specs.Memberships.{user_at, group_at}
 use Rattle.acl_tree.specs.State.{State, with_change}
 use Rattle.acl_tree.specs.Step.{step}
 
-err_is_not_ok : {A B : Type 0} (a : A) (b : B) → Err b ≡ Ok a → ⊥
-err_is_not_ok a b h = cc
-
-none_here : {A : Type 0} (o : Option A) → is_some o ≡ false → o ≡ None
-none_here None h = refl
-none_here (Some a) h = absurd (true≢false h)
-
 not_number : (a b c : Bool) → (not a && not b && not c) ≡ true → b ≡ false
 not_number true b c h = cc
 not_number false true c h = cc
@@ -47,7 +41,7 @@ module _ (new : NewUser) (old made : State) (allowed : is_user_name new.name ≡
       let all : List Named = users_of (with_user new.name new.uid group old.people) in
       let r : PasswdRow = record { name = new.name; uid = new.uid; gid = gid_of group old.people } in
       let number = not_number (eqb (length new.name) 0) (is_number new.name) (list_any cuts_row new.name) allowed in
-      let none : position (is_name new.name) (users_of old.people) ≡ None = none_here (position (is_name new.name) (users_of old.people)) fresh in
+      let none : position (is_name new.name) (users_of old.people) ≡ None = is_none (position (is_name new.name) (users_of old.people)) fresh in
       let same : is_name new.name (user_entry r) ≡ true = (bytes_eq-Decides new.name new.name).1 refl in
       let many : length (users_of old.people) ≡ length old.people.users = length-map old.people.users user_entry in
       ap (λ b. ok_or (if b then option_and_then (λ id. position (is_id id) all) (id_of new.name) else position (is_name new.name) all) (NoSuchUser new.name)) number
@@ -70,12 +64,14 @@ module _ (new : NewUser) (old made : State) (allowed : is_user_name new.name ≡
   user_removed h = by (has_name new.name (users_of old.people)) refl (has_id new.uid (users_of old.people)) (group_at old.people new.group) h
     where
       at : (group : ℕ) → has_name new.name (users_of old.people) ≡ false → (d : Bool)
-          → with_change old (if d then Err TooManyUsers else Ok (record { user = length old.people.users; people = with_user new.name new.uid group old.people })) ≡ Ok made → step made (Userdel new.name) ≡ Ok (with_users_loaded old)
+          → with_change old (if d then Err TooManyUsers
+          else Ok (record { user = length old.people.users; people = with_user new.name new.uid group old.people })) ≡ Ok made → step made (Userdel new.name) ≡ Ok (with_users_loaded old)
       at group fresh true h = absurd (err_is_not_ok _ _ h)
       at group fresh false h = ap (λ s. step s (Userdel new.name)) (sym (ap (λ r. state_or old r) h)) ∙ removed group fresh
 
       by : (b : Bool) → has_name new.name (users_of old.people) ≡ b → (c : Bool) (g : Result ℕ TreeFault)
-          → with_change old (if b then Err (UserExists new.name) else (if c then Err (UidExists new.uid) else add_to new old.people g)) ≡ Ok made → step made (Userdel new.name) ≡ Ok (with_users_loaded old)
+          → with_change old (if b then Err (UserExists new.name) else (if c then Err (UidExists new.uid) else add_to new old.people g)) ≡ Ok made
+          → step made (Userdel new.name) ≡ Ok (with_users_loaded old)
       by true is c g h = absurd (err_is_not_ok _ _ h)
       by false is true g h = absurd (err_is_not_ok _ _ h)
       by false is false (Err fault) h = absurd (err_is_not_ok _ _ h)

@@ -7,11 +7,11 @@ use Rattle.std.proofs.lemmas.Bool.{and_parts}
 use Rattle.acl_names.specs.Paths.{path_cmp, PathOf}
 use Rattle.acl_names.specs.Below.{encloses}
 use Rattle.acl_names.proofs.Below.{convex}
+use Rattle.acl_names.proofs.Basics.{not_gt}
 use Rattle.acl_edit.specs.declared.node.Node.{Node}
 use Rattle.path_map.specs.Below.{is_passed, after}
 use Rattle.path_map.specs.Inner.{From, After, IsEndOf}
 use Rattle.path_map.proofs.Merges.{later_after, from_after}
-use Rattle.path_map.proofs.Ranges.{gt_false}
 use Rattle.path_map.proofs.Passed.{after_right, after_end}
 use Rattle.kinds.specs.Kinds.{KindsOf, node_at}
 use Rattle.kinds.specs.Numbered.{Numbers, entries_by, AreUsed}
@@ -45,7 +45,7 @@ module _ {V : Type 0} where
   -- where none is before a path
   after_is : (top : PathOf) (es : List (PathOf × V)) → From top es → after top es ≡ outside top es
   after_is top [] f = refl
-  after_is top (e ∷ es) f = λ i. cond (not (gt_false _ f.0 i || encloses top e.0)) (e ∷ after_is top es f.1 i) (after_is top es f.1 i)
+  after_is top (e ∷ es) f = λ i. cond (not (not_gt _ f.0 i || encloses top e.0)) (e ∷ after_is top es f.1 i) (after_is top es f.1 i)
 
   -- where the first is not within it, none is
   none_later : (top q : PathOf) (es : List (PathOf × V)) → is_gt (path_cmp top q) ≡ false → encloses top q ≡ false → After q es → outside top es ≡ es
@@ -63,7 +63,8 @@ module _ {V : Type 0} where
       let from : From top (e ∷ head.more) = subst (From top) head.is starts in
       let first_out : encloses top e.0 ≡ false = ap (encloses top) head.path ∙ out in
       ap (outside top) head.is
-      ∙ (λ i. cond (not (first_out i)) (e ∷ none_later top e.0 head.more (gt_false _ from.0) first_out (later_after e head.more here) i) (none_later top e.0 head.more (gt_false _ from.0) first_out (later_after e head.more here) i))
+      ∙ (λ i. cond (not (first_out i)) (e ∷ none_later top e.0 head.more (not_gt _ from.0) first_out (later_after e head.more here) i)
+      (none_later top e.0 head.more (not_gt _ from.0) first_out (later_after e head.more here) i))
       ∙ sym head.is
 
   -- else they are found by search in the whole map
@@ -85,7 +86,8 @@ module _ {V : Type 0} where
   end_outside top es order = let end = after_end top es order in record { before = end.0; joined = sym end.1 }
 
   -- what operands mean of what is left
-  pub meant_outside : (b : Bool) (ops : List PathOf) (top : PathOf) (rest new : List (PathOf × V)) (seen : List (PathOf × V) × List (PathOf × V)) → ◌≡◌ {A = List (PathOf × V) × List (PathOf × V)} (files_meant b ops rest, rest) seen → new ≡ outside top rest
+  pub meant_outside : (b : Bool) (ops : List PathOf) (top : PathOf) (rest new : List (PathOf × V)) (seen : List (PathOf × V) × List (PathOf × V))
+      → ◌≡◌ {A = List (PathOf × V) × List (PathOf × V)} (files_meant b ops rest, rest) seen → new ≡ outside top rest
       → ◌≡◌ {A = List (PathOf × V) × List (PathOf × V)} (files_meant b ops new, new) (outside top seen.0, outside top seen.1)
   meant_outside b ops top rest new seen view is =
       (λ i. (files_meant b ops (is i), is i))
@@ -107,7 +109,8 @@ pub taken_from : (e : PathOf × ℕ) (old new : Numbers) → IsInOrder old → I
 taken_from e old new order t = from_after e.0 new (later_after e new (in_order-later t.before (e ∷ new) (subst IsInOrder t.joined order)))
 
 -- the files of what is left
-pub differing_outside : (b : Bool) (other : Files) (k : KindsOf Node) (top : PathOf) (ns : Numbers) → AreUsed k ns → differing b other (entries_by k (outside top ns)) ≡ outside top (differing b other (entries_by k ns))
+pub differing_outside : (b : Bool) (other : Files) (k : KindsOf Node) (top : PathOf) (ns : Numbers) → AreUsed k ns
+    → differing b other (entries_by k (outside top ns)) ≡ outside top (differing b other (entries_by k ns))
 differing_outside b other k top ns used =
     ap (differing b other) (entries_filter k (λ p. not (encloses top p)) ns used)
     ∙ swapped (λ (e : PathOf × Node). differs b (find path_cmp e.0 other) e.1) (λ (e : PathOf × Node). not (encloses top e.0)) (entries_by k ns)
@@ -116,7 +119,8 @@ pub used_outside : (k : KindsOf Node) (top : PathOf) (ns : Numbers) → AreUsed 
 used_outside k top ns used = used_filter k (λ p. not (encloses top p)) ns used
 
 -- a file that is the same in the other state is no difference
-pub differing_passed : (b : Bool) (other : Files) (k : KindsOf Node) (e : PathOf × ℕ) (old new : Numbers) (x : Node) → old ≡ e ∷ new → node_at k e.1 ≡ Some x → differs b (find path_cmp e.0 other) x ≡ false
+pub differing_passed : (b : Bool) (other : Files) (k : KindsOf Node) (e : PathOf × ℕ) (old new : Numbers) (x : Node) → old ≡ e ∷ new → node_at k e.1 ≡ Some x
+    → differs b (find path_cmp e.0 other) x ≡ false
     → differing b other (entries_by k new) ≡ differing b other (entries_by k old)
 differing_passed b other k e old new x is at out =
     let left = differing b other (entries_by k new) in

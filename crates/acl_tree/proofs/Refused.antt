@@ -1,6 +1,7 @@
 -- A command is refused for the first fault that applies.
 use Rattle.std.proofs.Common.{◌≡◌, ◌≤◌, ℕ, Result, Ok, Err, refl, sym, ap, subst, ◌∙◌, arith}
 use Rattle.std.specs.Prelude.{IsErr}
+use Rattle.acl_names.proofs.Basics.{ok_is_not_err}
 use Rattle.acl_tree.specs.declared.fault.TreeFault.{TreeFault}
 use Rattle.acl_tree.specs.declared.command.Command.{Command}
 use Rattle.acl_tree.specs.State.{State}
@@ -10,9 +11,6 @@ use Rattle.acl_tree.specs.Refusals.{Applies, rank, place_of, IsNotAfter, IsRefus
 abbrev fault_or : TreeFault → Result State TreeFault → TreeFault
 fault_or f (Ok t) = f
 fault_or f (Err g) = g
-
-ok_is_not_err : {A B : Type 0} (a : A) (b : B) → Ok a ≡ Err b → ⊥
-ok_is_not_err a b h = cc
 
 module _ (s : State) (c : Command) where
   -- what decides on a result: the faults that apply are those that it is refused for, and it is refused for the first of them

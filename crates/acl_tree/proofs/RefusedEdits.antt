@@ -4,6 +4,7 @@ use Rattle.std.specs.Option.{option_or}
 use Rattle.std.specs.Ordering.{is_eq}
 use Rattle.std.specs.FinMap.{find}
 use Rattle.acl_names.specs.Paths.{path_cmp, PathOf}
+use Rattle.acl_names.proofs.Basics.{none_is_not_some, some_eq}
 use Rattle.path_map.proofs.Differences.{Leads, leads_all}
 use Rattle.acl_text.specs.declared.record.DumpRecord.{DumpRecord}
 use Rattle.acl_edit.specs.declared.edit.Edit.{Edit}
@@ -26,12 +27,6 @@ use Rattle.acl_tree.specs.Refusals.{IsAmong, IsMissing, IsEditRefused, Applies, 
 use Rattle.acl_tree.proofs.Refused.{Decides, decides_err, decides_ok, AreApart, refused_for_first}
 use Rattle.acl_tree.proofs.FirstAmong.{first_of, none_among, first_among, one_place, among_later}
 use Rattle.acl_tree.proofs.RefusedOperands.{is_first_missing, none_is_missing}
-
-none_is_not_some : {A : Type 0} (a : A) → None ≡ Some a → ⊥
-none_is_not_some a h = cc
-
-some_eq : {A : Type 0} (a b : A) → Some a ≡ Some b → a ≡ b
-some_eq a b h = cc
 
 -- the paths of files
 abbrev paths_in : Files → List PathOf
@@ -74,7 +69,8 @@ module _ (edit : PathOf → Node → Result Node EditFault) (recursive : Bool) (
       others (Ok n) (Err fault) = refl
 
       by : (b : Bool) → first_of check (paths_in es) ≡ err_of (edit_each edit (files_meant recursive paths es))
-          → option_or (if b then fault_at e.0 (find path_cmp e.0 t) else None) (first_of check (paths_in es)) ≡ err_of (edit_each edit (cond b (e ∷ files_meant recursive paths es) (files_meant recursive paths es)))
+          → option_or (if b then fault_at e.0 (find path_cmp e.0 t) else None) (first_of check (paths_in es))
+          ≡ err_of (edit_each edit (cond b (e ∷ files_meant recursive paths es) (files_meant recursive paths es)))
       by false rest = rest
       by true rest = (λ i. option_or (fault_at e.0 (h.0 i)) (rest i)) ∙ others (edit e.0 e.1) (edit_each edit (files_meant recursive paths es))
 
@@ -185,7 +181,8 @@ module _ (s : State) (paths : List PathOf) (e : Edit) (recursive : Bool) where
 
   pub edit_refused : IsInOrder s.tree.files → IsRefusedForFirst s (commands.Edit paths e recursive)
   edit_refused order =
-      let law : EditsFiles s (commands.Edit paths e recursive) (edit_one e recursive) recursive paths = record { missing = λ p among missing. (among, missing); refused = λ p f h. h; operands = refl } in
+      let law : EditsFiles s (commands.Edit paths e recursive) (edit_one e recursive) recursive paths =
+      record { missing = λ p among missing. (among, missing); refused = λ p f h. h; operands = refl } in
       let both = decided s (commands.Edit paths e recursive) (edit_one e recursive) recursive paths law edit_cases order in
       refused_for_first s (commands.Edit paths e recursive) both.0 both.1
 
@@ -199,6 +196,7 @@ module _ (s : State) (records : List DumpRecord) where
 
   pub restore_refused : IsInOrder s.tree.files → IsRefusedForFirst s (commands.Restore records)
   restore_refused order =
-      let law : EditsFiles s (commands.Restore records) (restore_one records) false (paths_of records) = record { missing = λ p among missing. (among, missing); refused = λ p f h. h; operands = refl } in
+      let law : EditsFiles s (commands.Restore records) (restore_one records) false (paths_of records) =
+      record { missing = λ p among missing. (among, missing); refused = λ p f h. h; operands = refl } in
       let both = decided s (commands.Restore records) (restore_one records) false (paths_of records) law restore_cases order in
       refused_for_first s (commands.Restore records) both.0 both.1

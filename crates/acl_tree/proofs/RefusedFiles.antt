@@ -1,5 +1,6 @@
 -- Why a new file is refused.
-use Rattle.std.proofs.Common.{◌≡◌, ◌≤◌, ◌<◌, ℕ, Bool, true, false, cond, ◌||◌, List, [], ◌∷◌, Ordering, Less, Equal, Greater, length, slice_get, Option, Some, None, Result, Ok, Err, if◌then◌else◌, nat_lt, refl, sym, ap, subst, ◌∙◌, true≢false, arith}
+use Rattle.std.proofs.Common.{◌≡◌, ◌≤◌, ◌<◌, ℕ, Bool, true, false, cond, ◌||◌, List, [], ◌∷◌, Ordering, Less, Equal, Greater, length, slice_get, Option, Some}
+use Rattle.std.proofs.Common.{None, Result, Ok, Err, if◌then◌else◌, nat_lt, refl, sym, ap, subst, true≢false, arith}
 use Rattle.std.specs.Prelude.{◌==◌, position, option_and_then}
 use Rattle.std.specs.FinMap.{find, put}
 use Rattle.std.proofs.lemmas.Bool.{ltb-false, le-ltb}
@@ -11,6 +12,7 @@ use Rattle.acl_names.specs.Paths.{path_cmp, PathOf}
 use Rattle.acl_names.proofs.PathOrder.{exact_paths}
 use Rattle.path_map.proofs.Differences.{Leads, leads_all}
 use Rattle.acl_names.specs.Below.{encloses, parent}
+use Rattle.acl_names.proofs.Basics.{some_is_not_none, none_is_not_some, not_both}
 use Rattle.acl_text.specs.Ids.{is_number, id_of}
 use Rattle.acl_text.specs.declared.rows.PasswdRow.{PasswdRow}
 use Rattle.acl_edit.specs.Creation.{inherit}
@@ -32,15 +34,6 @@ use Rattle.acl_tree.specs.Creat.{row_of, exists, only_directory, creat_in, creat
 use Rattle.acl_tree.specs.State.{State, with_tree}
 use Rattle.acl_tree.specs.Refusals.{HoldsWithin, MeansNoUser, IsMissing, IsRecordedAs, Applies, rank, IsNotAfter, IsRefusedForFirst}
 use Rattle.acl_tree.proofs.Refused.{Decides, decides_err, decides_ok, refused_for_first, ranked, apart_by}
-
-some_is_not_none : {A : Type 0} (o : Option A) (a : A) → o ≡ Some a → o ≡ None → ⊥
-some_is_not_none o a h k = cc
-
-none_is_not_some : {A : Type 0} (a : A) → None ≡ Some a → ⊥
-none_is_not_some a h = cc
-
-not_both : (b : Bool) → b ≡ true → b ≡ false → ⊥
-not_both b h k = true≢false (sym h ∙ k)
 
 -- ---- the user of a word
 
@@ -128,7 +121,8 @@ module _ (s : State) (order : IsInOrder s.tree.files) (new : NewFile) where
       → Decides s creates (with_tree s (if d then Ok (record s.tree { files = put path_cmp new.path (inherit n new.kind new.mode new.umask row.uid row.gid) s.tree.files }) else Err TooMany))
   in_directory row n false user_is fresh at is full =
       decides_err s creates TooMany (ltb-false _ _ full) (creat_cases (λ g. IsNotAfter s creates TooMany g)
-      (λ h. absurd (some_row s.people new.user row user_is h)) (λ h. absurd (not_both _ h fresh)) (λ h. absurd (some_is_not_none _ n at h)) (λ h. absurd (not_plain n at is h)) (λ _. ranked s creates _ _ refl (omega arith)))
+      (λ h. absurd (some_row s.people new.user row user_is h)) (λ h. absurd (not_both _ h fresh)) (λ h. absurd (some_is_not_none _ n at h))
+      (λ h. absurd (not_plain n at is h)) (λ _. ranked s creates _ _ refl (omega arith)))
   in_directory row n true user_is fresh at is room =
       decides_ok s creates _ (creat_cases (λ g. ⊥)
       (λ h. some_row s.people new.user row user_is h) (λ h. not_both _ h fresh) (λ h. some_is_not_none _ n at h) (λ h. not_plain n at is h) (λ h. not_both _ room (le-ltb _ _ h)))
@@ -137,13 +131,15 @@ module _ (s : State) (order : IsInOrder s.tree.files) (new : NewFile) where
       → find path_cmp (parent new.path) s.tree.files ≡ o → Decides s creates (with_tree s (creat_in new row s.tree (only_directory (parent new.path) o)))
   in_parent row None user_is fresh missing =
       decides_err s creates (NoSuchFile (parent new.path)) (refl, missing) (creat_cases (λ g. IsNotAfter s creates (NoSuchFile (parent new.path)) g)
-      (λ h. absurd (some_row s.people new.user row user_is h)) (λ h. absurd (not_both _ h fresh)) (λ _. ranked s creates _ _ refl (omega arith)) (λ _. ranked s creates _ _ refl (omega arith)) (λ _. ranked s creates _ _ refl (omega arith)))
+      (λ h. absurd (some_row s.people new.user row user_is h)) (λ h. absurd (not_both _ h fresh)) (λ _. ranked s creates _ _ refl (omega arith))
+      (λ _. ranked s creates _ _ refl (omega arith)) (λ _. ranked s creates _ _ refl (omega arith)))
   in_parent row (Some n) user_is fresh at = by n.kind refl
     where
       by : (k : Kind) → n.kind ≡ k → Decides s creates (with_tree s (creat_in new row s.tree (if is_directory k then Ok n else Err (NotDirectory (parent new.path)))))
       by Plain is =
           decides_err s creates (NotDirectory (parent new.path)) (refl, record { node = n; recorded = at; is = is }) (creat_cases (λ g. IsNotAfter s creates (NotDirectory (parent new.path)) g)
-          (λ h. absurd (some_row s.people new.user row user_is h)) (λ h. absurd (not_both _ h fresh)) (λ h. absurd (some_is_not_none _ n at h)) (λ _. ranked s creates _ _ refl (omega arith)) (λ _. ranked s creates _ _ refl (omega arith)))
+          (λ h. absurd (some_row s.people new.user row user_is h)) (λ h. absurd (not_both _ h fresh)) (λ h. absurd (some_is_not_none _ n at h))
+          (λ _. ranked s creates _ _ refl (omega arith)) (λ _. ranked s creates _ _ refl (omega arith)))
       by Directory is = in_directory row n (nat_lt (length s.tree.files) max_files) user_is fresh at is refl
 
   -- what a user gets, by whether a file is there
@@ -159,10 +155,12 @@ module _ (s : State) (order : IsInOrder s.tree.files) (new : NewFile) where
       → Decides s creates (with_tree s (outcome o b))
   by_user None b no_user _ =
       decides_err s creates (NoSuchUser new.user) (refl, no_row s.people new.user no_user) (creat_cases (λ g. IsNotAfter s creates (NoSuchUser new.user) g)
-      (λ _. ranked s creates _ _ refl (omega arith)) (λ _. ranked s creates _ _ refl (omega arith)) (λ _. ranked s creates _ _ refl (omega arith)) (λ _. ranked s creates _ _ refl (omega arith)) (λ _. ranked s creates _ _ refl (omega arith)))
+      (λ _. ranked s creates _ _ refl (omega arith)) (λ _. ranked s creates _ _ refl (omega arith)) (λ _. ranked s creates _ _ refl (omega arith))
+      (λ _. ranked s creates _ _ refl (omega arith)) (λ _. ranked s creates _ _ refl (omega arith)))
   by_user (Some row) true user_is there =
       decides_err s creates (Exists new.path) (refl, exists_within new.path s.tree.files s.tree.files (leads_all s.tree.files order) there) (creat_cases (λ g. IsNotAfter s creates (Exists new.path) g)
-      (λ h. absurd (some_row s.people new.user row user_is h)) (λ _. ranked s creates _ _ refl (omega arith)) (λ _. ranked s creates _ _ refl (omega arith)) (λ _. ranked s creates _ _ refl (omega arith)) (λ _. ranked s creates _ _ refl (omega arith)))
+      (λ h. absurd (some_row s.people new.user row user_is h)) (λ _. ranked s creates _ _ refl (omega arith)) (λ _. ranked s creates _ _ refl (omega arith))
+      (λ _. ranked s creates _ _ refl (omega arith)) (λ _. ranked s creates _ _ refl (omega arith)))
   by_user (Some row) false user_is fresh = in_parent row (find path_cmp (parent new.path) s.tree.files) user_is fresh refl
 
   pub creat_refused : IsRefusedForFirst s (Creat new)

@@ -1,7 +1,8 @@
 -- Why loads are refused.
-use Rattle.std.proofs.Common.{◌≡◌, ℕ, Bool, true, false, ◌||◌, List, length, Result, Ok, Err, if◌then◌else◌, nat_lt, refl, sym, ap, ◌∙◌, true≢false, arith}
+use Rattle.std.proofs.Common.{◌≡◌, ℕ, Bool, true, false, ◌||◌, List, length, Result, Ok, Err, if◌then◌else◌, nat_lt, refl, sym, ap, ◌∙◌, arith}
 use Rattle.std.specs.Prelude.{◌==◌}
 use Rattle.std.proofs.lemmas.Bool.{ltb-true, lt-ltb}
+use Rattle.acl_names.proofs.Basics.{not_both, ok_or_err}
 use Rattle.acl_text.specs.declared.record.DumpRecord.{DumpRecord}
 use Rattle.acl_text.specs.Rows.{passwd_of, group_of}
 use Rattle.acl_text.specs.declared.fault.TextFault.{TextFault}
@@ -19,12 +20,6 @@ use Rattle.acl_tree.specs.State.{State}
 use Rattle.acl_tree.specs.Loads.{with_people, with_records, dump_records, is_loaded}
 use Rattle.acl_tree.specs.Refusals.{IsTooLong, Applies, rank, IsNotAfter, IsRefusedForFirst}
 use Rattle.acl_tree.proofs.Refused.{Decides, decides_err, decides_ok, AreApart, refused_for_first, ranked, apart_by}
-
-not_both : (b : Bool) → b ≡ true → b ≡ false → ⊥
-not_both b h k = true≢false (sym h ∙ k)
-
-ok_is_not_err : {A B : Type 0} (r : Result A B) (a : A) (b : B) → r ≡ Ok a → r ≡ Err b → ⊥
-ok_is_not_err r a b h k = cc
 
 -- ---- a load of a text, which is read as something or has a fault
 
@@ -61,10 +56,10 @@ module _ (s : State) (c : Command) {A : Type 0} (r : Result A TextFault) (again 
     pub decides_many : again ≡ false → (a : A) → r ≡ Ok a → Many → Decides s c (Err TooMany)
     decides_many first a is many =
         decides_err s c TooMany (law.has_many many)
-        (cases (λ g. IsNotAfter s c TooMany g) (λ h. absurd (not_both again h first)) (λ g h. absurd (ok_is_not_err r a g is h)) (λ _. ranked s c _ _ refl (omega arith)))
+        (cases (λ g. IsNotAfter s c TooMany g) (λ h. absurd (not_both again h first)) (λ g h. absurd (ok_or_err r a g is h)) (λ _. ranked s c _ _ refl (omega arith)))
 
     pub decides_loaded : again ≡ false → (a : A) → r ≡ Ok a → (Many → ⊥) → (t : State) → Decides s c (Ok t)
-    decides_loaded first a is few t = decides_ok s c t (cases (λ g. ⊥) (λ h. not_both again h first) (λ g h. ok_is_not_err r a g is h) few)
+    decides_loaded first a is few t = decides_ok s c t (cases (λ g. ⊥) (λ h. not_both again h first) (λ g h. ok_or_err r a g is h) few)
 
     -- of users or groups
     pub decides_people : (put : A → KnownPeople) (few : Many → ⊥) (a b : Bool) → again ≡ (a || b) → (q : Result A TextFault) → r ≡ q
@@ -150,7 +145,8 @@ module _ (s : State) where
           decides_loaded s (Load Dump bytes) (dump_records s.people bytes.now) (is_loaded s Dump) (IsTooLong s.people bytes.now) law (dump_cases bytes) first records is
           (not_long bytes.now records is few) _
 
-      by : (a : Bool) → s.tree.loaded ≡ a → (q : Result (List DumpRecord) TextFault) → dump_records s.people bytes.now ≡ q → Decides s (Load Dump bytes) (if a then Err AlreadyLoaded else with_records s q)
+      by : (a : Bool) → s.tree.loaded ≡ a → (q : Result (List DumpRecord) TextFault) → dump_records s.people bytes.now ≡ q
+          → Decides s (Load Dump bytes) (if a then Err AlreadyLoaded else with_records s q)
       by true is q h = decides_again s (Load Dump bytes) (dump_records s.people bytes.now) (is_loaded s Dump) (IsTooLong s.people bytes.now) law (dump_cases bytes) is
       by false is (Err f) h = decides_text s (Load Dump bytes) (dump_records s.people bytes.now) (is_loaded s Dump) (IsTooLong s.people bytes.now) law (dump_cases bytes) is f h
       by false is (Ok records) h = counted records is h (nat_lt max_files (length records)) refl

@@ -3,6 +3,7 @@ use Rattle.std.proofs.Common.{◌≡◌, ◌≤◌, ℕ, Bool, true, false, List
 use Rattle.std.specs.Prelude.{◌==◌}
 use Rattle.std.proofs.lemmas.Bool.{leb-true, le-leb}
 use Rattle.std.specs.Option.{ok_or}
+use Rattle.acl_names.proofs.Basics.{some_is_not_none, not_both}
 use Rattle.acl_text.specs.Rows.{most_rows}
 use Rattle.acl_tree.specs.declared.fault.TreeFault.{TreeFault}
 use Rattle.acl_tree.specs.declared.fault.TreeFault.TheVariants.{NoSuchUser, NoSuchGroup, NotMember, UserExists, UidExists, TooManyUsers}
@@ -19,12 +20,6 @@ use Rattle.acl_tree.specs.Memberships.{ChangedUser, change_found, change_of, mem
 use Rattle.acl_tree.specs.State.{State, with_change}
 use Rattle.acl_tree.specs.Refusals.{MeansNoUser, MeansNoGroup, MeanNoMember, Applies, rank, IsNotAfter, IsRefusedForFirst}
 use Rattle.acl_tree.proofs.Refused.{Decides, decides_err, decides_ok, refused_for_first, ranked, apart_by}
-
-some_is_not_none : {A : Type 0} (o : Option A) (a : A) → o ≡ Some a → o ≡ None → ⊥
-some_is_not_none o a h k = cc
-
-not_both : (b : Bool) → b ≡ true → b ≡ false → ⊥
-not_both b h k = true≢false (sym h ∙ k)
 
 add_is_not_remove : Add ≡ Remove → ⊥
 add_is_not_remove h = cc

@@ -3,6 +3,7 @@ use Rattle.std.proofs.Common.{◌≡◌, ◌≤◌, ℕ, Bool, true, false, not,
 use Rattle.std.specs.Option.{option_or}
 use Rattle.std.specs.FinMap.{find}
 use Rattle.acl_names.specs.Paths.{path_cmp, PathOf}
+use Rattle.acl_names.proofs.Basics.{some_is_not_none, none_is_not_some}
 use Rattle.acl_edit.specs.Nodes.{is_directory}
 use Rattle.acl_edit.specs.declared.node.Kind.{Kind}
 use Rattle.acl_edit.specs.declared.node.Kind.TheVariants.{Plain, Directory}
@@ -16,12 +17,6 @@ use Rattle.acl_tree.specs.State.{State, with_tree}
 use Rattle.acl_tree.specs.Refusals.{IsAmong, Applies, rank, place, place_of, IsRefusedForFirst}
 use Rattle.acl_tree.proofs.Refused.{Decides, decides_err, decides_ok, AreApart, refused_for_first}
 use Rattle.acl_tree.proofs.FirstAmong.{first_of, none_among, first_among, one_place}
-
-some_is_not_none : {A : Type 0} (o : Option A) (a : A) → o ≡ Some a → o ≡ None → ⊥
-some_is_not_none o a h k = cc
-
-none_is_not_some : {A : Type 0} (a : A) → None ≡ Some a → ⊥
-none_is_not_some a h = cc
 
 some_eq : {A : Type 0} (o : Option A) (a b : A) → o ≡ Some a → o ≡ Some b → a ≡ b
 some_eq o a b h k = cc

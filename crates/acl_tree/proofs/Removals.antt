@@ -21,22 +21,12 @@ use Rattle.acl_tree.specs.Rm.{refusal, first_refused, without_files}
 use Rattle.path_map.specs.Below.{holds_below}
 use Rattle.acl_tree.specs.Sound.{IsPlaced, ArePlaced, IsSoundTree}
 use Rattle.acl_names.proofs.Below.{below_within, within_trans}
+use Rattle.acl_names.proofs.Basics.{and_is_first, or_first, or_second, false_from}
 use Rattle.acl_tree.proofs.Selected.{same_path}
-
-and_true : (a b : Bool) → b ≡ true → (a && b) ≡ a
-and_true true b h = h
-and_true false b h = refl
 
 not_twice : (b : Bool) → not (not b) ≡ b
 not_twice true = refl
 not_twice false = refl
-
-first : (a b : Bool) → a ≡ true → (a || b) ≡ true
-first a b h = cc
-
-later : (a b : Bool) → b ≡ true → (a || b) ≡ true
-later true b h = refl
-later false b h = h
 
 -- ---- what is gone
 
@@ -47,7 +37,7 @@ module _ (test : PathOf → Bool) (t : Files) (order : IsInOrder t) where
       each : (es : Files) → Leads t es → filter (λ e. not (has e.0 (filter (λ e. not (test e.0)) t))) es ≡ filter (λ e. test e.0) es
       each [] h = refl
       each (e ∷ es) h =
-          λ i. cond ((ap not (has_where (λ p. not (test p)) e.0 t ∙ and_true (not (test e.0)) (has e.0 t) (ap is_some h.0)) ∙ not_twice (test e.0)) i) (e ∷ each es h.1 i) (each es h.1 i)
+          λ i. cond ((ap not (has_where (λ p. not (test p)) e.0 t ∙ and_is_first (not (test e.0)) (has e.0 t) (ap is_some h.0)) ∙ not_twice (test e.0)) i) (e ∷ each es h.1 i) (each es h.1 i)
 
 -- ---- soundness
 
@@ -62,7 +52,7 @@ module _ (keep : PathOf × Node → Bool) where
 
       by : (b : Bool) → (holds_below (filter keep t) p ≡ true → holds_below t p ≡ true) → holds_below (cond b (e ∷ filter keep t) (filter keep t)) p ≡ true → (is_above p e.0 || holds_below t p) ≡ true
       by true rest h = split (is_above p e.0) (holds_below (filter keep t) p) (holds_below t p) rest h
-      by false rest h = later (is_above p e.0) (holds_below t p) (rest h)
+      by false rest h = or_second (is_above p e.0) (holds_below t p) (rest h)
 
   fewer : (t : Files) → length (filter keep t) ≤ length t
   fewer [] = omega arith
@@ -100,17 +90,13 @@ module _ (keep : PathOf × Node → Bool) where
 
 -- ---- nothing is left below what is gone
 
-false_from : (b : Bool) → (b ≡ true → ⊥) → b ≡ false
-false_from true h = absurd (h refl)
-false_from false h = refl
-
 file_within : (ps : List PathOf) (p q : PathOf) → is_file true ps p ≡ true → is_above p q ≡ true → is_file true ps q ≡ true
 file_within [] p q h below = h
 file_within (o ∷ ps) p q h below = by (encloses o p) refl (file_within ps p q) h
   where
     by : (b : Bool) → encloses o p ≡ b → (is_file true ps p ≡ true → is_above p q ≡ true → is_file true ps q ≡ true) → (b || is_file true ps p) ≡ true → (encloses o q || is_file true ps q) ≡ true
-    by true is rest h = first (encloses o q) (is_file true ps q) (within_trans o p q is (below_within p q below))
-    by false is rest h = later (encloses o q) (is_file true ps q) (rest h below)
+    by true is rest h = or_first (encloses o q) (is_file true ps q) (within_trans o p q is (below_within p q below))
+    by false is rest h = or_second (encloses o q) (is_file true ps q) (rest h below)
 
 -- with all that is below, none of it is left
 none_left : (ps : List PathOf) (p : PathOf) (t : Files) → is_file true ps p ≡ true → holds_below (without_files true ps t) p ≡ false
@@ -153,19 +139,21 @@ plain_all (o ∷ ps) t p n found h is = by (eq_by_cmp path_cmp p o) refl is (pla
 
 -- a plain file has nothing below it
 plain_below : (t : Files) (e : PathOf × Node) → IsPlaced t e → is_directory e.1.kind ≡ false → holds_below t e.0 ≡ false
-plain_below t e is plain = false_from (holds_below t e.0) (λ h. true≢false (sym (ap is_directory (is.directory (later (eqb (length e.0) 0) (holds_below t e.0) h))) ∙ plain))
+plain_below t e is plain = false_from (holds_below t e.0) (λ h. true≢false (sym (ap is_directory (is.directory (or_second (eqb (length e.0) 0) (holds_below t e.0) h))) ∙ plain))
 
 module _ (recursive : Bool) (ps : List PathOf) (t : Files) (may : first_refused recursive ps t ≡ None) where
   apart_one : (r : Bool) → first_refused r ps t ≡ None → (e : PathOf × Node) → find path_cmp e.0 t ≡ Some e.1 → IsPlaced t e → is_file r ps e.0 ≡ true → holds_below (without_files r ps t) e.0 ≡ false
   apart_one true may e found is meant = none_left ps e.0 t meant
   apart_one false may e found is meant =
-      false_from (holds_below (without_files false ps t) e.0) (λ h. true≢false (sym (fewer_below (λ e. not (is_file false ps e.0)) t e.0 h) ∙ plain_below t e is (plain_all ps t e.0 e.1 found may meant)))
+      false_from (holds_below (without_files false ps t) e.0)
+      (λ h. true≢false (sym (fewer_below (λ e. not (is_file false ps e.0)) t e.0 h) ∙ plain_below t e is (plain_all ps t e.0 e.1 found may meant)))
 
   apart_each : (es : Files) → Leads t es → ArePlaced t es → AllByRecursion (λ e. holds_below (without_files recursive ps t) e.0 ≡ false) (files_meant recursive ps es)
   apart_each [] leads h = tt
   apart_each (e ∷ es) leads h = by (is_file recursive ps e.0) refl (apart_each es leads.1 h.1)
     where
-      by : (b : Bool) → is_file recursive ps e.0 ≡ b → AllByRecursion (λ e. holds_below (without_files recursive ps t) e.0 ≡ false) (files_meant recursive ps es) → AllByRecursion (λ e. holds_below (without_files recursive ps t) e.0 ≡ false) (cond b (e ∷ files_meant recursive ps es) (files_meant recursive ps es))
+      by : (b : Bool) → is_file recursive ps e.0 ≡ b → AllByRecursion (λ e. holds_below (without_files recursive ps t) e.0 ≡ false)
+          (files_meant recursive ps es) → AllByRecursion (λ e. holds_below (without_files recursive ps t) e.0 ≡ false) (cond b (e ∷ files_meant recursive ps es) (files_meant recursive ps es))
       by true is rest = (apart_one recursive may e leads.0 h.0 is, rest)
       by false is rest = rest
 

@@ -29,7 +29,8 @@ module _ (old new : State) (s : StagedState) (is : s ≡ staged_from old.tree.fi
   reported_files kept = reported_change old new Unchanged s is kept (ap persons people)
 
 -- after a change of people
-pub reported_people : (old new : State) (change : UserChange) (s : StagedState) → s ≡ staged_from old.tree.files new change → IsInOrder old.tree.files → new.tree ≡ old.tree → UsersMoved old new change → Reports old s
+pub reported_people : (old new : State) (change : UserChange) (s : StagedState) → s ≡ staged_from old.tree.files new change → IsInOrder old.tree.files
+    → new.tree ≡ old.tree → UsersMoved old new change → Reports old s
 reported_people old new change s is order same users =
     reported_change old new change s is
     (ap (λ (t : Recorded). gone_between old.tree.files t.files) same ∙ none_gone old.tree.files old.tree.files order (λ p h. h))

@@ -1,15 +1,18 @@
 -- Files restored from records: each record's file, found by search and sorted by path, is a file of the command.
-use Rattle.std.proofs.Common.{◌≡◌, ◌≢◌, ℕ, zero, suc, ◌+◌, ◌<◌, arith, length, get_or, Bool, true, false, cond, ◌&&◌, ◌||◌, T, IsTrue, List, [], ◌∷◌, map, Option, Some, None, Result, Err, is_some, if◌then◌else◌, Ordering, Less, Equal, Greater, refl, sym, ap, subst, ◌∙◌, true≢false}
+use Rattle.std.proofs.Common.{◌≡◌, ◌≢◌, ℕ, zero, suc, ◌+◌, ◌<◌, arith, length, get_or, Bool, true, false, cond, ◌&&◌, ◌||◌, IsTrue, List, [], ◌∷◌, map, Option}
+use Rattle.std.proofs.Common.{Some, None, Result, Err, is_some, if◌then◌else◌, Ordering, Less, Equal, Greater, refl, sym, ap, subst, ◌∙◌}
 use Rattle.std.specs.Prelude.{option_map}
 use Rattle.std.specs.Option.{option_or}
 use Rattle.std.specs.Ordering.{is_eq, is_lt, eq_by_cmp}
 use Rattle.std.specs.List.{All, AllByRecursion}
-use Rattle.std.specs.List.Sorted.{IsSortedBy}
+use Rattle.std.specs.List.Sorted.{IsPermutation, IsSortedBy}
 use Rattle.std.specs.FinMap.{find, is_sorted}
 use Rattle.std.specs.FinMap.Entries.{below_all, find-where_key, same_entries}
 use Rattle.std.proofs.lemmas.List.Elements.{recursion_from_All}
+use Rattle.std.proofs.lemmas.List.Sorted.{All-permutation}
 use Rattle.acl_names.specs.Paths.{path_cmp, PathOf}
 use Rattle.acl_names.proofs.PathOrder.{path_total, exact_paths}
+use Rattle.acl_names.proofs.Basics.{to_T}
 use Rattle.acl_text.specs.declared.record.DumpRecord.{DumpRecord}
 use Rattle.acl_edit.specs.declared.edit.EditFault.{EditFault}
 use Rattle.acl_edit.specs.declared.node.Node.{Node}
@@ -26,7 +29,8 @@ use Rattle.acl_tree.specs.Files.{Files, Recorded}
 use Rattle.acl_tree.specs.Operands.{is_file, files_meant, first_missing}
 use Rattle.acl_tree.specs.Edits.{and_others, edit_each, edit_all, file_fault, unless_missing}
 use Rattle.acl_tree.specs.Restoring.{edit_of, edit_if_some, restore_one, paths_of, restored_tree}
-use Rattle.acl_tree.specs.Inner.{RestoredFile, IsFileOf, restored, restore_each}
+use Rattle.acl_tree.specs.Inner.{AreFilesOf, RestoredFile, IsFileOf, SomeEdited, restored, restore_each}
+use Rattle.acl_tree.proofs.Left.{by_path}
 
 -- ---- sorted by the paths of their records
 
@@ -92,10 +96,6 @@ module _ (t : Files) where
       by Equal is rest = sym all.0.1 ∙ ap (λ q. find path_cmp q t) (sym (exact_paths p x.1.path is))
       by Greater is rest = rest
 
-to_T : (b : Bool) → b ≡ true → T b
-to_T true h = tt
-to_T false h = absurd (true≢false (sym h))
-
 abbrev value_or : DumpRecord → Option DumpRecord → DumpRecord
 value_or d None = d
 value_or d (Some r) = r
@@ -151,13 +151,33 @@ module _ (t : Files) (records : List DumpRecord) (xs : List RestoredFile) (order
   pub each_by_record : AllByRecursion (λ x. restore_one records x.0.0 x.0.1 ≡ restored x) xs
   each_by_record = edits_are xs each (leads_all (by_record xs) in_order)
 
+-- what is known of the files of records once they are in path order: they are the files of the command, and each is restored by its record
+pub record AreByRecord (t : Files) (records : List DumpRecord) (xs : List RestoredFile) : Type 0 where
+  pub are_meant : map (λ x. x.0) xs ≡ files_meant false (paths_of records) t
+  pub are_restored : AllByRecursion (λ x. restore_one records x.0.0 x.0.1 ≡ restored x) xs
+
+pub are_by_record : (t : Files) (records asked : List DumpRecord) (found sorted xs : List RestoredFile) → IsInOrder t → AreFilesOf t asked found → asked ≡ records
+    → map (λ x. x.1) sorted ≡ in_path_order (map (λ x. x.1) found) → IsPermutation found sorted → xs ≡ sorted → AreByRecord t records xs
+are_by_record t records asked found sorted xs order are same in_order shuffled listed =
+    let ordered : map (λ x. x.1) xs ≡ in_path_order records =
+    ap (λ l. map (λ x. x.1) l) listed ∙ in_order ∙ ap (λ rs. in_path_order rs) (are.records ∙ same) in
+    let all : All (IsFileOf t) xs = subst (λ l. All (IsFileOf t) l) (sym listed) (All-permutation (IsFileOf t) found sorted shuffled are.files) in
+    record { are_meant = files_are t records xs order ordered all; are_restored = each_by_record t records xs order ordered all }
+
+-- what is put of them
+pub some_by_record : (t : Files) (records : List DumpRecord) (xs : List RestoredFile) (ns : Files) → AreByRecord t records xs → SomeEdited (λ x. x.0) restored xs ns
+    → SomeEdited (λ e. e) (λ e. restore_one records e.0 e.1) (files_meant false (paths_of records) t) ns
+some_by_record t records xs ns are made =
+    subst (λ es. SomeEdited (λ e. e) (λ e. restore_one records e.0 e.1) es ns) are.are_meant (by_path (λ x. x.0) restored (restore_one records) xs ns are.are_restored made)
+
 module _ (edit : PathOf → Node → Result Node EditFault) where
   pub restored_are : (xs : List RestoredFile) → AllByRecursion (λ x. edit x.0.0 x.0.1 ≡ restored x) xs → restore_each xs ≡ edit_each edit (map (λ x. x.0) xs)
   restored_are [] all = refl
   restored_are (x ∷ xs) all = (λ i. and_others x.0.0 (sym all.0 i) (restored_are xs all.1 i))
 
 -- a fault of a file is the restore's, where no path is missing
-pub fault_reported : (records : List DumpRecord) (t : Recorded) (fault : FileFault) → first_missing (paths_of records) t.files ≡ None → (fault ≢ of_files.NoMemory → edit_all (restore_one records) false (paths_of records) t ≡ Err fault)
+pub fault_reported : (records : List DumpRecord) (t : Recorded) (fault : FileFault) → first_missing (paths_of records) t.files ≡ None
+    → (fault ≢ of_files.NoMemory → edit_all (restore_one records) false (paths_of records) t ≡ Err fault)
     → file_fault fault ≢ faults.NoMemory → restored_tree records t ≡ Err (file_fault fault)
 fault_reported records t (of_files.Edit p f) there reported some =
     ap (λ o. unless_missing o (edit_all (restore_one records) false (paths_of records) t)) there

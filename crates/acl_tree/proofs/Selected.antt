@@ -1,5 +1,6 @@
 -- The files that operands in path order mean.
-use Rattle.std.proofs.Common.{◌≡◌, ◌≢◌, ℕ, suc, ◌<◌, ◌≤◌, arith, length, get_or, Bool, true, false, not, cond, ◌||◌, List, [], ◌∷◌, ◌++◌, filter, Some, None, Ordering, Less, Equal, Greater, refl, sym, ap, subst, ◌∙◌, append_assoc, true≢false}
+use Rattle.std.proofs.Common.{◌≡◌, ◌≢◌, ℕ, suc, ◌<◌, ◌≤◌, arith, length, get_or, Bool, true, false, not, cond, ◌||◌, List, [], ◌∷◌, ◌++◌, filter, Some, None}
+use Rattle.std.proofs.Common.{Ordering, Less, Equal, Greater, refl, sym, ap, subst, ◌∙◌, append_assoc, true≢false}
 use Rattle.std.specs.Prelude.{Option, option_map}
 use Rattle.std.specs.Option.{option_map_or}
 use Rattle.std.specs.List.Sorted.{IsSortedBy}
@@ -21,28 +22,13 @@ use Rattle.kinds.specs.Numbered.{Numbers, entries_by, AreUsed}
 use Rattle.kinds.proofs.EntriesBy.{entry_first, entries_append}
 use Rattle.acl_tree.specs.Files.{Files}
 use Rattle.acl_names.specs.Below.{encloses, is_above}
+use Rattle.acl_names.proofs.Basics.{is_equal, equal_is_not_greater, less_is_not_greater, not_gt, is_greater}
 use Rattle.acl_tree.specs.Operands.{means, is_file, files_meant}
 use Rattle.acl_tree.specs.Inner.{NoneBefore, Ascend, next_file_below}
 use Rattle.acl_tree.proofs.Follows.{known_by_next}
 
-equal : (o : Ordering) → is_eq o ≡ true → o ≡ Equal
-equal Less h = absurd (true≢false (sym h))
-equal Equal h = refl
-equal Greater h = absurd (true≢false (sym h))
-
-equal_is_not_greater : Equal ≡ Greater → ⊥
-equal_is_not_greater e = cc
-
-less_is_not_greater : Less ≡ Greater → ⊥
-less_is_not_greater e = cc
-
 equal_is_not_less : Equal ≡ Less → ⊥
 equal_is_not_less e = cc
-
-gt_false : (o : Ordering) → o ≢ Greater → is_gt o ≡ false
-gt_false Less h = refl
-gt_false Equal h = refl
-gt_false Greater h = absurd (h refl)
 
 not_greater_itself : (p : PathOf) → path_cmp p p ≢ Greater
 not_greater_itself p = λ gt. equal_is_not_greater (sym (tied_itself path_total p) ∙ gt)
@@ -58,7 +44,7 @@ le_trans a b c ab bc = by (path_cmp a b) refl
 -- ---- one operand
 
 pub same_path : (p q : PathOf) → eq_by_cmp path_cmp q p ≡ true → q ≡ p
-same_path p q h = exact_paths q p (equal (path_cmp q p) h)
+same_path p q h = exact_paths q p (is_equal (path_cmp q p) h)
 
 -- an operand is not after what it means
 pub means_from : (b : Bool) (p q : PathOf) → means b p q ≡ true → path_cmp p q ≢ Greater
@@ -70,7 +56,7 @@ means_convex : (b : Bool) (p e r : PathOf) → path_cmp p e ≢ Greater → path
 means_convex true p e r pe er h = by (path_cmp e r) refl
   where
     by : (o : Ordering) → path_cmp e r ≡ o → encloses p e ≡ true
-    by Less is = convex p e r (gt_false _ pe) is h
+    by Less is = convex p e r (not_gt _ pe) is h
     by Equal is = subst (λ z. encloses p z ≡ true) (sym (exact_paths e r is)) h
     by Greater is = absurd (er is)
 means_convex false p e r pe er h = by (path_cmp e p) refl
@@ -115,11 +101,6 @@ pub none_meant : {V : Type 0} (b : Bool) (es : List (PathOf × V)) → files_mea
 none_meant b [] = refl
 none_meant b (e ∷ es) = none_meant b es
 
-greater : (o : Ordering) → is_gt o ≡ true → o ≡ Greater
-greater Less h = absurd (true≢false (sym h))
-greater Equal h = absurd (true≢false (sym h))
-greater Greater h = refl
-
 -- no operand from one on means what is before that one
 none_before : (b : Bool) (q : PathOf) (qs : List PathOf) (p : PathOf) → NoneBefore q qs → path_cmp q p ≡ Greater → is_file b qs p ≡ false
 none_before b q [] p h gt = refl
@@ -157,8 +138,8 @@ module _ {V : Type 0} (b : Bool) (q : PathOf) (qs : List PathOf) where
       meant = files_meant b (q ∷ qs) es
 
       outside : is_gt (path_cmp q e.0) ≡ true → (c : Bool) → means b q e.0 ≡ c → (c || is_file b qs e.0) ≡ false
-      outside gt true is = absurd (means_from b q e.0 is (greater (path_cmp q e.0) gt))
-      outside gt false is = none_before b q qs e.0 none (greater (path_cmp q e.0) gt)
+      outside gt true is = absurd (means_from b q e.0 is (is_greater (path_cmp q e.0) gt))
+      outside gt false is = none_before b q qs e.0 none (is_greater (path_cmp q e.0) gt)
 
       by : (c : Bool) → is_gt (path_cmp q e.0) ≡ c → files_meant b (q ∷ qs) (from q es) ≡ meant
           → files_meant b (q ∷ qs) (cond (not c) (e ∷ from q es) (from q es)) ≡ cond (is_file b (q ∷ qs) e.0) (e ∷ meant) meant
@@ -183,7 +164,8 @@ module _ {V : Type 0} (all rest more : List (PathOf × V)) (e : PathOf × V) (or
   end_from q lt =
       ap (from q) (sym whole)
       ∙ from-append q end.before (e ∷ more)
-      ∙ ap (λ l. l ++ from q (e ∷ more)) (from_none q end.before (before_later e.0 q end.before (λ gt. less_is_not_greater (sym lt ∙ gt)) (before_part end.before e more (subst IsInOrder (sym whole) order))))
+      ∙ ap (λ l. l ++ from q (e ∷ more))
+      (from_none q end.before (before_later e.0 q end.before (λ gt. less_is_not_greater (sym lt ∙ gt)) (before_part end.before e more (subst IsInOrder (sym whole) order))))
       ∙ ap (λ c. cond (not c) (e ∷ from q more) (from q more)) (ap is_gt (above e.0 q lt))
 
 pub fewer_from : {V : Type 0} (q : PathOf) (es : List (PathOf × V)) → length (from q es) ≤ length es
@@ -260,14 +242,16 @@ next_by : (k : KindsOf Node) (p : PathOf) (ns : Numbers) → AreUsed k ns → ne
 next_by k p [] used = refl
 next_by k p (e ∷ ns) used = ap (next_file_below p) (entry_first k e ns used.0.0 used.0.1)
 
-pub below_peeked : {A V : Type 0} (f : A → PathOf) (p : PathOf) (es : List (PathOf × V)) (o : Option A) → option_map f o ≡ option_map (λ e. e.0) (first es) → option_map_or (λ a. is_above p (f a)) o false ≡ next_file_below p es
+pub below_peeked : {A V : Type 0} (f : A → PathOf) (p : PathOf) (es : List (PathOf × V)) (o : Option A) → option_map f o ≡ option_map (λ e. e.0) (first es)
+    → option_map_or (λ a. is_above p (f a)) o false ≡ next_file_below p es
 below_peeked f p [] None h = refl
 below_peeked f p [] (Some a) h = absurd (some_is_not_none (f a) (sym h))
 below_peeked f p (e ∷ es) None h = absurd (some_is_not_none e.0 h)
 below_peeked f p (e ∷ es) (Some a) h = ap (is_above p) (same_some (f a) e.0 h)
 
 -- it is seen from the next one
-pub below_by_next : (k : KindsOf Node) (ns pre more : Numbers) (e : PathOf × ℕ) (n : Node) → IsInOrder (entries_by k ns) → AreUsed k ns → node_at k e.1 ≡ Some n → ns ≡ pre ++ e ∷ more → next_file_below e.0 more ≡ holds_below (entries_by k ns) e.0
+pub below_by_next : (k : KindsOf Node) (ns pre more : Numbers) (e : PathOf × ℕ) (n : Node) → IsInOrder (entries_by k ns) → AreUsed k ns
+    → node_at k e.1 ≡ Some n → ns ≡ pre ++ e ∷ more → next_file_below e.0 more ≡ holds_below (entries_by k ns) e.0
 below_by_next k ns pre more e n order used at is =
     let whole : entries_by k ns ≡ entries_by k pre ++ (e.0, n) ∷ entries_by k more =
     ap (entries_by k) is ∙ entries_append k pre (e ∷ more) ∙ ap (λ l. entries_by k pre ++ l) (entry_first k e more n at)

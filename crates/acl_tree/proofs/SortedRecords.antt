@@ -1,5 +1,5 @@
 -- Records with different paths that are sorted by their paths are the records in path order.
-use Rattle.std.proofs.Common.{◌≡◌, ◌≤◌, ◌+◌, suc, arith, Bool, true, false, cond, not, T, List, [], ◌∷◌, map, length, Option, Some, None, Ordering, Less, Equal, Greater, refl, sym, ap, subst, ◌∙◌}
+use Rattle.std.proofs.Common.{◌≡◌, ◌≤◌, ◌+◌, suc, arith, Bool, true, false, cond, T, List, [], ◌∷◌, map, length, Option, Some, None, Ordering, Less, Equal, Greater, refl, sym, ap, subst, ◌∙◌}
 use Rattle.std.specs.Prelude.{fold, slice_index_or, ◌&&◌, ◌||◌}
 use Rattle.std.specs.Option.{option_or}
 use Rattle.std.specs.Ordering.{is_eq, is_lt, ordering_reverse}
@@ -14,6 +14,7 @@ use Rattle.std.proofs.lemmas.List.Sums.{length-filter}
 use Rattle.std.specs.FinMap.Entries.{by_order, below_all, find-put, is_sorted-put, same_entries}
 use Rattle.acl_names.specs.Paths.{path_cmp, PathOf}
 use Rattle.acl_names.proofs.PathOrder.{path_total, exact_paths}
+use Rattle.acl_names.proofs.Basics.{is_equal, not_first, and_second as rest, not_both}
 use Rattle.acl_text.specs.declared.record.DumpRecord.{DumpRecord}
 use Rattle.acl_text.specs.OwnPaths.{have_own_paths}
 use Rattle.acl_text.specs.Records.{same_path, is_repeated}
@@ -42,14 +43,17 @@ put_insert : (r : DumpRecord) (rs : List DumpRecord) → by_path (insert_record 
 put_insert r [] = refl
 put_insert r (s ∷ rs) = at (path_cmp r.path s.path) refl (put_insert r rs)
   where
-    at : (o : Ordering) → path_cmp r.path s.path ≡ o → by_path (insert_record r rs) ≡ put path_cmp r.path r (by_path rs) → by_path (by_order o (r ∷ s ∷ rs) (r ∷ rs) (s ∷ insert_record r rs)) ≡ by_order o ((r.path, r) ∷ by_path (s ∷ rs)) ((s.path, r) ∷ by_path rs) ((s.path, s) ∷ put path_cmp r.path r (by_path rs))
+    at : (o : Ordering) → path_cmp r.path s.path ≡ o → by_path (insert_record r rs) ≡ put path_cmp r.path r (by_path rs)
+        → by_path (by_order o (r ∷ s ∷ rs) (r ∷ rs) (s ∷ insert_record r rs))
+        ≡ by_order o ((r.path, r) ∷ by_path (s ∷ rs)) ((s.path, r) ∷ by_path rs) ((s.path, s) ∷ put path_cmp r.path r (by_path rs))
     at Less is more = refl
     at Equal is more = ap (λ p. (p, r) ∷ by_path rs) (exact_paths r.path s.path is)
     at Greater is more = ap (λ l. (s.path, s) ∷ l) more
 
 fold_sorted : (rs done : List DumpRecord) → T (is_sorted path_cmp (by_path done)) → T (is_sorted path_cmp (by_path (fold (λ sorted r. insert_record r sorted) done rs)))
 fold_sorted [] done sorted = sorted
-fold_sorted (r ∷ rs) done sorted = fold_sorted rs (insert_record r done) (subst (λ es. T (is_sorted path_cmp es)) (sym (put_insert r done)) (is_sorted-put path_cmp path_total r.path r (by_path done) sorted))
+fold_sorted (r ∷ rs) done sorted = fold_sorted rs (insert_record r done)
+    (subst (λ es. T (is_sorted path_cmp es)) (sym (put_insert r done)) (is_sorted-put path_cmp path_total r.path r (by_path done) sorted))
 
 or_none : (o : Option DumpRecord) → option_or o None ≡ o
 or_none None = refl
@@ -69,11 +73,6 @@ fold_found p (r ∷ rs) done =
 
 -- ---- different paths
 
-is_equal : (o : Ordering) → is_eq o ≡ true → o ≡ Equal
-is_equal Less h = absurd (subst T (sym h) tt)
-is_equal Equal h = refl
-is_equal Greater h = absurd (subst T (sym h) tt)
-
 none_pass : (t : DumpRecord → Bool) (rs : List DumpRecord) → list_any t rs ≡ false → filter t rs ≡ []
 none_pass t [] h = refl
 none_pass t (r ∷ rs) h = at (t r) h (none_pass t rs)
@@ -82,14 +81,6 @@ none_pass t (r ∷ rs) h = at (t r) h (none_pass t rs)
     at true h more = absurd (subst T h tt)
     at false h more = more h
 
-fresh : (a b : Bool) → (not a && b) ≡ true → a ≡ false
-fresh true b h = sym h
-fresh false b h = refl
-
-rest : (a b : Bool) → (not a && b) ≡ true → b ≡ true
-rest true b h = absurd (subst T (sym h) tt)
-rest false b h = h
-
 few : (p : PathOf) (rs : List DumpRecord) → have_own_paths rs ≡ true → length (filter (has p) rs) ≤ 1
 few p [] apart = omega arith
 few p (r ∷ rs) apart = at (has p r) refl (few p rs (rest (is_repeated rs r.path) (have_own_paths rs) apart))
@@ -97,7 +88,7 @@ few p (r ∷ rs) apart = at (has p r) refl (few p rs (rest (is_repeated rs r.pat
     at : (b : Bool) → has p r ≡ b → length (filter (has p) rs) ≤ 1 → length (cond b (r ∷ filter (has p) rs) (filter (has p) rs)) ≤ 1
     at true is fewer =
         let same = exact_paths p r.path (is_equal (path_cmp p r.path) is) in
-        let none : filter (has p) rs ≡ [] = none_pass (has p) rs (ap (λ q. is_repeated rs q) same ∙ fresh (is_repeated rs r.path) (have_own_paths rs) apart) in
+        let none : filter (has p) rs ≡ [] = none_pass (has p) rs (ap (λ q. is_repeated rs q) same ∙ not_first (is_repeated rs r.path) (have_own_paths rs) apart) in
         let none_left : length (filter (has p) rs) ≡ 0 = ap (λ (l : List DumpRecord). length l) none in
         omega (arith, none_left)
     at false is fewer = fewer
@@ -114,7 +105,8 @@ last_is_first : (p : PathOf) (rs : List DumpRecord) → length (filter (has p) r
 last_is_first p [] h = refl
 last_is_first p (r ∷ rs) h = at (has p r) h (last_is_first p rs)
   where
-    at : (b : Bool) → length (cond b (r ∷ filter (has p) rs) (filter (has p) rs)) ≤ 1 → (length (filter (has p) rs) ≤ 1 → record_at p rs ≡ first (filter (has p) rs)) → option_or (record_at p rs) (cond b (Some r) None) ≡ first (cond b (r ∷ filter (has p) rs) (filter (has p) rs))
+    at : (b : Bool) → length (cond b (r ∷ filter (has p) rs) (filter (has p) rs)) ≤ 1
+        → (length (filter (has p) rs) ≤ 1 → record_at p rs ≡ first (filter (has p) rs)) → option_or (record_at p rs) (cond b (Some r) None) ≡ first (cond b (r ∷ filter (has p) rs) (filter (has p) rs))
     at true h more =
         let none = no_length (filter (has p) rs) h in
         let gone : record_at p rs ≡ None = more (subst (λ (l : List DumpRecord). length l ≤ 1) (sym none) (omega arith)) ∙ ap (λ l. first l) none in
@@ -122,10 +114,6 @@ last_is_first p (r ∷ rs) h = at (has p r) h (last_is_first p rs)
     at false h more = or_none (record_at p rs) ∙ more h
 
 -- ---- sorted records
-
-not_both : (b : Bool) → b ≡ true → b ≡ false → ⊥
-not_both true x y = cc
-not_both false x y = cc
 
 not_empty : (r : DumpRecord) (rs : List DumpRecord) → r ∷ rs ≡ [] → ⊥
 not_empty r rs e = cc
@@ -162,7 +150,8 @@ module _ (t : DumpRecord → Bool) (fs : List DumpRecord) where
   are_these [] are same small = sym (length_zero fs (omega (arith, same)))
   are_these (r ∷ rs) are same small = at (t r) refl same (are_these rs are.1)
     where
-      at : (b : Bool) → t r ≡ b → length (cond b (r ∷ filter t rs) (filter t rs)) ≡ length fs → (length (filter t rs) ≡ length fs → length fs ≤ 1 → filter t rs ≡ fs) → cond b (r ∷ filter t rs) (filter t rs) ≡ fs
+      at : (b : Bool) → t r ≡ b → length (cond b (r ∷ filter t rs) (filter t rs)) ≡ length fs
+          → (length (filter t rs) ≡ length fs → length fs ≤ 1 → filter t rs ≡ fs) → cond b (r ∷ filter t rs) (filter t rs) ≡ fs
       at true is same more =
           let alone : suc (length (filter t rs)) ≤ 1 = omega (arith, small, same) in
           ap (λ l. r ∷ l) (no_length (filter t rs) alone) ∙ sym (are.0 is)
@@ -196,7 +185,8 @@ below_less : (r s : PathOf) (es : List (PathOf × DumpRecord)) → path_cmp r s 
 below_less r s [] less h = tt
 below_less r s (e ∷ es) less h =
     let next = first_of (is_lt (path_cmp s e.0)) (below_all path_cmp s es) h in
-    both (is_lt (path_cmp r e.0)) (below_all path_cmp r es) (subst (λ o. T (is_lt o)) (sym (path_total.trans r s e.0 less (is_less (path_cmp s e.0) next))) tt) (below_less r s es less (second_of (is_lt (path_cmp s e.0)) (below_all path_cmp s es) h))
+    both (is_lt (path_cmp r e.0)) (below_all path_cmp r es) (subst (λ o. T (is_lt o)) (sym (path_total.trans r s e.0 less (is_less (path_cmp s e.0) next))) tt)
+    (below_less r s es less (second_of (is_lt (path_cmp s e.0)) (below_all path_cmp s es) h))
 
 sorted_tail : (r : DumpRecord) (rs : List DumpRecord) → IsSortedBy is_before (r ∷ rs) → IsSortedBy is_before rs
 sorted_tail r rs sorted k d low within =
@@ -210,7 +200,8 @@ rising (r ∷ s ∷ rs) sorted alone =
     let rest = rising (s ∷ rs) (sorted_tail r (s ∷ rs) sorted) (λ p. shorter p (has p r) (alone p)) in
     let less : path_cmp r.path s.path ≡ Less = apart (path_cmp r.path s.path) refl in
     both (below_all path_cmp r.path (by_path (s ∷ rs))) (is_sorted path_cmp (by_path (s ∷ rs)))
-    (both (is_lt (path_cmp r.path s.path)) (below_all path_cmp r.path (by_path rs)) (subst (λ o. T (is_lt o)) (sym less) tt) (below_less r.path s.path (by_path rs) less (first_of (below_all path_cmp s.path (by_path rs)) (is_sorted path_cmp (by_path rs)) rest)))
+    (both (is_lt (path_cmp r.path s.path)) (below_all path_cmp r.path (by_path rs)) (subst (λ o. T (is_lt o)) (sym less) tt)
+    (below_less r.path s.path (by_path rs) less (first_of (below_all path_cmp s.path (by_path rs)) (is_sorted path_cmp (by_path rs)) rest)))
     rest
   where
     shorter : (p : PathOf) (b : Bool) → length (cond b (r ∷ filter (has p) (s ∷ rs)) (filter (has p) (s ∷ rs))) ≤ 1 → length (filter (has p) (s ∷ rs)) ≤ 1

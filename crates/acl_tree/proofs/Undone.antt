@@ -20,12 +20,9 @@ use Rattle.acl_tree.specs.Rm.{refusal, first_refused, without_files, or_refused}
 use Rattle.acl_tree.specs.State.{State, with_tree}
 use Rattle.acl_tree.specs.Step.{step}
 use Rattle.acl_names.proofs.Below.{within_itself}
+use Rattle.acl_names.proofs.Basics.{both_false}
 use Rattle.acl_tree.proofs.Selected.{same_path}
 use Rattle.acl_tree.proofs.Unnamed.{only_tree, puts_by}
-
-either_false : (a b : Bool) → (a || b) ≡ false → (a ≡ false) × (b ≡ false)
-either_false false b h = (refl, h)
-either_false true b h = absurd (true≢false h)
 
 -- what is outside is not meant, with recursion or without
 not_meant : (recursive : Bool) (p q : PathOf) → encloses p q ≡ false → is_file recursive (p ∷ []) q ≡ false
@@ -46,7 +43,7 @@ removed_again recursive p n [] out = ap (λ b. cond (not b) ((p, n) ∷ []) []) 
 removed_again recursive p n (e ∷ t) out = by (path_cmp p e.0) refl (removed_again recursive p n t parts.1)
   where
     parts : (encloses p e.0 ≡ false) × (exists p t ≡ false)
-    parts = either_false (encloses p e.0) (exists p t) out
+    parts = both_false (encloses p e.0) (exists p t) out
 
     kept : (es : Files) → without_files recursive (p ∷ []) (e ∷ es) ≡ e ∷ without_files recursive (p ∷ []) es
     kept es = ap (λ b. cond (not b) (e ∷ without_files recursive (p ∷ []) es) (without_files recursive (p ∷ []) es)) (not_meant recursive p e.0 parts.0)
@@ -57,11 +54,12 @@ removed_again recursive p n (e ∷ t) out = by (path_cmp p e.0) refl (removed_ag
     all_kept : (es : Files) → exists p es ≡ false → without_files recursive (p ∷ []) es ≡ es
     all_kept [] h = refl
     all_kept (x ∷ es) h =
-        let outs = either_false (encloses p x.0) (exists p es) h in
+        let outs = both_false (encloses p x.0) (exists p es) h in
         ap (λ b. cond (not b) (x ∷ without_files recursive (p ∷ []) es) (without_files recursive (p ∷ []) es)) (not_meant recursive p x.0 outs.0)
         ∙ ap (λ l. x ∷ l) (all_kept es outs.1)
 
-    by : (o : Ordering) → path_cmp p e.0 ≡ o → without_files recursive (p ∷ []) (put path_cmp p n t) ≡ t → without_files recursive (p ∷ []) (by_order o ((p, n) ∷ e ∷ t) ((e.0, n) ∷ t) (e ∷ put path_cmp p n t)) ≡ e ∷ t
+    by : (o : Ordering) → path_cmp p e.0 ≡ o → without_files recursive (p ∷ []) (put path_cmp p n t) ≡ t
+        → without_files recursive (p ∷ []) (by_order o ((p, n) ∷ e ∷ t) ((e.0, n) ∷ t) (e ∷ put path_cmp p n t)) ≡ e ∷ t
     by Less is rest = gone (e ∷ t) ∙ kept t ∙ ap (λ l. e ∷ l) (all_kept t parts.1)
     by Equal is rest = absurd (true≢false (sym (subst (λ z. encloses p z ≡ true) (exact_paths p e.0 is) (within_itself p)) ∙ parts.0))
     by Greater is rest = kept (put path_cmp p n t) ∙ ap (λ l. e ∷ l) rest
@@ -72,7 +70,8 @@ not_refused recursive p n t may =
     ap (λ o. option_or (refusal recursive p o) None) (find-put path_cmp path_total p p n t ∙ ap (λ o. cond (is_eq o) (Some n) (find path_cmp p t)) (tied_itself path_total p))
     ∙ ap (λ b. option_or (if b then Some (IsDirectory p) else None) None) may
 
-pub created_removed : (new : NewFile) (recursive : Bool) (old made : State) → (is_directory new.kind && not recursive) ≡ false → step old (Creat new) ≡ Ok made → step made (Rm (new.path ∷ []) recursive) ≡ Ok old
+pub created_removed : (new : NewFile) (recursive : Bool) (old made : State) → (is_directory new.kind && not recursive) ≡ false → step old (Creat new) ≡ Ok made
+    → step made (Rm (new.path ∷ []) recursive) ≡ Ok old
 created_removed new recursive old made may h =
     let only = only_tree old made (creat new old.people old.tree) h in
     let puts = puts_by new old.tree made.tree (row_of old.people new.user) only.tree in

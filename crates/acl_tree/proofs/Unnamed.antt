@@ -20,6 +20,7 @@ use Rattle.acl_tree.specs.declared.fault.TreeFault.TheVariants.{Exists, TooMany,
 use Rattle.acl_tree.specs.Files.{Files, Recorded, max_files}
 use Rattle.path_map.specs.Entries.{IsInOrder}
 use Rattle.acl_names.specs.Below.{parent}
+use Rattle.acl_names.proofs.Basics.{err_is_not_ok}
 use Rattle.acl_tree.specs.Creat.{row_of, exists, directory_at, creat_in, creat_by, creat}
 use Rattle.acl_tree.specs.EditCommand.{edited_tree}
 use Rattle.acl_tree.specs.Accounts.{useradd, userdel}
@@ -33,9 +34,6 @@ use Rattle.acl_tree.specs.Step.{step}
 use Rattle.acl_tree.specs.Loads.{with_people}
 use Rattle.acl_tree.specs.Chmod.{or_missing, chmod_all}
 use Rattle.acl_tree.proofs.Each.{same, find-edited, edit_each_file, restore_each_file}
-
-err_is_not_ok : {A B : Type 0} (a : A) (b : B) → Err b ≡ Ok a → ⊥
-err_is_not_ok a b h = cc
 
 true_is_not_false : true ≡ false → ⊥
 true_is_not_false h = cc

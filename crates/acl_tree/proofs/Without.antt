@@ -1,8 +1,9 @@
 -- Files without those that a test passes, by their numbers.
-use Rattle.std.proofs.Common.{◌≡◌, Bool, true, false, ◌&&◌, not, cond, is_some, Some, [], ◌∷◌, filter, refl, sym, ap, ◌∙◌}
+use Rattle.std.proofs.Common.{◌≡◌, Bool, true, false, not, cond, is_some, Some, [], ◌∷◌, filter, refl, sym, ap, ◌∙◌}
 use Rattle.std.specs.Ordering.{is_eq}
 use Rattle.std.specs.FinMap.{find}
 use Rattle.acl_names.specs.Paths.{path_cmp, PathOf}
+use Rattle.acl_names.proofs.Basics.{and_is_first}
 use Rattle.path_map.specs.Merged.{has, without_all}
 use Rattle.path_map.proofs.Differences.{Leads, leads_all, has_where}
 use Rattle.acl_edit.specs.declared.node.Node.{Node}
@@ -11,10 +12,6 @@ use Rattle.kinds.specs.Numbered.{Numbers, entries_by, AreUsed}
 use Rattle.kinds.proofs.EntriesBy.{entry_first}
 use Rattle.acl_tree.specs.Files.{Files}
 use Rattle.path_map.specs.Entries.{IsInOrder}
-
-and_true : (a b : Bool) → b ≡ true → (a && b) ≡ a
-and_true true b h = h
-and_true false b h = refl
 
 has_by : (k : KindsOf Node) (p : PathOf) (ns : Numbers) → AreUsed k ns → has p (entries_by k ns) ≡ has p ns
 has_by k p [] used = refl
@@ -25,10 +22,11 @@ has_by k p (e ∷ ns) used = ap (has p) (entry_first k e ns used.0.0 used.0.1) �
     by false rest = rest
 
 -- without the numbers of those that pass a test, those are left that do not
-pub left_by : (k : KindsOf Node) (test : PathOf → Bool) (ns : Numbers) → AreUsed k ns → IsInOrder (entries_by k ns) → without_all (filter (λ e. test e.0) ns) (entries_by k ns) ≡ filter (λ e. not (test e.0)) (entries_by k ns)
+pub left_by : (k : KindsOf Node) (test : PathOf → Bool) (ns : Numbers) → AreUsed k ns → IsInOrder (entries_by k ns)
+    → without_all (filter (λ e. test e.0) ns) (entries_by k ns) ≡ filter (λ e. not (test e.0)) (entries_by k ns)
 left_by k test ns used order = each (entries_by k ns) (leads_all (entries_by k ns) order)
   where
     each : (es : Files) → Leads (entries_by k ns) es → without_all (filter (λ e. test e.0) ns) es ≡ filter (λ e. not (test e.0)) es
     each [] h = refl
     each (e ∷ es) h =
-        λ i. cond (not ((has_where test e.0 ns ∙ and_true (test e.0) (has e.0 ns) (sym (has_by k e.0 ns used) ∙ ap is_some h.0)) i)) (e ∷ each es h.1 i) (each es h.1 i)
+        λ i. cond (not ((has_where test e.0 ns ∙ and_is_first (test e.0) (has e.0 ns) (sym (has_by k e.0 ns used) ∙ ap is_some h.0)) i)) (e ∷ each es h.1 i) (each es h.1 i)

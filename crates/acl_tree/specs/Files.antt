@@ -22,7 +22,8 @@ pub record Recorded : Type 0 where
 
 abbrev pub coded_recorded : Coded Recorded
 coded_recorded =
-    code_by (Files × Bool) (coded× (coded_list (coded× (coded_list (coded_list coded_ℕ)) node_contracts.the_row.coded)) coded_bool) (λ t. (t.files, t.loaded)) (λ p. record { files = p.0; loaded = p.1 }) (λ _. refl)
+    code_by (Files × Bool) (coded× (coded_list (coded× (coded_list (coded_list coded_ℕ)) node_contracts.the_row.coded)) coded_bool) (λ t. (t.files, t.loaded))
+    (λ p. record { files = p.0; loaded = p.1 }) (λ _. refl)
 
 abbrev pub no_files : Recorded
 no_files = record { files = []; loaded = false }

@@ -19,7 +19,8 @@ pub record FoundFile : Type 0 where
 
 abbrev pub coded_found : Coded FoundFile
 coded_found =
-    code_by ((PathOf × Node) × Bool) (coded× (coded× (coded_list (coded_list coded_ℕ)) node_contracts.the_row.coded) coded_bool) (λ f. ((f.path, f.node), f.has_below)) (λ p. record { path = p.0.0; node = p.0.1; has_below = p.1 }) (λ _. refl)
+    code_by ((PathOf × Node) × Bool) (coded× (coded× (coded_list (coded_list coded_ℕ)) node_contracts.the_row.coded) coded_bool)
+    (λ f. ((f.path, f.node), f.has_below)) (λ p. record { path = p.0.0; node = p.0.1; has_below = p.1 }) (λ _. refl)
 
 abbrev pub found_file : Bool → PathOf × Node → FoundFile
 found_file has_below e = record { path = e.0; node = e.1; has_below = has_below }

@@ -40,7 +40,8 @@ pub record EditsEach (edit : PathOf → Node → Result Node EditFault) (recursi
 -- an edit makes of each file what the edit of that one file makes of it
 abbrev pub EachFileIsEdited : Type 0
 EachFileIsEdited =
-    (recursive : Bool) (paths : List PathOf) (e : edits.Edit) (old new : Recorded) → IsInOrder old.files → edited_tree recursive paths e old ≡ Ok new → EditsEach (edit_one e recursive) recursive paths old new
+    (recursive : Bool) (paths : List PathOf) (e : edits.Edit) (old new : Recorded) → IsInOrder old.files → edited_tree recursive paths e old ≡ Ok new
+    → EditsEach (edit_one e recursive) recursive paths old new
 
 -- and a restore what the restore of that one file makes of it
 abbrev pub EachFileIsRestored : Type 0
@@ -61,7 +62,8 @@ MasksEach line recursive paths old new =
 -- they are true at each file of the command, whatever line edits it
 abbrev pub EachFileKeepsMaskRules : Type 0
 EachFileKeepsMaskRules =
-    (recursive : Bool) (paths : List PathOf) (line : Change) (old new : Recorded) → IsInOrder old.files → edited_tree recursive paths (edit_of line) old ≡ Ok new → MasksEach line recursive paths old new
+    (recursive : Bool) (paths : List PathOf) (line : Change) (old new : Recorded) → IsInOrder old.files
+    → edited_tree recursive paths (edit_of line) old ≡ Ok new → MasksEach line recursive paths old new
 
 -- ---- what a command does not name
 
@@ -107,12 +109,14 @@ with_users_loaded s = record s { people = record s.people { passwd_loaded = true
 -- users count as loaded
 abbrev pub NewUserIsRemoved : Type 0
 NewUserIsRemoved =
-    (new : NewUser) (old made : State) → is_user_name new.name ≡ true → list_any (names_user new.name) old.people.groups ≡ false → step old (Useradd new) ≡ Ok made → step made (Userdel new.name) ≡ Ok (with_users_loaded old)
+    (new : NewUser) (old made : State) → is_user_name new.name ≡ true → list_any (names_user new.name) old.people.groups ≡ false
+    → step old (Useradd new) ≡ Ok made → step made (Userdel new.name) ≡ Ok (with_users_loaded old)
 
 -- where users were loaded before, it is the same state
 abbrev pub NewUserIsRemovedWhole : Type 0
 NewUserIsRemovedWhole =
-    (new : NewUser) (old made : State) → is_user_name new.name ≡ true → list_any (names_user new.name) old.people.groups ≡ false → old.people.passwd_loaded ≡ true → step old (Useradd new) ≡ Ok made → step made (Userdel new.name) ≡ Ok old
+    (new : NewUser) (old made : State) → is_user_name new.name ≡ true → list_any (names_user new.name) old.people.groups ≡ false
+    → old.people.passwd_loaded ≡ true → step old (Useradd new) ≡ Ok made → step made (Userdel new.name) ≡ Ok old
 
 -- ---- a restore of what is
 

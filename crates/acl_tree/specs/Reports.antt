@@ -1,5 +1,5 @@
 -- What a prepared command reports of the state after it.
-use Rattle.std.specs.Prelude.{◌≡◌, ◌≢◌, ◌==◌, ◌-◌, if◌then◌else◌, ℕ, List, [], ◌∷◌, false, Option, Some, None, IfSome, Result, Ok, Err, IfOk, refl}
+use Rattle.std.specs.Prelude.{◌≡◌, ◌≢◌, ◌==◌, ◌-◌, if◌then◌else◌, ℕ, List, [], false, Option, Some, None, IfSome, Result, Err, IfOk, refl}
 use Rattle.std.specs.List.{AllByRecursion}
 use Rattle.std.specs.Coded.{Coded, code_by, coded×, coded_ℕ, coded_list}
 use Rattle.acl_edit.specs.contracts.node.Node as node_contracts

@@ -44,7 +44,7 @@ pub use laws::{
 };
 pub use region::Region;
 pub use restore::DumpRecords;
-pub use selection::{Found, Paths, Selection};
+pub use selection::{FoundFile, Paths, Selection};
 pub use state::State;
 pub use step::Staged;
 pub use tree::Tree;

@@ -6,7 +6,6 @@ ghost use Rattle.std.specs.Coded.{coded_list};
 ghost use Rattle.kinds.specs.Numbered.{entries_in};
 ghost use Rattle.acl_text.specs.InTurn.{GivesUnless};
 ghost use Rattle.acl_text.specs.OwnPaths.{have_own_paths};
-ghost use Rattle.acl_edit.specs.Edits.{Gives, allowed};
 ghost use Rattle.acl_tree.specs.Loading.{in_path_order};
 ghost use Rattle.acl_tree.specs.Inner.{AreFilesOf, restore_each, RestoredFile, coded_restored, restored_by, restored, SomeEdited, PutsOrLeaves};
 ghost use Rattle.acl_names.specs.Paths.{PathOf};
@@ -20,8 +19,7 @@ use crate::edit::{FileFault, NodeEdit, edit_one};
 use crate::fault::TreeFault;
 use crate::files::Files;
 use crate::region::Region;
-use acl_edit::{EditFault, Kind, Node};
-use acl_entry::{Acl, Label};
+use acl_edit::{EditFault, Node, restore_node};
 use acl_names::Path;
 use acl_text::DumpRecord;
 use kinds::{KindMap, KindPuts, Likeness};
@@ -88,39 +86,22 @@ impl<'a> Model for Restored<'a> {
     ghost view = { λ r. ((r.entry.now.path, r.node.now), r.entry.now) };
 }
 
-/// The default list of a record, where its file may have one.
-fn default_of(alloc: Global, kind: Kind, entry: &DumpRecord) -> Result<Option<Acl>, EditFault>
-    ensures { Gives (λ x. x) result (allowed kind false entry.now.dacl) }
-{
-    match kind {
-        Kind::Directory => match &entry.dacl {
-            Some(dacl) => Ok(Some(dacl.try_clone(alloc)?)),
-            None => Ok(None),
-        },
-        Kind::Plain if entry.dacl.is_none() => Ok(None),
-        Kind::Plain => Err(EditFault::DefaultOnFile),
-    }
-}
-
 /// The record is for its file alone.
 impl NodeEdit for Restored<'_> {
     ghost edited = { λ restored n. restored_by restored.1 n };
 
-    #[tactic(auto, unfolding(acl_edit::specs::Edits::restore))]
     fn edited(&self, alloc: Global, node: &Node) -> Result<Node, EditFault> {
         let entry = self.entry;
-        let acl = entry.access.try_clone(alloc)?;
-        let dacl = default_of(alloc, node.kind, entry)?;
-        Ok(Node {
-            kind: node.kind,
-            label: Label {
-                owner: entry.owner.unwrap_or(node.label.owner),
-                group: entry.group.unwrap_or(node.label.group),
-                acl,
-            },
-            flags: entry.flags.unwrap_or([false; 3]),
-            dacl,
-        })
+        restore_node(
+            alloc,
+            node,
+            &entry.access,
+            &entry.dacl,
+            entry.owner,
+            entry.group,
+            entry.flags,
+            false,
+        )
     }
 
     /// Proof only: a directory stays one, and only directories have default lists.

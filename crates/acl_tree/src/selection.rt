@@ -30,7 +30,7 @@ fn files_in<'a>(
     alloc: Global,
     tree: &'a Files,
     region: &Region,
-) -> Result<Vec<Found<'a>>, AllocError>
+) -> Result<Vec<FoundFile<'a>>, AllocError>
     ensures { IfOk result (λ files. files.items ≡ files_found region.now.0 region.now.1 tree.now.files) }
 {
     let files = tree.files_by_path();
@@ -39,7 +39,7 @@ fn files_in<'a>(
     while let Some(entry) = walk.next() {
         let has_below = is_below(entry.0, walk.next_path());
         let node = files.kinds().node(entry.1);
-        found.push(Found::new(entry.0, node, has_below))?;
+        found.push(FoundFile::new(entry.0, node, has_below))?;
     }
     Ok(found)
 }
@@ -49,7 +49,7 @@ pub fn select<'a>(
     alloc: Global,
     tree: &'a Files,
     selection: &Selection<'_>,
-) -> Result<Vec<Found<'a>>, AllocError>
+) -> Result<Vec<FoundFile<'a>>, AllocError>
     ensures { IfOk result (λ files. files.items ≡ files_found selection.now.recursive selection.now.operands.now tree.now.files) }
 {
     let region = Region::of(alloc, selection)?;
@@ -81,7 +81,7 @@ impl Files {
         &'a self,
         alloc: Global,
         selection: &Selection<'_>,
-    ) -> Result<Vec<Found<'a>>, TreeFault>
+    ) -> Result<Vec<FoundFile<'a>>, TreeFault>
         ensures { Selects (λ files. files.items) selection.now self.now.files result }
     {
         look_up(alloc, self, selection.operands.as_slice())?;
@@ -128,13 +128,13 @@ pub struct Selection<'a> {
 
 /// A recorded file, and whether another one lies below it.
 #[derive(Drop)]
-pub struct Found<'a> {
+pub struct FoundFile<'a> {
     path: &'a Path,
     node: &'a Node,
     has_below: bool,
 }
 
-impl<'a> Model for Found<'a> {
+impl<'a> Model for FoundFile<'a> {
     ghost use Rattle.acl_tree.specs.Found.{FoundFile, coded_found};
 
     ghost Value = { FoundFile };
@@ -144,12 +144,12 @@ impl<'a> Model for Found<'a> {
     ghost view = { λ f. record { path = f.path.now; node = f.node.now; has_below = f.has_below } };
 }
 
-impl<'a> Found<'a> {
+impl<'a> FoundFile<'a> {
     /// A file, and whether another one lies below it.
-    pub fn new(path: &'a Path, node: &'a Node, has_below: bool) -> Found<'a>
+    pub fn new(path: &'a Path, node: &'a Node, has_below: bool) -> FoundFile<'a>
         ensures { result ≡ record { path = path.now; node = node.now; has_below = has_below } }
     {
-        Found {
+        FoundFile {
             path,
             node,
             has_below,
@@ -157,10 +157,10 @@ impl<'a> Found<'a> {
     }
 
     /// A file before those that follow it in path order, with whether the next one is below it. Allocates nothing.
-    pub fn before(path: &'a Path, node: &'a Node, rest: &FilesIter<'_>) -> Found<'a>
+    pub fn before(path: &'a Path, node: &'a Node, rest: &FilesIter<'_>) -> FoundFile<'a>
         ensures { result ≡ found_file (next_file_below path.now rest.now) (path.now, node.now) }
     {
-        Found::new(path, node, is_below(path, rest.peek()))
+        FoundFile::new(path, node, is_below(path, rest.peek()))
     }
 
     /// The file's path.

@@ -14,7 +14,7 @@ ghost use Rattle.acl_tree.specs.Reports.{Prepares, RefusesAtOnce};
 use crate::command::Command;
 use crate::fault::TreeFault;
 use crate::files::{Files, FilesFinder, FilesIter};
-use crate::selection::{Found, Selection};
+use crate::selection::{FoundFile, Selection};
 use crate::state::BorrowedState;
 use crate::step::{Staged, prepare_command};
 use acl_edit::Node;
@@ -119,7 +119,7 @@ impl Tree {
         &'a self,
         alloc: Global,
         selection: &Selection<'_>,
-    ) -> Result<Vec<Found<'a>>, TreeFault>
+    ) -> Result<Vec<FoundFile<'a>>, TreeFault>
         ensures { Selects (λ files. files.items) selection.now self.now.files result }
     {
         self.files.selected(alloc, selection)

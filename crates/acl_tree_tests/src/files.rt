@@ -5,7 +5,7 @@ use crate::texts::{FOUR, PEOPLE};
 use acl_names::append_path;
 use acl_text::append_id;
 use acl_tree::{
-    Found, Paths, Selection, Staged, State, Tree, each_file_is_edited, each_record_is_a_file,
+    FoundFile, Paths, Selection, Staged, State, Tree, each_file_is_edited, each_record_is_a_file,
 };
 use std::alloc::Global;
 use std::process::Abort;
@@ -72,7 +72,7 @@ fn line_end(has_below: bool) -> &'static [u8] {
 }
 
 /// A path with the owner's id, and whether files are below it.
-fn push_found(rt: &impl Abort, text: &mut Vec<u8>, file: &Found<'_>) {
+fn push_found(rt: &impl Abort, text: &mut Vec<u8>, file: &FoundFile<'_>) {
     append_path(text, file.path()).expect(rt, "memory");
     text.push(b' ').expect(rt, "memory");
     append_id(text, file.node().label.owner, None).expect(rt, "memory");
@@ -80,7 +80,7 @@ fn push_found(rt: &impl Abort, text: &mut Vec<u8>, file: &Found<'_>) {
         .expect(rt, "memory");
 }
 
-fn found_text(rt: &impl Abort, alloc: Global, files: &[Found<'_>]) -> Vec<u8> {
+fn found_text(rt: &impl Abort, alloc: Global, files: &[FoundFile<'_>]) -> Vec<u8> {
     let mut text = Vec::new(alloc);
     for file in files {
         push_found(rt, &mut text, file);
@@ -89,7 +89,12 @@ fn found_text(rt: &impl Abort, alloc: Global, files: &[Found<'_>]) -> Vec<u8> {
 }
 
 /// All files at or below some operands.
-fn found<'a>(rt: &impl Abort, alloc: Global, tree: &'a Tree, operands: &Paths) -> Vec<Found<'a>> {
+fn found<'a>(
+    rt: &impl Abort,
+    alloc: Global,
+    tree: &'a Tree,
+    operands: &Paths,
+) -> Vec<FoundFile<'a>> {
     let selection = Selection {
         operands,
         recursive: true,

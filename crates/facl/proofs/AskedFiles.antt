@@ -10,6 +10,7 @@ use Rattle.acl_names.specs.Paths.{path_cmp, PathOf}
 use Rattle.acl_names.proofs.PathOrder.{path_total, exact_paths}
 use Rattle.acl_edit.specs.declared.node.Node.{Node}
 use Rattle.acl_names.specs.Below.{is_above, encloses}
+use Rattle.acl_names.proofs.Basics.{is_equal, or_second, or_false, and_false, and_true}
 use Rattle.acl_tree.specs.Walks.{ancestors}
 use Rattle.acl_tree.specs.Files.{Files}
 use Rattle.acl_tree.specs.Found.{found_in, files_found}
@@ -24,33 +25,12 @@ same p q = eq_by_cmp path_cmp p q
 abbrev among : PathOf → Files → Bool
 among q t = list_any (λ e. same q e.0) t
 
-equal : (o : Ordering) → is_eq o ≡ true → o ≡ Equal
-equal Less h = cc
-equal Equal h = refl
-equal Greater h = cc
-
 -- equal paths are one path
 pub one_path : (p q : PathOf) → same p q ≡ true → p ≡ q
-one_path p q h = exact_paths p q (equal (path_cmp p q) h)
+one_path p q h = exact_paths p q (is_equal (path_cmp p q) h)
 
 same_itself : (p : PathOf) → same p p ≡ true
 same_itself p = ap is_eq (tied_itself path_total p)
-
-or_true : (a b : Bool) → b ≡ true → (a || b) ≡ true
-or_true true b h = refl
-or_true false b h = h
-
-or_false : (b : Bool) → (b || false) ≡ b
-or_false true = refl
-or_false false = refl
-
-and_false : (b : Bool) → (b && false) ≡ false
-and_false true = refl
-and_false false = refl
-
-and_true : (b : Bool) → (b && true) ≡ b
-and_true true = refl
-and_true false = refl
 
 -- a path is within another as one that is below it, or as the same
 pub within_is : (q p : PathOf) → encloses q p ≡ (is_above q p || same q p)
@@ -115,19 +95,20 @@ module _ (t : Files) where
   meant paths [] there = refl
   meant paths (e ∷ es) there =
       let here = is_meant e.0 (there e.0 (ap (λ b. b || among e.0 es) (same_itself e.0))) paths in
-      let rest = meant paths es (λ q h. there q (or_true (same q e.0) (among q es) h)) in
+      let rest = meant paths es (λ q h. there q (or_second (same q e.0) (among q es) h)) in
       (λ i. cond (here i) (e ∷ rest i) (rest i))
 
   -- no path is missing for one above it
   none_missing : (p : PathOf) (rest : List PathOf) (es : Files) → ((q : PathOf) → among q es ≡ true → among q t ≡ true) → first_missing (ancestors p es ++ rest) t ≡ first_missing rest t
   none_missing p rest [] there = refl
-  none_missing p rest (e ∷ es) there = by (is_above e.0 p) (none_missing p rest es (λ q h. there q (or_true (same q e.0) (among q es) h)))
+  none_missing p rest (e ∷ es) there = by (is_above e.0 p) (none_missing p rest es (λ q h. there q (or_second (same q e.0) (among q es) h)))
     where
       found : is_some (find path_cmp e.0 t) ≡ true
       found = recorded e.0 t ∙ there e.0 (ap (λ b. b || among e.0 es) (same_itself e.0))
 
       by : (b : Bool) → first_missing (ancestors p es ++ rest) t ≡ first_missing rest t
-          → first_missing (map (λ (e : PathOf × Node). e.0) (cond b (e ∷ filter (λ (e : PathOf × Node). is_above e.0 p) es) (filter (λ (e : PathOf × Node). is_above e.0 p) es)) ++ rest) t ≡ first_missing rest t
+          → first_missing (map (λ (e : PathOf × Node). e.0)
+          (cond b (e ∷ filter (λ (e : PathOf × Node). is_above e.0 p) es) (filter (λ (e : PathOf × Node). is_above e.0 p) es)) ++ rest) t ≡ first_missing rest t
       by true more = ap (λ b. cond b (first_missing (ancestors p es ++ rest) t) (Some e.0)) found ∙ more
       by false more = more
 

@@ -1,5 +1,5 @@
 -- The lines of `below`, out of the rows of the files at or below some paths.
-use Rattle.std.proofs.Common.{◌≡◌, ℕ, zero, suc, ◌+◌, ◌<◌, Bool, true, false, cond, ◌||◌, IsTrue, Option, Some, None, Less, refl, sym, ap, subst, ◌∙◌, arith}
+use Rattle.std.proofs.Common.{◌≡◌, ℕ, zero, suc, ◌+◌, ◌<◌, Bool, true, false, cond, ◌||◌, IsTrue, Option, Some, None, refl, sym, ap, subst, ◌∙◌, arith}
 use Rattle.std.proofs.Common.{List, [], ◌∷◌, ◌++◌, append-nil, append_assoc, drop, filter, get_or, length, map}
 use Rattle.std.specs.Prelude.{option_map, slice_get, count_by, decimal}
 use Rattle.std.specs.Option.{option_map_or}
@@ -18,16 +18,18 @@ use Rattle.acl_entry.specs.Person.{Person}
 use Rattle.acl_names.specs.Names.{escaped}
 use Rattle.acl_names.specs.Paths.{path_cmp, PathOf}
 use Rattle.acl_names.proofs.PathOrder.{path_total}
+use Rattle.acl_names.proofs.Basics.{is_less}
 use Rattle.acl_text.specs.declared.rows.PasswdRow.{PasswdRow}
 use Rattle.acl_edit.specs.declared.node.Node.{Node}
 use Rattle.acl_people.specs.KnownPeople.{person, persons}
 use Rattle.path_map.specs.Below.{holds_below}
 use Rattle.path_map.specs.Entries.{IsInOrder}
-use Rattle.path_map.proofs.Places.{less, above}
+use Rattle.path_map.proofs.Places.{above}
 use Rattle.acl_tree.specs.Files.{Files}
 use Rattle.acl_tree.specs.Found.{FoundFile, found_file, found_in, files_found}
 use Rattle.acl_tree.specs.Operands.{is_file}
 use Rattle.acl_tree.specs.State.{State}
+use Rattle.acl_tree.proofs.Follows.{before_it}
 use Rattle.acl_rights.specs.Reach.{reach}
 use Rattle.acl_rights.specs.ReachedRows.{reached_from, rows_along}
 use Rattle.acl_rights.specs.Rows.{Verdict, Rows, cells_of, rows_of, grants, grants_to}
@@ -48,12 +50,8 @@ none_after : (p : PathOf) (es : Files) → IsTrue (below_all path_cmp p es) → 
 none_after p [] h = refl
 none_after p (e ∷ es) h =
     let parts = and_parts (is_lt (path_cmp p e.0)) (below_all path_cmp p es) h in
-    ap (λ b. cond (b || false) (e ∷ filter (asked_alone p) es) (filter (asked_alone p) es)) (ap is_eq (above p e.0 (less (path_cmp p e.0) parts.0)))
+    ap (λ b. cond (b || false) (e ∷ filter (asked_alone p) es) (filter (asked_alone p) es)) (ap is_eq (above p e.0 (is_less (path_cmp p e.0) parts.0)))
     ∙ none_after p es parts.1
-
-before_it : (p : PathOf) (done : Files) (e : PathOf × Node) (more : Files) → IsTrue (below_all path_cmp p (done ++ e ∷ more)) → path_cmp p e.0 ≡ Less
-before_it p [] e more h = less (path_cmp p e.0) (and_parts (is_lt (path_cmp p e.0)) (below_all path_cmp p more) h).0
-before_it p (x ∷ done) e more h = before_it p done e more (and_parts (is_lt (path_cmp p x.0)) (below_all path_cmp p (done ++ e ∷ more)) h).1
 
 alone : (done : Files) (e : PathOf × Node) (more : Files) → IsInOrder (done ++ e ∷ more) → filter (asked_alone e.0) (done ++ e ∷ more) ≡ e ∷ []
 alone [] e more order =

@@ -49,14 +49,16 @@ same_files q before after before' after' (row ∷ rows) h b a =
 gone_first : (old : Row) (before after : Rows) → IsInOrder (old ∷ before) → IsInOrder after → After old.0 after → put_all after (old ∷ before) ≡ old ∷ put_all after before
     → rows_of_both (old ∷ before) after ≡ (old.0, (Some old.1, None)) ∷ rows_of_both before after
 gone_first old before after ob oa far all =
-    let rest = same_files old.0 (old ∷ before) after before after (put_all after before) (after_put_all old.0 after before far (later_after old before ob)) (λ p lt. row_later old before p lt) (λ p lt. refl) in
+    let rest = same_files old.0 (old ∷ before) after before after (put_all after before) (after_put_all old.0 after before far (later_after old before ob))
+    (λ p lt. row_later old before p lt) (λ p lt. refl) in
     ap (map (file_at (old ∷ before) after)) all
     ∙ (λ i. (old.0, (row_here old before old.0 (tied_itself path_total old.0) i, row_nowhere after old.0 far i)) ∷ rest i)
 
 new_first : (new : Row) (before after : Rows) → IsInOrder before → IsInOrder (new ∷ after) → After new.0 before → put_all (new ∷ after) before ≡ new ∷ put_all after before
     → rows_of_both before (new ∷ after) ≡ (new.0, (None, Some new.1)) ∷ rows_of_both before after
 new_first new before after ob oa far all =
-    let rest = same_files new.0 before (new ∷ after) before after (put_all after before) (after_put_all new.0 after before (later_after new after oa) far) (λ p lt. refl) (λ p lt. row_later new after p lt) in
+    let rest = same_files new.0 before (new ∷ after) before after (put_all after before) (after_put_all new.0 after before (later_after new after oa) far)
+    (λ p lt. refl) (λ p lt. row_later new after p lt) in
     ap (map (file_at before (new ∷ after))) all
     ∙ (λ i. (new.0, (row_nowhere before new.0 far i, row_here new after new.0 (tied_itself path_total new.0) i)) ∷ rest i)
 
@@ -176,7 +178,8 @@ module _ (old new : BothClassed) (before : KeepRows old.0.0 new.0.0) (after : Ke
   keys_kept (key ∷ keys) (file ∷ files) h =
       ((h.0.0, (class_kept old.0.0 new.0.0 before key.key.0 file.1.0 h.0.1.0, class_kept old.1.0 new.1.0 after key.key.1 file.1.1 h.0.1.1)), keys_kept keys files h.1)
 
-keys_more : (before after : List (List ℕ)) (keys : List (Tallied Sides)) (files : List (PathOf × RowsOfFile)) (key : Sides) (path : PathOf) (rows : RowsOfFile) → AreKeysOf before after keys files → AreClassesOf before after key rows
+keys_more : (before after : List (List ℕ)) (keys : List (Tallied Sides)) (files : List (PathOf × RowsOfFile)) (key : Sides) (path : PathOf) (rows : RowsOfFile)
+    → AreKeysOf before after keys files → AreClassesOf before after key rows
     → AreKeysOf before after (keys ++ one key path ∷ []) (files ++ (path, rows) ∷ [])
 keys_more before after [] [] key path rows h has = ((refl, has), tt)
 keys_more before after [] (file ∷ files) key path rows h has = absurd h

@@ -1,5 +1,6 @@
 -- What two walks over the rows of two whole tables print is what differs between the states.
-use Rattle.std.proofs.Common.{◌≡◌, ℕ, zero, suc, ◌+◌, arith, Bool, true, false, not, cond, length, take, List, [], ◌∷◌, ◌++◌, append_assoc, map, filter, Option, Some, None, Ordering, Less, Equal, Greater, refl, sym, ap, subst, ◌∙◌}
+use Rattle.std.proofs.Common.{◌≡◌, ℕ, zero, suc, ◌+◌, arith, Bool, true, false, not, cond, length, take, List, [], ◌∷◌, ◌++◌, append_assoc, map, filter, Option}
+use Rattle.std.proofs.Common.{Some, None, Ordering, Less, Equal, Greater, refl, sym, ap, subst, ◌∙◌}
 use Rattle.std.specs.Prelude.{option_map, option_and_then, slice_get, unwrap_or, ◌&&◌}
 use Rattle.std.specs.List.{flat_map}
 use Rattle.std.specs.Option.{option_map_or}
@@ -95,7 +96,8 @@ module _ {A B : Type 0} (f : A → B) where
   part_put p a (e ∷ es) = by (path_cmp p e.0) (part_put p a es)
     where
       by : (o : Ordering) → map part (put path_cmp p a es) ≡ put path_cmp p (f a) (map part es)
-          → map part (by_order o ((p, a) ∷ e ∷ es) ((e.0, a) ∷ es) (e ∷ put path_cmp p a es)) ≡ by_order o ((p, f a) ∷ part e ∷ map part es) ((e.0, f a) ∷ map part es) (part e ∷ put path_cmp p (f a) (map part es))
+          → map part (by_order o ((p, a) ∷ e ∷ es) ((e.0, a) ∷ es) (e ∷ put path_cmp p a es))
+          ≡ by_order o ((p, f a) ∷ part e ∷ map part es) ((e.0, f a) ∷ map part es) (part e ∷ put path_cmp p (f a) (map part es))
       by Less more = refl
       by Equal more = refl
       by Greater more = ap (λ l. part e ∷ l) more
@@ -151,7 +153,8 @@ walked_shown t done (e ∷ es) [] all order h = absurd (cc h)
 walked_shown t done (e ∷ es) (row ∷ rows) all order h =
     let here : row.0 ≡ e.0 = cc in
     let later : paths rows ≡ paths es = cc in
-    let has_file_below : has_next_below e.0 (next_path es) ≡ holds_below t e.0 = next_below e.0 es ∙ known_by_next done e es (subst IsInOrder all order) ∙ ap (λ (l : Files). holds_below l e.0) (sym all) in
+    let has_file_below : has_next_below e.0 (next_path es) ≡ holds_below t e.0 = next_below e.0 es ∙ known_by_next done e es (subst IsInOrder all order)
+    ∙ ap (λ (l : Files). holds_below l e.0) (sym all) in
     let more = walked_shown t (done ++ e ∷ []) es rows (all ∙ sym (append_assoc done (e ∷ []) es)) order later in
     λ i. (here i, path_shown (found_file (has_file_below i) e)) ∷ more i
 
@@ -190,7 +193,8 @@ module _ (V : Verdict) (along : Bool) (s : State) (t : VerdictTable) (whole : Is
   cell_granted : (name : List ℕ) (p : PathOf) → verdict_or_none (row_in files_walked p) (place_of s name) ≡ granted_to V along s name p
   cell_granted name p = by (place_of s name)
     where
-      in_row : (user : ℕ) (o : Option (List ℕ × List ℕ)) → slice_get (option_map_or (λ f. f.1) o []) user ≡ option_and_then (λ (cells : List ℕ). slice_get cells user) (option_map (λ (f : List ℕ × List ℕ). f.1) o)
+      in_row : (user : ℕ) (o : Option (List ℕ × List ℕ))
+          → slice_get (option_map_or (λ f. f.1) o []) user ≡ option_and_then (λ (cells : List ℕ). slice_get cells user) (option_map (λ (f : List ℕ × List ℕ). f.1) o)
       in_row user None = refl
       in_row user (Some f) = refl
 
@@ -223,17 +227,20 @@ module _ (V : Verdict) (along : Bool) (loaded now : State) (before after : Verdi
       sym (flat-map lines_of placed_of users)
       ∙ ap (flat_map lines_of) known
       ∙ flat-map lines_of (λ row. placed_in loaded.people now.people row.name) (users_of_both loaded now)
-      ∙ flat_same (λ row. lines_of (placed_in loaded.people now.people row.name)) (λ row. change_lines path (escaped row.name) (granted_to V along loaded row.name p) (granted_to V along now row.name p)) (users_of_both loaded now)
+      ∙ flat_same (λ row. lines_of (placed_in loaded.people now.people row.name))
+      (λ row. change_lines path (escaped row.name) (granted_to V along loaded row.name p) (granted_to V along now row.name p)) (users_of_both loaded now)
       (λ row i. change_lines path (escaped row.name) (cell_granted V along loaded before was row.name p i) (cell_granted V along now after is row.name p i))
 
   -- the lines of all files
   pub lines_are : lines_of_both users walked_before walked_after ≡ changes_text V along loaded now
   lines_are =
-      flat_same (λ file. lines_between users file.1.0 (row_in walked_before file.0) (row_in walked_after file.0)) (λ file. lines_at file.0 file.1.0) (put_all walked_after walked_before) (λ file. file_lines file.0 file.1.0)
+      flat_same (λ file. lines_between users file.1.0 (row_in walked_before file.0) (row_in walked_after file.0)) (λ file. lines_at file.0 file.1.0)
+      (put_all walked_after walked_before) (λ file. file_lines file.0 file.1.0)
       ∙ sym (flat-map (λ (file : PathOf × List ℕ). lines_at file.0 file.1) (part (λ (f : List ℕ × List ℕ). f.0)) (put_all walked_after walked_before))
       ∙ ap (flat_map (λ (file : PathOf × List ℕ). lines_at file.0 file.1))
       (part_put_all (λ (f : List ℕ × List ℕ). f.0) walked_after walked_before
-      ∙ (λ i. put_all (walked_shown now.tree.files [] now.tree.files (rows_along along after.rows) refl after_order (rows_paths V along now after is) i) (walked_shown loaded.tree.files [] loaded.tree.files (rows_along along before.rows) refl before_order (rows_paths V along loaded before was) i)))
+      ∙ (λ i. put_all (walked_shown now.tree.files [] now.tree.files (rows_along along after.rows) refl after_order (rows_paths V along now after is) i)
+      (walked_shown loaded.tree.files [] loaded.tree.files (rows_along along before.rows) refl before_order (rows_paths V along loaded before was) i)))
 
 -- what is printed of both, out of the users and the walks that were found
 pub all_lines : (V : Verdict) (along : Bool) (loaded now : State) → IsInOrder loaded.tree.files → IsInOrder now.tree.files

@@ -3,15 +3,12 @@ use Rattle.std.proofs.Common.{◌≡◌, ℕ, Bool, true, false, cond, List, [],
 use Rattle.std.specs.List.{AllByRecursion}
 use Rattle.std.proofs.lemmas.List.{map-append}
 use Rattle.acl_names.specs.Paths.{PathOf}
+use Rattle.acl_names.proofs.Basics.{all_end}
 use Rattle.acl_tree.specs.Operands.{is_file}
 use Rattle.acl_rights.specs.Classes.{Classed, IsFileTaken, KeepRows}
 use Rattle.facl.specs.Tallies.{Tallied, Sides, SaysAs, one}
 use Rattle.acl_rights.specs.Rows.{Rows}
 use Rattle.facl.specs.Sums.{row_of, Keyed, one_of, AreCounted, IsCounting}
-
-all_more : {A : Type 0} (P : A → Type 0) (xs : List A) (y : A) → AllByRecursion P xs → P y → AllByRecursion P (xs ++ y ∷ [])
-all_more P [] y all here = (here, tt)
-all_more P (x ∷ xs) y all here = (all.0, all_more P xs y all.1 here)
 
 all_each : {A : Type 0} (P Q : A → Type 0) (xs : List A) → ((x : A) → P x → Q x) → AllByRecursion P xs → AllByRecursion Q xs
 all_each P Q [] each all = tt
@@ -66,7 +63,8 @@ module _ (paths : List PathOf) (all : Rows) (old new : Classed) (ts : List (Tall
   }
 
   -- a file that is counted
-  pub file_counted : (more : List (Tallied Sides)) → is_file true paths p ≡ true → ((others : List (Tallied Sides)) → SaysAs ts others → SaysAs more (others ++ one (None, Some class) p ∷ [])) → IsCounting paths all new more
+  pub file_counted : (more : List (Tallied Sides)) → is_file true paths p ≡ true
+      → ((others : List (Tallied Sides)) → SaysAs ts others → SaysAs more (others ++ one (None, Some class) p ∷ [])) → IsCounting paths all new more
   file_counted more asked says = record {
     seen = at.seen ++ file ∷ [];
     whole = whole_now;
@@ -75,7 +73,7 @@ module _ (paths : List PathOf) (all : Rows) (old new : Classed) (ts : List (Tall
           files = now.files ++ key ∷ [];
           says = subst (SaysAs more) (sym (map-append one_of now.files (key ∷ []))) (says (map one_of now.files) now.says);
           are = map-append (λ (k : Keyed). k.1) now.files (key ∷ []) ∙ ap (λ (l : Rows). l ++ file ∷ []) now.are;
-          have = all_more (λ k. row_of new.0 k.0 ≡ Some k.1.1) now.files key now.have taken.has;
+          have = all_end (λ k. row_of new.0 k.0 ≡ Some k.1.1) now.files key now.have taken.has;
         });
   }
     where
@@ -85,7 +83,8 @@ module _ (paths : List PathOf) (all : Rows) (old new : Classed) (ts : List (Tall
       now : AreCounted new.0 (filter counts at.seen) ts
       now = kept old.0 new.0 (filter counts at.seen) ts taken.keep at.counted
 
-pub counting_ends : (paths : List PathOf) (all : Rows) (left new : Classed) (ts : List (Tallied Sides)) → (left.1 ≡ []) × (new ≡ left) → IsCounting paths all left ts → AreCounted new.0 (filter (λ row. is_file true paths row.0) all) ts
+pub counting_ends : (paths : List PathOf) (all : Rows) (left new : Classed) (ts : List (Tallied Sides)) → (left.1 ≡ []) × (new ≡ left)
+    → IsCounting paths all left ts → AreCounted new.0 (filter (λ row. is_file true paths row.0) all) ts
 counting_ends paths all left new ts ended at =
     subst (λ (c : Classed). AreCounted c.0 (filter (λ row. is_file true paths row.0) all) ts) (sym ended.1)
     (subst (λ (rows : Rows). AreCounted left.0 (filter (λ row. is_file true paths row.0) rows) ts) (sym (append-nil at.seen) ∙ ap (λ (l : Rows). at.seen ++ l) (sym ended.0) ∙ at.whole) at.counted)

@@ -1,18 +1,18 @@
 -- What a command does is refused for the first of its faults.
 use Rattle.std.proofs.Common.{◌≡◌, false, [], Result, Ok, Err, refl, sym, ap, ◌∙◌}
-use Rattle.std.specs.Prelude.{◌↔◌}
+use Rattle.acl_names.proofs.Basics.{ok_is_not_err}
 use Rattle.acl_tree.specs.declared.command.Command.{Command}
 use Rattle.acl_tree.specs.declared.fault.TreeFault.{TreeFault}
 use Rattle.acl_tree.specs.declared.user_change.UserChange.{UserChange}
-use Rattle.acl_tree.specs.Refusals.{IsFirst, IsRefusedForFirst}
+use Rattle.acl_tree.specs.Refusals.{IsRefusedForFirst}
 use Rattle.acl_tree.specs.Reports.{users_move}
 use Rattle.acl_tree.specs.State.{State}
 use Rattle.acl_tree.specs.Step.{step}
 use Rattle.facl_output.specs.Faults.{line_fault_of_tree}
 use Rattle.facl_output.specs.declared.fault.LineFault.{LineFault}
 use Rattle.facl.specs.CommandFaults.{IsFirstOf, IsRefusedAs}
-use Rattle.facl.specs.Replies.{Reply, done, replied}
-use Rattle.facl.proofs.Outcomes.{err_eq, ok_is_not_err}
+use Rattle.facl.specs.Replies.{done, replied}
+use Rattle.facl.proofs.Outcomes.{err_eq}
 
 -- a reply is refused exactly where the state cannot be made
 cause_of : (moved : UserChange) (made : Result State TreeFault) (fault : LineFault) → replied moved made ≡ Err fault

@@ -22,25 +22,17 @@ use Rattle.acl_rights.specs.Reach.{passes}
 use Rattle.acl_entry.proofs.Bytes.{has-byte_of}
 use Rattle.acl_names.proofs.Below.{not_below_itself}
 use Rattle.acl_names.proofs.PathOrder.{path_total}
-use Rattle.path_map.proofs.Places.{less}
+use Rattle.acl_names.proofs.Basics.{is_less, or_false, and_assoc}
 use Rattle.facl.proofs.AskedFiles.{one_path, within_is}
 use Rattle.facl.proofs.Deciding.{decided}
 use Rattle.facl.specs.Inner.{HasValidList}
 use Rattle.facl.specs.WhyText.{some_decides, is_asked, asked_of, IsDecidedAlong}
-
-or_false : (b : Bool) → (b || false) ≡ b
-or_false true = refl
-or_false false = refl
 
 and_comm : (a b : Bool) → (a && (b && true)) ≡ (b && a)
 and_comm true true = refl
 and_comm true false = refl
 and_comm false true = refl
 and_comm false false = refl
-
-and_assoc : (a b c : Bool) → (a && (b && c)) ≡ ((a && b) && c)
-and_assoc true b c = refl
-and_assoc false b c = refl
 
 nothing_has : (a b c : Bool) → has 0 (record { read = a; write = b; execute = c }) ≡ false
 nothing_has true true true = refl
@@ -65,7 +57,7 @@ nothing_at : (p : PathOf) (es : Files) → below_all path_cmp p es ≡ true → 
 nothing_at p [] h = refl
 nothing_at p (e ∷ es) h =
     let parts = and_parts (is_lt (path_cmp p e.0)) (below_all path_cmp p es) h in
-    ap (λ o. cond (is_eq o) (Some e.1) (find path_cmp p es)) (less (path_cmp p e.0) parts.0) ∙ nothing_at p es parts.1
+    ap (λ o. cond (is_eq o) (Some e.1) (find path_cmp p es)) (is_less (path_cmp p e.0) parts.0) ∙ nothing_at p es parts.1
 
 module _ (u : Person) (q : Perms) (p : PathOf) where
   -- what is granted on a file, by the entries that decide

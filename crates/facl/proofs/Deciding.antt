@@ -1,5 +1,6 @@
 -- The entries that decide on a user are the check.
-use Rattle.std.proofs.Common.{◌≡◌, ℕ, Bool, true, false, cond, not, ◌||◌, ◌&&◌, eqb, List, [], ◌∷◌, map, filter, Option, Some, None, option_map, is_some, unwrap_or, Ordering, Less, Equal, Greater, refl, sym, ap, ◌∙◌}
+use Rattle.std.proofs.Common.{◌≡◌, ℕ, Bool, true, false, cond, not, ◌||◌, ◌&&◌, eqb, List, [], ◌∷◌, map, filter, Option, Some, None, option_map, is_some}
+use Rattle.std.proofs.Common.{unwrap_or, Ordering, Less, Equal, Greater, refl, sym, ap, ◌∙◌}
 use Rattle.std.specs.Prelude.{nat_lt, length}
 use Rattle.std.specs.List.{list_any}
 use Rattle.std.specs.Option.{option_map_or}
@@ -7,6 +8,7 @@ use Rattle.std.specs.Ordering.{is_eq, is_lt}
 use Rattle.std.specs.FinMap as maps
 use Rattle.std.specs.FinMap.Entries.{below_all}
 use Rattle.std.proofs.lemmas.Bool.{and_parts}
+use Rattle.acl_names.proofs.Basics.{is_equal, or_false}
 use Rattle.acl_entry.specs.Check.{check, is_for, some_entry_grants}
 use Rattle.acl_entry.specs.Keys.{key_cmp, same_key, is_class}
 use Rattle.acl_entry.specs.Lists.{KeyMap, IsValid, entries, keys, is_among, missing_base, unmasked, repeated, most_entries, or_else, perm_at, masked, masked_by}
@@ -19,25 +21,17 @@ use Rattle.acl_entry.specs.declared.entry.Key.TheVariants.{Owner, User, OwningGr
 use Rattle.acl_entry.specs.declared.label.Label.{Label}
 use Rattle.acl_entry.proofs.Faults.{is_among-keys}
 use Rattle.acl_entry.proofs.KeyLaws.{exact_keys}
-use Rattle.acl_entry.proofs.Maps.{get-map_of, map_of-entries, true_T}
+use Rattle.acl_entry.proofs.Maps.{get-map_of, map_of-entries}
+use Rattle.acl_entry.proofs.Basics.{from_T}
 use Rattle.facl.specs.Inner.{sole_key, is_chosen}
 use Rattle.facl.specs.WhyText.{perms_listed, some_decides, decides}
 
 -- ---- the entry of a key
 
-equal : (o : Ordering) → is_eq o ≡ true → o ≡ Equal
-equal Less h = cc
-equal Equal h = refl
-equal Greater h = cc
-
 below_apart : (o : Ordering) → is_lt o ≡ true → is_eq o ≡ false
 below_apart Less h = refl
 below_apart Equal h = cc
 below_apart Greater h = cc
-
-or_false : (b : Bool) → (b || false) ≡ b
-or_false true = refl
-or_false false = refl
 
 abbrev entry_of : Key × Perms → Entry
 entry_of p = record { key = p.0; perm = p.1 }
@@ -66,14 +60,14 @@ module _ (k : Key) where
             → list_any g (cond b (entry_of p ∷ filter (λ (e : Entry). same_key k e.key) (map entry_of ps)) (filter (λ (e : Entry). same_key k e.key) (map entry_of ps)))
             ≡ option_map_or (λ s. g (entry_of (k, s))) (cond b (Some p.1) (maps.find key_cmp k ps)) false
         by true is rest =
-            let at : k ≡ p.0 = exact_keys k p.0 (equal (key_cmp k p.0) is) in
+            let at : k ≡ p.0 = exact_keys k p.0 (is_equal (key_cmp k p.0) is) in
             ap (λ es. g (entry_of p) || list_any g es) (none_after ps (ap (λ x. below_all key_cmp x ps) at ∙ parts.0))
             ∙ or_false (g (entry_of p)) ∙ ap (λ x. g (entry_of (x, p.1))) (sym at)
         by false is rest = rest
 
   -- a test of the entry of the key
   only : (m : KeyMap) (g : Entry → Bool) → list_any g (filter (λ (e : Entry). same_key k e.key) (entries m)) ≡ option_map_or (λ s. g (entry_of (k, s))) (maps.get m k) false
-  only m g = at_most_one g (maps.entries m) (true_T (maps.is_sorted key_cmp (maps.entries m)) (maps.entries_sorted m))
+  only m g = at_most_one g (maps.entries m) (from_T (maps.is_sorted key_cmp (maps.entries m)) (maps.entries_sorted m))
       ∙ ap (λ o. option_map_or (λ s. g (entry_of (k, s))) o false) (sym (maps.get-entries m k))
 
 -- ---- valid lists

@@ -17,7 +17,8 @@ use Rattle.facl.specs.Units.{answered}
 use Rattle.facl.specs.Runs.{Devices, EndsBy}
 
 end_of_run : (fault : ScriptFault) (verdict : Verdict) (initial_state : Result State RunFault) (start : State) (states : States) (asked : ℕ) (old new : Devices)
-    → initial_state ≡ Ok start → IfSome old.remaining (λ script. StopsWith line_asks fault (answered verdict) script new.remaining (moment (from_start start) (all_pairs start) old.streams) (moment states asked new.streams))
+    → initial_state ≡ Ok start → IfSome old.remaining
+    (λ script. StopsWith line_asks fault (answered verdict) script new.remaining (moment (from_start start) (all_pairs start) old.streams) (moment states asked new.streams))
     → EndsBy (run_fault_of_script fault) verdict initial_state asked old new
 end_of_run Read verdict initial_state start states asked old new e h = record { start = start; starts = e; states = states; stops = h }
 end_of_run Write verdict initial_state start states asked old new e h = record { start = start; starts = e; states = states; stops = h }

@@ -1,5 +1,6 @@
 -- The files of some paths, found in one walk over both.
-use Rattle.std.proofs.Common.{◌≡◌, ℕ, Bool, true, false, cond, IsTrue, List, [], ◌∷◌, ◌++◌, append_assoc, append-nil, ◌-◌, length, take, drop, map, filter, Option, Some, None, refl, sym, ap, subst, ◌∙◌, arith}
+use Rattle.std.proofs.Common.{◌≡◌, ℕ, Bool, true, false, cond, IsTrue, List, [], ◌∷◌, ◌++◌, append_assoc, append-nil, ◌-◌, length, take, drop, map, filter}
+use Rattle.std.proofs.Common.{Option, Some, None, refl, sym, ap, subst, ◌∙◌, arith}
 use Rattle.std.proofs.lemmas.List.{take_all}
 use Rattle.std.specs.Prelude.{option_map, slice_get}
 use Rattle.std.specs.List.{flat_map}
@@ -12,11 +13,12 @@ use Rattle.acl_entry.specs.Check.{has}
 use Rattle.acl_entry.specs.Perms.{Perms}
 use Rattle.acl_names.specs.Paths.{path_cmp, PathOf}
 use Rattle.acl_names.proofs.PathOrder.{path_total}
+use Rattle.acl_names.proofs.Basics.{is_less}
 use Rattle.acl_text.specs.declared.rows.PasswdRow.{PasswdRow}
 use Rattle.acl_edit.specs.declared.node.Node.{Node}
 use Rattle.acl_tree.specs.Inner.{next_file_below}
 use Rattle.acl_tree.proofs.Follows.{known_by_next}
-use Rattle.path_map.proofs.Places.{less, above}
+use Rattle.path_map.proofs.Places.{above}
 use Rattle.acl_tree.specs.Files.{Files}
 use Rattle.path_map.specs.Entries.{IsInOrder}
 use Rattle.acl_tree.specs.Found.{FoundFile, found_file, found_in}
@@ -34,7 +36,8 @@ no_file_left [] = refl
 no_file_left (p ∷ paths) = refl
 
 -- one file more, which is the first of the paths
-pub first_taken : (file : FoundFile) (files : List FoundFile) (p : PathOf) (paths : List PathOf) → is_first file.path (p ∷ paths) ≡ true → in_step (p ∷ paths) (file ∷ files) ≡ file ∷ in_step paths files
+pub first_taken : (file : FoundFile) (files : List FoundFile) (p : PathOf) (paths : List PathOf) → is_first file.path (p ∷ paths) ≡ true
+    → in_step (p ∷ paths) (file ∷ files) ≡ file ∷ in_step paths files
 first_taken file files p paths h = ap (λ b. cond b (file ∷ in_step paths files) (in_step (p ∷ paths) files)) h
 
 -- one file more, which is not
@@ -82,7 +85,8 @@ module _ (t rest more : Files) (paths left : List PathOf) (start text : List ℕ
   file_is = ap (λ b. found_file b e) (known_by_next at.seen e more (subst IsInOrder whole_now order) ∙ ap (λ (l : Files). holds_below l e.0) (sym whole_now))
 
   -- one file more, whose line is added
-  pub step_taken : (new : List PathOf) (new_text : List ℕ) (file : FoundFile) → is_first e.0 left ≡ true → new ≡ drop 1 left → file ≡ found_file (next_file_below e.0 more) e → new_text ≡ text ++ file_line file
+  pub step_taken : (new : List PathOf) (new_text : List ℕ) (file : FoundFile) → is_first e.0 left ≡ true → new ≡ drop 1 left
+      → file ≡ found_file (next_file_below e.0 more) e → new_text ≡ text ++ file_line file
       → IsInStep t paths start more new new_text
   step_taken new new_text file first new_is made pushed = record {
     seen = at.seen ++ e ∷ [];
@@ -109,7 +113,8 @@ module _ (t rest more : Files) (paths left : List PathOf) (start text : List ℕ
     begins = at.begins;
   }
 
-pub step_ends : (t rest : Files) (paths left : List PathOf) (start text : List ℕ) → rest ≡ [] → IsInStep t paths start rest left text → text ≡ start ++ flat_map file_line (in_step paths (found_in t t))
+pub step_ends : (t rest : Files) (paths left : List PathOf) (start text : List ℕ) → rest ≡ [] → IsInStep t paths start rest left text
+    → text ≡ start ++ flat_map file_line (in_step paths (found_in t t))
 step_ends t rest paths left start text none at =
     sym (append-nil text) ∙ ap (λ fs. text ++ flat_map file_line fs) (sym (no_file_left left)) ∙ ap (λ fs. text ++ flat_map file_line (in_step left (found_in t fs))) (sym none) ∙ at.lines
 
@@ -119,9 +124,10 @@ module _ (test : PathOf × Node → Bool) where
   not_first x [] h = refl
   not_first x (e ∷ es) h =
       let parts = and_parts (is_lt (path_cmp x e.0)) (below_all path_cmp x es) h in
-      by (test e) (ap is_eq (above x e.0 (less (path_cmp x e.0) parts.0))) (not_first x es parts.1)
+      by (test e) (ap is_eq (above x e.0 (is_less (path_cmp x e.0) parts.0))) (not_first x es parts.1)
     where
-      by : (b : Bool) → eq_by_cmp path_cmp e.0 x ≡ false → is_first x (map (λ e. e.0) (filter test es)) ≡ false → is_first x (map (λ (e : PathOf × Node). e.0) (cond b (e ∷ filter test es) (filter test es))) ≡ false
+      by : (b : Bool) → eq_by_cmp path_cmp e.0 x ≡ false → is_first x (map (λ e. e.0) (filter test es)) ≡ false
+          → is_first x (map (λ (e : PathOf × Node). e.0) (cond b (e ∷ filter test es) (filter test es))) ≡ false
       by true here more = here
       by false here more = more
 
@@ -135,7 +141,8 @@ module _ (test : PathOf × Node → Bool) where
       by : (b : Bool) → is_first e.0 (map (λ (e : PathOf × Node). e.0) (filter test es)) ≡ false
           → in_step (map (λ (e : PathOf × Node). e.0) (filter test es)) (found_in all es) ≡ filter (λ (file : FoundFile). test (file.path, file.node)) (found_in all es)
           → in_step (map (λ (e : PathOf × Node). e.0) (cond b (e ∷ filter test es) (filter test es))) (found_file (holds_below all e.0) e ∷ found_in all es)
-          ≡ cond b (found_file (holds_below all e.0) e ∷ filter (λ (file : FoundFile). test (file.path, file.node)) (found_in all es)) (filter (λ (file : FoundFile). test (file.path, file.node)) (found_in all es))
+          ≡ cond b (found_file (holds_below all e.0) e ∷ filter (λ (file : FoundFile). test (file.path, file.node)) (found_in all es))
+          (filter (λ (file : FoundFile). test (file.path, file.node)) (found_in all es))
       by true here more =
           first_taken (found_file (holds_below all e.0) e) (found_in all es) e.0 (map (λ (e : PathOf × Node). e.0) (filter test es)) (ap is_eq (tied_itself path_total e.0))
           ∙ ap (λ (files : List FoundFile). found_file (holds_below all e.0) e ∷ files) more
@@ -143,10 +150,12 @@ module _ (test : PathOf × Node → Bool) where
 
 module _ (V : Verdict) (along : Bool) (s : State) (user : ℕ) (q : Perms) where
   -- the lines of the files on which the user is granted the request
-  pub may_lines : (found : Option (List PathOf)) → IsInOrder s.tree.files → found ≡ paths_granted V along s user q → option_map (λ paths. flat_map file_line (in_step paths (all_files s))) found ≡ may_text V along s q user
+  pub may_lines : (found : Option (List PathOf)) → IsInOrder s.tree.files → found ≡ paths_granted V along s user q
+      → option_map (λ paths. flat_map file_line (in_step paths (all_files s))) found ≡ may_text V along s q user
   may_lines found order is = ap (option_map (λ paths. flat_map file_line (in_step paths (all_files s)))) is ∙ by (slice_get s.people.users user)
     where
-      by : (o : Option PasswdRow) → option_map (λ paths. flat_map file_line (in_step paths (all_files s))) (option_map (λ row. map (λ e. e.0) (filter (λ e. has (granted V along s row e) q) s.tree.files)) o)
+      by : (o : Option PasswdRow) → option_map (λ paths. flat_map file_line (in_step paths (all_files s)))
+          (option_map (λ row. map (λ e. e.0) (filter (λ e. has (granted V along s row e) q) s.tree.files)) o)
           ≡ option_map (λ row. flat_map file_line (filter (λ file. has (granted V along s row (file.path, file.node)) q) (all_files s))) o
       by None = refl
       by (Some row) = ap (λ files. Some (flat_map file_line files)) (in_step_passes (λ e. has (granted V along s row e) q) s.tree.files s.tree.files order)

@@ -1,7 +1,8 @@
 -- What is refused for the first part at fault.
 use Rattle.std.proofs.Common.{◌≡◌, ◌≤◌, ℕ, Result, Ok, Err, sym, ap, subst, ◌∙◌, arith}
+use Rattle.acl_names.proofs.Basics.{ok_or_err}
 use Rattle.facl.specs.FirstPart.{IsNotAfter, IsFirst, IsRefusedForFirst}
-use Rattle.facl.proofs.Outcomes.{ok_or_err, err_eq, is_err}
+use Rattle.facl.proofs.Outcomes.{err_eq, is_err}
 
 between : (m n : ℕ) → m ≤ n → n ≤ m → m ≡ n
 between m n h k = omega arith

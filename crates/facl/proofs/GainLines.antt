@@ -1,5 +1,6 @@
 -- The lines of `gains`, out of counts by keys.
-use Rattle.std.proofs.Common.{◌≡◌, ℕ, zero, suc, ◌+◌, ◌<◌, ◌≤◌, arith, Bool, true, false, cond, List, [], ◌∷◌, ◌++◌, append_assoc, append-nil, map, length, take, drop, get_or, Option, Some, None, refl, sym, ap, ◌∙◌}
+use Rattle.std.proofs.Common.{◌≡◌, ℕ, zero, suc, ◌+◌, ◌<◌, ◌≤◌, arith, Bool, true, false, cond, List, [], ◌∷◌, ◌++◌, append_assoc, append-nil, map, length}
+use Rattle.std.proofs.Common.{take, drop, get_or, Option, Some, None, refl, sym, ap, ◌∙◌}
 use Rattle.std.specs.Prelude.{◌||◌, ◌&&◌, option_map}
 use Rattle.std.specs.List.{list_any, find}
 use Rattle.std.proofs.lemmas.List.{map-append, take_more, take_all}
@@ -90,7 +91,8 @@ module _ (text_of : PathOf → List ℕ) (user : List ℕ) where
   none_with (t ∷ ts) before after h = by (is_same_side before t.key.0) h (none_with ts before after)
     where
       by : (b : Bool) → (b || list_any (is_before before) ts) ≡ false → (list_any (is_before before) ts ≡ false → first_where (is_same (before, after)) (map tallied ts) ≡ None)
-          → option_map (λ (u : Tallied Sides). u.first) (cond (b && is_same_side after t.key.1) (Some (tallied t)) (find (λ (u : Tallied Sides). is_same (before, after) u.key) (map tallied ts))) ≡ None
+          → option_map (λ (u : Tallied Sides). u.first)
+          (cond (b && is_same_side after t.key.1) (Some (tallied t)) (find (λ (u : Tallied Sides). is_same (before, after) u.key) (map tallied ts))) ≡ None
       by true h more = absurd (cc h)
       by false h more = more h
 
@@ -105,7 +107,8 @@ module _ (text_of : PathOf → List ℕ) (user : List ℕ) where
   pub same_line : (xs ys : List (Tallied Sides)) → SaysAs xs ys → (sides : Sides) → tally_line text_of user xs sides ≡ tally_line text_of user ys sides
   same_line xs ys says sides = λ i. counted_line text_of user sides (says.counts (is_same sides) i) (says.firsts (is_same sides) i)
 
-  pub line_of_first : (ts : List (Tallied Sides)) (sides : Sides) (count : ℕ) (first : PathOf) (path : List ℕ) → Some first ≡ first_where (is_same sides) ts → count ≡ count_where (is_same sides) ts → path ≡ text_of first
+  pub line_of_first : (ts : List (Tallied Sides)) (sides : Sides) (count : ℕ) (first : PathOf) (path : List ℕ) → Some first ≡ first_where (is_same sides) ts
+      → count ≡ count_where (is_same sides) ts → path ≡ text_of first
       → count_line sides count user path ≡ tally_line text_of user ts sides
   line_of_first ts sides count first path one many shown =
       (λ i. count_line sides (many i) user (shown i)) ∙ ap (counted_line text_of user sides (count_where (is_same sides) ts)) one

@@ -1,11 +1,9 @@
 -- A line that is neither blank nor a comment has a word.
 use Rattle.std.proofs.Common.{◌≡◌, ℕ, Bool, true, false, List, [], ◌∷◌, Option, Some, None, if◌then◌else◌, option_map, true≢false}
 use Rattle.std.specs.Prelude.{◌==◌}
+use Rattle.acl_names.proofs.Basics.{none_is_not_some}
 use Rattle.facl_script.specs.Words.{is_blank, is_quote, onto_word, words_at, words_of, has_no_words}
 use Rattle.facl_script.specs.declared.words.Place.TheVariants.{Between, Within, Quoted}
-
-none_is_not_some : {A : Type 0} (a : A) → None ≡ Some a → ⊥
-none_is_not_some a h = cc
 
 some_word_is_not_none : {A : Type 0} (a : A) (as_ : List A) → Some (a ∷ as_) ≡ Some [] → ⊥
 some_word_is_not_none a as_ h = cc

@@ -32,7 +32,8 @@ is_there (x ∷ xs) zero h lt = cc h
 is_there (x ∷ xs) (suc i) h lt = is_there xs i h (omega arith)
 
 -- one name more, and the verdict on its user
-pub row_more : (path name : List ℕ) (names : List (List ℕ)) (cell : ℕ) (rest more : List ℕ) → rest ≡ cell ∷ more → row_lines path (name ∷ names) rest ≡ verdict_line cell name path ++ row_lines path names more
+pub row_more : (path name : List ℕ) (names : List (List ℕ)) (cell : ℕ) (rest more : List ℕ) → rest ≡ cell ∷ more
+    → row_lines path (name ∷ names) rest ≡ verdict_line cell name path ++ row_lines path names more
 row_more path name names cell rest more is = ap (row_lines path (name ∷ names)) is
 
 pub no_cell_left : (path : List ℕ) (names : List (List ℕ)) → row_lines path names [] ≡ []

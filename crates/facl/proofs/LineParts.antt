@@ -2,9 +2,10 @@
 use Rattle.std.proofs.Common.{◌≡◌, ◌≤◌, ◌+◌, ◌-◌, ℕ, Bool, true, false, List, [], ◌∷◌, Option, Some, None, Result, Ok, Err, if◌then◌else◌, refl, sym, ap, subst, ◌∙◌, true≢false, arith}
 use Rattle.std.specs.Prelude.{◌==◌, IsErr}
 use Rattle.std.specs.Str.{is_utf8}
+use Rattle.acl_names.proofs.Basics.{some_is_not_none, ok_is_not_err, ok_or_err}
 use Rattle.facl.proofs.ToolParts.{first_fault_refuses}
 use Rattle.facl.proofs.FirstPart.{accepted, refused_at}
-use Rattle.facl.proofs.Outcomes.{ok_is_not_err, ok_or_err, ok_eq, err_eq}
+use Rattle.facl.proofs.Outcomes.{ok_eq, err_eq}
 use Rattle.facl.proofs.Parts as parts
 use Rattle.facl_output.specs.declared.fault.LineFault.{LineFault}
 use Rattle.facl_output.specs.declared.fault.LineFault.TheVariants as faults
@@ -21,7 +22,8 @@ use Rattle.acl_rights.specs.Rows.{Verdict}
 use Rattle.facl.specs.Tools.{tool_named, tool_line}
 use Rattle.facl.specs.declared.tools.Tool.{Tool}
 use Rattle.facl.specs.declared.tools.ToolLine.{ToolLine}
-use Rattle.facl.specs.LineParts.{LinePart, in_length, in_bytes, in_quotes, in_tool, in_text_end, in_text_lines, in_words, in_request, rank, place, HasWords, IsOfTool, line_read, IsRequestAtFault, IsAtFault, outcome, name_in, IsAnsweredByFirst}
+use Rattle.facl.specs.LineParts.{LinePart, in_length, in_bytes, in_quotes, in_tool, in_text_end, in_text_lines, in_words, in_request, rank, place, HasWords}
+use Rattle.facl.specs.LineParts.{IsOfTool, line_read, IsRequestAtFault, IsAtFault, outcome, name_in, IsAnsweredByFirst}
 use Rattle.acl_rights.specs.declared.indexed.States.{States}
 use Rattle.facl.specs.Units.{is_silent, answered, answer_of, answer_of_words, reply, split, text_or_fault, tool_reply, words_of_line}
 use Rattle.facl.proofs.HasWords.{has_a_word}
@@ -53,9 +55,6 @@ is_named (in_request (in_file n)) = refl
 is_named (in_request in_command) = refl
 
 -- ---- what is known of one line is known of all that are it
-
-none_or_some : {A : Type 0} (o : Option A) (a : A) → o ≡ Some a → o ≡ None → ⊥
-none_or_some o a h k = cc
 
 not_true : {A : Type 0} (o : Option A) (k : A → Bool) (a a' : A) → o ≡ Some a → o ≡ Some a' → k a ≡ true → k a' ≡ false → ⊥
 not_true o k a a' h h' t f = true≢false (sym t ∙ ap k (some_eq o a a' h h') ∙ f)
@@ -258,7 +257,7 @@ module _ (verdict : Verdict) (w : States) (u : ScriptUnit) where
 
   module _ (line : List ℕ) (is_line : u.line ≡ Some line) where
     not_long : Never in_length
-    not_long g h = none_or_some u.line line is_line h.1
+    not_long g h = some_is_not_none u.line line is_line h.1
 
     good_bytes : is_utf8 line ≡ true → Never in_bytes
     good_bytes good g h = let bad = h.1 in not_true u.line is_utf8 line bad.line is_line bad.is_line good bad.bad

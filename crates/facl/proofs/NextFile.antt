@@ -41,7 +41,8 @@ module _ (users : List PlacedUser) where
   kept_without_new (old ∷ before) [] h = refl
   kept_without_new (old ∷ before) (new ∷ after) h = absurd (cc h)
 
-  pub kept_some : (before after : Walked) (old new : Shown) → Some old ≡ next_of before → Some new ≡ next_of after → kept_lines users (first before) (first after) ≡ lines_between users new.0 old.1 new.1
+  pub kept_some : (before after : Walked) (old new : Shown) → Some old ≡ next_of before → Some new ≡ next_of after
+      → kept_lines users (first before) (first after) ≡ lines_between users new.0 old.1 new.1
   kept_some [] after old new b a = absurd (cc b)
   kept_some (file ∷ before) [] old new b a = absurd (cc a)
   kept_some (file ∷ before) (other ∷ after) old new b a =

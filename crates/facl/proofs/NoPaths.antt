@@ -1,15 +1,13 @@
 -- The first operand that is no path.
 use Rattle.std.proofs.Common.{◌≡◌, ◌≤◌, ◌+◌, ℕ, zero, suc, List, [], ◌∷◌, Option, Some, None, Result, Ok, Err, refl, sym, ap, ◌∙◌, arith}
 use Rattle.acl_names.specs.Paths.{path_of, PathOf}
+use Rattle.acl_names.proofs.Basics.{none_is_not_some, ok_is_not_err}
 use Rattle.facl_output.specs.declared.fault.LineFault.{LineFault}
 use Rattle.facl_script.specs.Forms.{Text}
 use Rattle.facl.specs.ToolParts.{IsNoPath}
 use Rattle.facl.specs.Operands.{bad_operand, path_at, paths_from}
 use Rattle.facl.specs.Replies.{after, or_fault}
-use Rattle.facl.proofs.Outcomes.{ok_is_not_err, err_eq, err_before, no_value}
-
-none_is_not_some : {A : Type 0} (a : A) → None ≡ Some a → ⊥
-none_is_not_some a h = cc
+use Rattle.facl.proofs.Outcomes.{err_eq, err_before, no_value}
 
 -- the first of some operands that is no path, where the first of them has this place
 pub record IsFirstBad (words : List Text) (at : ℕ) (f : LineFault) : Type 0 where

@@ -1,22 +1,14 @@
 -- Results: what is read next, and which value or fault a result has.
 use Rattle.std.proofs.Common.{◌≡◌, Option, Some, None, Result, Ok, Err, refl, sym, ap}
 use Rattle.std.specs.Prelude.{IsErr}
+use Rattle.acl_names.proofs.Basics.{ok_is_not_err}
 use Rattle.facl.specs.Replies.{after, or_fault}
-
-pub ok_is_not_err : {A B : Type 0} (a : A) (b : B) → Ok a ≡ Err b → ⊥
-ok_is_not_err a b h = cc
-
-pub ok_or_err : {A E : Type 0} (r : Result A E) (a : A) (f : E) → r ≡ Ok a → r ≡ Err f → ⊥
-ok_or_err r a f h k = cc
 
 pub ok_eq : {A E : Type 0} (r : Result A E) (a b : A) → r ≡ Ok a → r ≡ Ok b → a ≡ b
 ok_eq r a b h k = cc
 
 pub err_eq : {A E : Type 0} (r : Result A E) (f g : E) → r ≡ Err f → r ≡ Err g → f ≡ g
 err_eq r f g h k = cc
-
-pub some_or_none : {A : Type 0} (o : Option A) (a : A) → o ≡ Some a → o ≡ None → ⊥
-some_or_none o a h k = cc
 
 -- of one thing there is not both something and nothing
 pub no_value : {A B : Type 0} (t : A → Option B) (a a' : A) (b : B) → Some a ≡ Some a' → t a ≡ Some b → t a' ≡ None → ⊥

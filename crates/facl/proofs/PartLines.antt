@@ -1,5 +1,6 @@
 -- The lines of what two states have at a path or below it are all lines, where rows are the same outside.
-use Rattle.std.proofs.Common.{◌≡◌, ℕ, Bool, true, false, cond, not, ◌&&◌, List, [], ◌∷◌, ◌++◌, drop, map, filter, Option, Some, None, Ordering, Less, Equal, Greater, IsTrue, append-nil, refl, sym, ap, subst, ◌∙◌}
+use Rattle.std.proofs.Common.{◌≡◌, ℕ, Bool, true, false, cond, not, ◌&&◌, List, [], ◌∷◌, ◌++◌, drop, filter, Option, Some, None, Ordering, Less, Equal}
+use Rattle.std.proofs.Common.{Greater, IsTrue, refl, sym, ap, subst, ◌∙◌}
 use Rattle.std.specs.Prelude.{option_map, option_and_then, if◌then◌else◌}
 use Rattle.std.specs.List.{flat_map, list_all}
 use Rattle.std.specs.Option.{option_map_or, option_or}
@@ -9,28 +10,25 @@ use Rattle.std.specs.FinMap.Entries.{below_all}
 use Rattle.std.proofs.lemmas.Bool.{and_parts}
 use Rattle.acl_names.specs.Below.{encloses}
 use Rattle.acl_names.specs.Paths.{path_cmp, PathOf}
-use Rattle.acl_names.proofs.Below.{not_before, early_not_within, convex}
+use Rattle.acl_names.proofs.Below.{early_not_within, convex}
 use Rattle.acl_names.proofs.PathOrder.{path_total, exact_paths}
 use Rattle.path_map.specs.Below.{from, within}
 use Rattle.path_map.specs.Entries.{IsInOrder, first}
 use Rattle.path_map.specs.Merged.{put_all}
 use Rattle.path_map.proofs.Merges.{in_order-put_all}
-use Rattle.path_map.proofs.Places.{less}
+use Rattle.acl_names.proofs.Basics.{is_less, not_both}
 use Rattle.path_map.proofs.Rows.{find_put_all}
 use Rattle.acl_tree.specs.Files.{Files}
 use Rattle.acl_tree.specs.State.{State}
-use Rattle.acl_rights.specs.Outside.{is_outside, outside, SameOutside}
+use Rattle.acl_rights.specs.Outside.{is_outside, SameOutside}
 use Rattle.acl_rights.specs.Rows.{Verdict, Rows}
 use Rattle.acl_rights.specs.Verdicts.{rows_granted}
-use Rattle.acl_rights.proofs.Maps.{find-filter, map_filter, same_found}
+use Rattle.acl_rights.proofs.Maps.{map_filter, same_found}
 use Rattle.facl.specs.declared.answers.placed_users.PlacedUser.{PlacedUser}
 use Rattle.facl.specs.Inner.{Walked, keeps_place, lines_between, lines_of_both, row_in, walk_of, shown_before, next_path}
 use Rattle.facl.specs.PartWalks.{front, files_granted}
 use Rattle.facl.proofs.ChangeLines.{paths, walked_rows, rows_paths, walked_order, table_of, whole_table}
 use Rattle.facl.proofs.NextFile.{same_rows}
-
-clash : (b : Bool) → b ≡ true → b ≡ false → ⊥
-clash b h k = cc
 
 -- ---- a part of a list
 
@@ -47,7 +45,7 @@ module _ {A : Type 0} (test : PathOf → Bool) where
       by true is o cmp more = ap (λ o. cond (is_eq o) (Some e.1) (find path_cmp p (part es))) cmp ∙ ap (λ r. cond (is_eq o) (Some e.1) r) more
       by false is Less cmp more = more
       by false is Greater cmp more = more
-      by false is Equal cmp more = absurd (clash (test e.0) (ap test (sym (exact_paths p e.0 cmp)) ∙ passes) is)
+      by false is Equal cmp more = absurd (not_both (test e.0) (ap test (sym (exact_paths p e.0 cmp)) ∙ passes) is)
 
   find_no_part : (p : PathOf) → test p ≡ false → (es : List (PathOf × A)) → find path_cmp p (part es) ≡ None
   find_no_part p fails [] = refl
@@ -57,20 +55,24 @@ module _ {A : Type 0} (test : PathOf → Bool) where
       by false is o cmp more = more
       by true is Less cmp more = ap (λ o. cond (is_eq o) (Some e.1) (find path_cmp p (part es))) cmp ∙ more
       by true is Greater cmp more = ap (λ o. cond (is_eq o) (Some e.1) (find path_cmp p (part es))) cmp ∙ more
-      by true is Equal cmp more = absurd (clash (test e.0) is (ap test (sym (exact_paths p e.0 cmp)) ∙ fails))
+      by true is Equal cmp more = absurd (not_both (test e.0) is (ap test (sym (exact_paths p e.0 cmp)) ∙ fails))
 
   part_put : (ps es : List (PathOf × A)) → IsInOrder ps → IsInOrder es → part (put_all ps es) ≡ put_all (part ps) (part es)
   part_put ps es h k =
-      same_found (part (put_all ps es)) (put_all (part ps) (part es)) (map_filter (λ e. test e.0) (put_all ps es) (in_order-put_all ps es k)) (in_order-put_all (part ps) (part es) (map_filter (λ e. test e.0) es k))
+      same_found (part (put_all ps es)) (put_all (part ps) (part es)) (map_filter (λ e. test e.0) (put_all ps es) (in_order-put_all ps es k))
+      (in_order-put_all (part ps) (part es) (map_filter (λ e. test e.0) es k))
       (λ p. by p (test p) refl)
     where
       by : (p : PathOf) (b : Bool) → test p ≡ b → find path_cmp p (part (put_all ps es)) ≡ find path_cmp p (put_all (part ps) (part es))
       by p true is =
-          find_part p is (put_all ps es) ∙ find_put_all p ps es h ∙ (λ i. option_or (sym (find_part p is ps) i) (sym (find_part p is es) i)) ∙ sym (find_put_all p (part ps) (part es) (map_filter (λ e. test e.0) ps h))
+          find_part p is (put_all ps es) ∙ find_put_all p ps es h ∙ (λ i. option_or (sym (find_part p is ps) i) (sym (find_part p is es) i))
+          ∙ sym (find_put_all p (part ps) (part es) (map_filter (λ e. test e.0) ps h))
       by p false is =
-          find_no_part p is (put_all ps es) ∙ (λ i. option_or (sym (find_no_part p is ps) i) (sym (find_no_part p is es) i)) ∙ sym (find_put_all p (part ps) (part es) (map_filter (λ e. test e.0) ps h))
+          find_no_part p is (put_all ps es) ∙ (λ i. option_or (sym (find_no_part p is ps) i) (sym (find_no_part p is es) i))
+          ∙ sym (find_put_all p (part ps) (part es) (map_filter (λ e. test e.0) ps h))
 
-  flat_part : {C : Type 0} (f g : PathOf × A → List C) → ((e : PathOf × A) → test e.0 ≡ false → f e ≡ []) → ((e : PathOf × A) → test e.0 ≡ true → f e ≡ g e) → (es : List (PathOf × A)) → flat_map f es ≡ flat_map g (part es)
+  flat_part : {C : Type 0} (f g : PathOf × A → List C) → ((e : PathOf × A) → test e.0 ≡ false → f e ≡ []) → ((e : PathOf × A) → test e.0 ≡ true → f e ≡ g e)
+      → (es : List (PathOf × A)) → flat_map f es ≡ flat_map g (part es)
   flat_part f g none same [] = refl
   flat_part f g none same (e ∷ es) = by (test e.0) refl (flat_part f g none same es)
     where
@@ -117,7 +119,8 @@ module _ (V : Verdict) (along : Bool) (loaded now : State) (top : Option PathOf)
       (sym (find_part (is_outside top) p apart (rows_granted V along loaded)) ∙ ap (λ (rows : Rows). find path_cmp p rows) (same along) ∙ find_part (is_outside top) p apart (rows_granted V along now))
       ∙ sym (find_row now p)
 
-module _ (V : Verdict) (along : Bool) (loaded now : State) (users : List PlacedUser) (keeps : list_all keeps_place users ≡ true) (order_before : IsInOrder loaded.tree.files) (order_after : IsInOrder now.tree.files) where
+module _ (V : Verdict) (along : Bool) (loaded now : State) (users : List PlacedUser) (keeps : list_all keeps_place users ≡ true)
+    (order_before : IsInOrder loaded.tree.files) (order_after : IsInOrder now.tree.files) where
   abbrev files_before : Walked
   files_before = files_granted V along loaded
 
@@ -129,7 +132,8 @@ module _ (V : Verdict) (along : Bool) (loaded now : State) (users : List PlacedU
 
   pub lines_within : (top : PathOf) → SameOutside V (Some top) loaded now → lines_of_both users (within top files_before) (within top files_after) ≡ lines_of_both users files_before files_after
   lines_within top same =
-      sym (part_lines users keeps (λ p. encloses top p) files_before files_after (files_order loaded order_before) (files_order now order_after) (λ p apart. row_stays V along loaded now (Some top) same p (ap not apart)))
+      sym (part_lines users keeps (λ p. encloses top p) files_before files_after (files_order loaded order_before) (files_order now order_after)
+      (λ p apart. row_stays V along loaded now (Some top) same p (ap not apart)))
 
   pub no_lines : SameOutside V None loaded now → lines_of_both users files_before files_after ≡ []
   no_lines same =
@@ -167,7 +171,7 @@ from_all : {A : Type 0} (top q : PathOf) (es : List (PathOf × A)) → is_gt (pa
 from_all top q [] le h = refl
 from_all top q (e ∷ es) le h =
     let parts = and_parts (is_lt (path_cmp q e.0)) (below_all path_cmp q es) h in
-    ap (λ b. cond (not b) (e ∷ from top es) (from top es)) (later_than top q e.0 le (less (path_cmp q e.0) parts.0)) ∙ ap (λ l. e ∷ l) (from_all top q es le parts.1)
+    ap (λ b. cond (not b) (e ∷ from top es) (from top es)) (later_than top q e.0 le (is_less (path_cmp q e.0) parts.0)) ∙ ap (λ l. e ∷ l) (from_all top q es le parts.1)
 
 below_same : (p : PathOf) (es : Files) (rows : Rows) → paths rows ≡ paths es → IsTrue (below_all path_cmp p es) → IsTrue (below_all path_cmp p rows)
 below_same p [] [] h k = refl
@@ -224,11 +228,11 @@ none_within : (top q : PathOf) (files : Walked) → is_gt (path_cmp top q) ≡ f
 none_within top q [] le apart h = refl
 none_within top q (file ∷ files) le apart h =
     let parts = and_parts (is_lt (path_cmp q file.0)) (below_all path_cmp q files) h in
-    ap (λ b. cond b (file ∷ within top files) (within top files)) (off (encloses top file.0) refl (less (path_cmp q file.0) parts.0)) ∙ none_within top q files le apart parts.1
+    ap (λ b. cond b (file ∷ within top files) (within top files)) (off (encloses top file.0) refl (is_less (path_cmp q file.0) parts.0)) ∙ none_within top q files le apart parts.1
   where
     off : (b : Bool) → encloses top file.0 ≡ b → path_cmp q file.0 ≡ Less → encloses top file.0 ≡ false
     off false is lt = is
-    off true is lt = absurd (clash (encloses top q) (convex top q file.0 le lt is) apart)
+    off true is lt = absurd (not_both (encloses top q) (convex top q file.0 le lt is) apart)
 
 front_within : (top : PathOf) (files : Walked) → IsInOrder files → front top (from top files) ≡ within top files
 front_within top [] order = refl
@@ -238,13 +242,14 @@ front_within top (file ∷ files) order =
   where
     by : (b : Bool) → is_gt (path_cmp top file.0) ≡ b → (c : Bool) → encloses top file.0 ≡ c → front top (from top files) ≡ within top files → IsTrue (below_all path_cmp file.0 files)
         → front top (cond (not b) (file ∷ from top files) (from top files)) ≡ cond c (file ∷ within top files) (within top files)
-    by true is true holds more after = absurd (clash (encloses top file.0) holds (early_not_within top file.0 is))
+    by true is true holds more after = absurd (not_both (encloses top file.0) holds (early_not_within top file.0 is))
     by true is false apart more after = more
     by false is true holds more after = ap (λ c. cond c (file ∷ front top (from top files)) []) holds ∙ ap (λ l. file ∷ l) more
     by false is false apart more after = ap (λ c. cond c (file ∷ front top (from top files)) []) apart ∙ sym (none_within top file.0 files is apart after)
 
 -- a walk from a path on begins with what is at the path or below it
-pub walked_within : (top : PathOf) (V : Verdict) (along : Bool) (s : State) → IsInOrder s.tree.files → front top (walk_of (from top s.tree.files) (from top (rows_granted V along s))) ≡ within top (files_granted V along s)
+pub walked_within : (top : PathOf) (V : Verdict) (along : Bool) (s : State) → IsInOrder s.tree.files
+    → front top (walk_of (from top s.tree.files) (from top (rows_granted V along s))) ≡ within top (files_granted V along s)
 walked_within top V along s order =
     let same = rows_paths V along s (table_of V s) (whole_table V s) in
     ap (front top) (walk_from top s.tree.files (rows_granted V along s) same order) ∙ front_within top (files_granted V along s) (walked_order s.tree.files (rows_granted V along s) same order)

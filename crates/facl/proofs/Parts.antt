@@ -1,6 +1,7 @@
 -- The parts of a line, one after another: each is at fault, or the next ones decide.
 use Rattle.std.proofs.Common.{◌≡◌, ◌≤◌, ℕ, List, Result, Ok, Err, if◌then◌else◌, refl, sym, ◌∙◌, arith}
 use Rattle.std.specs.Prelude.{◌==◌}
+use Rattle.acl_names.proofs.Basics.{ok_or_err}
 use Rattle.acl_tree.specs.Files.{Files}
 use Rattle.facl_output.specs.declared.fault.LineFault.{LineFault}
 use Rattle.facl_script.specs.Forms.{Text}
@@ -10,7 +11,7 @@ use Rattle.facl.specs.Replies.{Reply, after}
 use Rattle.facl.proofs.FirstPart.{accepted, refused_at}
 use Rattle.facl.proofs.NoPaths.{IsFirstBad, Reads}
 use Rattle.facl.proofs.Unrecorded.{IsFirstUnrecorded, one_unrecorded}
-use Rattle.facl.proofs.Outcomes.{ok_or_err, err_eq}
+use Rattle.facl.proofs.Outcomes.{err_eq}
 
 abbrev pub named : ℕ → ℕ → Part
 named r n =

@@ -3,18 +3,20 @@ use Rattle.std.proofs.Common.{◌≡◌, ◌≤◌, ℕ, List, Option, Some, Non
 use Rattle.acl_text.specs.declared.entries.Spec.{Spec}
 use Rattle.acl_text.specs.declared.entries.Want.TheVariants.{WithPerms, WithoutPerms}
 use Rattle.acl_names.specs.Paths.{PathOf}
+use Rattle.acl_names.proofs.Basics.{ok_or_err, some_is_not_none}
 use Rattle.acl_tree.specs.State.{State}
 use Rattle.facl_output.specs.declared.fault.LineFault.{LineFault}
 use Rattle.facl_output.specs.declared.fault.LineFault.TheVariants.{Both}
 use Rattle.facl_script.specs.Forms.{Text}
-use Rattle.facl.specs.ToolParts.{Part, in_first_text, in_second_text, in_third_text, in_two_texts, in_operand, in_user, in_file, in_command, rank, OfCommand, OfPaths, OfText, OfTextAndFiles, OfTwoTextsAndFiles, OfChange, both_of, entries_put}
+use Rattle.facl.specs.ToolParts.{Part, in_first_text, in_second_text, in_third_text, in_two_texts, in_operand, in_user, in_file, in_command, rank, OfCommand}
+use Rattle.facl.specs.ToolParts.{OfPaths, OfText, OfTextAndFiles, OfTwoTextsAndFiles, OfChange, both_of, entries_put}
 use Rattle.facl.specs.Operands.{paths_from}
 use Rattle.facl.specs.Replies.{Reply, after}
 use Rattle.facl.specs.Setfacl.{entries_given, entries_of_line, both_at, unless_both, change_files, change_line, drops, with_warning_if}
 use Rattle.facl.specs.declared.tools.setfacl.ChangeLine.{ChangeLine}
 use Rattle.facl.specs.declared.tools.setfacl_entries.ChangeEntries.{ChangeEntries}
 use Rattle.facl.proofs.NoPaths.{Reads, reads_files}
-use Rattle.facl.proofs.Outcomes.{ok_or_err, ok_eq, err_eq, err_before, some_or_none, same_two, same_three, same_found}
+use Rattle.facl.proofs.Outcomes.{ok_eq, err_eq, err_before, same_two, same_three, same_found}
 use Rattle.facl.proofs.Parts.{Refused, from_zero, refused_in, step, operands, last}
 
 -- ---- what the line does
@@ -177,7 +179,7 @@ module _ (s : State) (line : ChangeLine) (text : List ℕ) where
 
     not_in_both : both_of line r m ≡ None → (g : LineFault) → OfChange s line text in_two_texts g → ⊥
     not_in_both none g h =
-        some_or_none (both_of line h.removed h.modified) h.at h.found
+        some_is_not_none (both_of line h.removed h.modified) h.at h.found
         (sym (same_two (both_of line) r h.removed m h.modified (ok_eq removed_text r h.removed is h.is_removed) (ok_eq modified_text m h.modified also h.is_modified)) ∙ none)
 
     one_both : (at : ℕ) → both_of line r m ≡ Some at → (g : LineFault) → OfChange s line text in_two_texts g → Both at ≡ g

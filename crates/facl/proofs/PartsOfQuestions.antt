@@ -6,6 +6,7 @@ use Rattle.acl_edit.specs.declared.node.Node.{Node}
 use Rattle.acl_entry.specs.Person.{Person}
 use Rattle.acl_tree.specs.declared.fault.TreeFault.TheVariants.{NoSuchFile, NoSuchUser}
 use Rattle.acl_names.specs.Paths.{path_cmp, PathOf}
+use Rattle.acl_names.proofs.Basics.{ok_or_err, some_is_not_none}
 use Rattle.acl_people.specs.KnownPeople.{KnownPeople, users_of}
 use Rattle.acl_people.specs.NameTables.{place_of_word}
 use Rattle.acl_text.specs.declared.rows.PasswdRow.{PasswdRow}
@@ -21,7 +22,7 @@ use Rattle.facl.specs.Replies.{Reply, after, or_fault, printed, printed_or_fault
 use Rattle.facl.specs.Why.{person_named}
 use Rattle.facl.proofs.FirstPart.{accepted}
 use Rattle.facl.proofs.NoPaths.{Reads, reads_files, reads_file}
-use Rattle.facl.proofs.Outcomes.{ok_or_err, some_or_none, was_there, after_both}
+use Rattle.facl.proofs.Outcomes.{was_there, after_both}
 use Rattle.facl.proofs.Parts.{Refused, named, is_named, refused_in, refused_file, step, operands}
 use Rattle.facl.proofs.Unrecorded.{first_unrecorded, all_recorded, one_missing, one_recorded, has_row, ReadsUser, reads_place, reads_person}
 
@@ -101,7 +102,7 @@ module _ (known : KnownPeople) (word : Text) (look : PasswdRow → List ℕ) (s 
   user_from q g h = absurd h
 
   user_is_there : (i : ℕ) → place_of_word (name_meant word) (users_of known) ≡ Some i → (q : Part) (g : LineFault) → OfUser known word q g → ⊥
-  user_is_there i is in_user g h = some_or_none (place_of_word (name_meant word) (users_of known)) i is h.1
+  user_is_there i is in_user g h = some_is_not_none (place_of_word (name_meant word) (users_of known)) i is h.1
   user_is_there i is q g h = h
 
   abbrev asked : Option ℕ → Result Reply LineFault

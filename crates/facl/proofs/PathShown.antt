@@ -1,10 +1,11 @@
 -- The path of a file as it is printed, found by the path.
 use Rattle.std.proofs.Common.{◌≡◌, ℕ, Bool, true, false, cond, List, [], ◌∷◌, map, filter, Option, Some, None, is_some, Ordering, Less, Equal, Greater, refl, sym, ap, ◌∙◌}
-use Rattle.std.specs.Prelude.{◌||◌, option_map, slice_get}
+use Rattle.std.specs.Prelude.{option_map, slice_get}
 use Rattle.std.specs.Ordering.{is_eq, eq_by_cmp, ordering_reverse}
 use Rattle.std.specs.FinMap.{find}
 use Rattle.acl_names.specs.Paths.{PathOf, path_cmp}
 use Rattle.acl_names.proofs.PathOrder.{path_total}
+use Rattle.acl_names.proofs.Basics.{or_false}
 use Rattle.acl_tree.specs.Files.{Files}
 use Rattle.acl_tree.specs.Found.{FoundFile, found_in, found_file, files_found}
 use Rattle.acl_tree.specs.Operands.{is_file}
@@ -17,13 +18,9 @@ same_either Less = refl
 same_either Equal = refl
 same_either Greater = refl
 
-or_no : (b : Bool) → (b || false) ≡ b
-or_no true = refl
-or_no false = refl
-
 -- whether a file is that of the one path
 is_it : (p q : PathOf) → is_file false (p ∷ []) q ≡ is_eq (path_cmp p q)
-is_it p q = or_no (eq_by_cmp path_cmp q p) ∙ ap is_eq (path_total.antisymm q p) ∙ same_either (path_cmp p q)
+is_it p q = or_false (eq_by_cmp path_cmp q p) ∙ ap is_eq (path_total.antisymm q p) ∙ same_either (path_cmp p q)
 
 abbrev shown : FoundFile → PathOf × List ℕ
 shown file = (file.path, path_shown file)
@@ -35,10 +32,12 @@ first_text (file ∷ files) = Some (path_shown file)
 module _ (t : Files) (p : PathOf) where
   first_is : (es : Files) → first_text (found_in t (filter (λ e. is_file false (p ∷ []) e.0) es)) ≡ find path_cmp p (map shown (found_in t es))
   first_is [] = refl
-  first_is (e ∷ es) = ap (λ b. first_text (found_in t (cond b (e ∷ filter (λ e. is_file false (p ∷ []) e.0) es) (filter (λ e. is_file false (p ∷ []) e.0) es)))) (is_it p e.0) ∙ by (is_eq (path_cmp p e.0)) (first_is es)
+  first_is (e ∷ es) = ap
+      (λ b. first_text (found_in t (cond b (e ∷ filter (λ e. is_file false (p ∷ []) e.0) es) (filter (λ e. is_file false (p ∷ []) e.0) es)))) (is_it p e.0) ∙ by (is_eq (path_cmp p e.0)) (first_is es)
     where
       by : (b : Bool) → first_text (found_in t (filter (λ e. is_file false (p ∷ []) e.0) es)) ≡ find path_cmp p (map shown (found_in t es))
-          → first_text (found_in t (cond b (e ∷ filter (λ e. is_file false (p ∷ []) e.0) es) (filter (λ e. is_file false (p ∷ []) e.0) es))) ≡ cond b (Some (path_shown (found_file (holds_below t e.0) e))) (find path_cmp p (map shown (found_in t es)))
+          → first_text (found_in t (cond b (e ∷ filter (λ e. is_file false (p ∷ []) e.0) es) (filter (λ e. is_file false (p ∷ []) e.0) es)))
+          ≡ cond b (Some (path_shown (found_file (holds_below t e.0) e))) (find path_cmp p (map shown (found_in t es)))
       by true more = refl
       by false more = more
 

@@ -32,7 +32,8 @@ module _ (key_of : Sides → Option Sides) where
   first_rekeyed test (t ∷ ts) = by (key_of t.key) (first_rekeyed test ts)
     where
       here : (key : Sides) (b : Bool) → first_where test (rekeyed key_of ts) ≡ first_where (tested test) ts
-          → first_of (cond b (Some (record { key = key; count = t.count; first = t.first })) (find (λ u. test u.key) (rekeyed key_of ts))) ≡ first_of (cond b (Some t) (find (λ u. tested test u.key) ts))
+          → first_of (cond b (Some (record { key = key; count = t.count; first = t.first })) (find (λ u. test u.key) (rekeyed key_of ts)))
+          ≡ first_of (cond b (Some t) (find (λ u. tested test u.key) ts))
       here key true more = refl
       here key false more = more
 

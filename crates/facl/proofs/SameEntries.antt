@@ -4,6 +4,7 @@ use Rattle.std.specs.Prelude.{fold, is_some}
 use Rattle.std.specs.Bool.{beq}
 use Rattle.std.specs.FinMap as maps
 use Rattle.std.specs.List.{find, list_any}
+use Rattle.acl_names.proofs.Basics.{or_turned, or_false}
 use Rattle.acl_entry.proofs.KeyLaws.{key_total}
 use Rattle.acl_entry.specs.Keys.{key_cmp, same_key}
 use Rattle.acl_entry.specs.Lists.{KeyMap}
@@ -29,22 +30,12 @@ one_more dflt keys s k = by (beq dflt s.dflt)
     by true = ap is_some (maps.get-insert key_total keys s.key none k) ∙ some_or (same_key k s.key) none (maps.get keys k)
     by false = refl
 
-swap : (a b c : Bool) → (a || (b || c)) ≡ ((b || a) || c)
-swap true true c = refl
-swap true false c = refl
-swap false true c = refl
-swap false false c = refl
-
 gathered : (dflt : Bool) (k : Key) (keys : KeyMap) (specs : List Spec) → is_some (maps.get (fold (with_key dflt) keys specs) k) ≡ (list_any (has_key dflt k) specs || is_some (maps.get keys k))
 gathered dflt k keys [] = refl
 gathered dflt k keys (s ∷ specs) =
     gathered dflt k (with_key dflt keys s) specs
     ∙ (ap (λ b. list_any (has_key dflt k) specs || b) (one_more dflt keys s k)
-    ∙ swap (list_any (has_key dflt k) specs) (has_key dflt k s) (is_some (maps.get keys k)))
-
-or_false : (b : Bool) → (b || false) ≡ b
-or_false true = refl
-or_false false = refl
+    ∙ or_turned (list_any (has_key dflt k) specs) (has_key dflt k s) (is_some (maps.get keys k)))
 
 is_key_of : (dflt : Bool) (k : Key) (specs : List Spec) → is_some (maps.get (keys_of dflt specs) k) ≡ list_any (has_key dflt k) specs
 is_key_of dflt k specs =

@@ -57,8 +57,10 @@ module _ (users : List PlacedUser) where
       → put_all after (old ∷ before) ≡ old ∷ put_all after before
       → lines_of_both users (old ∷ before) after ≡ lines_between users old.1.0 old.1.1 [] ++ lines_of_both users before after
   gone_first old before after ob oa far all =
-      let here : lines_at (old ∷ before) after old ≡ lines_between users old.1.0 old.1.1 [] = λ i. lines_between users old.1.0 (row_here old before old.0 (tied_itself path_total old.0) i) (row_nowhere after old.0 far i) in
-      let rest = same_lines old.0 (old ∷ before) after before after (put_all after before) (after_put_all old.0 after before far (later_after old before ob)) (λ p lt. row_later old before p lt) (λ p lt. refl) in
+      let here : lines_at (old ∷ before) after old ≡ lines_between users old.1.0 old.1.1 [] =
+      λ i. lines_between users old.1.0 (row_here old before old.0 (tied_itself path_total old.0) i) (row_nowhere after old.0 far i) in
+      let rest = same_lines old.0 (old ∷ before) after before after (put_all after before) (after_put_all old.0 after before far (later_after old before ob))
+      (λ p lt. row_later old before p lt) (λ p lt. refl) in
       ap (flat_map (lines_at (old ∷ before) after)) all ∙ (λ i. here i ++ rest i)
 
   -- a file that came comes first
@@ -66,8 +68,10 @@ module _ (users : List PlacedUser) where
       → put_all (new ∷ after) before ≡ new ∷ put_all after before
       → lines_of_both users before (new ∷ after) ≡ lines_between users new.1.0 [] new.1.1 ++ lines_of_both users before after
   new_first new before after ob oa far all =
-      let here : lines_at before (new ∷ after) new ≡ lines_between users new.1.0 [] new.1.1 = λ i. lines_between users new.1.0 (row_nowhere before new.0 far i) (row_here new after new.0 (tied_itself path_total new.0) i) in
-      let rest = same_lines new.0 before (new ∷ after) before after (put_all after before) (after_put_all new.0 after before (later_after new after oa) far) (λ p lt. refl) (λ p lt. row_later new after p lt) in
+      let here : lines_at before (new ∷ after) new ≡ lines_between users new.1.0 [] new.1.1 =
+      λ i. lines_between users new.1.0 (row_nowhere before new.0 far i) (row_here new after new.0 (tied_itself path_total new.0) i) in
+      let rest = same_lines new.0 before (new ∷ after) before after (put_all after before) (after_put_all new.0 after before (later_after new after oa) far)
+      (λ p lt. refl) (λ p lt. row_later new after p lt) in
       ap (flat_map (lines_at before (new ∷ after))) all ∙ (λ i. here i ++ rest i)
 
   -- a file that is in both comes first
@@ -77,7 +81,8 @@ module _ (users : List PlacedUser) where
       let path : old.0 ≡ new.0 = exact_paths old.0 new.0 same in
       let back : path_cmp new.0 old.0 ≡ Equal = subst (λ p. path_cmp new.0 p ≡ Equal) (sym path) (tied_itself path_total new.0) in
       let all = put_over new after old before oa back in
-      let here : lines_at (old ∷ before) (new ∷ after) new ≡ lines_between users new.1.0 old.1.1 new.1.1 = λ i. lines_between users new.1.0 (row_here old before new.0 back i) (row_here new after new.0 (tied_itself path_total new.0) i) in
+      let here : lines_at (old ∷ before) (new ∷ after) new ≡ lines_between users new.1.0 old.1.1 new.1.1 =
+      λ i. lines_between users new.1.0 (row_here old before new.0 back i) (row_here new after new.0 (tied_itself path_total new.0) i) in
       let far : After new.0 before = subst (λ p. After p before) path (later_after old before ob) in
       let rest = same_lines new.0 (old ∷ before) (new ∷ after) before after (put_all after before) (after_put_all new.0 after before (later_after new after oa) far)
       (λ p lt. row_later old before p (subst (λ q. path_cmp q p ≡ Less) (sym path) lt)) (λ p lt. row_later new after p lt) in

@@ -32,20 +32,23 @@ pub not_empty : (qs : List Perms) (q : Perms) → is_empty (qs ++ q ∷ []) ≡ 
 not_empty [] q = refl
 not_empty (p ∷ qs) q = refl
 
-pub among-more : (granted : ℕ) (numbers : List ℕ) (i : ℕ) → i < length numbers → among granted (take (i + 1) numbers) ≡ among granted (take i numbers) ++ filter (has granted) (numbered (get_or numbers i 0) ∷ [])
+pub among-more : (granted : ℕ) (numbers : List ℕ) (i : ℕ) → i < length numbers
+    → among granted (take (i + 1) numbers) ≡ among granted (take i numbers) ++ filter (has granted) (numbered (get_or numbers i 0) ∷ [])
 among-more granted numbers i h =
     ap (among granted) (take_more numbers i 0 h)
     ∙ (ap (filter (has granted)) (map-append numbered (take i numbers) (get_or numbers i 0 ∷ []))
     ∙ filter-append (has granted) (map numbered (take i numbers)) (numbered (get_or numbers i 0) ∷ []))
 
 -- one number more, whose request is granted
-pub one_granted : (granted : ℕ) (numbers : List ℕ) (i : ℕ) → i < length numbers → has granted (numbered (get_or numbers i 0)) ≡ true → among granted (take (i + 1) numbers) ≡ among granted (take i numbers) ++ numbered (get_or numbers i 0) ∷ []
+pub one_granted : (granted : ℕ) (numbers : List ℕ) (i : ℕ) → i < length numbers → has granted (numbered (get_or numbers i 0)) ≡ true
+    → among granted (take (i + 1) numbers) ≡ among granted (take i numbers) ++ numbered (get_or numbers i 0) ∷ []
 one_granted granted numbers i h is =
     among-more granted numbers i h
     ∙ ap (λ b. among granted (take i numbers) ++ cond b (numbered (get_or numbers i 0) ∷ []) []) is
 
 -- one number more, whose request is not granted
-pub one_refused : (granted : ℕ) (numbers : List ℕ) (i : ℕ) → i < length numbers → has granted (numbered (get_or numbers i 0)) ≡ false → among granted (take (i + 1) numbers) ≡ among granted (take i numbers)
+pub one_refused : (granted : ℕ) (numbers : List ℕ) (i : ℕ) → i < length numbers → has granted (numbered (get_or numbers i 0)) ≡ false
+    → among granted (take (i + 1) numbers) ≡ among granted (take i numbers)
 one_refused granted numbers i h is =
     among-more granted numbers i h
     ∙ (ap (λ b. among granted (take i numbers) ++ cond b (numbered (get_or numbers i 0) ∷ []) []) is
@@ -67,7 +70,8 @@ below_eight (n ∷ numbers) all zero h = all.0
 below_eight (n ∷ numbers) all (suc i) h = below_eight numbers all.1 i (omega arith)
 
 -- one granted request more
-pub text_step : (old t0 t1 : List ℕ) (qs all : List Perms) (q request : Perms) (first : Bool) → t1 ≡ t0 ++ request_text first request → t0 ≡ old ++ spaced qs → first ≡ is_empty qs → request ≡ q → all ≡ qs ++ q ∷ []
+pub text_step : (old t0 t1 : List ℕ) (qs all : List Perms) (q request : Perms) (first : Bool) → t1 ≡ t0 ++ request_text first request → t0 ≡ old ++ spaced qs
+    → first ≡ is_empty qs → request ≡ q → all ≡ qs ++ q ∷ []
     → t1 ≡ old ++ spaced all
 text_step old t0 t1 qs all q request first wrote before is same more =
     wrote

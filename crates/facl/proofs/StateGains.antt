@@ -12,6 +12,7 @@ use Rattle.std.proofs.Math.Seq.{take-append_seam}
 use Rattle.acl_names.specs.Names.{escaped}
 use Rattle.acl_names.specs.Paths.{PathOf, path_cmp}
 use Rattle.acl_names.proofs.PathOrder.{path_total}
+use Rattle.acl_names.proofs.Basics.{from_T, to_T}
 use Rattle.acl_people.specs.KnownPeople.{KnownPeople, users_of}
 use Rattle.acl_people.specs.NameTables.{has_name}
 use Rattle.acl_text.specs.declared.rows.PasswdRow.{PasswdRow}
@@ -21,7 +22,7 @@ use Rattle.acl_rights.specs.Verdicts.{can_requests, rows_granted}
 use Rattle.path_map.specs.Entries.{IsInOrder}
 use Rattle.path_map.specs.Inner.{After}
 use Rattle.path_map.specs.Merged.{put_all}
-use Rattle.path_map.proofs.Merges.{later_after, from_T, to_T}
+use Rattle.path_map.proofs.Merges.{later_after}
 use Rattle.path_map.proofs.Places.{above}
 use Rattle.path_map.proofs.Rows.{find_put_all}
 use Rattle.facl.specs.Answers.{line}
@@ -30,7 +31,7 @@ use Rattle.facl.specs.GainsText.{is_change, is_same, side_of, side_text, number_
 use Rattle.facl.specs.GainsText.{gain_lines, gains_text}
 use Rattle.facl.specs.Inner.{Placed, placed_of, placed_in}
 use Rattle.facl.specs.InnerGains.{AllOfBoth, AreCounted, AreKeysOf, ArePassed, BothClassed, Gained, IsClassOf, IsPassed, RowsOfFile}
-use Rattle.facl.specs.InnerGains.{cell_at, cells_of_both, change_of, count_line, counted_line, gained_of, keyed, lines_of_user, rekeyed, row_of_class, rows_of_both, rows_of_key, tally_line}
+use Rattle.facl.specs.InnerGains.{verdict_given, cells_of_both, change_of, count_line, counted_line, gained_of, keyed, lines_of_user, rekeyed, row_of_class, rows_of_both, rows_of_key, tally_line}
 use Rattle.facl.specs.PathTexts.{text_in}
 use Rattle.facl.specs.Tallies.{Tallied, Sides, SaysAs, one, count_where, first_where}
 use Rattle.facl.specs.declared.answers.placed_users.PlacedUser.{PlacedUser}
@@ -196,14 +197,14 @@ module _ (V : Verdict) (along : Bool) (loaded now : State) (before_order : IsInO
       by true more = refl
       by false more = more
 
-  cell_is : (s : State) (name : List ℕ) (p : PathOf) → cell_at (find path_cmp p (rows_granted V along s)) (place_of s name) ≡ granted_in V along loaded now s name p
+  cell_is : (s : State) (name : List ℕ) (p : PathOf) → verdict_given (find path_cmp p (rows_granted V along s)) (place_of s name) ≡ granted_in V along loaded now s name p
   cell_is s name p = by (place_of s name)
     where
-      nobody : (row : Option (List ℕ)) → cell_at row None ≡ None
+      nobody : (row : Option (List ℕ)) → verdict_given row None ≡ None
       nobody None = refl
       nobody (Some row) = refl
 
-      by : (place : Option ℕ) → cell_at (find path_cmp p (rows_granted V along s)) place ≡ option_and_then (λ user. can_requests V along s user p) place
+      by : (place : Option ℕ) → verdict_given (find path_cmp p (rows_granted V along s)) place ≡ option_and_then (λ user. can_requests V along s user p) place
       by None = nobody (find path_cmp p (rows_granted V along s))
       by (Some user) = cell_along V along s (table_of V s) (whole_table V s) user p
 

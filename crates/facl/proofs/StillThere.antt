@@ -12,6 +12,7 @@ use Rattle.acl_edit.specs.declared.edit.Edit.{Edit}
 use Rattle.acl_edit.specs.declared.edit.EditFault.{EditFault}
 use Rattle.acl_edit.specs.declared.node.Node.{Node}
 use Rattle.acl_names.proofs.Below.{within_itself}
+use Rattle.acl_names.proofs.Basics.{err_is_not_ok, or_true}
 use Rattle.acl_tree.specs.EditCommand.{edit_one, edited_tree}
 use Rattle.acl_tree.specs.Edits.{edit_all, unless_missing}
 use Rattle.acl_tree.specs.Files.{Recorded}
@@ -24,12 +25,6 @@ use Rattle.acl_tree.specs.Step.{step}
 use Rattle.acl_tree.specs.declared.command.Command.TheVariants.{Edit as EditFiles, Restore}
 use Rattle.acl_tree.specs.declared.fault.TreeFault.{TreeFault}
 use Rattle.facl_output.specs.declared.fault.LineFault.{LineFault}
-
-false_is_not_true : false ≡ true → ⊥
-false_is_not_true h = cc
-
-err_is_not_ok : {A B : Type 0} (a : A) (b : B) → Err b ≡ Ok a → ⊥
-err_is_not_ok a b h = cc
 
 abbrev ok_or : {A : Type 0} → A → Result A LineFault → A
 ok_or a (Ok b) = b
@@ -45,10 +40,6 @@ means_itself false p = ap is_eq (tied_itself path_total p)
 -- the paths are files of the command with these operands
 abbrev AreFiles : Bool → List PathOf → List PathOf → Type 0
 AreFiles recursive paths ps = AllByRecursion (λ p. is_file recursive paths p ≡ true) ps
-
-or_true : (b : Bool) → (b || true) ≡ true
-or_true true = refl
-or_true false = refl
 
 one_operand_more : (recursive : Bool) (q : PathOf) (paths ps : List PathOf) → AreFiles recursive paths ps → AreFiles recursive (q ∷ paths) ps
 one_operand_more recursive q paths [] h = tt
@@ -90,13 +81,15 @@ tree_after : (s new : State) (r : Result Recorded TreeFault) → with_tree s r �
 tree_after s new (Ok t) h = ap (λ (r : Result State TreeFault). Ok (tree_in t r)) h
 tree_after s new (Err fault) h = absurd (err_is_not_ok _ _ h)
 
-pub edited_are_there : EachFileIsEdited → (s new : State) (recursive : Bool) (paths : List PathOf) (e : Edit) → IsInOrder s.tree.files → step s (EditFiles paths e recursive) ≡ Ok new → first_missing paths new.tree.files ≡ None
+pub edited_are_there : EachFileIsEdited → (s new : State) (recursive : Bool) (paths : List PathOf) (e : Edit) → IsInOrder s.tree.files
+    → step s (EditFiles paths e recursive) ≡ Ok new → first_missing paths new.tree.files ≡ None
 edited_are_there law s new recursive paths e order h =
     let edited = tree_after s new (edited_tree recursive paths e s.tree) h in
     still_there (edit_one e recursive) recursive paths s.tree new.tree (law recursive paths e s.tree new.tree order edited)
     (none_missing (first_missing paths s.tree.files) (edit_one e recursive) recursive paths s.tree new.tree edited)
 
-pub restored_are_there : EachFileIsRestored → (s new : State) (records : List DumpRecord) → IsInOrder s.tree.files → step s (Restore records) ≡ Ok new → first_missing (paths_of records) new.tree.files ≡ None
+pub restored_are_there : EachFileIsRestored → (s new : State) (records : List DumpRecord) → IsInOrder s.tree.files → step s (Restore records) ≡ Ok new
+    → first_missing (paths_of records) new.tree.files ≡ None
 restored_are_there law s new records order h =
     let restored = tree_after s new (restored_tree records s.tree) h in
     still_there (restore_one records) false (paths_of records) s.tree new.tree (law records s.tree new.tree order restored)

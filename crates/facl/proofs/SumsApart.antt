@@ -1,5 +1,5 @@
 -- The sums of users, whose counts and first files are in lists of their own.
-use Rattle.std.proofs.Common.{◌≡◌, ℕ, zero, suc, ◌+◌, ◌^◌, ◌<◌, ◌≤◌, Bool, true, false, cond, not, ◌||◌, List, [], ◌∷◌, ◌++◌, append-nil, map, length, take, drop, replicate, Option}
+use Rattle.std.proofs.Common.{◌≡◌, ℕ, zero, suc, ◌+◌, ◌^◌, ◌<◌, ◌≤◌, Bool, true, false, cond, not, List, [], ◌∷◌, ◌++◌, append-nil, map, length, take, drop, replicate, Option}
 use Rattle.std.proofs.Common.{Some, None, is_some, Bor, refl, sym, ap, ◌∙◌, arith}
 use Rattle.std.specs.Prelude.{◌&&◌, option_map, slice_get}
 use Rattle.std.specs.Option.{option_or}
@@ -11,10 +11,6 @@ use Rattle.acl_names.specs.Paths.{PathOf}
 use Rattle.facl.specs.SumLists.{counts_after, firsts_after, grants_one, waits_of, sums_kept, AreSmall, AreWithin}
 use Rattle.facl.specs.Sums.{Sum, no_sum, added, after_row}
 use Rattle.facl.specs.Tallies.{Tallied, Sides}
-
-pub or_no : (b : Bool) → (b || false) ≡ b
-or_no true = refl
-or_no false = refl
 
 -- ---- loops that are at the end of one of two lists
 

@@ -68,7 +68,8 @@ module _ (n : ℕ) (p : PathOf) where
   count_raised test (x ∷ xs) (suc at) t here = let more = count_raised test xs at t here in omega arith
 
   -- the first of a test is what it was
-  first_raised : (test : Sides → Bool) (xs : Ts) (at : ℕ) (t : Tallied Sides) → slice_get xs at ≡ Some t → first_where test (set xs at (more t)) ≡ option_or (first_where test xs) (first_where test (anew t ∷ []))
+  first_raised : (test : Sides → Bool) (xs : Ts) (at : ℕ) (t : Tallied Sides) → slice_get xs at ≡ Some t
+      → first_where test (set xs at (more t)) ≡ option_or (first_where test xs) (first_where test (anew t ∷ []))
   first_raised test [] at t here = absurd (cc here)
   first_raised test (x ∷ xs) zero t here =
       let same : x ≡ t = cc in
@@ -95,7 +96,8 @@ module _ (n : ℕ) (p : PathOf) where
   }
 
 -- the count at a place is that of a key where both sides of it are
-pub has_key : (ts : List Tally) (at : ℕ) (tally : Tally) (key : Sides) → slice_get ts at ≡ Some tally → same_place tally.key.0 key.0 ≡ true → same_place tally.key.1 key.1 ≡ true → HasKey (map tallied ts) at key
+pub has_key : (ts : List Tally) (at : ℕ) (tally : Tally) (key : Sides) → slice_get ts at ≡ Some tally → same_place tally.key.0 key.0 ≡ true
+    → same_place tally.key.1 key.1 ≡ true → HasKey (map tallied ts) at key
 has_key ts at tally key here left right = record {
   tally = tallied tally;
   here = slice_get-map tallied ts at ∙ ap (option_map tallied) here;
@@ -105,7 +107,8 @@ has_key ts at tally key here left right = record {
 -- a count more, at the end
 pub counted_anew : (old new : List Tally) (x : Tally) (now others : Ts) → now ≡ map tallied old → new ≡ old ++ x ∷ [] → SaysAs now others → SaysAs (map tallied new) (others ++ tallied x ∷ [])
 counted_anew old new x now others view is says =
-    subst (λ l. SaysAs l (others ++ tallied x ∷ [])) (sym (ap (map tallied) is ∙ map-append tallied old (x ∷ []))) (says_one_more (map tallied old) others (tallied x) (subst (λ l. SaysAs l others) view says))
+    subst (λ l. SaysAs l (others ++ tallied x ∷ [])) (sym (ap (map tallied) is ∙ map-append tallied old (x ∷ [])))
+    (says_one_more (map tallied old) others (tallied x) (subst (λ l. SaysAs l others) view says))
 
 -- the count of a key is raised
 pub counted_more : (old : List Tally) (at : ℕ) (d was new : Tally) (n : ℕ) (x : Tallied Sides) (now others : Ts) → now ≡ map tallied old → was ≡ get_or old at d → HasKey now at x.key

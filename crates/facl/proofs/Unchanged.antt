@@ -1,5 +1,6 @@
 -- Nothing is printed exactly where no verdict differs.
-use Rattle.std.proofs.Common.{◌≡◌, ◌≢◌, ℕ, suc, ◌+◌, ◌<◌, arith, Bool, true, false, not, cond, List, [], ◌∷◌, ◌++◌, length, map, filter, Option, Some, None, Ordering, Less, Equal, Greater, refl, sym, ap, subst, ◌∙◌}
+use Rattle.std.proofs.Common.{◌≡◌, ◌≢◌, ℕ, suc, ◌+◌, ◌<◌, arith, Bool, true, false, not, cond, List, [], ◌∷◌, ◌++◌, length, map, filter, Option, Some, None}
+use Rattle.std.proofs.Common.{Ordering, Less, Equal, Greater, refl, sym, ap, subst, ◌∙◌}
 use Rattle.std.specs.Prelude.{option_map, option_and_then, position, slice_get, unwrap_or, codes, is_some, nat_lt, ◌||◌}
 use Rattle.std.specs.List.{flat_map, position_or_len, list_any}
 use Rattle.std.specs.Option.{option_or}
@@ -103,8 +104,10 @@ lines_none path user before after same =
 none_lines : (path user : List ℕ) (before after : ℕ) → change_lines path user before after ≡ [] → requests_granted before ≡ requests_granted after
 none_lines path user before after h =
     same_granted before after
-    (no_requests path user (codes "gains") (requests_gained before after) (no_left (change_line path user (codes "gains") (requests_gained before after)) (change_line path user (codes "loses") (requests_gained after before)) h))
-    (no_requests path user (codes "loses") (requests_gained after before) (no_right (change_line path user (codes "gains") (requests_gained before after)) (change_line path user (codes "loses") (requests_gained after before)) h))
+    (no_requests path user (codes "gains") (requests_gained before after)
+    (no_left (change_line path user (codes "gains") (requests_gained before after)) (change_line path user (codes "loses") (requests_gained after before)) h))
+    (no_requests path user (codes "loses") (requests_gained after before)
+    (no_right (change_line path user (codes "gains") (requests_gained before after)) (change_line path user (codes "loses") (requests_gained after before)) h))
 
 -- where a verdict is as before there is no line
 pub no_change : (path user : List ℕ) (before after : ℕ) → before ≡ after → change_lines path user before after ≡ []
@@ -250,7 +253,8 @@ module _ (V : Verdict) (along : Bool) where
         by : (there was : Bool) → list_any (called name) now.people.users ≡ there → list_any (called name) loaded.people.users ≡ was → IsSame name p
         by true was is _ = of_row now.people.users is (no_left (flat_map (lines_of p path) now.people.users) (flat_map (lines_of p path) gone) parts)
         by false true is had =
-            of_row gone (any_gone name (users_of now.people) loaded.people.users had (ap is_some (nobody name now.people.users is))) (no_right (flat_map (lines_of p path) now.people.users) (flat_map (lines_of p path) gone) parts)
+            of_row gone (any_gone name (users_of now.people) loaded.people.users had (ap is_some (nobody name now.people.users is)))
+            (no_right (flat_map (lines_of p path) now.people.users) (flat_map (lines_of p path) gone) parts)
         by false false is had = λ i. requests_granted ((nothing_for loaded name p had ∙ sym (nothing_for now name p is)) i)
 
     -- nothing is printed: no verdict differs
@@ -282,4 +286,5 @@ module _ (V : Verdict) (along : Bool) where
     pub nothing_printed : IsUnchanged V along loaded now → changes_text V along loaded now ≡ []
     nothing_printed same =
         no_lines (λ (file : PathOf × List ℕ). flat_map (lines_of file.0 file.1) (users_of_both loaded now)) (files_of_both loaded now)
-        (λ file. no_lines (lines_of file.0 file.1) (users_of_both loaded now) (λ row. lines_none file.1 (escaped row.name) (granted_to V along loaded row.name file.0) (granted_to V along now row.name file.0) (same row.name file.0)))
+        (λ file. no_lines (lines_of file.0 file.1) (users_of_both loaded now)
+        (λ row. lines_none file.1 (escaped row.name) (granted_to V along loaded row.name file.0) (granted_to V along now row.name file.0) (same row.name file.0)))

@@ -1,5 +1,6 @@
 -- The first operand whose file is not recorded, and the users that words mean.
-use Rattle.std.proofs.Common.{◌≡◌, ◌≤◌, ◌<◌, ◌+◌, ℕ, zero, suc, Bool, true, false, List, [], ◌∷◌, length, slice_get, Option, Some, None, is_some, option_map, option_and_then, position, if◌then◌else◌, Result, Ok, Err, refl, sym, ap, subst, ◌∙◌, arith}
+use Rattle.std.proofs.Common.{◌≡◌, ◌≤◌, ◌<◌, ◌+◌, ℕ, zero, suc, Bool, true, false, List, [], ◌∷◌, length, slice_get, Option, Some, None, is_some, option_map}
+use Rattle.std.proofs.Common.{option_and_then, position, if◌then◌else◌, Result, Ok, Err, refl, sym, ap, subst, ◌∙◌, arith}
 use Rattle.std.specs.FinMap.{find}
 use Rattle.std.proofs.lemmas.List.{length-map}
 use Rattle.std.proofs.lemmas.List.Quantifiers.{position-Some}
@@ -7,6 +8,7 @@ use Rattle.std.proofs.lemmas.Option.{slice_get-get_or}
 use Rattle.acl_edit.specs.declared.node.Node.{Node}
 use Rattle.acl_tree.specs.declared.fault.TreeFault.TheVariants.{NoSuchFile, NoSuchUser}
 use Rattle.acl_names.specs.Paths.{path_of, path_cmp, PathOf}
+use Rattle.acl_names.proofs.Basics.{none_is_not_some, ok_is_not_err, some_is_not_none}
 use Rattle.acl_people.specs.Entries.{user_entry}
 use Rattle.acl_people.specs.KnownPeople.{KnownPeople, users_of, person, subject}
 use Rattle.acl_people.specs.NameTables.{Named, is_id, is_name, place_of_word}
@@ -21,10 +23,7 @@ use Rattle.facl.specs.ToolParts.{IsUnrecorded, IsNoUser}
 use Rattle.facl.specs.Operands.{bad_operand, path_at, paths_from, name_meant, user_or_fault}
 use Rattle.facl.specs.Replies.{after, or_fault}
 use Rattle.facl.specs.Why.{person_named}
-use Rattle.facl.proofs.Outcomes.{ok_is_not_err, ok_eq, err_eq, some_or_none, was_there}
-
-none_is_not_some : {A : Type 0} (a : A) → None ≡ Some a → ⊥
-none_is_not_some a h = cc
+use Rattle.facl.proofs.Outcomes.{ok_eq, err_eq, was_there}
 
 one_of : {A B : Type 0} (o : Option A) (k : A → Option B) (a a' : A) (b b' : B) → o ≡ Some a → o ≡ Some a' → k a ≡ Some b → k a' ≡ Some b' → b ≡ b'
 one_of o k a a' b b' h h' s s' = cc
@@ -67,7 +66,8 @@ here t w ws p is missing = record {
   first = λ m g _. from_zero m;
 }
 
-later : (t : Files) (w : Text) (ws : List Text) (p : PathOf) (node : Node) (f : LineFault) → path_of w ≡ Some p → find path_cmp p t ≡ Some node → IsFirstUnrecorded t ws f → IsFirstUnrecorded t (w ∷ ws) f
+later : (t : Files) (w : Text) (ws : List Text) (p : PathOf) (node : Node) (f : LineFault) → path_of w ≡ Some p → find path_cmp p t ≡ Some node
+    → IsFirstUnrecorded t ws f → IsFirstUnrecorded t (w ∷ ws) f
 later t w ws p node f is found b = record { n = suc b.n; unrecorded = of_all t w ws b.n f b.unrecorded; first = λ m g u. after_it m g u }
   where
     after_it : (m : ℕ) (g : LineFault) → IsUnrecorded t (w ∷ ws) m g → suc b.n ≤ m
@@ -151,7 +151,7 @@ pub has_row : (known : KnownPeople) (word : List ℕ) (i : ℕ) → place_of_wor
 has_row known word i is none =
     let r : PasswdRow = record { name = []; uid = 0; gid = 0 } in
     let within : i < length known.users = subst (λ n. i < n) (length-map known.users user_entry) (row_within word (users_of known) i is) in
-    some_or_none _ _ (slice_get-get_or known.users i r within) none
+    some_is_not_none _ _ (slice_get-get_or known.users i r within) none
 
 -- the user of a word is read as this: as the fault that there is none, or as one who is there
 pub record ReadsUser {A : Type 0} (known : KnownPeople) (word : Text) (read : Result A LineFault) : Type 0 where

@@ -10,7 +10,7 @@ use Rattle.acl_entry.specs.Perms.{Perms, numbered}
 use Rattle.acl_names.specs.Paths.{PathOf}
 use Rattle.facl.specs.GainsText.{is_gained, is_change}
 use Rattle.facl.specs.Inner.{Placed, same_place}
-use Rattle.facl.specs.InnerGains.{AllOfBoth, BothClassed, Gained, IsCountedFor, IsPassed, ArePassed, RowStays, RowsOfFile, AreCountedFor, cell_at, cells_of_both, change_of, gained_of, keeps}
+use Rattle.facl.specs.InnerGains.{AllOfBoth, BothClassed, Gained, IsCountedFor, IsPassed, ArePassed, RowStays, RowsOfFile, AreCountedFor, verdict_given, cells_of_both, change_of, gained_of, keeps}
 use Rattle.facl.specs.InnerGains.{keyed, row_given, rekeyed, rows_of_key}
 use Rattle.facl.specs.Counting.{tallied}
 use Rattle.facl.specs.Tallies.{Tallied, Sides, SaysAs}
@@ -57,8 +57,8 @@ no_change cell = λ i. no_gain (unwrap_or cell 0) i || no_gain (unwrap_or cell 0
 unchanged : (places : Sides) (row : List ℕ) → same_place places.0 places.1 ≡ true → change_of places (Some row, Some row) ≡ None
 unchanged places row same =
     let place = same_of places.0 places.1 same in
-    let cell = cell_at (Some row) places.0 in
-    let kept : is_change true (cells_of_both places (Some row, Some row)) ≡ false = ap (λ p. is_change true (cell, cell_at (Some row) p)) (sym place) ∙ no_change cell in
+    let cell = verdict_given (Some row) places.0 in
+    let kept : is_change true (cells_of_both places (Some row, Some row)) ≡ false = ap (λ p. is_change true (cell, verdict_given (Some row) p)) (sym place) ∙ no_change cell in
     ap (λ b. cond b (Some (cells_of_both places (Some row, Some row))) None) kept
 
 -- nothing is counted where a row stays and the users are the same

@@ -35,4 +35,5 @@ module _ (V : Verdict) (along : Bool) (s : State) (p : PathOf) (q : Perms) where
       by : (o : Option Node) → option_map (flat_map (line_at s.people)) (option_map (λ n. places_from (λ row. has (granted V along s row (p, n)) q) 0 s.people.users) o)
           ≡ option_map (λ n. flat_map user_line (filter (λ row. has (granted V along s row (p, n)) q) s.people.users)) o
       by None = refl
-      by (Some n) = ap Some (lines_of_places (λ row. has (granted V along s row (p, n)) q) user_line (line_at s.people) 0 s.people.users (λ i. let same : 0 + i ≡ i = omega arith in ap (line_at s.people) same))
+      by (Some n) = ap Some
+          (lines_of_places (λ row. has (granted V along s row (p, n)) q) user_line (line_at s.people) 0 s.people.users (λ i. let same : 0 + i ≡ i = omega arith in ap (line_at s.people) same))

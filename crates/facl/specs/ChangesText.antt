@@ -63,7 +63,8 @@ module _ (V : Verdict) (along : Bool) where
   -- `changes`: for each file and each user of both states what differs
   abbrev pub changes_text : (loaded now : State) → List ℕ
   changes_text loaded now =
-      flat_map (λ file. flat_map (λ row. change_lines file.1 (escaped row.name) (granted_to loaded row.name file.0) (granted_to now row.name file.0)) (users_of_both loaded now)) (files_of_both loaded now)
+      flat_map (λ file. flat_map (λ row. change_lines file.1 (escaped row.name) (granted_to loaded row.name file.0) (granted_to now row.name file.0))
+      (users_of_both loaded now)) (files_of_both loaded now)
 
   -- no verdict differs: each user is granted the same requests other than none on each file
   abbrev pub IsUnchanged : (loaded now : State) → Type 0

@@ -95,11 +95,11 @@ pub record AreCounted (both : BothClassed) (tallies : List (Tallied Sides)) (fil
 -- ---- changes of users
 
 -- what a row grants the user at a place, if both are there
-abbrev pub cell_at : Option (List ℕ) → Option ℕ → Option ℕ
-cell_at row place = option_and_then (λ cells. option_and_then (slice_get cells) place) row
+abbrev pub verdict_given : Option (List ℕ) → Option ℕ → Option ℕ
+verdict_given row place = option_and_then (λ cells. option_and_then (slice_get cells) place) row
 
 abbrev pub cells_of_both : (places : Sides) → RowsOfFile → Sides
-cells_of_both places rows = (cell_at rows.0 places.0, cell_at rows.1 places.1)
+cells_of_both places rows = (verdict_given rows.0 places.0, verdict_given rows.1 places.1)
 
 -- the row that is given, if the file is there
 abbrev pub row_given : GivenRow → Option (List ℕ)

@@ -1,5 +1,5 @@
 -- For inner functions: walks over the files of a state at a path or below it.
-use Rattle.std.specs.Prelude.{Bool, List, [], ◌∷◌, if◌then◌else◌}
+use Rattle.std.specs.Prelude.{Bool, [], ◌∷◌, if◌then◌else◌}
 use Rattle.acl_names.specs.Below.{encloses}
 use Rattle.acl_names.specs.Paths.{PathOf}
 use Rattle.acl_tree.specs.State.{State}

@@ -3,6 +3,7 @@
 
 pub(crate) mod below;
 mod both_classes;
+mod change_lines;
 pub(crate) mod changes;
 mod class_counts;
 mod count_texts;

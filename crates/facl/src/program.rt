@@ -15,9 +15,9 @@ use facl_output::RunFault;
 use facl_script::{Feed, Sink, run_session};
 use std::alloc::Global;
 
-/// [`run`] with a judge of who may do what in the place of acl(5)'s check. The index asks the judge about every user
-/// and every file once, then for each line that changes the state at most for the verdicts that the change can have
-/// changed; a question, a `--test` and a refused line ask for none.
+/// [`run`] with a judge of who may do what in the place of acl(5)'s check. The judge is asked for at most one verdict for
+/// each user and file at the start, and for each accepted line at most one more for each verdict that it can have
+/// changed. Questions, `--test` and refused lines add nothing to this bound, which is a sum over the script.
 ///
 /// # Errors
 ///
@@ -60,7 +60,7 @@ pub fn run_judged<J: Judge, R: Feed, O: Sink, E: Sink>(
 }
 
 /// Loads the setup's texts, then answers a script: reads it line by line, and writes what each line prints to `out`,
-/// and the message of each refused line to `err`, before the next line is looked at.
+/// and the message of each refused line to `err`. Tests, and no contract, say that it does so before it reads on.
 ///
 /// What is written are the bytes of the session made from scratch: the definition of each accepted line replayed on the
 /// loaded texts, every question judged by acl(5)'s check, and `changes` comparing with the state after the setup or

@@ -124,7 +124,7 @@ impl<J: Judge> FaclSession<J> {
             warns: _,
         } = effect;
         self.indexed_states
-            .accept_if(self.alloc, judge, staged, loads)?;
+            .replace_if(self.alloc, judge, staged, loads)?;
         self.out = out;
         self.err = warning;
         Ok(())

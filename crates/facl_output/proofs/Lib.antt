@@ -1,9 +1,9 @@
 pub mod Rising
 pub mod Reloaded
-pub mod RestoredAgain
+pub mod RestoredRoundTrips
 pub mod Parts
 pub mod Loops
-pub mod AttributesAgain
-pub mod ListsAgain
+pub mod AttributeRoundTrips
+pub mod ListRoundTrips
 pub mod ListsSet
 pub mod ListsPut

@@ -1,17 +1,12 @@
 -- The lists of a file, put into this file, leave it as it is.
-use Rattle.std.proofs.Common.{◌≡◌, Bool, Option, Some, None, Ok, refl, sym, ap, subst, ◌∙◌}
+use Rattle.std.proofs.Common.{◌≡◌, Bool, Option, Some, None, Ok, refl, sym, ap, ◌∙◌}
 use Rattle.acl_text.specs.InTurn.{◌>>=◌}
-use Rattle.acl_edit.specs.Edits.{allowed, edit, put}
+use Rattle.acl_edit.specs.Edits.{edit, put}
 use Rattle.acl_edit.specs.Nodes.{IsSound, with_lists}
 use Rattle.acl_edit.specs.declared.edit.Edit.TheVariants.{Put}
-use Rattle.acl_edit.specs.declared.node.Kind.{Kind}
-use Rattle.acl_edit.specs.declared.node.Kind.TheVariants.{Plain, Directory}
 use Rattle.acl_edit.specs.declared.node.Node.{Node}
+use Rattle.acl_edit.proofs.Restored.{own_list}
 use Rattle.acl_entry.specs.Lists.{KeyMap, or_else}
-
-own_list : (k : Kind) (o : Option KeyMap) (in_recursion : Bool) → (k ≡ Plain → o ≡ None) → allowed k in_recursion o ≡ Ok o
-own_list Plain o in_recursion h = subst (λ z. allowed Plain in_recursion z ≡ Ok z) (sym (h refl)) refl
-own_list Directory o in_recursion h = refl
 
 either : (o : Option KeyMap) → or_else o o ≡ o
 either None = refl

@@ -1,44 +1,48 @@
 -- The entries of both lists of a file give these lists back where `setfacl --set` puts them.
-use Rattle.std.proofs.Common.{◌≡◌, ℕ, ◌+◌, Bool, true, false, cond, not, ◌&&◌, ◌||◌, if◌then◌else◌, List, [], ◌∷◌, ◌++◌, map, filter, length, Option, Some, None, option_map, unwrap_or, Ok, Err, refl, sym, ap, subst, ◌∙◌, append_assoc, arith}
-use Rattle.std.specs.Prelude.{IfSome, ◌==◌}
+use Rattle.std.proofs.Common.{◌≡◌, ℕ, ◌+◌, Bool, true, false, cond, not, ◌&&◌, ◌||◌, if◌then◌else◌, List, [], ◌∷◌, ◌++◌, map, filter, length, Option, Some}
+use Rattle.std.proofs.Common.{None, option_map, unwrap_or, Ok, Err, refl, sym, ap, subst, ◌∙◌, append_assoc, arith}
+use Rattle.std.specs.Prelude.{IfSome}
 use Rattle.std.specs.FinMap as maps
 use Rattle.std.specs.List.{list_any, position_from, AllByRecursion}
 use Rattle.std.specs.Option.{option_map_or}
 use Rattle.std.proofs.lemmas.List.{append-nil, length-map}
-use Rattle.acl_text.proofs.ReadAgain.{few, new_key, one_more}
-use Rattle.acl_entry.proofs.Faults.{fault_short}
+use Rattle.acl_text.proofs.EntryRoundTrips.{few, new_key, one_more}
+use Rattle.acl_entry.proofs.Faults.{fault_short, no_place}
 use Rattle.acl_entry.proofs.Maps.{map_of-entries, in_order-entries}
 use Rattle.acl_edit.proofs.Kept.{checked_valid, default_unnamed}
-use Rattle.acl_text.specs.Again.{IsListIf}
+use Rattle.acl_text.specs.RoundTrips.{IsListIf}
 use Rattle.acl_edit.specs.Changes.{Change, options}
 use Rattle.acl_text.specs.InTurn.{◌>>=◌}
 use Rattle.acl_edit.specs.Edits.{worked, access_after, default_after, checked, checked_default, changed_access, changed_default, change}
 use Rattle.acl_edit.specs.Masks.{has_mask, has_named, add_mask, recalculate, is_recalculated, takes_mask, with_mask}
 use Rattle.acl_edit.specs.Nodes.{IsSound, is_directory, with_lists}
-use Rattle.acl_edit.specs.Parts.{Part, part, is_for, is_mask, is_of_mask, names, puts}
+use Rattle.acl_edit.specs.Parts.{Part, part, is_for, is_of_mask, names, puts}
 use Rattle.acl_edit.specs.Steps.{gives_execute, perms_of, put_some, modify, replace, fill_one, fill_from}
 use Rattle.acl_edit.specs.declared.edit.EditFault.TheVariants.{DefaultOnFile, List as ListIs}
 use Rattle.acl_edit.specs.declared.node.Kind.{Kind}
 use Rattle.acl_edit.specs.declared.node.Kind.TheVariants as kinds
 use Rattle.acl_edit.specs.declared.node.Node.{Node}
-use Rattle.acl_entry.specs.Keys.{key_cmp, same_key, is_named}
+use Rattle.acl_edit.proofs.ByKey.{mask_key}
+use Rattle.acl_edit.proofs.Lines.{checked_empty}
+use Rattle.acl_entry.specs.Keys.{same_key, is_named}
 use Rattle.acl_entry.specs.Lists.{KeyMap, IsInOrder, IsValid, class_union, entries, fault, is_among, keys, map_of, missing_base, or_else, repeated, unmasked}
 use Rattle.acl_entry.specs.Perms.{Perms}
 use Rattle.acl_entry.specs.declared.entry.Entry.{Entry}
 use Rattle.acl_entry.specs.declared.entry.ListFault.{ListFault}
 use Rattle.acl_entry.specs.declared.entry.ListFault.TheVariants.{Repeated, MissingBase, MissingMask}
 use Rattle.acl_entry.specs.declared.entry.Key.{Key}
-use Rattle.acl_entry.specs.declared.entry.Key.TheVariants.{Owner, User, OwningGroup, Group, Mask, Other}
+use Rattle.acl_entry.specs.declared.entry.Key.TheVariants.{Owner, OwningGroup, Mask, Other}
 use Rattle.acl_people.specs.KnownPeople.{KnownPeople, naming_of}
 use Rattle.acl_text.specs.declared.entries.Spec.{Spec}
 use Rattle.acl_text.specs.declared.fault.Which.{Which}
 use Rattle.acl_text.specs.declared.fault.Which.TheVariants.{Access, Default}
 use Rattle.acl_text.specs.Writing.{spec_of}
 use Rattle.acl_names.specs.Paths.{PathOf}
+use Rattle.acl_names.proofs.Basics.{and_false}
 use Rattle.acl_tree.specs.Files.{Files}
 use Rattle.acl_tree.specs.Sound.{ArePlaced}
 use Rattle.facl_output.specs.RoundTrips.{IsReadAgain, IsShortAgain, entries_for, dacl_entries, all_entries, specs_of, AreSetAs, AreListsAgain}
-use Rattle.facl_output.proofs.ListsAgain.{both_again, short_is_again}
+use Rattle.facl_output.proofs.ListRoundTrips.{both_again, short_is_again}
 
 -- ---- the entries for each list
 
@@ -98,14 +102,17 @@ base_none (Some a) b c h = absurd (cc h)
 
 -- the keys of a valid list are few, so its faults are those of single keys
 short_faults : (acl : KeyMap) → IsValid acl
-    → or_else (option_map Repeated (repeated (keys (entries acl)))) (or_else (option_map MissingBase (missing_base (keys (entries acl)))) (option_map MissingMask (unmasked (keys (entries acl))))) ≡ None
+    → or_else (option_map Repeated (repeated (keys (entries acl))))
+    (or_else (option_map MissingBase (missing_base (keys (entries acl)))) (option_map MissingMask (unmasked (keys (entries acl))))) ≡ None
 short_faults acl valid = sym (fault_short (keys (entries acl)) (omega (arith, few acl valid, length-map (entries acl) (λ e. e.key)))) ∙ valid
 
 masked_named : (acl : KeyMap) → IsValid acl → unmasked (keys (entries acl)) ≡ None
-masked_named acl valid = last_none (option_map Repeated (repeated (keys (entries acl)))) (option_map MissingBase (missing_base (keys (entries acl)))) (unmasked (keys (entries acl))) (short_faults acl valid)
+masked_named acl valid = last_none (option_map Repeated (repeated (keys (entries acl)))) (option_map MissingBase (missing_base (keys (entries acl))))
+    (unmasked (keys (entries acl))) (short_faults acl valid)
 
 no_base_missing : (acl : KeyMap) → IsValid acl → missing_base (keys (entries acl)) ≡ None
-no_base_missing acl valid = base_none (option_map Repeated (repeated (keys (entries acl)))) (missing_base (keys (entries acl))) (option_map MissingMask (unmasked (keys (entries acl)))) (short_faults acl valid)
+no_base_missing acl valid = base_none (option_map Repeated (repeated (keys (entries acl)))) (missing_base (keys (entries acl)))
+    (option_map MissingMask (unmasked (keys (entries acl)))) (short_faults acl valid)
 
 abbrev entry_of : Key × Perms → Entry
 entry_of p = record { key = p.0; perm = p.1 }
@@ -141,13 +148,6 @@ filled other acl valid =
 
 -- ---- the mask stays
 
-no_place : (ks : List Key) (n : ℕ) → position_from is_named n ks ≡ None → list_any is_named ks ≡ false
-no_place [] n h = refl
-no_place (k ∷ ks) n h = elim (is_named k) as (λ b. cond b (Some n) (position_from is_named (n + 1) ks) ≡ None → (b || list_any is_named ks) ≡ false) [
-  | true ↦ λ e. cc
-  | false ↦ λ e. no_place ks (n + 1) e
-] h
-
 named_keys : (es : List Entry) → list_any (λ e. is_named e.key) es ≡ list_any is_named (keys es)
 named_keys [] = refl
 named_keys (e ∷ es) = ap (λ b. is_named e.key || b) (named_keys es)
@@ -159,24 +159,13 @@ none_named acl valid without =
     let no_mask : is_among Mask ks ≡ false = sym (has_key acl Mask) ∙ without in
     named_keys (entries acl) ∙ no_place ks 1 (sym (ap (λ b. cond b None (position_from is_named 1 ks)) no_mask) ∙ masked_named acl valid)
 
-and_false : (b : Bool) → (b && false) ≡ false
-and_false true = refl
-and_false false = refl
-
 no_mask_added : (acl : KeyMap) → IsValid acl → add_mask acl ≡ acl
 no_mask_added acl valid = by_mask (has_mask acl) refl
   where
     by_mask : (b : Bool) → has_mask acl ≡ b → (if has_named acl && not (has_mask acl) then put_some acl Mask (maps.get acl OwningGroup) else acl) ≡ acl
-    by_mask true e = ap (λ b. if has_named acl && not b then put_some acl Mask (maps.get acl OwningGroup) else acl) e ∙ ap (λ b. if b then put_some acl Mask (maps.get acl OwningGroup) else acl) (and_false (has_named acl))
+    by_mask true e = ap (λ b. if has_named acl && not b then put_some acl Mask (maps.get acl OwningGroup) else acl) e
+        ∙ ap (λ b. if b then put_some acl Mask (maps.get acl OwningGroup) else acl) (and_false (has_named acl))
     by_mask false e = ap (λ b. if b && not (has_mask acl) then put_some acl Mask (maps.get acl OwningGroup) else acl) (none_named acl valid e)
-
-mask_key : (k : Key) → is_mask k ≡ same_key Mask k
-mask_key Owner = refl
-mask_key (User id) = refl
-mask_key OwningGroup = refl
-mask_key (Group id) = refl
-mask_key Mask = refl
-mask_key Other = refl
 
 mask_given : (dflt : Bool) (at : ℕ) (es : List Entry) → list_any is_of_mask (specs_of at (entries_for dflt es)) ≡ is_among Mask (keys es)
 mask_given dflt at [] = refl
@@ -227,7 +216,8 @@ access_set x all at m acl valid is =
     ∙ (ap (with_mask (line all) (only_set specs) (takes_mask (only_set specs) (replace x specs m))) (replaced x false at m acl valid)
     ∙ mask_stays all false at (takes_mask (only_set specs) (replace x specs m)) acl valid))
 
-default_set : (x : Bool) (all : List Spec) (at : ℕ) (other m acl : KeyMap) → IsValid acl → filter (is_for false Default) all ≡ specs_of at (entries_for true (entries acl)) → default_after (line all) x other m ≡ acl
+default_set : (x : Bool) (all : List Spec) (at : ℕ) (other m acl : KeyMap) → IsValid acl
+    → filter (is_for false Default) all ≡ specs_of at (entries_for true (entries acl)) → default_after (line all) x other m ≡ acl
 unfolding default_after worked
 default_set x all at other m acl valid is =
     let specs = specs_of at (entries_for true (entries acl)) in
@@ -246,11 +236,6 @@ no_default es dacl none = ap (λ o. filter (is_for false Default) (specs_of 1 (e
 
 checked_same : (which : Which) (acl : KeyMap) → IsValid acl → checked which acl ≡ Ok acl
 checked_same which acl valid = ap (λ f. option_map_or (λ f. Err (ListIs which f)) f (Ok acl)) valid
-
-none_checked : checked_default maps.empty ≡ Ok None
-none_checked =
-    let none : length (entries maps.empty) ≡ 0 = length-map (maps.entries maps.empty) entry_of ∙ (sym (maps.len-entries maps.empty) ∙ maps.len-empty key_cmp Perms) in
-    ap (λ n. if n == 0 then Ok None else (checked Default maps.empty >>= λ d. Ok (Some d))) none
 
 not_misplaced : (in_recursion b : Bool) → b ≡ false → (not false && not in_recursion && b) ≡ false
 not_misplaced true b h = refl
@@ -276,10 +261,11 @@ module _ (n : Node) (sound : IsSound n) (valid : IsValid n.label.acl) (valid_def
       by_default : (o : Option KeyMap) → n.dacl ≡ o → checked_default (default_after (line all) (gives_execute m) n.label.acl (unwrap_or m.dacl maps.empty)) ≡ Ok o
       by_default None e =
           let none : names (part (line all) Default) ≡ false = ap (λ specs. names (only_set specs)) (no_default (entries n.label.acl) n.dacl e) in
-          ap checked_default (default_unnamed (line all) (gives_execute m) n.label.acl (unwrap_or m.dacl maps.empty) none ∙ ap (λ o. unwrap_or o maps.empty) (bare e)) ∙ none_checked
+          ap checked_default (default_unnamed (line all) (gives_execute m) n.label.acl (unwrap_or m.dacl maps.empty) none ∙ ap (λ o. unwrap_or o maps.empty) (bare e)) ∙ checked_empty
       by_default (Some d) e =
           let is = ap (λ o. filter (is_for false Default) (specs_of 1 (entries_for false (entries n.label.acl) ++ dacl_entries o))) e ∙ default_part (entries n.label.acl) (entries d) 1 in
-          ap checked_default (default_set (gives_execute m) all (1 + length (entries n.label.acl)) n.label.acl (unwrap_or m.dacl maps.empty) d (valid_default d e) is) ∙ checked_valid d (valid_default d e)
+          ap checked_default (default_set (gives_execute m) all (1 + length (entries n.label.acl)) n.label.acl (unwrap_or m.dacl maps.empty) d
+          (valid_default d e) is) ∙ checked_valid d (valid_default d e)
 
       by_kind : (k : Kind) → n.kind ≡ k
           → (if not (is_directory k) && not in_recursion && puts (part (line all) Default) then Err DefaultOnFile
@@ -288,7 +274,9 @@ module _ (n : Node) (sound : IsSound n) (valid : IsValid n.label.acl) (valid_def
       by_kind kinds.Plain e =
           let none = sound e in
           let no_puts : puts (part (line all) Default) ≡ false = ap (λ specs. puts (only_set specs)) (no_default (entries n.label.acl) n.dacl none) in
-          ap (λ b. if b then Err DefaultOnFile else (changed_access m (line all) >>= λ acl. changed_default kinds.Plain m (line all) acl >>= λ dacl. Ok (with_lists m acl dacl))) (not_misplaced in_recursion (puts (part (line all) Default)) no_puts)
+          ap (λ b. if b then Err DefaultOnFile
+          else (changed_access m (line all) >>= λ acl. changed_default kinds.Plain m (line all) acl >>= λ dacl. Ok (with_lists m acl dacl)))
+          (not_misplaced in_recursion (puts (part (line all) Default)) no_puts)
           ∙ (ap (λ r. r >>= λ acl. changed_default kinds.Plain m (line all) acl >>= λ dacl. Ok (with_lists m acl dacl)) access_checked
           ∙ ap (λ o. Ok (with_lists m n.label.acl o)) (bare none ∙ sym none))
       by_kind kinds.Directory e =

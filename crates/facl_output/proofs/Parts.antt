@@ -30,7 +30,8 @@ added_both (Ok x) a b c s t first second = two_parts a b c s t first second
 added_both (Err fault) a b c s t first second = second
 
 -- so where the second call adds all or nothing, and the text stays the beginning
-pub appends_last : {A E Z : Type 0} (result : Result A E) (old mid new : Vec ℕ Z) (first second : List ℕ) → mid.items ≡ old.items ++ first → AppendsWhole result mid new second → Appends result old new (first ++ second)
+pub appends_last : {A E Z : Type 0} (result : Result A E) (old mid new : Vec ℕ Z) (first second : List ℕ) → mid.items ≡ old.items ++ first
+    → AppendsWhole result mid new second → Appends result old new (first ++ second)
 appends_last (Ok x) old mid new first second added more = two_parts old.items first second mid.items new.items added more
 appends_last (Err fault) old mid new first second added same =
     still_begins old.items first mid.items new.items added (ap (take (length mid.items)) same ∙ take_all (length mid.items) mid.items (omega arith))

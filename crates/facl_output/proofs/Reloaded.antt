@@ -1,5 +1,6 @@
 -- What is printed of all files is loaded as these files.
-use Rattle.std.proofs.Common.{◌≡◌, ℕ, suc, ◌+◌, ◌≤◌, Bool, true, false, not, cond, ◌&&◌, ◌||◌, List, [], ◌∷◌, ◌++◌, length, map, Option, Some, None, Result, Ok, Err, refl, sym, ap, subst, ◌∙◌, append_assoc, arith, nat_lt}
+use Rattle.std.proofs.Common.{◌≡◌, ℕ, suc, ◌+◌, ◌≤◌, Bool, true, false, not, cond, ◌&&◌, ◌||◌, List, [], ◌∷◌, ◌++◌, length, map, Option, Some, None, Result, Ok}
+use Rattle.std.proofs.Common.{Err, refl, sym, ap, subst, ◌∙◌, append_assoc, arith, nat_lt}
 use Rattle.std.specs.Prelude.{filter, is_some, unwrap_or, ◌==◌}
 use Rattle.std.specs.List.{list_any, AllByRecursion}
 use Rattle.std.specs.Ordering.{is_eq}
@@ -16,7 +17,7 @@ use Rattle.acl_text.specs.declared.record.DumpRecord.{DumpRecord}
 use Rattle.acl_text.specs.declared.record.DumpUse.{DumpUse}
 use Rattle.acl_text.specs.declared.record.DumpUse.TheVariants.{Load, Restore}
 use Rattle.acl_text.specs.DumpWriting.{record_text}
-use Rattle.acl_text.specs.Again.{AreApart, AreFlags, IsReadable, HasHeaders, paths, placed, dump_text, line_count}
+use Rattle.acl_text.specs.RoundTrips.{AreApart, AreFlags, IsReadable, HasHeaders, paths, placed, dump_text, line_count}
 use Rattle.acl_text.proofs.WrittenRecords.{dump_again}
 use Rattle.acl_tree.specs.declared.fault.TreeFault.{TreeFault}
 use Rattle.acl_tree.specs.declared.fault.TreeFault.TheVariants.{TooMany}
@@ -37,7 +38,17 @@ use Rattle.facl_output.proofs.Rising.{Rising, paths_of, rising, apart, in_order_
 
 -- the record that is printed of a file
 abbrev pub record_of : FoundFile → DumpRecord
-record_of f = record { at = 0; path = f.path; slash = has_slash f; owner = Some f.node.label.owner; group = Some f.node.label.group; flags = flags_shown f.node.flags; access = f.node.label.acl; dacl = f.node.dacl }
+record_of f = record {
+  at = 0;
+  path = f.path;
+  slash = has_slash f;
+  owner = Some f.node.label.owner;
+  group = Some f.node.label.group;
+  flags =
+      flags_shown f.node.flags;
+  access = f.node.label.acl;
+  dacl = f.node.dacl;
+}
 
 abbrev pub found : Files → PathOf × Node → FoundFile
 found all e = record { path = e.0; node = e.1; has_below = holds_below all e.0 }
@@ -118,7 +129,8 @@ node_again all e at is three =
 
 -- ---- all files
 
-files_again : (known : KnownPeople) (all : Files) (records : List DumpRecord) → ((p : PathOf) → has_below records p ≡ holds_below all p) → (at : ℕ) (es : Files) → ArePlaced all es → AllByRecursion (IsReadAgain known) es
+files_again : (known : KnownPeople) (all : Files) (records : List DumpRecord) → ((p : PathOf) → has_below records p ≡ holds_below all p)
+    → (at : ℕ) (es : Files) → ArePlaced all es → AllByRecursion (IsReadAgain known) es
     → as_files records (placed at (records_of all es)) ≡ es
 files_again known all records same at [] are again = refl
 files_again known all records same at (e ∷ es) are again =
@@ -151,7 +163,16 @@ headers_printed Restore f = tt
 pub readable : (dump_use : DumpUse) (known : KnownPeople) (all es : Files) → AllByRecursion (IsReadAgain known) es → AllByRecursion (IsReadable (naming_of known) dump_use) (records_of all es)
 readable dump_use known all [] again = tt
 readable dump_use known all (e ∷ es) again = (
-  record { path = again.0.path; headers = headers_printed dump_use (found all e); owner = again.0.owner; group = again.0.group; flags = three_flags e.1.flags again.0.flags; access = again.0.access; dacl = again.0.dacl },
+  record {
+    path = again.0.path;
+    headers = headers_printed dump_use (found all e);
+    owner = again.0.owner;
+    group = again.0.group;
+    flags =
+        three_flags e.1.flags again.0.flags;
+    access = again.0.access;
+    dacl = again.0.dacl;
+  },
   readable dump_use known all es again.1,
 )
 

@@ -1,8 +1,8 @@
 -- Paths in path order: each is apart from those before it, and they stay as they are when they are put in order.
-use Rattle.std.proofs.Common.{◌≡◌, true, false, IsTrue, ◌||◌, List, [], ◌∷◌, ◌++◌, map, Ordering, Less, Equal, Greater, refl, sym, ap, subst, ◌∙◌, append_assoc}
+use Rattle.std.proofs.Common.{◌≡◌, false, ◌||◌, List, [], ◌∷◌, ◌++◌, map, Less, refl, sym, ap, subst, ◌∙◌, append_assoc}
 use Rattle.std.specs.Prelude.{fold}
 use Rattle.std.specs.List.{list_any, AllByRecursion}
-use Rattle.std.specs.Ordering.{is_lt, is_eq}
+use Rattle.std.specs.Ordering.{is_eq}
 use Rattle.std.specs.FinMap.{is_sorted}
 use Rattle.std.specs.FinMap.Entries.{below_all, by_order}
 use Rattle.std.proofs.lemmas.Bool.{and_parts}
@@ -11,10 +11,11 @@ use Rattle.acl_names.specs.Paths.{path_cmp, PathOf}
 use Rattle.acl_edit.specs.declared.node.Node.{Node}
 use Rattle.acl_text.specs.declared.record.DumpRecord.{DumpRecord}
 use Rattle.acl_text.specs.Records.{same_path}
-use Rattle.acl_text.specs.Again.{AreApart, paths}
+use Rattle.acl_text.specs.RoundTrips.{AreApart, paths}
 use Rattle.acl_tree.specs.Files.{Files}
 use Rattle.path_map.specs.Entries.{IsInOrder}
 use Rattle.acl_tree.specs.Loading.{insert_record, in_path_order}
+use Rattle.acl_tree.proofs.Follows.{before_it}
 use Rattle.path_map.proofs.Places.{above}
 
 -- each of them comes before the path
@@ -29,25 +30,19 @@ Rising before (p ∷ ps) = Before before p × Rising (before ++ p ∷ []) ps
 abbrev pub paths_of : Files → List PathOf
 paths_of es = map (λ e. e.0) es
 
-less : (o : Ordering) → is_lt o ≡ true → o ≡ Less
-less Less h = refl
-less Equal h = cc
-less Greater h = cc
-
-first_below : (q : PathOf) (pre : Files) (e : PathOf × Node) (es : Files) → IsTrue (below_all path_cmp q (pre ++ e ∷ es)) → path_cmp q e.0 ≡ Less
-first_below q [] e es order = less (path_cmp q e.0) (and_parts (is_lt (path_cmp q e.0)) (below_all path_cmp q es) order).0
-first_below q (d ∷ pre) e es order = first_below q pre e es (and_parts (is_lt (path_cmp q d.0)) (below_all path_cmp q (pre ++ e ∷ es)) order).1
-
 all_before : (pre : Files) (e : PathOf × Node) (es : Files) → IsInOrder (pre ++ e ∷ es) → Before (paths_of pre) e.0
 all_before [] e es order = tt
 all_before (d ∷ pre) e es order =
     let parts = and_parts (below_all path_cmp d.0 (pre ++ e ∷ es)) (is_sorted path_cmp (pre ++ e ∷ es)) order in
-    (first_below d.0 pre e es parts.0, all_before pre e es parts.1)
+    (before_it d.0 pre e es parts.0, all_before pre e es parts.1)
 
 rising_after : (pre es : Files) → IsInOrder (pre ++ es) → Rising (paths_of pre) (paths_of es)
 rising_after pre [] order = tt
-rising_after pre (e ∷ es) order =
-    (all_before pre e es order, subst (λ ps. Rising ps (paths_of es)) (map-append (λ (e : PathOf × Node). e.0) pre (e ∷ [])) (rising_after (pre ++ e ∷ []) es (subst IsInOrder (sym (append_assoc pre (e ∷ []) es)) order)))
+rising_after pre (e ∷ es) order = (
+  all_before pre e es order,
+  subst (λ ps. Rising ps (paths_of es)) (map-append (λ (e : PathOf × Node). e.0) pre (e ∷ []))
+      (rising_after (pre ++ e ∷ []) es (subst IsInOrder (sym (append_assoc pre (e ∷ []) es)) order)),
+)
 
 -- the paths of files in path order rise
 pub rising : (es : Files) → IsInOrder es → Rising [] (paths_of es)

@@ -17,7 +17,7 @@ use Rattle.acl_edit.specs.declared.node.Node.{Node}
 use Rattle.acl_people.specs.KnownPeople.{KnownPeople, naming_of}
 use Rattle.acl_text.specs.declared.record.DumpRecord.{DumpRecord}
 use Rattle.acl_text.specs.declared.record.DumpUse.TheVariants as uses
-use Rattle.acl_text.specs.Again.{IsFound, IsList, IsListIf}
+use Rattle.acl_text.specs.RoundTrips.{IsFound, IsList, IsListIf}
 use Rattle.acl_text.specs.Records.{dump_of}
 use Rattle.acl_tree.specs.Files.{Files, no_files}
 use Rattle.acl_tree.specs.Found.{FoundFile, files_found}

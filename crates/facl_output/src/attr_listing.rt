@@ -12,7 +12,7 @@ use crate::listing::has_slash;
 use acl_edit::Node;
 use acl_entry::Acl;
 use acl_text::{Header, NoNames, append_header, encode_attr};
-use acl_tree::Found;
+use acl_tree::FoundFile;
 use std::alloc::{AllocError, Global};
 
 /// The bytes of a list as hex digits.
@@ -62,7 +62,7 @@ fn push_attributes(alloc: Global, text: &mut Vec<u8>, node: &Node) -> Result<(),
 }
 
 /// Adds the line of a file's path, as a listing of getfacl(1) without a header has it. Fails only if memory runs out.
-pub fn push_path(text: &mut Vec<u8>, file: &Found<'_>) -> Result<(), AllocError>
+pub fn push_path(text: &mut Vec<u8>, file: &FoundFile<'_>) -> Result<(), AllocError>
     ensures { Appends result text.old text.new (file_text file.now.path (has_slash file.now)) }
 {
     let header = Header {
@@ -76,7 +76,7 @@ pub fn push_path(text: &mut Vec<u8>, file: &Found<'_>) -> Result<(), AllocError>
 }
 
 /// Adds what `attr` prints of a file.
-fn push_file(alloc: Global, text: &mut Vec<u8>, file: &Found<'_>) -> Result<(), AllocError>
+fn push_file(alloc: Global, text: &mut Vec<u8>, file: &FoundFile<'_>) -> Result<(), AllocError>
     ensures { Appends result text.old text.new (attr_text file.now) }
 {
     push_path(text, file)?;
@@ -86,7 +86,7 @@ fn push_file(alloc: Global, text: &mut Vec<u8>, file: &Found<'_>) -> Result<(), 
 }
 
 /// Adds what `attr` prints of files.
-fn push_files(alloc: Global, text: &mut Vec<u8>, files: &[Found<'_>]) -> Result<(), AllocError>
+fn push_files(alloc: Global, text: &mut Vec<u8>, files: &[FoundFile<'_>]) -> Result<(), AllocError>
     ensures { Appends result text.old text.new (attr_listing files.now) }
 {
     for file in files {
@@ -98,7 +98,7 @@ fn push_files(alloc: Global, text: &mut Vec<u8>, files: &[Found<'_>]) -> Result<
 /// What `attr` prints of these files, in their order: for each a line of its path, its access list and, where it
 /// has one, its default list as extended attributes of acl(5) in hex digits, and an empty line. Fails only if
 /// memory runs out.
-pub fn write_attributes(alloc: Global, files: &[Found<'_>]) -> Result<Vec<u8>, AllocError>
+pub fn write_attributes(alloc: Global, files: &[FoundFile<'_>]) -> Result<Vec<u8>, AllocError>
     ensures { IfOk result (λ text. text.items ≡ attr_listing files.now) }
 {
     let mut text = Vec::new(alloc);

@@ -7,7 +7,7 @@ ghost use Rattle.facl_output.specs.ChaclListings.{default_part, chacl_line, chac
 use crate::listing::push_path_shown;
 use acl_entry::Acl;
 use acl_text::{Names, append_short};
-use acl_tree::Found;
+use acl_tree::FoundFile;
 use std::alloc::{AllocError, Global};
 
 /// Adds a slash and the default list, if there is one.
@@ -26,7 +26,11 @@ fn push_default<N: Names>(
 }
 
 /// Adds the line of a file.
-fn push_line<N: Names>(text: &mut Vec<u8>, names: &N, file: &Found<'_>) -> Result<(), AllocError>
+fn push_line<N: Names>(
+    text: &mut Vec<u8>,
+    names: &N,
+    file: &FoundFile<'_>,
+) -> Result<(), AllocError>
     ensures { Appends result text.old text.new (chacl_line (N.naming names.now) file.now) }
 {
     push_path_shown(text, file)?;
@@ -42,7 +46,7 @@ fn push_line<N: Names>(text: &mut Vec<u8>, names: &N, file: &Found<'_>) -> Resul
 fn push_lines<N: Names>(
     text: &mut Vec<u8>,
     names: &N,
-    files: &[Found<'_>],
+    files: &[FoundFile<'_>],
 ) -> Result<(), AllocError>
     ensures { Appends result text.old text.new (chacl_listing (N.naming names.now) files.now) }
 {
@@ -58,7 +62,7 @@ fn push_lines<N: Names>(
 pub fn write_chacl_listing<N: Names>(
     alloc: Global,
     names: &N,
-    files: &[Found<'_>],
+    files: &[FoundFile<'_>],
 ) -> Result<Vec<u8>, AllocError>
     ensures { IfOk result (λ text. text.items ≡ chacl_listing (N.naming names.now) files.now) }
 {

@@ -8,7 +8,7 @@ ghost use Rattle.facl_output.specs.Listings.{has_base_alone, is_listed, has_slas
 use acl_edit::{Kind, Node};
 use acl_names::append_path;
 use acl_text::{Effective, Header, Names, NoNames, Which, append_header, append_list};
-use acl_tree::Found;
+use acl_tree::FoundFile;
 use std::alloc::AllocError;
 
 /// Whether a file has base entries alone, and no default list.
@@ -19,14 +19,14 @@ fn has_base_alone(node: &Node) -> bool
 }
 
 /// Whether a file is listed: an option leaves out files that have base entries alone.
-fn is_listed(options: &Options, file: &Found<'_>) -> bool
+fn is_listed(options: &Options, file: &FoundFile<'_>) -> bool
     ensures { result ≡ is_listed options.now file.now }
 {
     !(options.skip_base && has_base_alone(file.node()))
 }
 
 /// Whether a final `/` shows that the file is a directory, as nothing else does.
-pub(crate) fn has_slash(file: &Found<'_>) -> bool
+pub(crate) fn has_slash(file: &FoundFile<'_>) -> bool
     ensures { result ≡ has_slash file.now }
 {
     let is_shown = file.path().components().is_empty()
@@ -45,7 +45,7 @@ pub fn end_line(text: &mut Vec<u8>) -> Result<(), AllocError>
 
 /// Adds the path of a file, with the final `/` of a directory that nothing else shows as one. Fails only if memory
 /// runs out.
-pub fn push_path_shown(text: &mut Vec<u8>, file: &Found<'_>) -> Result<(), AllocError>
+pub fn push_path_shown(text: &mut Vec<u8>, file: &FoundFile<'_>) -> Result<(), AllocError>
     ensures { Appends result text.old text.new (path_shown file.now) }
 {
     append_path(text, file.path())?;
@@ -72,7 +72,7 @@ fn push_headers<N: Names>(
     text: &mut Vec<u8>,
     names: &N,
     options: &Options,
-    file: &Found<'_>,
+    file: &FoundFile<'_>,
 ) -> Result<(), AllocError>
     ensures { Appends result text.old text.new (headers (N.naming names.now) options.now file.now) }
 {
@@ -140,7 +140,7 @@ fn push_file<N: Names>(
     text: &mut Vec<u8>,
     names: &N,
     options: &Options,
-    file: &Found<'_>,
+    file: &FoundFile<'_>,
 ) -> Result<(), AllocError>
     ensures { Appends result text.old text.new (file_text (N.naming names.now) options.now file.now) }
 {
@@ -153,7 +153,7 @@ fn push_files<N: Names>(
     text: &mut Vec<u8>,
     names: &N,
     options: &Options,
-    files: &[Found<'_>],
+    files: &[FoundFile<'_>],
 ) -> Result<(), AllocError>
     ensures { Appends result text.old text.new (files_text (N.naming names.now) options.now files.now) }
 {
@@ -170,7 +170,7 @@ fn push_listing<N: Names>(
     text: &mut Vec<u8>,
     names: &N,
     options: &Options,
-    files: &[Found<'_>],
+    files: &[FoundFile<'_>],
 ) -> Result<(), AllocError>
     ensures { Appends result text.old text.new (listing (N.naming names.now) options.now files.now) }
 {
@@ -192,7 +192,7 @@ pub fn append_listing<N: Names>(
     text: &mut Vec<u8>,
     names: &N,
     options: &Options,
-    files: &[Found<'_>],
+    files: &[FoundFile<'_>],
 ) -> Result<(), AllocError>
     ensures { AppendsWhole result text.old text.new (listing (N.naming names.now) options.now files.now) }
 {

@@ -4,7 +4,7 @@ ghost use Rattle.std.specs.Prelude.{◌≡◌, length};
 ghost use Rattle.std.specs.List.{AllByRecursion};
 ghost use Rattle.acl_people.specs.KnownPeople.{naming_of};
 ghost use Rattle.acl_text.specs.Writing.{IsKeyNamed};
-ghost use Rattle.acl_text.specs.Again.{IsFound};
+ghost use Rattle.acl_text.specs.RoundTrips.{IsFound};
 ghost use Rattle.facl_output.specs.RoundTrips.{IsListAgain, IsReadAgain};
 
 use acl_edit::Node;

@@ -9,7 +9,7 @@ use crate::listing::{end_line, push_path_shown};
 use acl_edit::Node;
 use acl_entry::{Acl, Entry};
 use acl_text::{Form, Names, append_entry, append_short};
-use acl_tree::Found;
+use acl_tree::FoundFile;
 use std::alloc::AllocError;
 
 /// Adds an entry of the default list, a comma before it.
@@ -77,7 +77,11 @@ fn push_lists_of<N: Names>(text: &mut Vec<u8>, names: &N, node: &Node) -> Result
 }
 
 /// Adds the line of a file.
-fn push_file<N: Names>(text: &mut Vec<u8>, names: &N, file: &Found<'_>) -> Result<(), AllocError>
+fn push_file<N: Names>(
+    text: &mut Vec<u8>,
+    names: &N,
+    file: &FoundFile<'_>,
+) -> Result<(), AllocError>
     ensures { Appends result text.old text.new (file_line (N.naming names.now) file.now) }
 {
     push_path_shown(text, file)?;
@@ -88,7 +92,7 @@ fn push_file<N: Names>(text: &mut Vec<u8>, names: &N, file: &Found<'_>) -> Resul
 fn push_files<N: Names>(
     text: &mut Vec<u8>,
     names: &N,
-    files: &[Found<'_>],
+    files: &[FoundFile<'_>],
 ) -> Result<(), AllocError>
     ensures { Appends result text.old text.new (test_listing (N.naming names.now) files.now) }
 {
@@ -108,7 +112,7 @@ fn push_files<N: Names>(
 pub fn append_test_listing<N: Names>(
     text: &mut Vec<u8>,
     names: &N,
-    files: &[Found<'_>],
+    files: &[FoundFile<'_>],
 ) -> Result<(), AllocError>
     ensures { AppendsWhole result text.old text.new (test_listing (N.naming names.now) files.now) }
 {

@@ -1,5 +1,6 @@
 -- A script that units spell is cut into these units.
-use Rattle.std.proofs.Common.{cond, length-append, true≢false, ◌≡◌, ◌<◌, ◌+◌, ◌⊎◌, inl, inr, ℕ, Bool, true, false, List, [], ◌∷◌, ◌++◌, length, Option, Some, refl, sym, ap, ◌∙◌, subst, append_assoc, append-nil, arith, add-zero}
+use Rattle.std.proofs.Common.{cond, length-append, true≢false, ◌≡◌, ◌<◌, ◌+◌, ◌⊎◌, inl, inr, ℕ, Bool, true, false, List, [], ◌∷◌, ◌++◌, length, Option, Some}
+use Rattle.std.proofs.Common.{refl, sym, ap, ◌∙◌, subst, append_assoc, append-nil, arith, add-zero}
 use Rattle.facl_script.specs.Lines.{lines_of, HasNoLineFeed, spelled}
 use Rattle.facl_script.specs.Units.{takes_text, full_units, ScriptUnit, UnitText, none, unended, within_limit, is_end, ended_text, Open, opened, closed, outside, within, cut, units_of}
 use Rattle.facl_script.proofs.TextLemmas.{so_far, text_line, text_end, text_breaks}
@@ -18,7 +19,8 @@ unit_is : (u : ScriptUnit) (n : ℕ) (line : Option (List ℕ)) (text : UnitText
     → u ≡ record { number = n; line = line; text = text; is_full = full }
 unit_is u n line text full a b c d = rw (sym a, sym b, sym c, sym d) refl
 
-tail_same : (asks : List ℕ → Bool) (ended : Bool) (rest : List ℕ) (m k : ℕ) → (ended ≡ true → m ≡ k) → (ended ≡ false → rest ≡ []) → cut asks outside m (lines_of rest) ≡ cut asks outside k (lines_of rest)
+tail_same : (asks : List ℕ → Bool) (ended : Bool) (rest : List ℕ) (m k : ℕ) → (ended ≡ true → m ≡ k) → (ended ≡ false → rest ≡ [])
+    → cut asks outside m (lines_of rest) ≡ cut asks outside k (lines_of rest)
 tail_same asks true rest m k number last = ap (λ j. cut asks outside j (lines_of rest)) (number refl)
 tail_same asks false rest m k number last = rw (last refl) refl
 
@@ -56,7 +58,8 @@ text_cut : (asks : List ℕ → Bool) (u : ScriptUnit) (n : ℕ) (piece rest : L
 text_cut asks u n piece rest is number last =
     ap (λ p. cut asks outside n (lines_of (p ++ rest))) is.piece_is
     ∙ ap (λ l. cut asks outside n (lines_of l))
-    (append_assoc (spelled is.line true) (with_line_feeds is.lines ++ spelled end_line u.is_full) rest ∙ ap (λ l. spelled is.line true ++ l) (append_assoc (with_line_feeds is.lines) (spelled end_line u.is_full) rest))
+    (append_assoc (spelled is.line true) (with_line_feeds is.lines ++ spelled end_line u.is_full) rest
+    ∙ ap (λ l. spelled is.line true ++ l) (append_assoc (with_line_feeds is.lines) (spelled end_line u.is_full) rest))
     ∙ text_opens asks n is.line is.lines (spelled end_line u.is_full ++ rest) is.no_line_feed is.takes is.lines_are
     ∙ text_end asks (so_far n is.line (content is.lines)) (n + 1 + length is.lines) u.is_full end_line rest (refl, tt) refl (λ f. (omega arith, last f))
     ∙ ap (λ v. v ∷ cut asks outside (n + 1 + length is.lines + 1) (lines_of rest))
@@ -84,10 +87,13 @@ unended_cut : (asks : List ℕ → Bool) (u : ScriptUnit) (n : ℕ) (piece rest 
     → cut asks outside n (lines_of (piece ++ rest)) ≡ u ∷ cut asks outside (n + line_feeds piece) (lines_of rest)
 unended_cut asks u n piece rest is number some last =
     ap (λ l. cut asks outside n (lines_of (piece ++ l))) (last is.full_is) ∙ ap (λ l. cut asks outside n (lines_of l)) (append-nil piece) ∙ alone_cut is.piece_is
-    ∙ ap (λ v. v ∷ []) (sym (unit_is u n (Some is.line) unended false number is.line_is is.text_is is.full_is)) ∙ ap (λ l. u ∷ cut asks outside (n + line_feeds piece) (lines_of l)) (sym (last is.full_is))
+    ∙ ap (λ v. v ∷ []) (sym (unit_is u n (Some is.line) unended false number is.line_is is.text_is is.full_is))
+    ∙ ap (λ l. u ∷ cut asks outside (n + line_feeds piece) (lines_of l)) (sym (last is.full_is))
   where
-    alone_cut : (piece ≡ is.line) ⊎ ((bytes : List ℕ) × IsTextWithoutEnd bytes × (piece ≡ spelled is.line true ++ bytes)) → cut asks outside n (lines_of piece) ≡ closed (opened n is.line) unended false ∷ []
-    alone_cut (inl e) = ap (λ p. cut asks outside n (lines_of p)) (e ∙ sym (append-nil is.line)) ∙ unit_breaks asks n is.line [] is.no_line_feed is.takes (subst (λ (l : List ℕ). 0 < length l) e some) refl
+    alone_cut : (piece ≡ is.line) ⊎ ((bytes : List ℕ) × IsTextWithoutEnd bytes × (piece ≡ spelled is.line true ++ bytes))
+        → cut asks outside n (lines_of piece) ≡ closed (opened n is.line) unended false ∷ []
+    alone_cut (inl e) = ap (λ p. cut asks outside n (lines_of p)) (e ∙ sym (append-nil is.line))
+        ∙ unit_breaks asks n is.line [] is.no_line_feed is.takes (subst (λ (l : List ℕ). 0 < length l) e some) refl
     alone_cut (inr h) =
         let t = h.1 in
         ap (λ p. cut asks outside n (lines_of p)) (h.2 ∙ ap (λ l. spelled is.line true ++ l) t.bytes_are) ∙ text_opens asks n is.line t.lines t.last is.no_line_feed is.takes t.lines_are.1
@@ -115,7 +121,8 @@ none_of_nothing : (asks : List ℕ → Bool) (us : List ScriptUnit) (n : ℕ) �
 none_of_nothing asks [] n h = refl
 none_of_nothing asks (u ∷ us) n h = absurd (omega (arith, h.3, ap length h.2, length-append h.0 h.1))
 
-full_first : (asks : List ℕ → Bool) (us : List ScriptUnit) (n : ℕ) (front rest : List ℕ) → AreUnits asks n us front → (more : List ScriptUnit) × (cut asks outside n (lines_of (front ++ rest)) ≡ full_units us ++ more)
+full_first : (asks : List ℕ → Bool) (us : List ScriptUnit) (n : ℕ) (front rest : List ℕ) → AreUnits asks n us front
+    → (more : List ScriptUnit) × (cut asks outside n (lines_of (front ++ rest)) ≡ full_units us ++ more)
 full_first asks [] n front rest h = (cut asks outside n (lines_of rest), ap (λ l. cut asks outside n (lines_of (l ++ rest))) h)
 full_first asks (u ∷ us) n front rest h = by_test u.is_full refl (full_first asks us (n + line_feeds h.0) h.1 rest h.7)
   where
@@ -128,8 +135,10 @@ full_first asks (u ∷ us) n front rest h = by_test u.is_full refl (full_first a
           ∙ ap (λ l. l ++ ih.0) (sym (ap (λ (b : Bool). cond b (u ∷ full_units us) (full_units us)) e)),
     )
     by_test false e ih =
-        let last : us ≡ [] = none_of_nothing asks us (n + line_feeds h.0) (subst (λ (l : List ℕ). AreUnits asks (n + line_feeds h.0) us l) (h.4 e) h.7) in
-        (cut asks outside n (lines_of (front ++ rest)), ap (λ l. l ++ cut asks outside n (lines_of (front ++ rest))) (sym (ap (λ (b : Bool). cond b (u ∷ full_units us) (full_units us)) e ∙ ap full_units last)))
+        let last : us ≡ [] = none_of_nothing asks us (n + line_feeds h.0) (subst (λ (l : List ℕ). AreUnits asks (n + line_feeds h.0) us l) (h.4 e) h.7) in (
+          cut asks outside n (lines_of (front ++ rest)),
+          ap (λ l. l ++ cut asks outside n (lines_of (front ++ rest))) (sym (ap (λ (b : Bool). cond b (u ∷ full_units us) (full_units us)) e ∙ ap full_units last)),
+        )
 
 pub full_units_first : (asks : List ℕ → Bool) (front rest : List ℕ) → (more : List ScriptUnit) × (units_of asks (front ++ rest) ≡ full_units (units_of asks front) ++ more)
 full_units_first asks front rest = full_first asks (units_of asks front) 1 front rest (are_units asks front)

@@ -1,5 +1,6 @@
 -- The units of a script spell the script.
-use Rattle.std.proofs.Common.{◌≡◌, ◌<◌, ◌+◌, inl, inr, ℕ, Bool, true, false, cond, ◌&&◌, List, [], ◌∷◌, ◌++◌, length, filter, Option, None, Some, refl, sym, ap, ◌∙◌, subst, append_assoc, append-nil, length-append, arith, true≢false}
+use Rattle.std.proofs.Common.{◌≡◌, ◌<◌, ◌+◌, inl, inr, ℕ, Bool, true, false, cond, ◌&&◌, List, [], ◌∷◌, ◌++◌, length, filter, Option, None, Some, refl, sym, ap}
+use Rattle.std.proofs.Common.{◌∙◌, subst, append_assoc, append-nil, length-append, arith, true≢false}
 use Rattle.std.specs.Prelude.{nat_le, ◌==◌}
 use Rattle.std.specs.List.{flat_map, list_all}
 use Rattle.std.proofs.lemmas.Bool.{eqb-true}
@@ -101,7 +102,8 @@ more_are [] line h feed e = ((feed, no_end_line line e), tt)
 more_are (l ∷ lines) line h feed e = (h.0, more_are lines line h.1 feed e)
 
 -- After the last LF nothing comes.
-rest_units : (asks : List ℕ → Bool) (ended : Bool) (ls : List Line) (m k : ℕ) → (ended ≡ true → m ≡ k) → (ended ≡ false → ls ≡ []) → AreUnits asks k (cut asks outside k ls) (all_spelled ls) → AreUnits asks m (cut asks outside k ls) (all_spelled ls)
+rest_units : (asks : List ℕ → Bool) (ended : Bool) (ls : List Line) (m k : ℕ) → (ended ≡ true → m ≡ k) → (ended ≡ false → ls ≡ [])
+    → AreUnits asks k (cut asks outside k ls) (all_spelled ls) → AreUnits asks m (cut asks outside k ls) (all_spelled ls)
 rest_units asks true ls m k number last h = rw (number refl) h
 rest_units asks false ls m k number last h = rw (last refl) refl
 
@@ -134,7 +136,8 @@ inside_end asks n k line lines feed takes are number = (
   refl,
 )
 
-outside_line : (asks : List ℕ → Bool) (text : List ℕ) (ended : Bool) (ls : List Line) → HasNoLineFeed text → (ended ≡ false → (0 < length text) × (ls ≡ [])) → takes_text asks text ≡ false → Outside asks ls → (k : ℕ)
+outside_line : (asks : List ℕ → Bool) (text : List ℕ) (ended : Bool) (ls : List Line) → HasNoLineFeed text → (ended ≡ false → (0 < length text) × (ls ≡ []))
+    → takes_text asks text ≡ false → Outside asks ls → (k : ℕ)
     → AreUnits asks k (alone k text ended ∷ cut asks outside (k + 1) ls) (spelled text ended ++ all_spelled ls)
 unfolding Outside
 outside_line asks text ended ls feed last takes ih k = (
@@ -148,7 +151,8 @@ outside_line asks text ended ls feed last takes ih k = (
   rest_units asks ended ls (k + line_feeds (spelled text ended)) (k + 1) (λ t. rw t (ap (λ m. k + m) (feeds_line text feed))) (λ f. (last f).1) (ih (k + 1)),
 )
 
-outside_opens : (asks : List ℕ → Bool) (text : List ℕ) (ended : Bool) (ls : List Line) → HasNoLineFeed text → (ended ≡ false → (0 < length text) × (ls ≡ [])) → takes_text asks text ≡ true → Inside asks ls → (k : ℕ)
+outside_opens : (asks : List ℕ → Bool) (text : List ℕ) (ended : Bool) (ls : List Line) → HasNoLineFeed text → (ended ≡ false → (0 < length text) × (ls ≡ []))
+    → takes_text asks text ≡ true → Inside asks ls → (k : ℕ)
     → AreUnits asks k (cut asks (within (opened k text)) (k + 1) ls) (spelled text ended ++ all_spelled ls)
 unfolding Inside
 outside_opens asks text true ls feed last takes ih k =
@@ -166,24 +170,29 @@ outside_opens asks text false ls feed last takes ih k =
       refl,
     )
 
-outside_more : (asks : List ℕ → Bool) (text : List ℕ) (ended : Bool) (ls : List Line) → HasNoLineFeed text → (ended ≡ false → (0 < length text) × (ls ≡ [])) → Outside asks ls → Inside asks ls → Outside asks (record { bytes = text; ended = ended } ∷ ls)
+outside_more : (asks : List ℕ → Bool) (text : List ℕ) (ended : Bool) (ls : List Line) → HasNoLineFeed text → (ended ≡ false → (0 < length text) × (ls ≡ []))
+    → Outside asks ls → Inside asks ls → Outside asks (record { bytes = text; ended = ended } ∷ ls)
 unfolding Outside
 outside_more asks text ended ls feed last out inn k = by_test (takes_text asks text) refl
   where
-    by_test : (t : Bool) → takes_text asks text ≡ t → AreUnits asks k (cond t (cut asks (within (opened k text)) (k + 1) ls) (alone k text ended ∷ cut asks outside (k + 1) ls)) (spelled text ended ++ all_spelled ls)
+    by_test : (t : Bool) → takes_text asks text ≡ t → AreUnits asks k
+        (cond t (cut asks (within (opened k text)) (k + 1) ls) (alone k text ended ∷ cut asks outside (k + 1) ls)) (spelled text ended ++ all_spelled ls)
     by_test true e = outside_opens asks text ended ls feed last e inn k
     by_test false e = outside_line asks text ended ls feed last e out k
 
-inside_ends : (asks : List ℕ → Bool) (n k : ℕ) (line : List ℕ) (lines : List (List ℕ)) (text : List ℕ) (ended : Bool) (ls : List Line) → HasNoLineFeed line → takes_text asks line ≡ true → AreTextLines lines → k ≡ n + (1 + length lines)
+inside_ends : (asks : List ℕ → Bool) (n k : ℕ) (line : List ℕ) (lines : List (List ℕ)) (text : List ℕ) (ended : Bool) (ls : List Line) → HasNoLineFeed line
+    → takes_text asks line ≡ true → AreTextLines lines → k ≡ n + (1 + length lines)
     → text ≡ end_line → (ended ≡ false → ls ≡ []) → Outside asks ls
-    → AreUnits asks n (closed (so_far n line (content lines)) (ended_text (content lines)) ended ∷ cut asks outside (k + 1) ls) ((spelled line true ++ with_line_feeds lines) ++ (spelled text ended ++ all_spelled ls))
+    → AreUnits asks n (closed (so_far n line (content lines)) (ended_text (content lines)) ended ∷ cut asks outside (k + 1) ls)
+    ((spelled line true ++ with_line_feeds lines) ++ (spelled text ended ++ all_spelled ls))
 unfolding Outside
 inside_ends asks n k line lines text ended ls feed takes are number e last ih =
     let piece : List ℕ = spelled line true ++ (with_line_feeds lines ++ spelled end_line ended) in (
       piece,
       all_spelled ls,
       rw e (
-          append_assoc (spelled line true) (with_line_feeds lines) (spelled end_line ended ++ all_spelled ls) ∙ ap (λ l. spelled line true ++ l) (sym (append_assoc (with_line_feeds lines) (spelled end_line ended) (all_spelled ls)))
+          append_assoc (spelled line true) (with_line_feeds lines) (spelled end_line ended ++ all_spelled ls)
+          ∙ ap (λ l. spelled line true ++ l) (sym (append_assoc (with_line_feeds lines) (spelled end_line ended) (all_spelled ls)))
           ∙ sym (append_assoc (spelled line true) (with_line_feeds lines ++ spelled end_line ended) (all_spelled ls))
           ),
       omega (arith, length-append (spelled line true) (with_line_feeds lines ++ spelled end_line ended), length-append line (10 ∷ [])),
@@ -195,10 +204,19 @@ inside_ends asks n k line lines text ended ls feed takes are number e last ih =
   where
     counted : (b : Bool) → b ≡ true → n + line_feeds (spelled line true ++ (with_line_feeds lines ++ spelled end_line b)) ≡ k + 1
     counted true t =
-        omega (arith, number, feeds_append (spelled line true) (with_line_feeds lines ++ spelled end_line true), feeds_append (with_line_feeds lines) (spelled end_line true), feeds_line line feed, feeds_lines lines are, feeds_line end_line (refl, tt))
+        omega (
+          arith,
+          number,
+          feeds_append (spelled line true) (with_line_feeds lines ++ spelled end_line true),
+          feeds_append (with_line_feeds lines) (spelled end_line true),
+          feeds_line line feed,
+          feeds_lines lines are,
+          feeds_line end_line (refl, tt),
+        )
     counted false t = absurd (true≢false (sym t))
 
-inside_goes_on : (asks : List ℕ → Bool) (n k : ℕ) (line : List ℕ) (lines : List (List ℕ)) (text : List ℕ) (ended : Bool) (ls : List Line) → HasNoLineFeed line → takes_text asks line ≡ true → AreTextLines lines → k ≡ n + (1 + length lines)
+inside_goes_on : (asks : List ℕ → Bool) (n k : ℕ) (line : List ℕ) (lines : List (List ℕ)) (text : List ℕ) (ended : Bool) (ls : List Line) → HasNoLineFeed line
+    → takes_text asks line ≡ true → AreTextLines lines → k ≡ n + (1 + length lines)
     → HasNoLineFeed text → is_end text ≡ false → (ended ≡ false → (0 < length text) × (ls ≡ [])) → Inside asks ls
     → AreUnits asks n (cut asks (within (with_text_line (so_far n line (content lines)) text)) (k + 1) ls) ((spelled line true ++ with_line_feeds lines) ++ (spelled text ended ++ all_spelled ls))
 unfolding Inside
@@ -228,12 +246,14 @@ inside_goes_on asks n k line lines text false ls feed takes are number text_feed
       refl,
     )
 
-inside_more : (asks : List ℕ → Bool) (text : List ℕ) (ended : Bool) (ls : List Line) → HasNoLineFeed text → (ended ≡ false → (0 < length text) × (ls ≡ [])) → Outside asks ls → Inside asks ls → Inside asks (record { bytes = text; ended = ended } ∷ ls)
+inside_more : (asks : List ℕ → Bool) (text : List ℕ) (ended : Bool) (ls : List Line) → HasNoLineFeed text → (ended ≡ false → (0 < length text) × (ls ≡ []))
+    → Outside asks ls → Inside asks ls → Inside asks (record { bytes = text; ended = ended } ∷ ls)
 unfolding Inside
 inside_more asks text ended ls text_feed last out inn n k line lines feed takes are number = by_test (is_end text) refl
   where
     by_test : (t : Bool) → is_end text ≡ t
-        → AreUnits asks n (cond t (closed (so_far n line (content lines)) (ended_text (content lines)) ended ∷ cut asks outside (k + 1) ls) (cut asks (within (with_text_line (so_far n line (content lines)) text)) (k + 1) ls))
+        → AreUnits asks n (cond t (closed (so_far n line (content lines)) (ended_text (content lines)) ended ∷ cut asks outside (k + 1) ls)
+        (cut asks (within (with_text_line (so_far n line (content lines)) text)) (k + 1) ls))
         ((spelled line true ++ with_line_feeds lines) ++ (spelled text ended ++ all_spelled ls))
     by_test true e = inside_ends asks n k line lines text ended ls feed takes are number (is_end_line text e) (λ f. (last f).1) out
     by_test false e = inside_goes_on asks n k line lines text ended ls feed takes are number text_feed e last inn

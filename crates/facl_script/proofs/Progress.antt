@@ -9,7 +9,7 @@ abbrev pub AgreesBelow : ℕ → (ℕ → Bool) → (ℕ → Bool) → Type 0
 AgreesBelow n m m' = (k : ℕ) → k < n → m' k ≡ m k
 
 -- What was returned are these units, whatever comes after it, and this was their answer. The next line has this number.
--- Where the end was met nothing comes after it.
+-- Where the end was reached nothing comes after it.
 pub record Progress {S : Type 0} (asks : List ℕ → Bool) (answered : Bool → ScriptUnit → S → Answer S) (start : S) (taken : List ℕ) (number : ℕ) (over : Bool) (answer_so_far : Answer S) : Type 0 where
   pub done : List ScriptUnit
   pub m : ℕ → Bool

@@ -1,5 +1,6 @@
 -- Lemmas on how far a run has come.
-use Rattle.std.proofs.Common.{◌≡◌, ◌<◌, ℕ, Bool, true, false, not, cond, ◌||◌, nat_eq, List, [], ◌∷◌, ◌++◌, Option, refl, sym, ap, ◌∙◌, arith, append_assoc, append-nil, true≢false, eq-eqb, add_assoc, add-zero, zero-add}
+use Rattle.std.proofs.Common.{◌≡◌, ◌<◌, ℕ, Bool, true, false, not, cond, ◌||◌, nat_eq, List, [], ◌∷◌, ◌++◌, Option, refl, sym, ap, ◌∙◌, arith, append_assoc}
+use Rattle.std.proofs.Common.{append-nil, true≢false, eq-eqb, add_assoc, add-zero, zero-add}
 use Rattle.std.proofs.lemmas.Bool.{ne_eqb}
 use Rattle.std.proofs.lemmas.List.Elements.{filter-append}
 use Rattle.facl_script.specs.Lines.{lines_of}
@@ -7,12 +8,13 @@ use Rattle.facl_script.specs.Units.{ScriptUnit, outside, cut, units_of, full_uni
 use Rattle.facl_script.specs.ReadUnit.{IsNextUnit}
 use Rattle.facl_script.specs.Play.{Answer, quiet, joined, play}
 use Rattle.facl_script.proofs.Progress.{Progress, AgreesBelow}
+use Rattle.facl_script.proofs.TextLemmas.{of_not_not}
 
 or_assoc : (a b c : Bool) → ((a || b) || c) ≡ (a || (b || c))
 or_assoc true b c = refl
 or_assoc false b c = refl
 
-or_false : (a : Bool) → (a || false) ≡ a
+pub or_false : (a : Bool) → (a || false) ≡ a
 or_false true = refl
 or_false false = refl
 
@@ -64,8 +66,10 @@ plays_more answered start done m answer_so_far u b h e =
     ∙ ap (joined answer_so_far) (joined-quiet (answered b u answer_so_far.state))
 
 -- the units of what was returned and of the piece after it
-pub next_splits : {S : Type 0} (asks : List ℕ → Bool) (answered : Bool → ScriptUnit → S → Answer S) (start : S) (taken : List ℕ) (number number' : ℕ) (answer_so_far : Answer S) (p : Progress asks answered start taken number false answer_so_far)
-    (before after : Option (List ℕ)) (old new : ℕ) (piece : List ℕ) (u : ScriptUnit) (next : IsNextUnit asks before after old new number number' piece u) (rest : List ℕ) → (u.is_full ≡ false → rest ≡ [])
+pub next_splits : {S : Type 0} (asks : List ℕ → Bool) (answered : Bool → ScriptUnit → S → Answer S) (start : S) (taken : List ℕ) (number number' : ℕ)
+    (answer_so_far : Answer S) (p : Progress asks answered start taken number false answer_so_far)
+    (before after : Option (List ℕ)) (old new : ℕ) (piece : List ℕ) (u : ScriptUnit) (next : IsNextUnit asks before after old new number number' piece u)
+    (rest : List ℕ) → (u.is_full ≡ false → rest ≡ [])
     → units_of asks ((taken ++ piece) ++ rest) ≡ (p.done ++ u ∷ []) ++ cut asks outside number' (lines_of rest)
 next_splits asks answered start taken number number' answer_so_far p before after old new piece u next rest last =
     ap (units_of asks) (append_assoc taken piece rest) ∙ p.splits (piece ++ rest) (λ e. absurd (true≢false (sym e)))
@@ -74,29 +78,28 @@ next_splits asks answered start taken number number' answer_so_far p before afte
 not_true : (b : Bool) → b ≡ false → not b ≡ true
 not_true b e = ap not e
 
-full_of : (b : Bool) → not b ≡ false → b ≡ true
-full_of true e = refl
-full_of false e = sym e
-
 full_last : (u : ScriptUnit) → u.is_full ≡ true → full_units (u ∷ []) ≡ u ∷ []
 full_last u e = rw e refl
 
-pub goes_on : {S : Type 0} (asks : List ℕ → Bool) (answered : Bool → ScriptUnit → S → Answer S) (start : S) (taken : List ℕ) (number number' : ℕ) (answer_so_far : Answer S) (p : Progress asks answered start taken number false answer_so_far)
+pub goes_on : {S : Type 0} (asks : List ℕ → Bool) (answered : Bool → ScriptUnit → S → Answer S) (start : S) (taken : List ℕ) (number number' : ℕ)
+    (answer_so_far : Answer S) (p : Progress asks answered start taken number false answer_so_far)
     (before after : Option (List ℕ)) (old new : ℕ) (piece : List ℕ) (u : ScriptUnit) (next : IsNextUnit asks before after old new number number' piece u) (ran_out : Bool)
     → Progress asks answered start (taken ++ piece) number' (not u.is_full) (joined answer_so_far (answered ran_out u answer_so_far.state))
 goes_on asks answered start taken number number' answer_so_far p before after old new piece u next ran_out = record {
   done = p.done ++ u ∷ [];
   m = updated number ran_out p.m;
   splits = λ rest h. next_splits asks answered start taken number number' answer_so_far p before after old new piece u next rest (λ e. h (not_true u.is_full e));
-  full = λ e. filter-append (λ (v : ScriptUnit). v.is_full) p.done (u ∷ []) ∙ ap (λ l. l ++ full_units (u ∷ [])) (p.full refl) ∙ ap (λ l. p.done ++ l) (full_last u (full_of u.is_full e));
+  full = λ e. filter-append (λ (v : ScriptUnit). v.is_full) p.done (u ∷ []) ∙ ap (λ l. l ++ full_units (u ∷ [])) (p.full refl) ∙ ap (λ l. p.done ++ l) (full_last u (of_not_not u.is_full e));
   plays = λ m' agrees. plays_more answered start p.done m' answer_so_far u ran_out (p.plays m' (below_before number number' ran_out p.m m' next.grows agrees))
       (ap m' next.numbered ∙ below_at number number' ran_out p.m m' next.grows agrees);
 }
 
 -- the answer to the units done, where the rest that was returned has none
-pub full_answer : {S : Type 0} (asks : List ℕ → Bool) (answered : Bool → ScriptUnit → S → Answer S) (start : S) (taken : List ℕ) (number : ℕ) (answer_so_far : Answer S) (p : Progress asks answered start taken number false answer_so_far) (tail : List ℕ)
+pub full_answer : {S : Type 0} (asks : List ℕ → Bool) (answered : Bool → ScriptUnit → S → Answer S) (start : S) (taken : List ℕ) (number : ℕ)
+    (answer_so_far : Answer S) (p : Progress asks answered start taken number false answer_so_far) (tail : List ℕ)
     → HasNoUnit asks tail → play answered p.m (full_units (units_of asks (taken ++ tail))) start ≡ answer_so_far
 full_answer asks answered start taken number answer_so_far p tail none =
-    ap (λ us. play answered p.m us start) (ap full_units (p.splits tail (λ e. absurd (true≢false (sym e)))) ∙ filter-append (λ (u : ScriptUnit). u.is_full) p.done (cut asks outside number (lines_of tail))
+    ap (λ us. play answered p.m us start)
+    (ap full_units (p.splits tail (λ e. absurd (true≢false (sym e)))) ∙ filter-append (λ (u : ScriptUnit). u.is_full) p.done (cut asks outside number (lines_of tail))
     ∙ ap (λ l. full_units p.done ++ l) (none number) ∙ append-nil (full_units p.done) ∙ p.full refl)
     ∙ p.plays p.m (λ k lt. refl)

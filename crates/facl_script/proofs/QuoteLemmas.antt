@@ -35,13 +35,15 @@ open_more : (place : Place) (b : ℕ) (rest : List ℕ) → ((p : Place) → is_
 unfolding odd_at odd
 open_more Between b rest ih = by_tests (is_blank b) (is_quote b) (white_no_quote b)
   where
-    by_tests : (w q : Bool) → (w ≡ true → q ≡ false) → is_open (cond w (words_at Between rest) (cond q (words_at Quoted rest) (option_map (onto_word b) (words_at Within rest)))) ≡ cond q (not (odd rest)) (odd rest)
+    by_tests : (w q : Bool) → (w ≡ true → q ≡ false) → is_open
+        (cond w (words_at Between rest) (cond q (words_at Quoted rest) (option_map (onto_word b) (words_at Within rest)))) ≡ cond q (not (odd rest)) (odd rest)
     by_tests true q h = rw (h refl) (ih Between)
     by_tests false true h = ih Quoted
     by_tests false false h = open_mapped (onto_word b) (words_at Within rest) ∙ ih Within
 open_more Within b rest ih = by_tests (is_blank b) (is_quote b) (white_no_quote b)
   where
-    by_tests : (w q : Bool) → (w ≡ true → q ≡ false) → is_open (cond w (option_map (λ words. [] ∷ words) (words_at Between rest)) (cond q (words_at Quoted rest) (option_map (onto_word b) (words_at Within rest)))) ≡ cond q (not (odd rest)) (odd rest)
+    by_tests : (w q : Bool) → (w ≡ true → q ≡ false) → is_open
+        (cond w (option_map (λ words. [] ∷ words) (words_at Between rest)) (cond q (words_at Quoted rest) (option_map (onto_word b) (words_at Within rest)))) ≡ cond q (not (odd rest)) (odd rest)
     by_tests true q h = rw (h refl) (open_mapped (λ words. [] ∷ words) (words_at Between rest) ∙ ih Between)
     by_tests false true h = ih Quoted
     by_tests false false h = open_mapped (onto_word b) (words_at Within rest) ∙ ih Within

@@ -11,7 +11,8 @@ use Rattle.facl_script.specs.declared.text.TextFound.TheVariants.{Absent, Whole,
 use Rattle.facl_script.proofs.LineLemmas.{lines_of-ended, lines_of-rest}
 
 -- a line of the text that doesn't end it
-pub text_line : (asks : List ℕ → Bool) (o : Open) (n : ℕ) (line rest : List ℕ) → HasNoLineFeed line → is_end line ≡ false → cut asks (within o) n (lines_of ((line ++ 10 ∷ []) ++ rest)) ≡ cut asks (within (with_text_line o line)) (n + 1) (lines_of rest)
+pub text_line : (asks : List ℕ → Bool) (o : Open) (n : ℕ) (line rest : List ℕ) → HasNoLineFeed line → is_end line ≡ false
+    → cut asks (within o) n (lines_of ((line ++ 10 ∷ []) ++ rest)) ≡ cut asks (within (with_text_line o line)) (n + 1) (lines_of rest)
 text_line asks o n line rest none e =
     ap (λ l. cut asks (within o) n (lines_of l)) (append_assoc line (10 ∷ []) rest) ∙ ap (cut asks (within o) n) (lines_of-ended line rest none) ∙ rw e refl
 
@@ -24,7 +25,8 @@ text_end asks o n false line rest none e last =
     rw ((last refl).1, append-nil line, lines_of-rest line none (last refl).0, e) refl
 
 -- a last line that doesn't end it
-pub text_breaks : (asks : List ℕ → Bool) (o : Open) (n : ℕ) (line : List ℕ) → HasNoLineFeed line → is_end line ≡ false → 0 < length line → cut asks (within o) n (lines_of line) ≡ closed o unended false ∷ []
+pub text_breaks : (asks : List ℕ → Bool) (o : Open) (n : ℕ) (line : List ℕ) → HasNoLineFeed line → is_end line ≡ false → 0 < length line
+    → cut asks (within o) n (lines_of line) ≡ closed o unended false ∷ []
 text_breaks asks o n line none e some = rw (lines_of-rest line none some, e) refl
 
 -- what has no LF makes no full unit

@@ -7,6 +7,7 @@ use Rattle.facl_script.specs.declared.words.Place.TheVariants.{Within}
 use Rattle.facl_script.proofs.WordLemmas.{IsSeen, seen_within}
 use Rattle.facl_script.specs.Words.{words_of}
 use Rattle.facl_script.specs.TextWords.{word_asks, words_ask}
+use Rattle.facl_script.proofs.ProgressLemmas.{or_false}
 use Rattle.std.specs.Option.{option_map_or}
 
 -- a short text differs from a word in the word's first bytes
@@ -32,10 +33,6 @@ asks_by_beginning false word =
 abbrev pub none_done : List (List ℕ) → Bool
 none_done [] = true
 none_done (word ∷ words) = false
-
-or_false : (a : Bool) → (a || false) ≡ a
-or_false true = refl
-or_false false = refl
 
 or_assoc : (a b c : Bool) → (a || (b || c)) ≡ ((a || b) || c)
 or_assoc true b c = refl

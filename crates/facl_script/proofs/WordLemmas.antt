@@ -1,5 +1,6 @@
 -- Lemmas on the words of a line.
-use Rattle.std.proofs.Common.{◌≡◌, ◌<◌, ◌≤◌, ◌+◌, ◌/◌, ◌⊎◌, inl, inr, length, true≢false, ℕ, Bool, true, false, cond, nat_lt, List, [], ◌∷◌, ◌++◌, Option, None, Some, Ok, Err, refl, sym, ap, ◌∙◌, append_assoc, append-nil, arith}
+use Rattle.std.proofs.Common.{◌≡◌, ◌<◌, ◌≤◌, ◌+◌, ◌/◌, ◌⊎◌, inl, inr, length, true≢false, ℕ, Bool, true, false, cond, nat_lt, List, [], ◌∷◌, ◌++◌, Option, None}
+use Rattle.std.proofs.Common.{Some, Ok, Err, refl, sym, ap, ◌∙◌, append_assoc, append-nil, arith}
 use Rattle.std.specs.Prelude.{option_map}
 use Rattle.std.proofs.lemmas.Bool.{ne_eqb, le-ltb, ltb-true, ltb-false}
 use Rattle.std.proofs.lemmas.Str.{encode_ascii, length-encode, len_utf8_bounds, is_utf8-from_IsUtf8, IsUtf8-from_is_utf8}
@@ -105,7 +106,8 @@ seen_step done so_far Between b rest = by_tests (is_blank b) (is_quote b)
     by_tests false false = joins_map done so_far b (words_at Within rest)
 seen_step done so_far Within b rest = by_tests (is_blank b) (is_quote b)
   where
-    by_tests : (w q : Bool) → option_map (λ words. done ++ onto_first so_far words) (cond w (option_map (λ words. [] ∷ words) (words_at Between rest)) (cond q (words_at Quoted rest) (option_map (onto_word b) (words_at Within rest))))
+    by_tests : (w q : Bool) → option_map (λ words. done ++ onto_first so_far words)
+        (cond w (option_map (λ words. [] ∷ words) (words_at Between rest)) (cond q (words_at Quoted rest) (option_map (onto_word b) (words_at Within rest))))
         ≡ after_effect (cond w Ends (cond q Skips Joins)) done so_far (cond w Between (cond q Quoted Within)) (b ∷ []) rest
     by_tests true q = ends_map done so_far (words_at Between rest)
     by_tests false true = refl
@@ -127,7 +129,8 @@ unfolding encode
 encode_high c h = by_tests _ _ _ (le-ltb c 128 h)
   where
     by_tests : (x y z : Bool) → x ≡ false
-        → AllHigh (cond x (c ∷ []) (cond y ((192 + c / 64) ∷ next c ∷ []) (cond z ((224 + c / 4096) ∷ next (c / 64) ∷ next c ∷ []) ((240 + c / 262144) ∷ next (c / 4096) ∷ next (c / 64) ∷ next c ∷ []))))
+        → AllHigh (cond x (c ∷ [])
+        (cond y ((192 + c / 64) ∷ next c ∷ []) (cond z ((224 + c / 4096) ∷ next (c / 64) ∷ next c ∷ []) ((240 + c / 262144) ∷ next (c / 4096) ∷ next (c / 64) ∷ next c ∷ []))))
     by_tests true y z e = absurd (true≢false e)
     by_tests false true z e = (omega arith, (omega arith, tt))
     by_tests false false true e = (omega arith, (omega arith, (omega arith, tt)))

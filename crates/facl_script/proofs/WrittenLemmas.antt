@@ -84,7 +84,8 @@ seen_word w rest done h t =
     ∙ seen_parts w.parts rest done (part_text w.part) t
 
 -- the white space after it
-seen_gap : (gap rest : List ℕ) (done : List (List ℕ)) (so_far : List ℕ) → IsWhiteSpace gap → 0 < length gap → words_seen done so_far Within (gap ++ rest) ≡ words_seen (done ++ so_far ∷ []) [] Between rest
+seen_gap : (gap rest : List ℕ) (done : List (List ℕ)) (so_far : List ℕ) → IsWhiteSpace gap → 0 < length gap
+    → words_seen done so_far Within (gap ++ rest) ≡ words_seen (done ++ so_far ∷ []) [] Between rest
 seen_gap [] rest done so_far h some = absurd (omega (arith, some))
 seen_gap (b ∷ gap) rest done so_far h some = seen_step done so_far Within b (gap ++ rest) ∙ rw h.0 (seen_white gap rest (done ++ so_far ∷ []) h.1)
 
@@ -97,7 +98,8 @@ seen_words (w ∷ ws) done h =
     ap (words_seen done [] Between) (append_assoc (written w.part ++ flat_map written w.parts) w.gap (flat_map word_written ws))
     ∙ seen_word w (w.gap ++ flat_map word_written ws) done h.0 h.1 ∙ after w.gap h.2 h.3 (seen_words ws (done ++ word_text w ∷ []) h.4)
   where
-    after : (gap : List ℕ) → IsWhiteSpace gap → (length gap ≡ 0 → ws ≡ []) → words_seen (done ++ word_text w ∷ []) [] Between (flat_map word_written ws) ≡ Some ((done ++ word_text w ∷ []) ++ map word_text ws)
+    after : (gap : List ℕ) → IsWhiteSpace gap → (length gap ≡ 0 → ws ≡ [])
+        → words_seen (done ++ word_text w ∷ []) [] Between (flat_map word_written ws) ≡ Some ((done ++ word_text w ∷ []) ++ map word_text ws)
         → words_seen done (word_text w) Within (gap ++ flat_map word_written ws) ≡ Some (done ++ word_text w ∷ map word_text ws)
     after [] white last others = rw (last refl) (seen_end done (word_text w))
     after (b ∷ gap) white last others =
@@ -141,7 +143,7 @@ starts_with_word part rest words is h = record {
   words_are_texts = ap (onto_words (part_text part)) h.words_are_texts;
 }
 
--- a word goes on with a part
+-- one part more of a word
 more_word : (part : Part) (rest : List ℕ) (words : List (List ℕ)) → IsPart part → SpellsWithin rest words → SpellsWithin (written part ++ rest) (onto_words (part_text part) words)
 more_word part rest words is h = record {
   parts = part ∷ h.parts;
@@ -194,7 +196,7 @@ onto_first_word b bytes rest words h = ap (λ ws. onto_word b (onto_words bytes 
 onto_one_word : (b : ℕ) (rest : List ℕ) (words : List (List ℕ)) → SpellsWithin rest words → onto_words (b ∷ []) words ≡ onto_word b words
 onto_one_word b rest words h = ap (onto_words (b ∷ [])) h.words_are_texts ∙ sym (ap (onto_word b) h.words_are_texts)
 
--- a quote goes on
+-- one byte more of a quote
 more_quote : (b : ℕ) (rest : List ℕ) (words : List (List ℕ)) → is_quote b ≡ false → SpellsQuoted rest words → SpellsQuoted (b ∷ rest) (onto_word b words)
 more_quote b rest words quote h = record {
   bytes = b ∷ h.bytes;
@@ -235,7 +237,8 @@ spells_more : (place : Place) (b : ℕ) (rest : List ℕ) (words : List (List �
     → words_at place (b ∷ rest) ≡ Some words → SpellsAt place (b ∷ rest) words
 spells_more Between b rest words ih h = by_tests (is_blank b) (is_quote b) refl refl h
   where
-    by_tests : (w q : Bool) → is_blank b ≡ w → is_quote b ≡ q → cond w (words_at Between rest) (cond q (words_at Quoted rest) (option_map (onto_word b) (words_at Within rest))) ≡ Some words → Spells (b ∷ rest) words
+    by_tests : (w q : Bool) → is_blank b ≡ w → is_quote b ≡ q
+        → cond w (words_at Between rest) (cond q (words_at Quoted rest) (option_map (onto_word b) (words_at Within rest))) ≡ Some words → Spells (b ∷ rest) words
     by_tests true q w_is q_is h = starts_with_white b rest words w_is (ih Between words h)
     by_tests false true w_is q_is h = starts_with_quote b rest words q_is (ih Quoted words h)
     by_tests false false w_is q_is h =
@@ -244,7 +247,9 @@ spells_more Between b rest words ih h = by_tests (is_blank b) (is_quote b) refl 
         subst (λ (ws : List (List ℕ)). Spells (b ∷ rest) ws) (onto_one_word b rest m.0 s ∙ m.2) (starts_with_word (bare (b ∷ [])) rest m.0 (omega arith, ((w_is, q_is), tt)) s)
 spells_more Within b rest words ih h = by_tests (is_blank b) (is_quote b) refl refl h
   where
-    by_tests : (w q : Bool) → is_blank b ≡ w → is_quote b ≡ q → cond w (option_map (λ words. [] ∷ words) (words_at Between rest)) (cond q (words_at Quoted rest) (option_map (onto_word b) (words_at Within rest))) ≡ Some words → SpellsWithin (b ∷ rest) words
+    by_tests : (w q : Bool) → is_blank b ≡ w → is_quote b ≡ q
+        → cond w (option_map (λ words. [] ∷ words) (words_at Between rest)) (cond q (words_at Quoted rest) (option_map (onto_word b) (words_at Within rest)))
+        ≡ Some words → SpellsWithin (b ∷ rest) words
     by_tests true q w_is q_is h =
         let m = mapped (λ (words : List (List ℕ)). [] ∷ words) (words_at Between rest) words h in
         subst (λ (ws : List (List ℕ)). SpellsWithin (b ∷ rest) ws) m.2 (ended_word b rest m.0 w_is (ih Between m.0 m.1))

@@ -51,7 +51,7 @@ Fills result old new before after failed =
     (λ _. Keeps (unread old before) (unread new after) × (failed ≡ false) × (pending new ≡ [] → IsAtEnd after))
     (λ fault. StopsAfter fault (unread old before) new after failed [])
 
--- The next line was read, or the end was met. Or the source stopped within a line.
+-- The next line was read, or the end was reached. Or the source stopped within a line.
 abbrev pub ReadsLine : Result (Option LineRead) ScriptFault → (held : List ℕ) (old new : ByteSource) (before after : Option (List ℕ)) (failed : Bool) → Type 0
 ReadsLine result held old new before after failed =
     MatchResult result

@@ -19,7 +19,7 @@ script_taken s = taken_count s.source
 abbrev pub next_number : Script → ℕ
 next_number s = s.number
 
--- the end was met
+-- the end was reached
 abbrev pub is_over : Script → Bool
 is_over s = s.is_over
 
@@ -31,7 +31,7 @@ line_held s = s.line.items
 abbrev pub text_held : Script → List ℕ
 text_held s = s.text.items
 
--- The next unit was read, or the end was met. Or the script stopped within a unit.
+-- The next unit was read, or the end was reached. Or the script stopped within a unit.
 abbrev pub ReadsUnit : Result (Option UnitFound) ScriptFault → (List ℕ → Bool) → (old new : Script) (before after : Option (List ℕ)) (failed : Bool) → Type 0
 ReadsUnit result asks old new before after failed =
     MatchResult result

@@ -8,7 +8,7 @@ pub enum ScriptFault {
     Read,
     /// A writer answered an error, or took nothing of a piece that is not empty.
     Write,
-    /// The script goes on past its limit.
+    /// The script is longer than its limit.
     TooLong,
     /// No memory for the line that is being read.
     NoMemory,

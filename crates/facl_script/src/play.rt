@@ -1,4 +1,5 @@
-//! A run over a whole script: each unit is answered, and its answer is written before the next is read.
+//! A run over a whole script: each unit is answered and its answer written, in turn. That an answer is written before the
+//! next read is tested, and in no contract.
 ghost use Rattle.std.specs.Prelude.{◌≡◌, ◌⊎◌, ◌<◌, ◌≤◌, ◌+◌, ◌||◌, ℕ, Bool, List, Option, true, false, OnOk, Err, is_err};
 ghost use Rattle.std.specs.Io.KnownBytes.{IsAtEnd};
 ghost use Rattle.facl_script.specs.Units.{ScriptUnit, line_takes};
@@ -90,10 +91,10 @@ fn answer_unit<S: Session, O: Sink, E: Sink>(
     Ok(is_refused)
 }
 
-/// Runs a session over a script: reads it unit by unit, and writes each answer before the next is read. Returns
-/// whether a unit was refused.
+/// Runs a session over a script: reads it unit by unit, and writes the answer of each. Returns whether a unit was
+/// refused.
 ///
-/// An error means that the reader or a writer failed, that the script goes on past the limit, or that there was no memory
+/// An error means that the reader or a writer failed, that the script is longer than the limit, or that there was no memory
 /// for a line. No read or write is tried again, and nothing is read after the end.
 pub fn run_session<S: Session, R: Feed, O: Sink, E: Sink>(
     alloc: Global,

@@ -128,11 +128,11 @@ impl Script {
         }))
     }
 
-    /// The next unit of the script, as the session tells which lines ask for a text, or `None` where it ends. After the end, and after an error, nothing is read, and the
-    /// answer is `None`.
+    /// The next unit of the script, as the session says which lines ask for a text, or `None` where it ends. After the
+    /// end, and after an error, nothing is read, and the answer is `None`.
     ///
     /// A text that memory cannot keep is read to its end all the same. An error means that the reader failed, that the script
-    /// goes on past the limit, or that no memory was there for a line.
+    /// is longer than the limit, or that no memory was there for a line.
     pub fn next_unit<S: Session, R: Feed>(
         &mut self,
         reader: &mut R,

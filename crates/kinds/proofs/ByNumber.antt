@@ -5,18 +5,20 @@ use Rattle.std.specs.Prelude.{◌==◌, nat_lt}
 use Rattle.std.specs.List.{AllByRecursion}
 use Rattle.std.proofs.lemmas.List.{get_or_past}
 use Rattle.acl_names.specs.Paths.{PathOf}
+use Rattle.acl_names.proofs.Basics.{all_end}
 use Rattle.kinds.specs.Kinds.{KindsOf, count_at, IsNode, Grants, Releases}
 use Rattle.kinds.specs.Numbered.{Numbers, entries_by, one_if, paths_with, AreUsed}
 use Rattle.kinds.specs.Inner.{Extends, HasNumber, CountsRun, AddsAll}
 use Rattle.kinds.specs.Placed.{ArePlaces, by_place, AddsNodes}
 use Rattle.kinds.specs.Counted.{CountsOne, CountsFound, ReleasesEach, CountsPaths, AreNodes, GrantsEach, CountsAll, CountsBut, AddsUncounted}
 use Rattle.kinds.proofs.Numbers.{eq_true, push_read, node_within}
-use Rattle.kinds.proofs.EntriesBy.{all_at, all_end, entry_first, entries_append, entries_extend, used_extend, paths_with-append}
+use Rattle.kinds.proofs.EntriesBy.{all_at, entry_first, entries_append, entries_extend, used_extend, paths_with-append}
 use Rattle.kinds.proofs.Puts.{found_more}
 
 -- ---- paths that were looked up
 
-pub found_one_more : (numbers : ℕ) (os : List (Option ℕ)) (o : Option ℕ) (counts counts1 : List ℕ) → CountsFound numbers os counts → CountsOne counts o counts1 → CountsFound numbers (os ++ o ∷ []) counts1
+pub found_one_more : (numbers : ℕ) (os : List (Option ℕ)) (o : Option ℕ) (counts counts1 : List ℕ) → CountsFound numbers os counts → CountsOne counts o counts1
+    → CountsFound numbers (os ++ o ∷ []) counts1
 found_one_more numbers os o counts counts1 h one = record {
   long = one.long ∙ h.long;
   counts = λ n lt.
@@ -28,7 +30,8 @@ found_one_more numbers os o counts counts1 h one = record {
 }
 
 -- one path more has a number
-pub paths_one_more : (numbers : ℕ) (es : Numbers) (e : PathOf × ℕ) (counts counts1 : List ℕ) → CountsPaths numbers es counts → CountsOne counts (Some e.1) counts1 → CountsPaths numbers (es ++ e ∷ []) counts1
+pub paths_one_more : (numbers : ℕ) (es : Numbers) (e : PathOf × ℕ) (counts counts1 : List ℕ) → CountsPaths numbers es counts
+    → CountsOne counts (Some e.1) counts1 → CountsPaths numbers (es ++ e ∷ []) counts1
 paths_one_more numbers es e counts counts1 h one = record {
   long = one.long ∙ h.long;
   counts = λ n lt.
@@ -135,7 +138,8 @@ module _ {N : Type 0} where
 
   -- ---- paths that are counted by runs
 
-  pub counts_more : (k0 k k1 : KindsOf N) (es : Numbers) (e : PathOf × ℕ) (last pending count : ℕ) → CountsBut k0 es k last pending → IsNode k0 e.1 → CountsRun k last pending e.1 k1 count → CountsBut k0 (es ++ e ∷ []) k1 e.1 count
+  pub counts_more : (k0 k k1 : KindsOf N) (es : Numbers) (e : PathOf × ℕ) (last pending count : ℕ) → CountsBut k0 es k last pending → IsNode k0 e.1
+      → CountsRun k last pending e.1 k1 count → CountsBut k0 (es ++ e ∷ []) k1 e.1 count
   counts_more k0 k k1 es e last pending count h is run = record {
     nodes = λ n. run.nodes n ∙ h.nodes n;
     counts = λ n.
@@ -171,12 +175,14 @@ module _ {N : Type 0} where
     used = all_end (λ e. IsNode k1 e.1) es (p, at) (used_extend k k1 es one.extends h.used) (x, one.here);
   }
 
-  pub entries_more : (k0 k k1 : KindsOf N) (es : Numbers) (p : PathOf) (x : N) (at : ℕ) → AddsUncounted k0 k es → HasNumber k x at k1 → entries_by k1 (es ++ (p, at) ∷ []) ≡ entries_by k es ++ (p, x) ∷ []
+  pub entries_more : (k0 k k1 : KindsOf N) (es : Numbers) (p : PathOf) (x : N) (at : ℕ) → AddsUncounted k0 k es → HasNumber k x at k1
+      → entries_by k1 (es ++ (p, at) ∷ []) ≡ entries_by k es ++ (p, x) ∷ []
   entries_more k0 k k1 es p x at h one =
       entries_append k1 es ((p, at) ∷ [])
       ∙ (λ i. entries_extend k k1 es one.extends h.used i ++ entry_first k1 (p, at) [] x one.here i)
 
-  pub uncounted_placed : (k0 k : KindsOf N) (nodes : List (Option N)) (numbers : List ℕ) (es : Numbers) → AddsNodes k0 nodes numbers k → AllByRecursion (λ n. IsNode k n) numbers → ArePlaces (length numbers) es → AddsUncounted k0 k (by_place numbers es)
+  pub uncounted_placed : (k0 k : KindsOf N) (nodes : List (Option N)) (numbers : List ℕ) (es : Numbers) → AddsNodes k0 nodes numbers k
+      → AllByRecursion (λ n. IsNode k n) numbers → ArePlaces (length numbers) es → AddsUncounted k0 k (by_place numbers es)
   uncounted_placed k0 k nodes numbers es h are places = record {
     extends = h.extends;
     counts = h.counts;

@@ -1,7 +1,7 @@
 -- Some of the entries, by their paths.
 use Rattle.std.proofs.Common.{◌≡◌, ℕ, suc, ◌&&◌, ◌||◌, Bool, true, false, cond, List, [], ◌∷◌, length, map, filter, Option, Some, None, is_some, refl, sym, ap, subst, ◌∙◌}
 use Rattle.std.specs.Prelude.{MatchOption}
-use Rattle.std.specs.List.{AllByRecursion, list_any}
+use Rattle.std.specs.List.{list_any}
 use Rattle.std.specs.Ordering.{is_eq, is_lt}
 use Rattle.std.specs.FinMap.{find, is_sorted}
 use Rattle.std.specs.FinMap.Entries.{below_all, is_sorted-where_key}
@@ -9,21 +9,15 @@ use Rattle.std.proofs.lemmas.Bool.{and_parts}
 use Rattle.std.proofs.lemmas.Cmp.{tied_itself}
 use Rattle.acl_names.specs.Paths.{path_cmp, PathOf}
 use Rattle.acl_names.proofs.PathOrder.{path_total}
+use Rattle.acl_names.proofs.Basics.{all_filter, from_T, to_T}
 use Rattle.path_map.specs.Entries.{IsInOrder}
 use Rattle.path_map.specs.Inner.{After}
 use Rattle.path_map.proofs.Places.{above}
-use Rattle.path_map.proofs.Merges.{later_after, from_T, to_T}
+use Rattle.path_map.proofs.Merges.{later_after}
 use Rattle.kinds.specs.Kinds.{KindsOf, IsNode}
 use Rattle.kinds.specs.Numbered.{Numbers, entries_by, AreUsed}
 use Rattle.kinds.specs.Inner.{AreAmong}
 use Rattle.kinds.proofs.EntriesBy.{entry_first, all_weaker}
-
-pub all_filter : {A : Type 0} (P : A → Type 0) (test : A → Bool) (xs : List A) → AllByRecursion P xs → AllByRecursion P (filter test xs)
-all_filter P test [] h = tt
-all_filter P test (x ∷ xs) h = elim (test x) as (λ b. AllByRecursion P (cond b (x ∷ filter test xs) (filter test xs))) [
-  | true ↦ (h.0, all_filter P test xs h.1)
-  | false ↦ all_filter P test xs h.1
-]
 
 among_more : (e : PathOf × ℕ) (ns es : Numbers) → After e.0 es → AreAmong ns es → AreAmong (e ∷ ns) es
 among_more e ns [] after h = tt
@@ -45,7 +39,8 @@ module _ {N : Type 0} (k : KindsOf N) where
   entries_filter test (e ∷ ns) used = by (test e.0) (entries_filter test ns used.1) ∙ ap (filter (λ e. test e.0)) (sym (entry_first k e ns used.0.0 used.0.1))
     where
       by : (b : Bool) → entries_by k (filter (λ e. test e.0) ns) ≡ filter (λ e. test e.0) (entries_by k ns)
-          → entries_by k (cond b (e ∷ filter (λ e. test e.0) ns) (filter (λ e. test e.0) ns)) ≡ cond b ((e.0, used.0.0) ∷ filter (λ e. test e.0) (entries_by k ns)) (filter (λ e. test e.0) (entries_by k ns))
+          → entries_by k (cond b (e ∷ filter (λ e. test e.0) ns) (filter (λ e. test e.0) ns))
+          ≡ cond b ((e.0, used.0.0) ∷ filter (λ e. test e.0) (entries_by k ns)) (filter (λ e. test e.0) (entries_by k ns))
       by true rest = entry_first k e (filter (λ e. test e.0) ns) used.0.0 used.0.1 ∙ ap (λ l. (e.0, used.0.0) ∷ l) rest
       by false rest = rest
 
@@ -109,7 +104,8 @@ some_next None all rest f h = sym (ap (λ (l : Numbers). some_in l) h.0)
 some_next (Some a) all rest f h = sym (ap (λ (l : Numbers). some_in l) h)
 
 -- the first of the paths of those that pass it
-pub first_passes : {A V : Type 0} (test : PathOf → Bool) (es : List (PathOf × V)) (all rest : Numbers) (o : Option A) (f : A → PathOf × ℕ) → map (λ e. e.0) all ≡ map (λ e. e.0) (filter (λ e. test e.0) es)
+pub first_passes : {A V : Type 0} (test : PathOf → Bool) (es : List (PathOf × V)) (all rest : Numbers) (o : Option A) (f : A → PathOf × ℕ)
+    → map (λ e. e.0) all ≡ map (λ e. e.0) (filter (λ e. test e.0) es)
     → MatchOption o ((all ≡ []) × (rest ≡ [])) (λ a. all ≡ f a ∷ rest) → is_some o ≡ list_any (λ e. test e.0) es
 first_passes test es all rest o f same h =
     some_next o all rest f h

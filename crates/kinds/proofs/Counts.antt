@@ -37,7 +37,8 @@ count_put n p v [] h = omega arith
 count_put n p v (e ∷ es) h = by (path_cmp p e.0) refl (count_put n p v es (and_parts (below_all path_cmp e.0 es) (is_sorted path_cmp es) h).1)
   where
     by : (o : Ordering) → path_cmp p e.0 ≡ o → paths_with n (put path_cmp p v es) + found_if n (find path_cmp p es) ≡ paths_with n es + one_if n v
-        → paths_with n (by_order o ((p, v) ∷ e ∷ es) ((e.0, v) ∷ es) (e ∷ put path_cmp p v es)) + found_if n (cond (is_eq o) (Some e.1) (find path_cmp p es)) ≡ (one_if n e.1 + paths_with n es) + one_if n v
+        → paths_with n (by_order o ((p, v) ∷ e ∷ es) ((e.0, v) ∷ es) (e ∷ put path_cmp p v es)) + found_if n (cond (is_eq o) (Some e.1) (find path_cmp p es))
+        ≡ (one_if n e.1 + paths_with n es) + one_if n v
     by Less is rest =
         let none : found_if n (find path_cmp p es) ≡ 0 = ap (found_if n) (not_after p es (after_rest p e es is (later_after e es h))) in
         omega arith
@@ -47,7 +48,8 @@ count_put n p v (e ∷ es) h = by (path_cmp p e.0) refl (count_put n p v es (and
 found_other : (n : ℕ) (p : PathOf × ℕ) (ps es : Numbers) → After p.0 ps → found_all n ps (put path_cmp p.0 p.1 es) ≡ found_all n ps es
 found_other n p [] es h = refl
 found_other n p (q ∷ ps) es h =
-    let other : find path_cmp q.0 (put path_cmp p.0 p.1 es) ≡ find path_cmp q.0 es = find-put path_cmp path_total q.0 p.0 p.1 es ∙ ap (λ o. cond (is_eq o) (Some p.1) (find path_cmp q.0 es)) (above p.0 q.0 h.0) in
+    let other : find path_cmp q.0 (put path_cmp p.0 p.1 es) ≡ find path_cmp q.0 es = find-put path_cmp path_total q.0 p.0 p.1 es
+    ∙ ap (λ o. cond (is_eq o) (Some p.1) (find path_cmp q.0 es)) (above p.0 q.0 h.0) in
     λ i. found_if n (other i) + found_other n p ps es h.1 i
 
 pub count_put_all : (n : ℕ) (ps es : Numbers) → IsInOrder ps → IsInOrder es → paths_with n (put_all ps es) + found_all n ps es ≡ paths_with n es + paths_with n ps
@@ -99,7 +101,8 @@ module _ {N : Type 0} (k : KindsOf N) where
       by (path_cmp p e.0) first (entries_put p v y es is used.1) ∙ sym (ap (put path_cmp p y) first)
     where
       by : (o : Ordering) → entries_by k (e ∷ es) ≡ (e.0, used.0.0) ∷ entries_by k es → entries_by k (put path_cmp p v es) ≡ put path_cmp p y (entries_by k es)
-          → entries_by k (by_order o ((p, v) ∷ e ∷ es) ((e.0, v) ∷ es) (e ∷ put path_cmp p v es)) ≡ by_order o ((p, y) ∷ (e.0, used.0.0) ∷ entries_by k es) ((e.0, y) ∷ entries_by k es) ((e.0, used.0.0) ∷ put path_cmp p y (entries_by k es))
+          → entries_by k (by_order o ((p, v) ∷ e ∷ es) ((e.0, v) ∷ es) (e ∷ put path_cmp p v es))
+          ≡ by_order o ((p, y) ∷ (e.0, used.0.0) ∷ entries_by k es) ((e.0, y) ∷ entries_by k es) ((e.0, used.0.0) ∷ put path_cmp p y (entries_by k es))
       by Less first rest = entry_first k (p, v) (e ∷ es) y is ∙ ap (λ l. (p, y) ∷ l) first
       by Equal first rest = entry_first k (e.0, v) es y is
       by Greater first rest = entry_first k e (put path_cmp p v es) used.0.0 used.0.1 ∙ ap (λ l. (e.0, used.0.0) ∷ l) rest
@@ -130,7 +133,8 @@ module _ {N : Type 0} (k : KindsOf N) where
   found_entry p (e ∷ es) used =
       ap (find path_cmp p) (entry_first k e es used.0.0 used.0.1) ∙ by (is_eq (path_cmp p e.0)) (found_entry p es used.1)
     where
-      by : (b : Bool) → find path_cmp p (entries_by k es) ≡ option_and_then (node_at k) (find path_cmp p es) → cond b (Some used.0.0) (find path_cmp p (entries_by k es)) ≡ option_and_then (node_at k) (cond b (Some e.1) (find path_cmp p es))
+      by : (b : Bool) → find path_cmp p (entries_by k es) ≡ option_and_then (node_at k) (find path_cmp p es)
+          → cond b (Some used.0.0) (find path_cmp p (entries_by k es)) ≡ option_and_then (node_at k) (cond b (Some e.1) (find path_cmp p es))
       by true rest = sym used.0.1
       by false rest = rest
 

@@ -5,15 +5,16 @@ use Rattle.std.specs.List.{AllByRecursion}
 use Rattle.std.proofs.Math.ListN.{length-set}
 use Rattle.std.proofs.lemmas.List.{map-append}
 use Rattle.acl_names.specs.Paths.{PathOf}
+use Rattle.acl_names.proofs.Basics.{some_same, all_end}
 use Rattle.kinds.specs.declared.memo.Met.{Met}
 use Rattle.kinds.specs.Kinds.{KindsOf, node_at, count_at, IsNode, Adds, Grants, Releases}
 use Rattle.kinds.specs.Numbered.{Numbers, entries_by, one_if, paths_with}
 use Rattle.kinds.specs.Inner.{Extends, paths_in}
 use Rattle.kinds.specs.Memo.{NodeEdit, and_others, edit_each, is_new, met_before, met_after, IsEdited, AreEdited, EditsOneMore, IsMetAt, EditsOne, CountsAgain, GrantsMet, ReleasesMet}
 use Rattle.kinds.proofs.Numbers.{eq_swap}
-use Rattle.kinds.proofs.EntriesBy.{some_same, adds_extends, adds_here, all_end, all_weaker, all_at, all_set, entry_first, entries_append, entries_extend, used_extend, paths_with-append}
+use Rattle.kinds.proofs.EntriesBy.{adds_extends, adds_here, all_weaker, all_at, all_set, entry_first, entries_append, entries_extend, used_extend, paths_with-append}
 
--- ---- what was met
+-- ---- what was seen
 
 pub before_more : (n : ℕ) (ms : List Met) (m : Met) → met_before n (ms ++ m ∷ []) ≡ met_before n ms + cond (m.old == n) m.count 0
 before_more n [] m = omega arith
@@ -30,12 +31,14 @@ counted_more false c = refl
 again : Met → Met
 again m = record m { count = m.count + 1 }
 
-before_again : (n : ℕ) (ms : List Met) (at : ℕ) (d : Met) → at < length ms → met_before n (set ms at (record (get_or ms at d) { count = (get_or ms at d).count + 1 })) ≡ met_before n ms + one_if n (get_or ms at d).old
+before_again : (n : ℕ) (ms : List Met) (at : ℕ) (d : Met) → at < length ms
+    → met_before n (set ms at (record (get_or ms at d) { count = (get_or ms at d).count + 1 })) ≡ met_before n ms + one_if n (get_or ms at d).old
 before_again n [] at d lt = absurd (omega arith)
 before_again n (m ∷ ms) zero d lt = let h = counted_more (m.old == n) m.count in omega (arith, h)
 before_again n (m ∷ ms) (suc at) d lt = let h = before_again n ms at d (omega arith) in omega (arith, h)
 
-after_again : (n : ℕ) (ms : List Met) (at : ℕ) (d : Met) → at < length ms → met_after n (set ms at (record (get_or ms at d) { count = (get_or ms at d).count + 1 })) ≡ met_after n ms + one_if n (get_or ms at d).new
+after_again : (n : ℕ) (ms : List Met) (at : ℕ) (d : Met) → at < length ms
+    → met_after n (set ms at (record (get_or ms at d) { count = (get_or ms at d).count + 1 })) ≡ met_after n ms + one_if n (get_or ms at d).new
 after_again n [] at d lt = absurd (omega arith)
 after_again n (m ∷ ms) zero d lt = let h = counted_more (m.new == n) m.count in omega (arith, h)
 after_again n (m ∷ ms) (suc at) d lt = let h = after_again n ms at d (omega arith) in omega (arith, h)
@@ -55,7 +58,8 @@ new_more n [] m h = by (m.new == n) h
     by false h = (refl, refl)
 new_more n (l ∷ ms) m h = by (l.new == n) h (λ rest. new_more n ms m rest)
   where
-    by : (b : Bool) → (b || is_new n (ms ++ m ∷ [])) ≡ false → (is_new n (ms ++ m ∷ []) ≡ false → (is_new n ms ≡ false) × ((m.new == n) ≡ false)) → ((b || is_new n ms) ≡ false) × ((m.new == n) ≡ false)
+    by : (b : Bool) → (b || is_new n (ms ++ m ∷ [])) ≡ false → (is_new n (ms ++ m ∷ []) ≡ false → (is_new n ms ≡ false) × ((m.new == n) ≡ false))
+        → ((b || is_new n ms) ≡ false) × ((m.new == n) ≡ false)
     by true h rest = cc
     by false h rest = rest h
 
@@ -88,7 +92,8 @@ module _ {N F : Type 0} (edit : NodeEdit N F) where
       joined y l (Ok es) = refl
       joined y l (Err f) = refl
 
-      by : (o : Result N F) (r : Result (List (PathOf × N)) (PathOf × F)) → ((l : List (PathOf × N)) → r ≡ Ok l → edit_each edit (xs ++ ys) ≡ after_edits l (edit_each edit ys)) → and_others x.0 o r ≡ Ok xs'
+      by : (o : Result N F) (r : Result (List (PathOf × N)) (PathOf × F))
+          → ((l : List (PathOf × N)) → r ≡ Ok l → edit_each edit (xs ++ ys) ≡ after_edits l (edit_each edit ys)) → and_others x.0 o r ≡ Ok xs'
           → and_others x.0 o (edit_each edit (xs ++ ys)) ≡ after_edits xs' (edit_each edit ys)
       by (Err f) r rest h = absurd (err_is_not_ok _ _ h)
       by (Ok y) (Err f) rest h = absurd (err_is_not_ok _ _ h)
@@ -119,7 +124,8 @@ module _ {N F : Type 0} (edit : NodeEdit N F) where
         extends = h.extends;
         counts = h.counts;
         others = λ n none. h.others n (sym (ap (is_new n) (counts.met d) ∙ new_again n met at d) ∙ none);
-        known = subst (AllByRecursion (λ m. IsEdited edit before k m.old m.new)) (sym (counts.met d)) (all_set (λ m. IsEdited edit before k m.old m.new) met at (record m { count = m.count + 1 }) h.known known);
+        known = subst (AllByRecursion (λ m. IsEdited edit before k m.old m.new)) (sym (counts.met d))
+            (all_set (λ m. IsEdited edit before k m.old m.new) met at (record m { count = m.count + 1 }) h.known known);
         paths = paths_more done puts e number h.paths;
         used = all_end (λ e. IsNode k e.1) puts (e.0, number) h.used (known.edited, is_after);
         few =
@@ -146,7 +152,8 @@ module _ {N F : Type 0} (edit : NodeEdit N F) where
         extends = λ n x here. ext n x (h.extends n x here);
         counts = λ n. adds.counts n ∙ h.counts n;
         others = λ n none. let p = new_more n met m none in adds.nodes n ∙ ap (λ b. cond b (Some y) (node_at k n)) (eq_swap n number ∙ p.1) ∙ h.others n p.0;
-        known = all_end (λ m. IsEdited edit before k' m.old m.new) met m (all_weaker (λ m. IsEdited edit before k m.old m.new) (λ m. IsEdited edit before k' m.old m.new) (extend_edited before k k' ext) met h.known)
+        known = all_end (λ m. IsEdited edit before k' m.old m.new) met m
+            (all_weaker (λ m. IsEdited edit before k m.old m.new) (λ m. IsEdited edit before k' m.old m.new) (extend_edited before k k' ext) met h.known)
             (record { node = one.node; edited = y; is_before = is_before; makes = one.makes; is_after = is_after });
         paths = paths_more done puts e number h.paths;
         used = all_end (λ e. IsNode k' e.1) puts (e.0, number) (used_extend k k' puts ext h.used) (y, is_after);

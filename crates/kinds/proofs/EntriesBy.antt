@@ -9,13 +9,6 @@ use Rattle.kinds.specs.Numbered.{Numbers, with_node, entries_by, paths_with, Are
 use Rattle.kinds.specs.Inner.{Extends}
 use Rattle.kinds.proofs.Numbers.{eq_self, eq_true}
 
-pub some_same : {A : Type 0} {x y : A} → Some x ≡ Some y → x ≡ y
-some_same e = cc
-
-pub all_end : {A : Type 0} (P : A → Type 0) (xs : List A) (x : A) → AllByRecursion P xs → P x → AllByRecursion P (xs ++ x ∷ [])
-all_end P [] x h p = (p, tt)
-all_end P (y ∷ xs) x h p = (h.0, all_end P xs x h.1 p)
-
 pub all_weaker : {A : Type 0} (P Q : A → Type 0) → ((x : A) → P x → Q x) → (xs : List A) → AllByRecursion P xs → AllByRecursion Q xs
 all_weaker P Q f [] h = tt
 all_weaker P Q f (x ∷ xs) h = (f x h.0, all_weaker P Q f xs h.1)

@@ -60,7 +60,8 @@ module _ {N M : Type 0} (f : N → M) (k : KindsOf N) where
   are (e ∷ ns) used some =
       (renewed_read f k (length k.0) e.1 (node_within k.0 e.1 used.0.0 used.0.1) ∙ some_renewed f k (node_at k e.1) (count_at k e.1) some.0, are ns used.1 some.1)
 
-  have : (ns : Numbers) → AreUsed k ns → AllByRecursion (λ e. node_at {N = M} (renewed_before f k (length k.0), []) e.1 ≡ option_map f (node_at k e.1)) ns → HaveNodes (renewed_before f k (length k.0)) ns
+  have : (ns : Numbers) → AreUsed k ns → AllByRecursion (λ e. node_at {N = M} (renewed_before f k (length k.0), []) e.1 ≡ option_map f (node_at k e.1)) ns
+      → HaveNodes (renewed_before f k (length k.0)) ns
   have [] used h = tt
   have (e ∷ ns) used h = ((f used.0.0, h.0 ∙ ap (option_map f) used.0.1), have ns used.1 h.1)
 

@@ -62,7 +62,8 @@ module _ {W : Type 0} where
   without_more g gs (e ∷ ns) = by (is_eq (path_cmp e.0 g.0)) (has e.0 gs) refl (without_more g gs ns)
     where
       by : (b d : Bool) → has e.0 gs ≡ d → without_all (g ∷ gs) ns ≡ without_all gs (without g.0 ns)
-          → cond (not (is_some (cond b (Some g.1) (find path_cmp e.0 gs)))) (e ∷ without_all (g ∷ gs) ns) (without_all (g ∷ gs) ns) ≡ without_all gs (cond (not b) (e ∷ without g.0 ns) (without g.0 ns))
+          → cond (not (is_some (cond b (Some g.1) (find path_cmp e.0 gs)))) (e ∷ without_all (g ∷ gs) ns) (without_all (g ∷ gs) ns)
+          ≡ without_all gs (cond (not b) (e ∷ without g.0 ns) (without g.0 ns))
       by true d is rest = rest
       by false d is rest = ap (λ l. cond (not (has e.0 gs)) (e ∷ l) l) rest
 

@@ -4,12 +4,13 @@ use Rattle.std.specs.Prelude.{◌==◌}
 use Rattle.std.specs.FinMap.{is_sorted}
 use Rattle.std.proofs.lemmas.List.{map-append}
 use Rattle.acl_names.specs.Paths.{path_cmp, PathOf}
+use Rattle.acl_names.proofs.Basics.{all_end}
 use Rattle.path_map.specs.Entries.{IsInOrder}
 use Rattle.kinds.specs.Kinds.{KindsOf, node_at, count_at, IsNode, Adds, Grants}
 use Rattle.kinds.specs.Numbered.{Numbers, entries_by, one_if, AreUsed, AreSound}
 use Rattle.kinds.specs.Inner.{Extends, HasNumber, CountsRun, GivesNumber, AddsBut, pending_at, AddsAll}
 use Rattle.kinds.proofs.Numbers.{eq_swap}
-use Rattle.kinds.proofs.EntriesBy.{entry_first, entries_append, entries_extend, used_extend, adds_extends, adds_here, all_end, paths_with-append}
+use Rattle.kinds.proofs.EntriesBy.{entry_first, entries_append, entries_extend, used_extend, adds_extends, adds_here, paths_with-append}
 use Rattle.kinds.proofs.Counts.{sorted_paths}
 use Rattle.kinds.proofs.Chosen.{sorted_same, paths_same}
 
@@ -73,7 +74,8 @@ module _ {N : Type 0} where
   pub there_given : (k k1 : KindsOf N) (x : N) (at last pending : ℕ) → (0 < pending → IsNode k last) → HasNumber k x at k1 → 0 < pending → IsNode k1 last
   there_given k k1 x at last pending there one lt = let is = there lt in (is.0, one.extends last is.0 is.1)
 
-  pub adds_more : (k0 k k1 k2 : KindsOf N) (puts : List (PathOf × N)) (entries : Numbers) (p : PathOf) (x : N) (at last pending count : ℕ) → AddsBut k0 puts k entries last pending → HasNumber k x at k1 → CountsRun k1 last pending at k2 count
+  pub adds_more : (k0 k k1 k2 : KindsOf N) (puts : List (PathOf × N)) (entries : Numbers) (p : PathOf) (x : N) (at last pending count : ℕ)
+      → AddsBut k0 puts k entries last pending → HasNumber k x at k1 → CountsRun k1 last pending at k2 count
       → AddsBut k0 (puts ++ (p, x) ∷ []) k2 (entries ++ (p, at) ∷ []) at count
   adds_more k0 k k1 k2 puts entries p x at last pending count h one run =
       let ext : Extends k k2 = λ n y is. run.nodes n ∙ one.extends n y is in
@@ -93,7 +95,8 @@ module _ {N : Type 0} where
         there = λ lt. (x, here);
       }
 
-  pub adds_all : (k0 k k1 : KindsOf N) (puts : List (PathOf × N)) (entries : Numbers) (last pending : ℕ) → AddsBut k0 puts k entries last pending → Grants k last pending k1 → AddsAll k0 puts k1 entries
+  pub adds_all : (k0 k k1 : KindsOf N) (puts : List (PathOf × N)) (entries : Numbers) (last pending : ℕ) → AddsBut k0 puts k entries last pending
+      → Grants k last pending k1 → AddsAll k0 puts k1 entries
   adds_all k0 k k1 puts entries last pending h grants =
       let ext : Extends k k1 = λ n y is. grants.nodes n ∙ is in
       record {
@@ -128,7 +131,8 @@ module _ {N : Type 0} (k0 k k2 : KindsOf N) (entries : Numbers) (p : PathOf) (x 
   given_order order = sym (sorted_same k2 (entries ++ (p, at) ∷ []) more.used) ∙ ap (is_sorted path_cmp) given_entries ∙ order
 
 -- the order of the paths does not depend on what they have
-pub order_more : {N : Type 0} (k : KindsOf N) (entries : Numbers) (p : PathOf) (at : ℕ) (x : N) → AreUsed k entries → is_sorted path_cmp (entries ++ (p, at) ∷ []) ≡ is_sorted path_cmp (entries_by k entries ++ (p, x) ∷ [])
+pub order_more : {N : Type 0} (k : KindsOf N) (entries : Numbers) (p : PathOf) (at : ℕ) (x : N) → AreUsed k entries
+    → is_sorted path_cmp (entries ++ (p, at) ∷ []) ≡ is_sorted path_cmp (entries_by k entries ++ (p, x) ∷ [])
 order_more {N} k entries p at x used =
     sorted_paths (entries ++ (p, at) ∷ []) (entries_by k entries ++ (p, x) ∷ [])
     (map-append (λ e. e.0) entries ((p, at) ∷ []) ∙ ap (λ ps. ps ++ p ∷ []) (sym (paths_same k entries used)) ∙ sym (map-append (λ (e : PathOf × N). e.0) (entries_by k entries) ((p, x) ∷ [])))

@@ -3,10 +3,11 @@ use Rattle.std.proofs.Common.{◌≡◌, ℕ, Bool, true, false, cond, List, [],
 use Rattle.std.specs.Option.{option_or}
 use Rattle.acl_names.specs.Below.{is_above}
 use Rattle.acl_names.specs.Paths.{PathOf}
+use Rattle.acl_names.proofs.Basics.{some_same}
 use Rattle.path_map.specs.Below.{nearest_above}
 use Rattle.kinds.specs.Kinds.{KindsOf, node_at, IsNode}
 use Rattle.kinds.specs.Numbered.{Numbers, entries_by, AreUsed}
-use Rattle.kinds.proofs.EntriesBy.{entry_first, some_same}
+use Rattle.kinds.proofs.EntriesBy.{entry_first}
 
 module _ {N : Type 0} (k : KindsOf N) where
   -- an entry has the node of a number

@@ -1,5 +1,6 @@
 -- Nodes by numbers, and counts.
-use Rattle.std.proofs.Common.{◌≡◌, ◌≢◌, ℕ, zero, suc, ◌+◌, ◌-◌, ◌<◌, ◌≤◌, Bool, true, false, cond, List, [], ◌∷◌, ◌++◌, length, map, set, get_or, get_or-set_same, get_or-set_other, Option, Some, None, refl, sym, ap, ◌∙◌, arith, ltb-true, ltb-false}
+use Rattle.std.proofs.Common.{◌≡◌, ◌≢◌, ℕ, zero, suc, ◌+◌, ◌-◌, ◌<◌, ◌≤◌, Bool, true, false, cond, List, [], ◌∷◌, ◌++◌, length, map, set, get_or}
+use Rattle.std.proofs.Common.{get_or-set_same, get_or-set_other, Option, Some, None, refl, sym, ap, ◌∙◌, arith, ltb-true, ltb-false}
 use Rattle.std.specs.Prelude.{◌==◌, nat_lt, slice_get, unwrap_or, if◌then◌else◌}
 use Rattle.std.proofs.lemmas.Option.{slice_get_within}
 use Rattle.std.proofs.lemmas.List.{get_or_past, map-set, map-append, length-map}
@@ -98,14 +99,17 @@ same_nodes [] at s count h = refl
 same_nodes (x ∷ slots) zero s count h = ap (λ o. (unwrap_or o x).0 ∷ map (λ s. s.0) slots) (sym h)
 same_nodes (x ∷ slots) (suc at) s count h = ap (λ l. x.0 ∷ l) (same_nodes slots at s count h)
 
-pub counted_at : {N : Type 0} (slots : List (Option N × ℕ)) (at : ℕ) (s : Option N × ℕ) (count : ℕ) → slice_get slots at ≡ Some s → kinds_of (set slots at (s.0, count)) ≡ ((kinds_of slots).0, set (kinds_of slots).1 at count)
+pub counted_at : {N : Type 0} (slots : List (Option N × ℕ)) (at : ℕ) (s : Option N × ℕ) (count : ℕ) → slice_get slots at ≡ Some s
+    → kinds_of (set slots at (s.0, count)) ≡ ((kinds_of slots).0, set (kinds_of slots).1 at count)
 counted_at slots at s count h = λ i. (same_nodes slots at s count h i, map-set (λ (s : Option _ × ℕ). s.1) slots at (s.0, count) i)
 
 pub reused : {N : Type 0} (slots : List (Option N × ℕ)) (at : ℕ) (x : N) → slice_get slots at ≡ Some (None, 0) → Adds (kinds_of slots) x at (kinds_of (set slots at (Some x, 0)))
 reused {N} slots at x h = record {
   free = got_at (λ s. s.0) slots at (None, 0) None h;
-  nodes = λ n. ap (λ l. get_or l n None) (map-set (λ (s : Option N × ℕ). s.0) slots at (Some x, 0)) ∙ set_read (map (λ s. s.0) slots) at n (Some x) None (omega (arith, lt, length-map slots (λ s. s.0)));
-  counts = λ n. ap (λ l. get_or l n 0) (map-set (λ (s : Option N × ℕ). s.1) slots at (Some x, 0)) ∙ set_read (map (λ s. s.1) slots) at n 0 0 (omega (arith, lt, length-map slots (λ s. s.1))) ∙ same n (n == at) refl;
+  nodes = λ n. ap (λ l. get_or l n None) (map-set (λ (s : Option N × ℕ). s.0) slots at (Some x, 0))
+      ∙ set_read (map (λ s. s.0) slots) at n (Some x) None (omega (arith, lt, length-map slots (λ s. s.0)));
+  counts = λ n. ap (λ l. get_or l n 0) (map-set (λ (s : Option N × ℕ). s.1) slots at (Some x, 0))
+      ∙ set_read (map (λ s. s.1) slots) at n 0 0 (omega (arith, lt, length-map slots (λ s. s.1))) ∙ same n (n == at) refl;
 }
   where
     lt : at < length slots
@@ -124,7 +128,8 @@ grown {N} slots x = record {
   counts = λ n. ap (λ l. get_or l n 0) (map-append (λ (s : Option N × ℕ). s.1) slots ((Some x, 0) ∷ [])) ∙ push_default (map (λ s. s.1) slots) n 0;
 }
 
-pub granted : {N : Type 0} (slots : List (Option N)) (counts : List ℕ) (at more count : ℕ) → at < length counts → count ≡ get_or counts at 0 + more → Grants (slots, counts) at more (slots, set counts at count)
+pub granted : {N : Type 0} (slots : List (Option N)) (counts : List ℕ) (at more count : ℕ) → at < length counts → count ≡ get_or counts at 0 + more
+    → Grants (slots, counts) at more (slots, set counts at count)
 granted slots counts at more count lt is = record {
   nodes = λ n. refl;
   counts = λ n. set_read counts at n count 0 lt ∙ by n (n == at) refl;
@@ -148,12 +153,14 @@ less_counts counts at fewer count is n = by (nat_lt at (length counts)) refl (n 
 pub released : {N : Type 0} (slots : List (Option N)) (counts : List ℕ) (at fewer count : ℕ) → count ≡ get_or counts at 0 - fewer → Releases (slots, counts) at fewer (slots, set counts at count)
 released slots counts at fewer count is = record { nodes = λ n _. refl; counts = less_counts counts at fewer count is }
 
-pub freed : {N : Type 0} (slots : List (Option N)) (counts : List ℕ) (at fewer count : ℕ) → count ≡ get_or counts at 0 - fewer → get_or counts at 0 ≤ fewer → Releases (slots, counts) at fewer (set slots at None, set counts at count)
+pub freed : {N : Type 0} (slots : List (Option N)) (counts : List ℕ) (at fewer count : ℕ) → count ≡ get_or counts at 0 - fewer → get_or counts at 0 ≤ fewer
+    → Releases (slots, counts) at fewer (set slots at None, set counts at count)
 freed slots counts at fewer count is le = record { nodes = λ n lt. kept n lt; counts = less_counts counts at fewer count is }
   where
     kept : (n : ℕ) → 0 < get_or (set counts at count) n 0 → get_or (set slots at None) n None ≡ get_or slots n None
     kept n lt = get_or-set_other slots at n None None (λ same.
-        let here : get_or (set counts at count) n 0 ≡ get_or counts at 0 - fewer = less_counts counts at fewer count is n ∙ ap (λ k. get_or counts k 0 - cond (k == at) fewer 0) same ∙ ap (λ b. get_or counts at 0 - cond b fewer 0) (eq_self at) in
+        let here : get_or (set counts at count) n 0 ≡ get_or counts at 0 - fewer = less_counts counts at fewer count is n
+        ∙ ap (λ k. get_or counts k 0 - cond (k == at) fewer 0) same ∙ ap (λ b. get_or counts at 0 - cond b fewer 0) (eq_self at) in
         absurd (omega arith))
 
 -- a slot that is free

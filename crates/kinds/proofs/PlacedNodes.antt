@@ -55,7 +55,8 @@ module _ {N : Type 0} where
           ap (node_at k1) (push_read numbers i at 0 ∙ ap (λ b. cond b at (get_or numbers i 0)) other)
           ∙ ext (get_or numbers i 0) y (h.here i y is)
 
-  pub nodes_more : (k0 k k1 : KindsOf N) (nodes : List (Option N)) (numbers : List ℕ) (x : N) (at : ℕ) → AddsNodes k0 nodes numbers k → Adds k x at k1 → AddsNodes k0 (nodes ++ Some x ∷ []) (numbers ++ at ∷ []) k1
+  pub nodes_more : (k0 k k1 : KindsOf N) (nodes : List (Option N)) (numbers : List ℕ) (x : N) (at : ℕ) → AddsNodes k0 nodes numbers k → Adds k x at k1
+      → AddsNodes k0 (nodes ++ Some x ∷ []) (numbers ++ at ∷ []) k1
   nodes_more k0 k k1 nodes numbers x at h adds = number_more k0 k k1 nodes numbers (Some x) at h (adds_extends k k1 x at adds) adds.counts (λ y is. adds_here k k1 x at adds ∙ is)
 
   pub nodes_known : (k0 k : KindsOf N) (nodes : List (Option N)) (numbers : List ℕ) (at : ℕ) → AddsNodes k0 nodes numbers k → AddsNodes k0 (nodes ++ node_at k0 at ∷ []) (numbers ++ at ∷ []) k

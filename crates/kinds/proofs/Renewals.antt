@@ -1,22 +1,18 @@
 -- Kinds whose nodes become others: which entries they have, and what counts for them.
-use Rattle.std.proofs.Common.{◌≡◌, ◌≢◌, ℕ, zero, suc, ◌+◌, ◌*◌, ◌<◌, ◌≤◌, Bool, true, false, cond, List, [], ◌∷◌, ◌++◌, length, get_or, Option, Some, None, refl, sym, ap, subst, ◌∙◌, arith, nat_lt, ltb-true, ltb-false}
+use Rattle.std.proofs.Common.{◌≡◌, ◌≢◌, ℕ, zero, suc, ◌+◌, ◌*◌, ◌<◌, ◌≤◌, Bool, true, false, cond, List, [], ◌∷◌, ◌++◌, length, get_or, Option, Some, None}
+use Rattle.std.proofs.Common.{refl, sym, ap, subst, ◌∙◌, arith, nat_lt, ltb-true, ltb-false}
 use Rattle.std.specs.Prelude.{option_map, ◌==◌}
 use Rattle.std.specs.List.{AllByRecursion}
 use Rattle.std.specs.Option.{option_map_or}
 use Rattle.std.proofs.lemmas.List.{length-append, get_or_past, map-append}
 use Rattle.std.proofs.lemmas.List.Sums.{sum_by-cons}
+use Rattle.acl_names.proofs.Basics.{sum_times, none_times}
 use Rattle.kinds.specs.Kinds.{KindsOf, kinds_of, node_at, count_at, HasRoom}
 use Rattle.kinds.specs.Numbered.{Numbers, with_node, entries_by, one_if, paths_with, AreUsed, AreSound}
 use Rattle.kinds.specs.Renewed.{renewed, weight_of, renewed_if, renewed_before, counts_before, weight_at, weight_before, Renews}
 use Rattle.kinds.proofs.Numbers.{eq_true, eq_false, push_read, node_within}
 use Rattle.kinds.proofs.EntriesBy.{entry_first, all_weaker}
 use Rattle.kinds.proofs.Counts.{counted_all}
-
-times_more : (a b u : ℕ) → (a + b) * u ≡ a * u + b * u
-times_more a b u = grind arith
-
-times_none : (u : ℕ) → 0 * u ≡ 0
-times_none u = grind arith
 
 -- ---- nodes
 
@@ -32,7 +28,8 @@ module _ {N M : Type 0} (f : N → M) (k : KindsOf N) where
       ∙ ap (λ l. cond (n == l) (renewed_if f (node_at k m) (count_at k m)) (get_or (renewed_before f k m) n None)) (length-renewed m)
       ∙ by (n == m) refl (renewed_read m n)
     where
-      by : (b : Bool) → (n == m) ≡ b → (n < m → get_or (renewed_before f k m) n None ≡ renewed_if f (node_at k n) (count_at k n)) → cond b (renewed_if f (node_at k m) (count_at k m)) (get_or (renewed_before f k m) n None) ≡ renewed_if f (node_at k n) (count_at k n)
+      by : (b : Bool) → (n == m) ≡ b → (n < m → get_or (renewed_before f k m) n None ≡ renewed_if f (node_at k n) (count_at k n))
+          → cond b (renewed_if f (node_at k m) (count_at k m)) (get_or (renewed_before f k m) n None) ≡ renewed_if f (node_at k n) (count_at k n)
       by true is before = ap (λ i. renewed_if f (node_at k i) (count_at k i)) (sym (eq_true n m is))
       by false is before = let other : n ≢ m = eq_false n m is in before (omega (arith, lt, other))
 
@@ -69,7 +66,8 @@ module _ {N M : Type 0} (f : N → M) (k : KindsOf N) where
           get_or_past (counts_before k (length k.0)) n 0 (omega (arith, ge, length-counts (length k.0))) ∙ sym (get_or_past k.1 n 0 (omega (arith, room, ge)))
 
   -- one slot more
-  pub renewed_more : (n : ℕ) (slots : List (Option M × ℕ)) (s : Option M × ℕ) → kinds_of slots ≡ (renewed_before f k n, counts_before k n) → s ≡ (renewed_if f (node_at k n) (count_at k n), count_at k n)
+  pub renewed_more : (n : ℕ) (slots : List (Option M × ℕ)) (s : Option M × ℕ) → kinds_of slots ≡ (renewed_before f k n, counts_before k n)
+      → s ≡ (renewed_if f (node_at k n) (count_at k n), count_at k n)
       → kinds_of (slots ++ s ∷ []) ≡ (renewed_before f k (suc n), counts_before k (suc n))
   renewed_more n slots s h is =
       (λ i. (map-append (λ (s : Option M × ℕ). s.0) slots (s ∷ []) i, map-append (λ (s : Option M × ℕ). s.1) slots (s ∷ []) i))
@@ -125,19 +123,19 @@ module _ {N : Type 0} (w : N → ℕ) (k : KindsOf N) where
     where
       by : (a : Bool) → nat_lt n (suc m) ≡ a → (b : Bool) → nat_lt n m ≡ b → (e : Bool) → (n == m) ≡ e → cond a (node_weight n) 0 ≡ cond b (node_weight n) 0 + cond e 1 0 * node_weight m
       by true is_a true is_b true is_e = absurd (let lt = ltb-true _ _ is_b in let same = eq_true n m is_e in omega (arith, lt, same))
-      by true is_a true is_b false is_e = let none = times_none (node_weight m) in omega (arith, none)
+      by true is_a true is_b false is_e = let none = none_times (node_weight m) in omega (arith, none)
       by true is_a false is_b true is_e = ap node_weight (eq_true n m is_e) ∙ grind arith
       by true is_a false is_b false is_e = absurd (let lt = ltb-true _ _ is_a in let ge = ltb-false _ _ is_b in let other = eq_false n m is_e in omega (arith, lt, ge, other))
       by false is_a true is_b e is_e = absurd (let ge = ltb-false _ _ is_a in let lt = ltb-true _ _ is_b in omega (arith, lt, ge))
       by false is_a false is_b true is_e = absurd (let ge = ltb-false _ _ is_a in let same = eq_true n m is_e in omega (arith, same, ge))
-      by false is_a false is_b false is_e = let none = times_none (node_weight m) in omega (arith, none)
+      by false is_a false is_b false is_e = let none = none_times (node_weight m) in omega (arith, none)
 
   below_more : (m : ℕ) (ns : Numbers) → below (suc m) ns ≡ below m ns + paths_with m ns * node_weight m
-  below_more m [] = let none = times_none (node_weight m) in omega (arith, none)
+  below_more m [] = let none = none_times (node_weight m) in omega (arith, none)
   below_more m (e ∷ ns) =
       let one = one_more e.1 m in
       let more = below_more m ns in
-      let both = times_more (one_if m e.1) (paths_with m ns) (node_weight m) in
+      let both = sum_times (one_if m e.1) (paths_with m ns) (node_weight m) in
       omega (arith, one, more, both)
 
   module _ (ns : Numbers) (counted : (n : ℕ) → count_at k n ≡ paths_with n ns) where

@@ -1,18 +1,14 @@
 -- Kinds whose nodes become others where they pass a test.
-use Rattle.std.proofs.Common.{◌≡◌, ◌≢◌, ℕ, ◌+◌, ◌*◌, ◌<◌, ◌≤◌, Bool, true, false, cond, List, length, map, set, get_or, Option, Some, None, refl, sym, ap, subst, ◌∙◌, arith, nat_lt, ltb-true, ltb-false}
+use Rattle.std.proofs.Common.{◌≡◌, ◌≢◌, ℕ, ◌+◌, ◌*◌, ◌<◌, ◌≤◌, Bool, true, false, cond, List, length, map, set, get_or, Option, Some, None, refl, sym, ap}
+use Rattle.std.proofs.Common.{subst, ◌∙◌, arith, nat_lt, ltb-true, ltb-false}
 use Rattle.std.specs.Prelude.{option_map, ◌==◌}
 use Rattle.std.specs.Option.{option_map_or}
 use Rattle.std.proofs.lemmas.List.{get_or_past, map-set, length-map}
+use Rattle.acl_names.proofs.Basics.{times_one, times_none}
 use Rattle.kinds.specs.Kinds.{KindsOf, kinds_of, node_at, count_at, HasRoom}
 use Rattle.kinds.specs.Renewed.{one_where, changed_where, weight_where, renewed_if, weight_at, Renews, RenewsBefore}
 use Rattle.kinds.proofs.Numbers.{eq_true, eq_false, set_read, node_within}
 use Rattle.kinds.proofs.Renewals.{some_renewed}
-
-times_one : (c : ℕ) → c * 1 ≡ c
-times_one c = grind arith
-
-times_zero : (c : ℕ) → c * 0 ≡ 0
-times_zero c = grind arith
 
 none_times : (c u : ℕ) → c ≡ 0 → c * u ≡ 0
 none_times c u none = ap (λ k. k * u) none ∙ grind arith
@@ -31,11 +27,11 @@ module _ {N : Type 0} (test : N → Bool) (f : N → N) (w : N → ℕ) where
 
   -- nothing counts for it
   weighs_none : (o : Option N) (c : ℕ) → c * option_map_or (one_where test) o 0 ≡ 0 → c * option_map_or (weight_where test w) o 0 ≡ 0
-  weighs_none None c none = times_zero c
+  weighs_none None c none = times_none c
   weighs_none (Some x) c none = by (test x) none
     where
       by : (b : Bool) → c * cond b 1 0 ≡ 0 → c * cond b (w x) 0 ≡ 0
-      by false h = times_zero c
+      by false h = times_none c
       by true h = none_times c (w x) (let one = times_one c in omega (arith, one, h))
 
   -- it becomes another one
@@ -45,7 +41,7 @@ module _ {N : Type 0} (test : N → Bool) (f : N → N) (w : N → ℕ) where
     where
       by : (b : Bool) → 0 < c * cond b 1 0 → Some (cond b (f x) x) ≡ Some (f x)
       by true h = refl
-      by false h = absurd (let none = times_zero c in omega (arith, none, h))
+      by false h = absurd (let none = times_none c in omega (arith, none, h))
 
   -- just this counts for it
   weighs : (o : Option N) (c : ℕ) → 0 < c * option_map_or (one_where test) o 0 → option_map_or (weight_where test w) o 0 ≡ option_map_or w o 0
@@ -54,11 +50,11 @@ module _ {N : Type 0} (test : N → Bool) (f : N → N) (w : N → ℕ) where
     where
       by : (b : Bool) → 0 < c * cond b 1 0 → cond b (w x) 0 ≡ w x
       by true h = refl
-      by false h = absurd (let none = times_zero c in omega (arith, none, h))
+      by false h = absurd (let none = times_none c in omega (arith, none, h))
 
   -- there is one
   there : (A : Type 0) (o : Option N) (c : ℕ) → 0 < c * option_map_or (one_where test) o 0 → ((x : N) → o ≡ Some x → A) → A
-  there A None c some then = absurd (let none = times_zero c in omega (arith, none, some))
+  there A None c some then = absurd (let none = times_none c in omega (arith, none, some))
   there A (Some x) c some then = then x refl
 
   -- ---- by numbers

@@ -9,6 +9,7 @@ use Rattle.std.proofs.lemmas.Bool.{and_parts}
 use Rattle.std.proofs.lemmas.Cmp.{tied_itself}
 use Rattle.acl_names.specs.Paths.{path_cmp, PathOf}
 use Rattle.acl_names.proofs.PathOrder.{path_total, exact_paths}
+use Rattle.acl_names.proofs.Basics.{is_equal}
 use Rattle.path_map.specs.Entries.{IsInOrder, found}
 use Rattle.path_map.specs.Changed.{each, with_values}
 use Rattle.path_map.specs.Inner.{After}
@@ -24,11 +25,6 @@ use Rattle.kinds.proofs.Numbers.{eq_self}
 use Rattle.kinds.proofs.EntriesBy.{all_weaker}
 use Rattle.kinds.proofs.Counts.{not_after}
 use Rattle.kinds.proofs.Chosen.{among_all}
-
-equal : (o : Ordering) → is_eq o ≡ true → o ≡ Equal
-equal Less h = absurd (true≢false (sym h))
-equal Equal h = refl
-equal Greater h = absurd (true≢false (sym h))
 
 -- each path has a number already
 abbrev pub AreThere : Numbers → Numbers → Type 0
@@ -59,7 +55,8 @@ put_found p (e ∷ es) order h = by (path_cmp p.0 e.0) refl h (put_found p es (a
     after_rest [] lt h = tt
     after_rest (x ∷ es) lt h = (path_total.trans p.0 e.0 x.0 lt h.0, after_rest es lt h.1)
 
-    by : (o : Ordering) → path_cmp p.0 e.0 ≡ o → is_some (cond (is_eq o) (Some e.1) (find path_cmp p.0 es)) ≡ true → (is_some (find path_cmp p.0 es) ≡ true → put path_cmp p.0 p.1 es ≡ with_values (p ∷ []) es)
+    by : (o : Ordering) → path_cmp p.0 e.0 ≡ o → is_some (cond (is_eq o) (Some e.1) (find path_cmp p.0 es)) ≡ true
+        → (is_some (find path_cmp p.0 es) ≡ true → put path_cmp p.0 p.1 es ≡ with_values (p ∷ []) es)
         → by_order o (p ∷ e ∷ es) ((e.0, p.1) ∷ es) (e ∷ put path_cmp p.0 p.1 es) ≡ with_values (p ∷ []) (e ∷ es)
     by Less is h rest = absurd (true≢false (sym (sym (ap is_some (not_after p.0 es (after_rest es is (later_after e es order)))) ∙ h)))
     by Equal is h rest =
@@ -73,7 +70,8 @@ found_each : (g : PathOf → ℕ → ℕ) (q : PathOf) (es : Numbers) → is_som
 found_each g q [] = refl
 found_each g q (e ∷ es) = by (is_eq (path_cmp q e.0)) (found_each g q es)
   where
-    by : (b : Bool) → is_some (find path_cmp q (each g es)) ≡ is_some (find path_cmp q es) → is_some (cond b (Some (g e.0 e.1)) (find path_cmp q (each g es))) ≡ is_some (cond b (Some e.1) (find path_cmp q es))
+    by : (b : Bool) → is_some (find path_cmp q (each g es)) ≡ is_some (find path_cmp q es)
+        → is_some (cond b (Some (g e.0 e.1)) (find path_cmp q (each g es))) ≡ is_some (cond b (Some e.1) (find path_cmp q es))
     by true rest = refl
     by false rest = rest
 
@@ -84,7 +82,7 @@ with_twice p ps (e ∷ es) h = λ i. (e.0, by (is_eq (path_cmp e.0 p.0)) refl i)
   where
     by : (b : Bool) → is_eq (path_cmp e.0 p.0) ≡ b → unwrap_or (find path_cmp e.0 ps) (unwrap_or (cond b (Some p.1) None) e.1) ≡ unwrap_or (cond b (Some p.1) (find path_cmp e.0 ps)) e.1
     by true is =
-        let path : e.0 ≡ p.0 = exact_paths e.0 p.0 (equal (path_cmp e.0 p.0) is) in
+        let path : e.0 ≡ p.0 = exact_paths e.0 p.0 (is_equal (path_cmp e.0 p.0) is) in
         ap (λ o. unwrap_or o p.1) (ap (λ q. find path_cmp q ps) path ∙ not_after p.0 ps h)
     by false is = refl
 

@@ -21,7 +21,7 @@ module _ {N : Type 0} where
     counts = λ n. let a = r.counts n in let b = g.counts n in omega (arith, a, b);
   }
 
-  -- the new numbers of those that were met have nodes
+  -- the new numbers of those that were seen have nodes
   pub met_used : {F : Type 0} (edit : NodeEdit N F) (k0 k1 : KindsOf N) (met : List Met) → AllByRecursion (λ m. IsEdited edit k0 k1 m.old m.new) met → AllByRecursion (λ m. IsNode k1 m.new) met
   met_used edit k0 k1 met h = all_weaker (λ m. IsEdited edit k0 k1 m.old m.new) (λ m. IsNode k1 m.new) (λ m h. (h.edited, h.is_after)) met h
 

@@ -71,7 +71,7 @@ fn edit_one<N: Drop, E: KindEdit<N>>(
     }
 }
 
-/// Notes what an edit made of a number that was not met before, which a path has.
+/// Keeps what an edit made of a number that was not seen before, which a path has.
 fn note_edited<N>(
     kinds: &Kinds<N>,
     memo: &mut Memo,
@@ -86,7 +86,7 @@ fn note_edited<N>(
     memo.note(old, new)
 }
 
-/// One entry more edited: its number, if it was met, or else its node.
+/// One entry more edited: its number, if it was seen, or else its node.
 fn edit_entry<'a, N: Drop, E: KindEdit<N>>(
     alloc: Global,
     kinds: Kinds<N>,
@@ -113,7 +113,7 @@ fn edit_entry<'a, N: Drop, E: KindEdit<N>>(
     Ok(kinds)
 }
 
-/// What an edit made of entries: the nodes with those that were added, the numbers that were met, and the entries.
+/// What an edit made of entries: the nodes with those that were added, the numbers that were seen, and the entries.
 #[derive(Drop)]
 struct EditedNumbers<'a, N> {
     kinds: Kinds<N>,

@@ -17,17 +17,17 @@ pub struct Met {
     pub count: usize,
 }
 
-/// Numbers that an edit met, and where each may be found.
+/// Numbers that an edit saw, and where each may be found.
 #[derive(Drop)]
 pub struct Memo {
     pub met: Vec<Met>,
-    /// The place of the number that was met last.
+    /// The place of the number that was seen last.
     pub last: usize,
     places: BTreeMap<usize, usize>,
 }
 
 impl Memo {
-    /// Nothing was met.
+    /// Nothing was seen.
     pub fn new(alloc: Global) -> Memo
         ensures { result.met.items ≡ [] }
     {
@@ -38,7 +38,7 @@ impl Memo {
         }
     }
 
-    /// The place of a number, if it was met: mostly that of the one before it.
+    /// The place of a number, if it was seen: mostly that of the one before it.
     pub fn place(&self, number: usize) -> Option<usize>
         ensures { IfSome result (λ at. IsMetAt self.now.met.items number at) }
     {
@@ -52,14 +52,14 @@ impl Memo {
         None
     }
 
-    /// Whether a number was met at a place.
+    /// Whether a number was seen at a place.
     fn has_at(&self, at: usize, number: usize) -> bool
         ensures { result ≡ true → IsMetAt self.now.met.items number at }
     {
         at < self.met.len() && self.met[at].old == number
     }
 
-    /// Notes what an edit made of a number that was not met before, which a path has.
+    /// Keeps what an edit made of a number that was not seen before, which a path has.
     pub fn note(&mut self, old: usize, new: usize) -> Result<(), AllocError>
         ensures { OnOk result (self.new.met.items ≡ self.old.met.items ++ record { old = old; new = new; count = 1 } ∷ []) }
     {
@@ -94,7 +94,7 @@ pub(crate) fn count_again(met: &mut Vec<Met>, at: usize) -> Result<usize, AllocE
     Ok(one.new)
 }
 
-/// The paths of numbers that were met have their new numbers too.
+/// The paths of numbers that were seen have their new numbers too.
 fn grant_met<N: Drop>(kinds: Kinds<N>, met: &[Met]) -> Result<Kinds<N>, AllocError>
     requires { AllByRecursion (λ m. IsNode kinds m.new) met.now }
     ensures { IfOk result (λ new. GrantsMet kinds met.now new) }
@@ -106,7 +106,7 @@ fn grant_met<N: Drop>(kinds: Kinds<N>, met: &[Met]) -> Result<Kinds<N>, AllocErr
     Ok(kinds)
 }
 
-/// The paths of numbers that were met have their old numbers no longer.
+/// The paths of numbers that were seen have their old numbers no longer.
 fn release_met<N: Drop>(kinds: Kinds<N>, met: &[Met]) -> Result<Kinds<N>, AllocError>
     ensures { IfOk result (λ new. ReleasesMet kinds met.now new) }
 {
@@ -117,7 +117,7 @@ fn release_met<N: Drop>(kinds: Kinds<N>, met: &[Met]) -> Result<Kinds<N>, AllocE
     Ok(kinds)
 }
 
-/// The paths of numbers that were met have their new numbers. All are given before any is taken back, so that a number that
+/// The paths of numbers that were seen have their new numbers. All are given before any is taken back, so that a number that
 /// an edit keeps in use is not free in between.
 pub(crate) fn settle<N: Drop>(kinds: Kinds<N>, met: &[Met]) -> Result<Kinds<N>, AllocError>
     requires { AllByRecursion (λ m. IsNode kinds m.new) met.now }

@@ -10,7 +10,7 @@ use std::alloc::{AllocError, Global};
 use std::collections::BTreeMap;
 use std::rc::Rc;
 
-/// What tells nodes apart.
+/// How nodes are compared.
 pub trait Likeness<N> {
     /// A mark of a node. Nodes that are the same have one mark, and others seldom do.
     fn mark(&self, node: &N) -> u64;
@@ -76,7 +76,7 @@ fn number_marked<N, L: Likeness<N>>(
     number_if(kinds, at, node, likeness)
 }
 
-/// Notes the only number that was given so far, if none is noted.
+/// Keeps the only number that was given so far, if none is kept.
 fn note_first<N, L: Likeness<N>>(
     kinds: &Kinds<N>,
     marks: &mut Marks,
@@ -105,7 +105,7 @@ fn number_new<N: Drop>(
     Ok((kinds, at))
 }
 
-/// The number of a node by its mark, or a new one, which is noted. No path is counted.
+/// The number of a node by its mark, or a new one, which is kept. No path is counted.
 fn number_noted<N: Drop, L: Likeness<N>>(
     alloc: Global,
     kinds: Kinds<N>,

@@ -9,10 +9,10 @@ use Rattle.std.proofs.lemmas.Bool.{and_parts}
 use Rattle.acl_names.specs.Paths.{path_cmp, PathOf}
 use Rattle.acl_names.specs.Below.{is_above}
 use Rattle.acl_names.proofs.Below.{below_less, below_trans, convex_below, not_below_itself}
+use Rattle.acl_names.proofs.Basics.{not_both, false_from, is_less}
 use Rattle.path_map.specs.Entries.{IsInOrder}
 use Rattle.path_map.specs.Below.{nearest_above}
-use Rattle.path_map.proofs.Places.{less, above}
-use Rattle.path_map.proofs.Nearest.{clash, false_from}
+use Rattle.path_map.proofs.Places.{above}
 
 -- the entries that a path is below
 abbrev pub those : {V : Type 0} → PathOf → List (PathOf × V) → List (PathOf × V)
@@ -23,7 +23,8 @@ module _ {V : Type 0} where
   nearest_empty p [] h = refl
   nearest_empty p (e ∷ es) h = by (nearest_above p es) refl (is_above e.0 p) h (nearest_empty p es)
     where
-      by : (u : Option (PathOf × V)) → nearest_above p es ≡ u → (b : Bool) → option_or u (cond b (Some e) None) ≡ None → (nearest_above p es ≡ None → those p es ≡ []) → cond b (e ∷ those p es) (those p es) ≡ []
+      by : (u : Option (PathOf × V)) → nearest_above p es ≡ u → (b : Bool) → option_or u (cond b (Some e) None) ≡ None
+          → (nearest_above p es ≡ None → those p es ≡ []) → cond b (e ∷ those p es) (those p es) ≡ []
       by (Some f) is b h more = cc
       by None is true h more = cc
       by None is false h more = more is
@@ -32,7 +33,8 @@ module _ {V : Type 0} where
   nearest_is_above p [] r h = cc
   nearest_is_above p (e ∷ es) r h = by (nearest_above p es) refl (is_above e.0 p) refl h (nearest_is_above p es r)
     where
-      by : (u : Option (PathOf × V)) → nearest_above p es ≡ u → (b : Bool) → is_above e.0 p ≡ b → option_or u (cond b (Some e) None) ≡ Some r → (nearest_above p es ≡ Some r → is_above r.0 p ≡ true) → is_above r.0 p ≡ true
+      by : (u : Option (PathOf × V)) → nearest_above p es ≡ u → (b : Bool) → is_above e.0 p ≡ b → option_or u (cond b (Some e) None) ≡ Some r
+          → (nearest_above p es ≡ Some r → is_above r.0 p ≡ true) → is_above r.0 p ≡ true
       by (Some f) is b at h more = more (is ∙ h)
       by None is true at h more = let same : e ≡ r = cc in ap (λ (x : PathOf × V). is_above x.0 p) (sym same) ∙ at
       by None is false at h more = cc
@@ -46,7 +48,7 @@ module _ {V : Type 0} where
       by : (u : Option (PathOf × V)) → nearest_above p es ≡ u → (c : Bool) → option_or u (cond c (Some e) None) ≡ Some r → is_lt (path_cmp x e.0) ≡ true
           → (nearest_above p es ≡ Some r → path_cmp x r.0 ≡ Less) → path_cmp x r.0 ≡ Less
       by (Some f) is c h here more = more (is ∙ h)
-      by None is true h here more = let same : e ≡ r = cc in ap (λ (z : PathOf × V). path_cmp x z.0) (sym same) ∙ less _ here
+      by None is true h here more = let same : e ≡ r = cc in ap (λ (z : PathOf × V). path_cmp x z.0) (sym same) ∙ is_less _ here
       by None is false h here more = cc
 
   -- no entry after a path is above it
@@ -54,7 +56,7 @@ module _ {V : Type 0} where
   none_later q [] h = refl
   none_later q (e ∷ es) h =
       let parts = and_parts (is_lt (path_cmp q e.0)) (below_all path_cmp q es) h in
-      let out : is_above e.0 q ≡ false = false_from (is_above e.0 q) (λ k. apart (sym (above q e.0 (less (path_cmp q e.0) parts.0)) ∙ below_less e.0 q k)) in
+      let out : is_above e.0 q ≡ false = false_from (is_above e.0 q) (λ k. apart (sym (above q e.0 (is_less (path_cmp q e.0) parts.0)) ∙ below_less e.0 q k)) in
       ap (λ b. cond b (e ∷ those q es) (those q es)) out ∙ none_later q es parts.1
     where
       apart : Greater ≡ Less → ⊥
@@ -74,7 +76,7 @@ module _ {V : Type 0} where
           → cond b (e ∷ those p es) (those p es) ≡ those r.0 (e ∷ es) ++ r ∷ []
       by false out (Some f) some last after more =
           let found : nearest_above p es ≡ Some r = some ∙ last in
-          let apart : is_above e.0 r.0 ≡ false = false_from (is_above e.0 r.0) (λ k. clash (is_above e.0 p) (below_trans e.0 r.0 p k (nearest_is_above p es r found)) out) in
+          let apart : is_above e.0 r.0 ≡ false = false_from (is_above e.0 r.0) (λ k. not_both (is_above e.0 p) (below_trans e.0 r.0 p k (nearest_is_above p es r found)) out) in
           more found ∙ sym (ap (λ b. cond b (e ∷ those r.0 es) (those r.0 es) ++ r ∷ []) apart)
       by true over (Some f) some last after more =
           let found : nearest_above p es ≡ Some r = some ∙ last in

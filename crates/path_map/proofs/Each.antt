@@ -1,5 +1,6 @@
 -- Entries with other values: their paths and their order stay, and parts are changed by themselves.
-use Rattle.std.proofs.Common.{◌≡◌, ℕ, zero, suc, ◌+◌, ◌<◌, ◌≤◌, cond, ◌&&◌, List, [], ◌∷◌, ◌++◌, length, map, take, drop, get_or, Some, None, Ordering, Less, Equal, Greater, refl, sym, ap, subst, ◌∙◌, arith, append_assoc}
+use Rattle.std.proofs.Common.{◌≡◌, ℕ, zero, suc, ◌+◌, ◌<◌, ◌≤◌, cond, ◌&&◌, List, [], ◌∷◌, ◌++◌, length, map, take, drop, get_or, Some, None, Ordering, Less}
+use Rattle.std.proofs.Common.{Equal, Greater, refl, sym, ap, subst, ◌∙◌, arith, append_assoc}
 use Rattle.std.specs.List.{zip, flat_map}
 use Rattle.std.specs.Option.{option_or, unwrap_or}
 use Rattle.std.specs.Ordering.{is_lt, is_eq}
@@ -127,7 +128,8 @@ module _ {V : Type 0} where
   with_left : (q : PathOf) (ps qs l : List (PathOf × V)) → From q qs → Before q l → with_values (ps ++ qs) l ≡ with_values ps l
   with_left q ps qs [] f b = refl
   with_left q ps qs (e ∷ l) f b =
-      let same : find path_cmp e.0 (ps ++ qs) ≡ find path_cmp e.0 ps = find-append e.0 ps qs ∙ ap (λ o. option_or (find path_cmp e.0 ps) o) (find_before e.0 q qs b.0 f) ∙ or_none (find path_cmp e.0 ps) in
+      let same : find path_cmp e.0 (ps ++ qs) ≡ find path_cmp e.0 ps = find-append e.0 ps qs
+      ∙ ap (λ o. option_or (find path_cmp e.0 ps) o) (find_before e.0 q qs b.0 f) ∙ or_none (find path_cmp e.0 ps) in
       λ i. (e.0, unwrap_or (same i) e.1) ∷ with_left q ps qs l f b.1 i
 
   with_right : (q : PathOf) (ps qs r : List (PathOf × V)) → Before q ps → From q r → with_values (ps ++ qs) r ≡ with_values qs r

@@ -1,5 +1,6 @@
 -- Entries that are among others: what is found among them is found among all.
-use Rattle.std.proofs.Common.{◌≡◌, ℕ, zero, suc, ◌<◌, Bool, true, false, not, cond, List, [], ◌∷◌, ◌++◌, length, drop, Option, Some, None, Ordering, Less, Equal, Greater, refl, sym, ap, subst, ◌∙◌, arith}
+use Rattle.std.proofs.Common.{◌≡◌, ℕ, zero, suc, ◌<◌, Bool, true, false, not, cond, List, [], ◌∷◌, ◌++◌, length, drop, Option, Some, None, Ordering, Less}
+use Rattle.std.proofs.Common.{Equal, Greater, refl, sym, ap, subst, ◌∙◌, arith}
 use Rattle.std.specs.Option.{option_or}
 use Rattle.std.specs.Ordering.{is_eq, is_gt}
 use Rattle.std.specs.FinMap.{find, is_sorted}
@@ -8,6 +9,7 @@ use Rattle.std.proofs.lemmas.Bool.{and_parts}
 use Rattle.std.proofs.lemmas.Cmp.{tied_itself}
 use Rattle.acl_names.specs.Paths.{path_cmp, PathOf}
 use Rattle.acl_names.proofs.PathOrder.{path_total, exact_paths}
+use Rattle.acl_names.proofs.Basics.{none_is_not_some}
 use Rattle.path_map.specs.Entries.{IsInOrder}
 use Rattle.path_map.specs.Below.{from}
 use Rattle.path_map.specs.Inner.{From, After, AreIn}
@@ -17,12 +19,9 @@ use Rattle.path_map.proofs.Merges.{later_after}
 use Rattle.path_map.proofs.Ranges.{in_order-from, from_from}
 use Rattle.path_map.proofs.Rows.{in_order-filter}
 
-none_is_some : {V : Type 0} (v : V) → None ≡ Some v → ⊥
-none_is_some v h = cc
-
 module _ {V : Type 0} where
   pub none_in : (all : List (PathOf × V)) → AreIn [] all
-  none_in all p v h = absurd (none_is_some v h)
+  none_in all p v h = absurd (none_is_not_some v h)
 
   not_among : (p : PathOf) (es : List (PathOf × V)) → After p es → find path_cmp p es ≡ None
   not_among p [] h = refl
@@ -33,7 +32,7 @@ module _ {V : Type 0} where
     where
       by : (o : Ordering) → path_cmp p e.0 ≡ o → cond (is_eq (path_cmp p e.0)) (Some e.1) (find path_cmp p es) ≡ Some v
       by Less is = ap (λ o. cond (is_eq o) (Some e.1) (find path_cmp p es)) is ∙ h
-      by Equal is = absurd (none_is_some v (sym (ap (λ q. find path_cmp q es) (exact_paths p e.0 is) ∙ not_among e.0 es (later_after e es order)) ∙ h))
+      by Equal is = absurd (none_is_not_some v (sym (ap (λ q. find path_cmp q es) (exact_paths p e.0 is) ∙ not_among e.0 es (later_after e es order)) ∙ h))
       by Greater is = ap (λ o. cond (is_eq o) (Some e.1) (find path_cmp p es)) is ∙ h
 
   found_later : (n : ℕ) (es : List (PathOf × V)) → IsInOrder es → AreIn (drop n es) es
@@ -46,7 +45,7 @@ module _ {V : Type 0} where
 
   filtered : (b : Bool) (o : Option V) (v : V) → cond b o None ≡ Some v → o ≡ Some v
   filtered true o v h = h
-  filtered false o v h = absurd (none_is_some v h)
+  filtered false o v h = absurd (none_is_not_some v h)
 
   or_first : (a b : Option V) (v : V) → a ≡ Some v → option_or a b ≡ Some v
   or_first a b v h = ap (λ o. option_or o b) h

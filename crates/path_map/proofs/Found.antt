@@ -1,5 +1,6 @@
 -- The values of paths in path order, found in two parts.
-use Rattle.std.proofs.Common.{◌≡◌, ℕ, ◌+◌, ◌<◌, true, false, cond, nat_eq, IsTrue, List, [], ◌∷◌, ◌++◌, length, map, take, drop, get_or, Option, is_some, Ordering, Less, Equal, Greater, refl, sym, ap, subst, ◌∙◌, append_assoc}
+use Rattle.std.proofs.Common.{◌≡◌, ℕ, ◌+◌, ◌<◌, true, false, cond, nat_eq, IsTrue, List, [], ◌∷◌, ◌++◌, length, map, take, drop, get_or, Option, is_some}
+use Rattle.std.proofs.Common.{Ordering, Less, Equal, Greater, refl, sym, ap, subst, ◌∙◌, append_assoc}
 use Rattle.std.specs.List.{flat_map}
 use Rattle.std.specs.Option.{option_or}
 use Rattle.std.specs.Ordering.{is_eq}
@@ -9,9 +10,10 @@ use Rattle.std.proofs.lemmas.Bool.{and_parts}
 use Rattle.std.proofs.lemmas.List.{map-append, drop-drop, drop_more, take-append-drop}
 use Rattle.acl_names.specs.Paths.{path_cmp, PathOf}
 use Rattle.acl_names.proofs.PathOrder.{exact_paths}
+use Rattle.acl_names.proofs.Basics.{is_less}
 use Rattle.path_map.specs.Entries.{IsInOrder, found}
 use Rattle.path_map.specs.Inner.{IsStart, IsPassed, Before, From, same_first}
-use Rattle.path_map.proofs.Places.{above, less, found_later}
+use Rattle.path_map.proofs.Places.{above, found_later}
 use Rattle.path_map.proofs.Chunks.{find-append, or_none, in_order-right}
 use Rattle.path_map.proofs.Joined.{back_order, halves, filled_parts, first_of_parts, before_split, from_split}
 use Rattle.path_map.proofs.Shared.{split_seen}
@@ -90,7 +92,7 @@ module _ {V W : Type 0} where
   found_after e es [] h = refl
   found_after e es (a ∷ more) h =
       let parts = and_parts _ _ h in
-      λ i. found_later a.0 e es Greater (above e.0 a.0 (less _ parts.0)) refl i ∷ found_after e es more parts.1 i
+      λ i. found_later a.0 e es Greater (above e.0 a.0 (is_less _ parts.0)) refl i ∷ found_after e es more parts.1 i
 
   -- what other paths are after is not looked for
   found_past : (p : PathOf) (es : List (PathOf × V)) (more : List (PathOf × W)) → IsTrue (below_all path_cmp p more) → found more es ≡ found more (drop (same_first p es) es)

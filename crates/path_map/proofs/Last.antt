@@ -7,10 +7,9 @@ use Rattle.std.specs.FinMap.Entries.{below_all}
 use Rattle.std.proofs.lemmas.Bool.{and_parts}
 use Rattle.acl_names.specs.Paths.{path_cmp, PathOf}
 use Rattle.acl_names.proofs.PathOrder.{path_total}
+use Rattle.acl_names.proofs.Basics.{both_true, is_less}
 use Rattle.path_map.specs.Entries.{IsInOrder}
 use Rattle.path_map.specs.Inner.{IsLast}
-use Rattle.path_map.proofs.Places.{less}
-use Rattle.path_map.proofs.Chunks.{both}
 
 module _ {V : Type 0} where
   -- by its place
@@ -33,9 +32,10 @@ module _ {V : Type 0} where
   last_before_none es [] all p none l is = subst (λ r. IsLast r p) (sym (append-nil es) ∙ is) l
   last_before_none es (x ∷ rest) all p none l is = absurd (omega arith)
 
-  below_after : (p : PathOf) (es : List (PathOf × V)) (x y : PathOf × V) → IsTrue (below_all path_cmp p (es ++ x ∷ [])) → path_cmp x.0 y.0 ≡ Less → IsTrue (below_all path_cmp p ((es ++ x ∷ []) ++ y ∷ []))
-  below_after p [] x y h lt = let parts = and_parts _ _ h in both _ _ parts.0 (both _ _ (ap is_lt (path_total.trans p x.0 y.0 (less _ parts.0) lt)) refl)
-  below_after p (e ∷ es) x y h lt = let parts = and_parts _ _ h in both _ _ parts.0 (below_after p es x y parts.1 lt)
+  below_after : (p : PathOf) (es : List (PathOf × V)) (x y : PathOf × V) → IsTrue (below_all path_cmp p (es ++ x ∷ [])) → path_cmp x.0 y.0 ≡ Less
+      → IsTrue (below_all path_cmp p ((es ++ x ∷ []) ++ y ∷ []))
+  below_after p [] x y h lt = let parts = and_parts _ _ h in both_true _ _ parts.0 (both_true _ _ (ap is_lt (path_total.trans p x.0 y.0 (is_less _ parts.0) lt)) refl)
+  below_after p (e ∷ es) x y h lt = let parts = and_parts _ _ h in both_true _ _ parts.0 (below_after p es x y parts.1 lt)
 
   sorted_more : (es : List (PathOf × V)) (x y : PathOf × V) → IsInOrder (es ++ x ∷ []) → is_sorted path_cmp ((es ++ x ∷ []) ++ y ∷ []) ≡ is_lt (path_cmp x.0 y.0)
   sorted_more [] x y h = two (is_lt (path_cmp x.0 y.0))
@@ -52,7 +52,7 @@ module _ {V : Type 0} where
       any_false false = refl
 
       by : (b : Bool) → is_lt (path_cmp x.0 y.0) ≡ b → (below_all path_cmp e.0 ((es ++ x ∷ []) ++ y ∷ []) && b) ≡ b
-      by true is = both _ true (below_after e.0 es x y (and_parts (below_all path_cmp e.0 (es ++ x ∷ [])) (is_sorted path_cmp (es ++ x ∷ [])) h).0 (less _ is)) refl
+      by true is = both_true _ true (below_after e.0 es x y (and_parts (below_all path_cmp e.0 (es ++ x ∷ [])) (is_sorted path_cmp (es ++ x ∷ [])) h).0 (is_less _ is)) refl
       by false is = any_false (below_all path_cmp e.0 ((es ++ x ∷ []) ++ y ∷ []))
 
   -- an entry may follow if its path is after the last one

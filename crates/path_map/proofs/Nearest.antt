@@ -13,21 +13,15 @@ use Rattle.acl_names.specs.Below.{encloses, is_above, parent, common}
 use Rattle.acl_names.proofs.PathOrder.{path_total, exact_paths}
 use Rattle.acl_names.proofs.Below.{convex, early_not_within, nothing_below, within_itself, within_trans}
 use Rattle.acl_names.proofs.Parents.{below_parent, common_above, common_shorter, common_within}
+use Rattle.acl_names.proofs.Basics.{not_both, false_from, is_less}
 use Rattle.path_map.specs.Entries.{IsInOrder}
 use Rattle.path_map.specs.Below.{up_to, nearest_above}
-use Rattle.path_map.proofs.Places.{less, above, below}
-
-pub clash : (b : Bool) → b ≡ true → b ≡ false → ⊥
-clash b h k = cc
-
-pub false_from : (b : Bool) → (b ≡ true → ⊥) → b ≡ false
-false_from true h = absurd (h refl)
-false_from false h = refl
+use Rattle.path_map.proofs.Places.{above, below}
 
 -- ---- whether a path is the root
 
 pub not_root : (p : PathOf) (b : Bool) → b ≡ (length p == 0) → b ≡ false → p ≡ [] → ⊥
-not_root p b is some root = clash b (is ∙ ap (λ (l : PathOf). length l == 0) root) some
+not_root p b is some root = not_both b (is ∙ ap (λ (l : PathOf). length l == 0) root) some
 
 pub is_root : (p : PathOf) (b : Bool) → b ≡ (length p == 0) → b ≡ true → p ≡ []
 is_root p b is none = nothing p (eqb-true (length p) 0 (sym is ∙ none))
@@ -39,7 +33,7 @@ is_root p b is none = nothing p (eqb-true (length p) 0 (sym is ∙ none))
 -- ---- the last entry that is not after a path
 
 after_out : (t e : PathOf) → is_lt (path_cmp t e) ≡ true → encloses e t ≡ false
-after_out t e lt = early_not_within e t (ap is_gt (above t e (less (path_cmp t e) lt)))
+after_out t e lt = early_not_within e t (ap is_gt (above t e (is_less (path_cmp t e) lt)))
 
 -- entries that are all after a path
 abbrev AllAfter : {A : Type 0} → PathOf → List (PathOf × A) → Type 0
@@ -101,7 +95,7 @@ module _ {A : Type 0} where
           → (up_to t es ≡ Some r → path_cmp x r.0 ≡ Less) → path_cmp x r.0 ≡ Less
       by (Some s) is c k here more = more (is ∙ k)
       by None is true k here more = cc
-      by None is false k here more = let same : e ≡ r = cc in ap (λ z. path_cmp x z.0) (sym same) ∙ less _ here
+      by None is false k here more = let same : e ≡ r = cc in ap (λ z. path_cmp x z.0) (sym same) ∙ is_less _ here
 
   -- an entry that is not after a path is not after the last such
   last_bound : (t : PathOf) (es : List (PathOf × A)) (r : PathOf × A) → IsInOrder es → up_to t es ≡ Some r → Bounded t r.0 es
@@ -112,7 +106,7 @@ module _ {A : Type 0} where
     where
       vacuous : (fs : List (PathOf × A)) → AllAfter t fs → Bounded t r.0 fs
       vacuous [] a = tt
-      vacuous (f ∷ fs) a = ((λ k. absurd (clash (is_lt (path_cmp t f.0)) a.0 k)), vacuous fs a.1)
+      vacuous (f ∷ fs) a = ((λ k. absurd (not_both (is_lt (path_cmp t f.0)) a.0 k)), vacuous fs a.1)
 
       by : (u : Option (PathOf × A)) → up_to t es ≡ u → (c : Bool) → option_or u (cond c None (Some e)) ≡ Some r → IsTrue (below_all path_cmp e.0 es)
           → (up_to t es ≡ Some r → Bounded t r.0 es) → Bounded t r.0 (e ∷ es)
@@ -128,8 +122,8 @@ order_cases : (t r : PathOf) → is_lt (path_cmp t r) ≡ false → encloses r t
 order_cases t r early out = by (path_cmp t r) refl
   where
     by : (o : Ordering) → path_cmp t r ≡ o → path_cmp r t ≡ Less
-    by Less is = absurd (clash (is_lt (path_cmp t r)) (ap is_lt is) early)
-    by Equal is = absurd (clash (encloses r t) (ap (encloses r) (exact_paths t r is) ∙ within_itself r) out)
+    by Less is = absurd (not_both (is_lt (path_cmp t r)) (ap is_lt is) early)
+    by Equal is = absurd (not_both (encloses r t) (ap (encloses r) (exact_paths t r is) ∙ within_itself r) out)
     by Greater is = below t r is
 
 -- nothing is above the root
@@ -171,8 +165,8 @@ module _ {A : Type 0} (es : List (PathOf × A)) (t : PathOf) (r : PathOf × A) (
       by true w = sym (common_above e t r.0 w (convex e r.0 t (bound (not_after w)) before w))
         where
           not_after : encloses e t ≡ true → is_lt (path_cmp t e) ≡ false
-          not_after w = false_from (is_lt (path_cmp t e)) (λ lt. clash (encloses e t) w (after_out t e lt))
-      by false w = sym (false_from (encloses e (common t r.0)) (λ k. clash (encloses e t) (within_trans e (common t r.0) t k (common_within t r.0)) w))
+          not_after w = false_from (is_lt (path_cmp t e)) (λ lt. not_both (encloses e t) w (after_out t e lt))
+      by false w = sym (false_from (encloses e (common t r.0)) (λ k. not_both (encloses e t) (within_trans e (common t r.0) t k (common_within t r.0)) w))
 
   pub alike_on : (p : PathOf) → Alike p t es → Alike p (common t r.0) es
   alike_on p alike = all es alike (last_bound t es r order is)

@@ -1,5 +1,6 @@
 -- The entries after a path and after all below it.
-use Rattle.std.proofs.Common.{◌≡◌, ℕ, ◌+◌, ◌-◌, ◌<◌, Bool, true, false, ◌||◌, not, cond, List, [], ◌∷◌, ◌++◌, length, get_or, take, drop, Ordering, Less, Equal, Greater, refl, sym, ap, subst, ◌∙◌, arith, take-append-drop, length-drop, true≢false}
+use Rattle.std.proofs.Common.{◌≡◌, ℕ, ◌+◌, ◌-◌, ◌<◌, Bool, true, false, ◌||◌, not, cond, List, [], ◌∷◌, ◌++◌, length, get_or, take, drop, Ordering, Less, Equal}
+use Rattle.std.proofs.Common.{Greater, refl, sym, ap, subst, ◌∙◌, arith, take-append-drop, length-drop, true≢false}
 use Rattle.std.specs.List.{flat_map}
 use Rattle.std.specs.Ordering.{is_gt}
 use Rattle.std.specs.FinMap.{is_sorted}
@@ -10,13 +11,13 @@ use Rattle.acl_names.specs.Paths.{path_cmp, PathOf}
 use Rattle.acl_names.specs.Below.{encloses}
 use Rattle.acl_names.proofs.PathOrder.{path_total}
 use Rattle.acl_names.proofs.Below.{convex}
+use Rattle.acl_names.proofs.Basics.{not_gt}
 use Rattle.path_map.specs.Entries.{IsInOrder}
 use Rattle.path_map.specs.Below.{is_passed, after}
 use Rattle.path_map.specs.Inner.{IsStart, IsWithinFirst, BeginsPassed, ArePassed, Before, From, After, Are}
 use Rattle.path_map.proofs.Places.{above, below}
 use Rattle.path_map.proofs.Chunks.{around, in_order-right}
 use Rattle.path_map.proofs.Merges.{before_start, from_start, before_part, later_after}
-use Rattle.path_map.proofs.Ranges.{gt_false}
 use Rattle.path_map.proofs.Spans.{from-right}
 
 -- what is before one that is passed is passed
@@ -89,7 +90,7 @@ module _ {V : Type 0} where
 
   past_all : (top : PathOf) (l : List (PathOf × V)) → From top l → Are false top l → after top l ≡ l
   past_all top [] f h = refl
-  past_all top (e ∷ l) f h = keeps top e l (ap (λ b. b || encloses top e.0) (gt_false _ f.0) ∙ h.0) ∙ ap (λ es. e ∷ es) (past_all top l f.1 h.1)
+  past_all top (e ∷ l) f h = keeps top e l (ap (λ b. b || encloses top e.0) (not_gt _ f.0) ∙ h.0) ∙ ap (λ es. e ∷ es) (past_all top l f.1 h.1)
 
   -- those of a list in order
   pub after_place : (top : PathOf) (es : List (PathOf × V)) (b k : ℕ) → IsStart es top b → IsWithinFirst es top b k → after top es ≡ drop (b + k) es
@@ -106,7 +107,8 @@ module _ {V : Type 0} where
       ∙ drop-drop k b es
 
   -- what is before entries that begin with one that is passed
-  pub after_right : (top : PathOf) (left : List (PathOf × V)) (e : PathOf × V) (es : List (PathOf × V)) → IsInOrder (left ++ e ∷ es) → is_passed top e.0 ≡ true → after top (left ++ e ∷ es) ≡ after top (e ∷ es)
+  pub after_right : (top : PathOf) (left : List (PathOf × V)) (e : PathOf × V) (es : List (PathOf × V)) → IsInOrder (left ++ e ∷ es) → is_passed top e.0 ≡ true
+      → after top (left ++ e ∷ es) ≡ after top (e ∷ es)
   after_right top left e es order is = after_append_none (after_none top e left is (before_part left e es order))
     where
       after_append_none : after top left ≡ [] → after top (left ++ e ∷ es) ≡ after top (e ∷ es)
@@ -148,7 +150,8 @@ module _ {A V : Type 0} (f : A → List (PathOf × V)) where
   after_whole parts top h counted = after_all top (flat_map f parts) h (rest_begins parts top 0 counted)
 
   -- else what is left of the last part that begins with one, and the parts after that
-  pub after_part : (parts : List A) (top : PathOf) (k : ℕ) (c : A) → IsInOrder (flat_map f parts) → ArePassed f parts top (k + 1) → c ≡ get_or parts k c → after top (flat_map f parts) ≡ after top (f c) ++ flat_map f (drop (k + 1) parts)
+  pub after_part : (parts : List A) (top : PathOf) (k : ℕ) (c : A) → IsInOrder (flat_map f parts) → ArePassed f parts top (k + 1) → c ≡ get_or parts k c
+      → after top (flat_map f parts) ≡ after top (f c) ++ flat_map f (drop (k + 1) parts)
   after_part parts top k c h counted is =
       let lt : k < length parts = omega (arith, counted.in_range) in
       let left = flat_map f (take k parts) in

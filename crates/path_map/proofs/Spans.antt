@@ -1,5 +1,7 @@
 -- Entries at or below a path: they follow one another.
-use Rattle.std.proofs.Common.{◌≡◌, ◌≢◌, ℕ, zero, suc, ◌+◌, ◌-◌, ◌<◌, ◌≤◌, Bool, true, false, cond, List, [], ◌∷◌, ◌++◌, length, map, take, drop, get_or, Less, Greater, refl, sym, ap, subst, ◌∙◌, arith, append_assoc, append-nil, nat_lt, ltb-true, ltb-false, true≢false, length-append, length-drop, take-append-drop}
+use Rattle.std.proofs.Common.{◌≡◌, ◌≢◌, ℕ, zero, suc, ◌+◌, ◌-◌, ◌<◌, ◌≤◌, Bool, true, false, cond, List, [], ◌∷◌, ◌++◌, length, map, take, drop, get_or, Less}
+use Rattle.std.proofs.Common.{Greater, refl, sym, ap, subst, ◌∙◌, arith, append_assoc, append-nil, nat_lt, ltb-true, ltb-false, true≢false, length-append}
+use Rattle.std.proofs.Common.{length-drop, take-append-drop}
 use Rattle.std.specs.List.{zip, flat_map}
 use Rattle.std.specs.List.Sorted.{IsPartitionPoint, IsPartitionedBy}
 use Rattle.std.specs.Ordering.{is_gt}
@@ -7,6 +9,7 @@ use Rattle.std.proofs.lemmas.List.{get_or_append_left, get_or-map, length-map, g
 use Rattle.acl_names.specs.Paths.{path_cmp, PathOf}
 use Rattle.acl_names.specs.Below.{encloses}
 use Rattle.acl_names.proofs.Below.{convex, not_before}
+use Rattle.acl_names.proofs.Basics.{not_gt}
 use Rattle.path_map.specs.Entries.{IsInOrder}
 use Rattle.path_map.specs.Below.{within}
 use Rattle.path_map.specs.Changed.{each, changed_within}
@@ -15,7 +18,7 @@ use Rattle.path_map.proofs.Places.{above, rises}
 use Rattle.path_map.proofs.Chunks.{around, rest_after, in_order-right, flat_map-append}
 use Rattle.path_map.proofs.Joined.{halves, no_part}
 use Rattle.path_map.proofs.Merges.{before_start, from_start, later_after, before_part}
-use Rattle.path_map.proofs.Ranges.{gt_false, from_each, before_left}
+use Rattle.path_map.proofs.Ranges.{from_each, before_left}
 use Rattle.path_map.proofs.Rows.{in_order-rows}
 use Rattle.path_map.proofs.Zipped.{keyed, keyed_of, keys_zip, drop_zip, length_of}
 use Rattle.path_map.proofs.Each.{each-append, in_order-drop}
@@ -57,13 +60,13 @@ module _ {V : Type 0} where
   after_are p e (x ∷ es) le h out = (by (encloses p x.0) refl, after_are p e es le h.1 out)
     where
       by : (b : Bool) → encloses p x.0 ≡ b → encloses p x.0 ≡ false
-      by true is = absurd (true≢false (sym (convex p e.0 x.0 (gt_false _ le) h.0 is) ∙ out))
+      by true is = absurd (true≢false (sym (convex p e.0 x.0 (not_gt _ le) h.0 is) ∙ out))
       by false is = is
 
   -- between the path and one that is within it, all are
   pub between_are : (p x : PathOf) (es : List (PathOf × V)) → From p es → Before x es → encloses p x ≡ true → Are true p es
   between_are p x [] f b is = tt
-  between_are p x (e ∷ es) f b is = (convex p e.0 x (gt_false _ f.0) b.0 is, between_are p x es f.1 b.1 is)
+  between_are p x (e ∷ es) f b is = (convex p e.0 x (not_gt _ f.0) b.0 is, between_are p x es f.1 b.1 is)
 
   pub within_none : (p : PathOf) (es : List (PathOf × V)) → Are false p es → within p es ≡ []
   within_none p [] h = refl
@@ -101,7 +104,8 @@ module _ {V : Type 0} where
       let r = drop k (drop b es) in
       let whole : l ++ (m ++ r) ≡ es = ap (λ x. l ++ x) (take-append-drop k (drop b es)) ∙ take-append-drop b es in
       append_assoc (map (λ e. e.1) l) (map f (map (λ e. e.1) m)) (map (λ e. e.1) r)
-      ∙ (λ i. map (λ e. e.1) (sym (changed_none p f l (before_are p l (before_start es p b start))) i) ++ (sym (changed_all p f m span.inside) i ++ map (λ e. e.1) (sym (changed_none p f r span.after) i)))
+      ∙ (λ i. map (λ e. e.1) (sym (changed_none p f l (before_are p l (before_start es p b start))) i)
+      ++ (sym (changed_all p f m span.inside) i ++ map (λ e. e.1) (sym (changed_none p f r span.after) i)))
       ∙ ap (λ x. map (λ e. e.1) (changed_within p f l) ++ x) (sym (map-append (λ e. e.1) (changed_within p f m) (changed_within p f r)) ∙ ap (λ x. map (λ e. e.1) x) (sym (each-append _ m r)))
       ∙ sym (map-append (λ e. e.1) (changed_within p f l) (changed_within p f (m ++ r)))
       ∙ ap (λ x. map (λ e. e.1) x) (sym (each-append _ l (m ++ r)))
@@ -119,18 +123,20 @@ parted_within top ps h f i j d le lt enc =
           let at_j : get_or (map keyed ps) j (keyed d) ≡ keyed (get_or ps j d) = get_or-map keyed ps j d (keyed d) lt in
           let from_i : path_cmp top (get_or ps i d) ≢ Greater = subst (λ e. path_cmp top e.0 ≢ Greater) at_i (from_at top (map keyed ps) f i (keyed d) (omega arith)) in
           let rise : path_cmp (get_or ps i d) (get_or ps j d) ≡ Less = (λ k. path_cmp (sym at_i k).0 (sym at_j k).0) ∙ rises (map keyed ps) h i j (keyed d) less in_keys in
-          convex top (get_or ps i d) (get_or ps j d) (gt_false _ from_i) rise enc
+          convex top (get_or ps i d) (get_or ps j d) (not_gt _ from_i) rise enc
       | false ↦ λ is. let same : j ≡ i = omega (arith, ltb-false _ _ is) in subst (λ k. encloses top (get_or ps k d) ≡ true) same enc
     ] refl
 
 module _ {V : Type 0} (top : PathOf) where
-  inside_zip : (ps : List PathOf) (vs : List V) (k : ℕ) → length vs ≡ length ps → ((j : ℕ) (d : PathOf) → j < k → j < length ps → encloses top (get_or ps j d) ≡ true) → Are true top (take k (zip ps vs))
+  inside_zip : (ps : List PathOf) (vs : List V) (k : ℕ) → length vs ≡ length ps
+      → ((j : ℕ) (d : PathOf) → j < k → j < length ps → encloses top (get_or ps j d) ≡ true) → Are true top (take k (zip ps vs))
   inside_zip ps vs zero same h = tt
   inside_zip [] vs (suc k) same h = tt
   inside_zip (p ∷ ps) [] (suc k) same h = tt
   inside_zip (p ∷ ps) (v ∷ vs) (suc k) same h = (h 0 p (omega arith) (omega arith), inside_zip ps vs k (omega arith) (λ j d lt in_range. h (suc j) d (omega arith) (omega arith)))
 
-  outside_zip : (ps : List PathOf) (vs : List V) (k : ℕ) → length vs ≡ length ps → ((j : ℕ) (d : PathOf) → k ≤ j → j < length ps → encloses top (get_or ps j d) ≡ false) → Are false top (drop k (zip ps vs))
+  outside_zip : (ps : List PathOf) (vs : List V) (k : ℕ) → length vs ≡ length ps
+      → ((j : ℕ) (d : PathOf) → k ≤ j → j < length ps → encloses top (get_or ps j d) ≡ false) → Are false top (drop k (zip ps vs))
   outside_zip [] vs zero same h = tt
   outside_zip [] vs (suc k) same h = tt
   outside_zip (p ∷ ps) [] zero same h = tt
@@ -159,7 +165,8 @@ module _ {V : Type 0} (ps : List PathOf) (vs : List V) (es : List (PathOf × V))
   pub span_at : (rest : List PathOf) (k : ℕ) → rest ≡ drop b ps → IsStart es top b → k ≤ length rest
       → IsPartitionPoint (λ q. encloses top q ≡ true) (λ q. encloses top q ≡ false) rest k → IsWithinFirst es top b k
   span_at rest k is_rest s le point =
-      let at : IsPartitionPoint (λ q. encloses top q ≡ true) (λ q. encloses top q ≡ false) (drop b ps) k = subst (λ l. IsPartitionPoint (λ q. encloses top q ≡ true) (λ q. encloses top q ≡ false) l k) is_rest point in
+      let at : IsPartitionPoint (λ q. encloses top q ≡ true) (λ q. encloses top q ≡ false) (drop b ps) k =
+      subst (λ l. IsPartitionPoint (λ q. encloses top q ≡ true) (λ q. encloses top q ≡ false) l k) is_rest point in
       let fits : k ≤ length (drop b ps) = subst (λ l. k ≤ length l) is_rest le in
       record {
         in_range = omega (arith, fits, length-drop b ps, length_of ps vs es same is, s.in_range);
@@ -206,7 +213,8 @@ module _ {A V : Type 0} (f : A → List (PathOf × V)) where
 
   pub more_from : (parts more : List A) (p : PathOf) (n : ℕ) → IsInOrder (flat_map f parts) → IsCountUpTo f parts p n → more ≡ drop n parts → IsInOrder (flat_map f more) × From p (flat_map f more)
   more_from parts more p n h counted is =
-      let order : IsInOrder (flat_map f (drop n parts)) = in_order-right (flat_map f (take n parts)) (flat_map f (drop n parts)) (subst IsInOrder (sym (halves f n parts (take n parts) (drop n parts) refl refl)) h) in
+      let order : IsInOrder (flat_map f (drop n parts)) =
+      in_order-right (flat_map f (take n parts)) (flat_map f (drop n parts)) (subst IsInOrder (sym (halves f n parts (take n parts) (drop n parts) refl refl)) h) in
       subst (λ l. IsInOrder (flat_map f l) × From p (flat_map f l)) (sym is) (order, from_each f p (flat_map f (drop n parts)) order (rest_after f parts p n counted))
 
   pub changed_joined : (change : V → V) (p : PathOf) (parts front rest first more within after : List A) (n b m : ℕ) (old new_1 new_2 new_3 new_4 : List (PathOf × V))
@@ -280,7 +288,8 @@ module _ {A V : Type 0} (f : A → List (PathOf × V)) where
           ap (λ k. get_or more k c) (sym at_m) ∙ ap (λ l. get_or l j c) (sym whole) ∙ get_or_append_left some (drop m more) c j lt
           ∙ ap (λ k. get_or some k c) {x = j} {y = j + 0} (omega arith) ∙ sym (get_or-drop j some 0 c) ∙ ap (λ l. get_or l 0 c) (sym is_last ∙ e)
           in
-          let tail : flat_map f last ++ flat_map f (drop m more) ≡ f c ++ (flat_map f cs ++ flat_map f (drop m more)) = ap (λ l. flat_map f l ++ flat_map f (drop m more)) e ∙ append_assoc (f c) (flat_map f cs) (flat_map f (drop m more)) in
+          let tail : flat_map f last ++ flat_map f (drop m more) ≡ f c ++ (flat_map f cs ++ flat_map f (drop m more)) =
+          ap (λ l. flat_map f l ++ flat_map f (drop m more)) e ∙ append_assoc (f c) (flat_map f cs) (flat_map f (drop m more)) in
           let split : flat_map f all ++ (f c ++ (flat_map f cs ++ flat_map f (drop m more))) ≡ flat_map f more = ap (λ l. flat_map f all ++ l) (sym tail) ∙ in_two in
           entries (f c) (flat_map f cs ++ flat_map f (drop m more)) (flat_map f all) (subst (λ x. BeginsIn true (f x) p) here (started.last c some_m))
           (subst IsInOrder (sym split) h)
@@ -295,7 +304,8 @@ module _ {A V : Type 0} (f : A → List (PathOf × V)) where
       → new_3 ≡ new_2 ++ each (λ q v. change v) (flat_map f all) → new_4 ≡ new_3 ++ changed_within p change (flat_map f last)
       → new_5 ≡ new_4 ++ flat_map f after
       → new_5 ≡ old ++ changed_within p change (flat_map f parts)
-  changed_whole_joined change p parts front rest first more some after all last n b m j old new_1 new_2 new_3 new_4 new_5 h counted is_b is_front is_rest is_first is_more started is_some is_after is_j is_all is_last e_1 e_2 e_3 e_4 e_5 =
+  changed_whole_joined change p parts front rest first more some after all last n b m j old new_1 new_2 new_3 new_4 new_5 h counted is_b is_front is_rest
+      is_first is_more started is_some is_after is_j is_all is_last e_1 e_2 e_3 e_4 e_5 =
       let g = changed_within p change in
       let is : more ≡ drop n parts = is_more ∙ ap (drop (n - b)) is_rest ∙ drop-drop (n - b) b parts ∙ ap (λ k. drop k parts) {x = b + (n - b)} {y = n} (omega (arith, is_b)) in
       let ordered = more_from parts more p n h counted is in
@@ -335,8 +345,10 @@ module _ {A V : Type 0} (f : A → List (PathOf × V)) where
       ∙ (λ i. (within-append p (flat_map f all) (flat_map f last) ∙ ap (λ l. l ++ w (flat_map f last)) (within_all p (flat_map f all) every)) i ++ within_none p (flat_map f after) none i)
       )
       in
-      let l_1 : length (w (flat_map f parts)) ≡ length (w (flat_map f first)) + length ((flat_map f all ++ w (flat_map f last)) ++ []) = ap length parted ∙ length-append (w (flat_map f first)) ((flat_map f all ++ w (flat_map f last)) ++ []) in
-      let l_2 : length ((flat_map f all ++ w (flat_map f last)) ++ []) ≡ length (flat_map f all) + length (w (flat_map f last)) = ap length (append-nil (flat_map f all ++ w (flat_map f last))) ∙ length-append (flat_map f all) (w (flat_map f last)) in
+      let l_1 : length (w (flat_map f parts)) ≡ length (w (flat_map f first)) + length ((flat_map f all ++ w (flat_map f last)) ++ []) = ap length parted
+      ∙ length-append (w (flat_map f first)) ((flat_map f all ++ w (flat_map f last)) ++ []) in
+      let l_2 : length ((flat_map f all ++ w (flat_map f last)) ++ []) ≡ length (flat_map f all) + length (w (flat_map f last)) =
+      ap length (append-nil (flat_map f all ++ w (flat_map f last))) ∙ length-append (flat_map f all) (w (flat_map f last)) in
       omega (arith, l_1, l_2)
 
 module _ {V : Type 0} where

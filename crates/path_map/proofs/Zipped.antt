@@ -1,5 +1,6 @@
 -- Paths and as many values, as one list of entries.
-use Rattle.std.proofs.Common.{◌≡◌, ◌≢◌, ℕ, zero, suc, ◌+◌, ◌-◌, ◌<◌, ◌≤◌, true, false, not, List, [], ◌∷◌, length, map, get_or, take, drop, Some, None, Ordering, Less, Equal, Greater, refl, sym, ap, subst, ◌∙◌, arith, nat_lt, ltb-true, ltb-false}
+use Rattle.std.proofs.Common.{◌≡◌, ◌≢◌, ℕ, zero, suc, ◌+◌, ◌-◌, ◌<◌, ◌≤◌, true, false, not, List, [], ◌∷◌, length, map, get_or, take, drop, Some, None, Less}
+use Rattle.std.proofs.Common.{Equal, Greater, refl, sym, ap, subst, ◌∙◌, arith, nat_lt, ltb-true, ltb-false}
 use Rattle.std.specs.List.{zip}
 use Rattle.std.specs.FinMap.{find, is_sorted}
 use Rattle.std.specs.List.Sorted.{IsPartitionPoint, IsPartitionedBy}
@@ -7,6 +8,7 @@ use Rattle.std.specs.Ordering.{is_gt, is_lt}
 use Rattle.std.proofs.lemmas.List.{get_or-map, length-map}
 use Rattle.acl_names.specs.Paths.{path_cmp, PathOf}
 use Rattle.acl_names.proofs.PathOrder.{exact_paths}
+use Rattle.acl_names.proofs.Basics.{less_is_not_greater, equal_is_not_greater, less_left}
 use Rattle.path_map.specs.Entries.{IsInOrder}
 use Rattle.path_map.specs.Below.{up_to}
 use Rattle.path_map.specs.Inner.{IsStart, IsCountUpTo, BeginsBy, BeginsAfter}
@@ -51,7 +53,8 @@ module _ {A B : Type 0} where
   at_zip (p ∷ ps) (v ∷ vs) same zero d = refl
   at_zip (p ∷ ps) (v ∷ vs) same (suc j) d = at_zip ps vs (omega arith) j d
 
-  pub entry_at : (ps : List A) (vs : List B) (es : List (A × B)) → length vs ≡ length ps → zip ps vs ≡ es → (j : ℕ) (p : A) (v : B) → ((d : A) → p ≡ get_or ps j d) → ((d : B) → v ≡ get_or vs j d) → (d : A × B) → (p, v) ≡ get_or es j d
+  pub entry_at : (ps : List A) (vs : List B) (es : List (A × B)) → length vs ≡ length ps → zip ps vs ≡ es → (j : ℕ) (p : A) (v : B)
+      → ((d : A) → p ≡ get_or ps j d) → ((d : B) → v ≡ get_or vs j d) → (d : A × B) → (p, v) ≡ get_or es j d
   entry_at ps vs es same is j p v is_p is_v d = (λ i. (is_p d.0 i, is_v d.1 i)) ∙ sym (at_zip ps vs same j d) ∙ ap (λ l. get_or l j d) is
 
   pub path_at : (ps : List A) (vs : List B) (es : List (A × B)) → length vs ≡ length ps → zip ps vs ≡ es → (j : ℕ) (p : A) → ((d : A) → p ≡ get_or ps j d) → (d : A × B) → p ≡ (get_or es j d).0
@@ -135,22 +138,13 @@ module _ {V : Type 0} (ps : List PathOf) (vs : List V) (es : List (PathOf × V))
       path_of : (j : ℕ) (d : PathOf × V) → (get_or es j d).0 ≡ get_or ps j d.0
       path_of j d = ap (λ l. (get_or l j d).0) (sym is) ∙ ap (λ e. e.0) (at_zip ps vs same j d)
 
-less_is_not_greater : Less ≡ Greater → ⊥
-less_is_not_greater h = cc
-
-equal_is_not_greater : Equal ≡ Greater → ⊥
-equal_is_not_greater h = cc
-
-less_left : (o : Ordering) → o ≢ Greater → o ≢ Equal → o ≡ Less
-less_left Less g e = refl
-less_left Equal g e = absurd (e refl)
-less_left Greater g e = absurd (g refl)
-
 module _ {V : Type 0} where
-  pub found_at : (es : List (PathOf × V)) (p : PathOf) (i : ℕ) (e : PathOf × V) → IsStart es p i → i < length es → ((d : PathOf × V) → e ≡ get_or es i d) → path_cmp p e.0 ≡ Equal → find path_cmp p es ≡ Some e.1
+  pub found_at : (es : List (PathOf × V)) (p : PathOf) (i : ℕ) (e : PathOf × V) → IsStart es p i → i < length es → ((d : PathOf × V) → e ≡ get_or es i d)
+      → path_cmp p e.0 ≡ Equal → find path_cmp p es ≡ Some e.1
   found_at es p i e s lt is same = find_at es p i e s lt (ap (λ x. path_cmp p x.0) (sym (is e)) ∙ same) ∙ ap (λ x. Some x.1) (sym (is e))
 
-  pub missed_at : (es : List (PathOf × V)) → IsInOrder es → (p : PathOf) (i : ℕ) (e : PathOf × V) → IsStart es p i → i < length es → ((d : PathOf × V) → e ≡ get_or es i d) → path_cmp p e.0 ≢ Equal → find path_cmp p es ≡ None
+  pub missed_at : (es : List (PathOf × V)) → IsInOrder es → (p : PathOf) (i : ℕ) (e : PathOf × V) → IsStart es p i → i < length es
+      → ((d : PathOf × V) → e ≡ get_or es i d) → path_cmp p e.0 ≢ Equal → find path_cmp p es ≡ None
   missed_at es h p i e s lt is other =
       find_gap es h p i e s (less_left _ (s.from i e (omega arith) lt) (λ eq. other (ap (λ x. path_cmp p x.0) (is e) ∙ eq))) lt
 
@@ -190,7 +184,8 @@ module _ {V : Type 0} where
   start_gap es p i h le last next = start_between es p i h le last (λ d lt gt. less_is_not_greater (sym (next d lt) ∙ gt))
 
   -- where the entry after those before a path is after it, it is nowhere
-  pub none_between : (es : List (PathOf × V)) (p : PathOf) (i : ℕ) → IsInOrder es → IsStart es p i → ((d : PathOf × V) → i < length es → path_cmp p (get_or es i d).0 ≡ Less) → find path_cmp p es ≡ None
+  pub none_between : (es : List (PathOf × V)) (p : PathOf) (i : ℕ) → IsInOrder es → IsStart es p i
+      → ((d : PathOf × V) → i < length es → path_cmp p (get_or es i d).0 ≡ Less) → find path_cmp p es ≡ None
   none_between [] p i h s next = refl
   none_between (e ∷ es) p i h s next =
       elim (nat_lt i (length (e ∷ es))) as (λ b. nat_lt i (length (e ∷ es)) ≡ b → find path_cmp p (e ∷ es) ≡ None) [

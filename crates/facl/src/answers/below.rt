@@ -17,11 +17,11 @@ use crate::answers::sums::{UserSum, UserSums};
 use acl_entry::Perm;
 use acl_names::Path;
 use acl_rights::{Judge, Verdicts};
-use acl_tree::{Found, Paths, Selection, Tree, TreeFault};
+use acl_tree::{FoundFile, Paths, Selection, Tree, TreeFault};
 use std::alloc::{AllocError, Global};
 
 /// Adds the lines of files.
-fn push_found(text: &mut Vec<u8>, files: &[Found<'_>]) -> Result<(), AllocError>
+fn push_found(text: &mut Vec<u8>, files: &[FoundFile<'_>]) -> Result<(), AllocError>
     ensures { OnOk result (text.new.items ≡ text.old.items ++ flat_map file_line files.now) }
 {
     for file in files {

@@ -12,7 +12,7 @@ use acl_entry::Requests;
 use acl_names::write_name;
 use acl_people::People;
 use acl_rights::{IndexedState, Judge};
-use acl_tree::Found;
+use acl_tree::FoundFile;
 use facl_output::push_path_shown;
 use std::alloc::{AllocError, Global};
 
@@ -66,7 +66,7 @@ fn push_row(
 }
 
 /// The path of a found file as it is printed.
-pub(crate) fn path_shown(alloc: Global, file: &Found<'_>) -> Result<Vec<u8>, AllocError>
+pub(crate) fn path_shown(alloc: Global, file: &FoundFile<'_>) -> Result<Vec<u8>, AllocError>
     ensures { IfOk result (λ path. path.items ≡ path_shown file.now) }
 {
     let mut path = Vec::new(alloc);

@@ -12,7 +12,7 @@ use acl_edit::Node;
 use acl_entry::Perm;
 use acl_names::Path;
 use acl_rights::{Judge, Verdicts};
-use acl_tree::{FilesIter, Found, Tree};
+use acl_tree::{FilesIter, FoundFile, Tree};
 use facl_output::push_path_shown;
 use std::alloc::{AllocError, Global};
 use std::cmp::Ordering;
@@ -28,7 +28,7 @@ fn is_first(paths: &[&Path], path: &Path) -> bool
 }
 
 /// Adds the line of a file.
-pub(crate) fn push_file(text: &mut Vec<u8>, file: &Found<'_>) -> Result<(), AllocError>
+pub(crate) fn push_file(text: &mut Vec<u8>, file: &FoundFile<'_>) -> Result<(), AllocError>
     ensures { Appends result text.old text.new (file_line file.now) }
 {
     push_path_shown(text, file)?;
@@ -45,7 +45,7 @@ fn push_before(
 ) -> Result<(), AllocError>
     ensures { Appends result text.old text.new (file_line (found_file (next_file_below path.now rest.now) (path.now, node.now))) }
 {
-    let found = Found::before(path, node, rest);
+    let found = FoundFile::before(path, node, rest);
     push_file(text, &found)
 }
 

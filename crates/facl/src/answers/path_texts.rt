@@ -8,7 +8,7 @@ ghost use Rattle.facl.specs.PathTexts.{text_in, text_in_tree};
 
 use crate::answers::index::path_shown;
 use acl_names::Path;
-use acl_tree::{Found, Paths, Selection, Tree};
+use acl_tree::{FoundFile, Paths, Selection, Tree};
 use std::alloc::{AllocError, Global};
 
 /// Whether a path is recorded.
@@ -23,7 +23,7 @@ pub(crate) fn files_at<'a>(
     alloc: Global,
     tree: &'a Tree,
     path: &Path,
-) -> Result<Vec<Found<'a>>, AllocError>
+) -> Result<Vec<FoundFile<'a>>, AllocError>
     ensures { IfOk result (λ files. files.items ≡ files_found false (path.now ∷ []) tree.now.files) }
 {
     if !is_recorded(tree, path) {

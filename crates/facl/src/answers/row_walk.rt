@@ -9,7 +9,7 @@ ghost use Rattle.acl_rights.specs.Verdicts.{rows_granted};
 use acl_edit::Node;
 use acl_names::Path;
 use acl_rights::{Cells, FileRows, Judge, Verdicts};
-use acl_tree::{FilesIter, Found, Tree};
+use acl_tree::{FilesIter, FoundFile, Tree};
 use std::alloc::{AllocError, Global};
 use std::marker::Model;
 
@@ -34,11 +34,11 @@ fn is_above(path: &Path, next: Option<&Path>) -> bool
 
 impl<'a> FileWithRow<'a> {
     /// The file, with whether another one is below it.
-    pub fn found(&self) -> Found<'a>
+    pub fn found(&self) -> FoundFile<'a>
         ensures { result ≡ found_file (has_next_below self.now.path.now (option_map (λ next. next.now) self.now.next)) (self.now.path.now, self.now.node.now) }
     {
         let has_below = is_above(self.path, self.next);
-        Found::new(self.path, self.node, has_below)
+        FoundFile::new(self.path, self.node, has_below)
     }
 }
 

@@ -6,7 +6,7 @@ ghost use Rattle.std.specs.List.{list_all};
 ghost use Rattle.facl.specs.Counting.{tallied};
 ghost use Rattle.facl.specs.GainsText.{is_change, is_gained};
 ghost use Rattle.facl.specs.Inner.{placed_of};
-ghost use Rattle.facl.specs.InnerGains.{AreCountedFor, ArePassed, IsCountedFor, RowStays, both_of, cell_at, change_of, gained_of, is_gained_by, keeps, row_given, rows_of_key};
+ghost use Rattle.facl.specs.InnerGains.{AreCountedFor, ArePassed, IsCountedFor, RowStays, both_of, verdict_given, change_of, gained_of, is_gained_by, keeps, row_given, rows_of_key};
 
 use crate::answers::both_classes::BothClasses;
 use crate::answers::placed_users::{PlacedUser, same_place};
@@ -48,7 +48,7 @@ fn given(row: Option<&[Requests]>) -> GivenRow<'_>
 
 /// What a row grants the user at a place, if both are there.
 fn cell(given: &GivenRow<'_>, place: Option<usize>) -> Option<Requests>
-    ensures { result ≡ cell_at (row_given given.now) place }
+    ensures { result ≡ verdict_given (row_given given.now) place }
 {
     if !given.is_there {
         return None;

@@ -12,8 +12,8 @@ ghost use Rattle.facl.specs.WhyText.{deciding_text, files_asked, why_record, why
 
 use acl_entry::{Entry, Id, Key, Label, Subject};
 use acl_names::Path;
-use acl_text::{Effective, Names, Which, append_line};
-use acl_tree::{Found, Paths, Selection, Tree, TreeFault};
+use acl_text::{Effective, Names, Which, push_line};
+use acl_tree::{FoundFile, Paths, Selection, Tree, TreeFault};
 use facl_output::push_path;
 use std::alloc::{AllocError, Global};
 use std::cmp::Ordering;
@@ -70,7 +70,7 @@ fn push_deciding<N: Names>(
     let mask = label.acl.get(Key::Mask);
     for entry in label.acl.entries() {
         if is_chosen(subject, label.group, &sole, entry) {
-            append_line(
+            push_line(
                 text,
                 Effective::WhereMasked,
                 Which::Access,
@@ -88,7 +88,7 @@ fn push_record<N: Names>(
     text: &mut Vec<u8>,
     names: &N,
     subject: &Subject,
-    file: &Found<'_>,
+    file: &FoundFile<'_>,
 ) -> Result<(), AllocError>
     ensures { Appends result text.old text.new (why_record (N.naming names.now) subject.now file.now) }
 {
@@ -103,7 +103,7 @@ fn push_records<N: Names>(
     text: &mut Vec<u8>,
     names: &N,
     subject: &Subject,
-    files: &[Found<'_>],
+    files: &[FoundFile<'_>],
 ) -> Result<(), AllocError>
     ensures { Appends result text.old text.new (why_text (N.naming names.now) subject.now files.now) }
 {
@@ -120,7 +120,7 @@ pub fn write_why<N: Names>(
     alloc: Global,
     names: &N,
     subject: &Subject,
-    files: &[Found<'_>],
+    files: &[FoundFile<'_>],
 ) -> Result<Vec<u8>, AllocError>
     ensures { IfOk result (λ text. text.items ≡ why_text (N.naming names.now) subject.now files.now) }
 {
@@ -172,7 +172,7 @@ pub fn files_asked<'a>(
     tree: &'a Tree,
     paths: Paths,
     along: bool,
-) -> Result<Vec<Found<'a>>, TreeFault>
+) -> Result<Vec<FoundFile<'a>>, TreeFault>
     ensures all { IfOk result (λ files. files.items ≡ files_asked along paths tree.now.files) }
     ensures there { OnOk result (first_missing paths tree.now.files ≡ None) }
     ensures reported { IfErr result (λ fault. fault ≢ TreeFault.NoMemory → IsMissing fault (first_missing paths tree.now.files)) }

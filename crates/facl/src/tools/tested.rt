@@ -12,7 +12,7 @@ use crate::tools::effect::{Effect, prepared};
 use acl_names::Path;
 use acl_text::DumpRecord;
 use acl_tree::{
-    Command, DumpRecords, Found, Paths, Selection, Staged, State, Tree, each_file_is_edited,
+    Command, DumpRecords, FoundFile, Paths, Selection, Staged, State, Tree, each_file_is_edited,
 };
 use facl_output::{LineFault, append_test_listing};
 use std::alloc::{AllocError, Global};
@@ -33,7 +33,7 @@ fn files_of<'a>(
     alloc: Global,
     tree: &'a Tree,
     selection: &Selection<'_>,
-) -> Result<Vec<Found<'a>>, LineFault>
+) -> Result<Vec<FoundFile<'a>>, LineFault>
     requires { first_missing selection.now.operands.now tree.now.files ≡ None }
     ensures { Gives (λ files. files.items) result (Ok (files_found selection.now.recursive selection.now.operands.now tree.now.files)) }
 {
@@ -45,7 +45,7 @@ fn files_of_records<'a>(
     alloc: Global,
     tree: &'a Tree,
     records: &DumpRecords,
-) -> Result<Vec<Found<'a>>, LineFault>
+) -> Result<Vec<FoundFile<'a>>, LineFault>
     requires { first_missing (paths_of records.now) tree.now.files ≡ None }
     ensures { Gives (λ files. files.items) result (Ok (files_found false (paths_of records.now) tree.now.files)) }
 {
@@ -63,7 +63,7 @@ fn files_after<'a>(
     state: &State,
     command: &Command<'_>,
     staged: &'a Staged,
-) -> Result<Vec<Found<'a>>, LineFault>
+) -> Result<Vec<FoundFile<'a>>, LineFault>
     requires { step state.now command.now ≡ Ok staged.now.state }
     ensures { Gives (λ files. files.items) result (Ok (command_files command.now staged.now.state.tree.files)) }
 {

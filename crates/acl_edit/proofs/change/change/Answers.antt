@@ -1,4 +1,5 @@
-use Rattle.acl_edit.proofs.Lines.{leaves_unnamed, shows_recalculated, bounds_recalculated, keeps_granted, gives_modified, goes_by_key, leaves_by_key, copies_base, makes_mask, drops_default, stays_sound}
+use Rattle.acl_edit.proofs.Lines.{leaves_unnamed, shows_recalculated, bounds_recalculated, keeps_granted, gives_modified, goes_by_key, leaves_by_key}
+use Rattle.acl_edit.proofs.Lines.{copies_base, makes_mask, drops_default, stays_sound}
 use Rattle.std.proofs.Common.{sym, subst}
 use Rattle.acl_edit.specs.Nodes.{IsSound}
 use Rattle.acl_edit.specs.Laws.{IsLeft}

@@ -14,14 +14,12 @@ returns-in_err-edited-in-Put-clause-misplaced c = λ h.
     let refused : edits.edit c.args.node.now c.args.edit.now c.args.in_recursion ≡ Err DefaultOnFile = misplaces c.args.node.now c.args.edit.now c.args.in_recursion h in
     search rules
 
-pub returns-in_err-try_clone-in-Restore-clause-misplaced : goal.returns-in_err-try_clone-in-Restore-clause-misplaced
-unfolding edits.restore
-returns-in_err-try_clone-in-Restore-clause-misplaced c = λ h.
+pub returns-in_err-edited-in-Restore-clause-misplaced : goal.returns-in_err-edited-in-Restore-clause-misplaced
+returns-in_err-edited-in-Restore-clause-misplaced c = λ h.
     let refused : edits.edit c.args.node.now c.args.edit.now c.args.in_recursion ≡ Err DefaultOnFile = misplaces c.args.node.now c.args.edit.now c.args.in_recursion h in
     search rules
 
 pub returns-clause-misplaced : goal.returns-clause-misplaced
-unfolding edits.restore
 returns-clause-misplaced c = λ h.
     let refused : edits.edit c.args.node.now c.args.edit.now c.args.in_recursion ≡ Err DefaultOnFile = misplaces c.args.node.now c.args.edit.now c.args.in_recursion h in
     search rules

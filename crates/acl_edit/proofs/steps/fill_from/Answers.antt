@@ -15,6 +15,13 @@ pub returns : goal.returns
 returns c =
     let other = c.args.other.now in
     leaves_in c.fill_one-3.result c.fill_one-3.new.draft _ _
-    (λ short. omega (arith, short, ap size c.in_ok-fill_one.ensures, size-fill_one other c.args.draft.now Owner, ap size c.in_ok-fill_one-2.ensures, size-fill_one other c.fill_one.new.draft OwningGroup))
+    (λ short. omega (
+      arith,
+      short,
+      ap size c.in_ok-fill_one.ensures,
+      size-fill_one other c.args.draft.now Owner,
+      ap size c.in_ok-fill_one-2.ensures,
+      size-fill_one other c.fill_one.new.draft OwningGroup,
+    ))
     (ap (λ m. fill_one other m Other) (c.in_ok-fill_one-2.ensures ∙ ap (λ m. fill_one other m OwningGroup) c.in_ok-fill_one.ensures))
     c.fill_one-3.ensures

@@ -18,4 +18,5 @@ pub returns-in_err-put_some-3-clause-room : goal.returns-in_err-put_some-3-claus
 returns-in_err-put_some-3-clause-room c =
     let one = ap size c.in_ok-put_some.ensures in
     let two = ap size c.in_ok-put_some-2.ensures in
-    absurd (false≢true (c.in_err-put_some-3.ensures (omega (arith, size-empty, ap size c.new-kept.ensures, one, two, size-put_some c.new-kept.result Owner c.effective.result, size-put_some c.put_some.new.draft OwningGroup c.effective-2.result))))
+    absurd (false≢true (c.in_err-put_some-3.ensures
+    (omega (arith, size-empty, ap size c.new-kept.ensures, one, two, size-put_some c.new-kept.result Owner c.effective.result, size-put_some c.put_some.new.draft OwningGroup c.effective-2.result))))

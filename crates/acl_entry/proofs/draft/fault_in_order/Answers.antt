@@ -12,9 +12,11 @@ returns-in-Some c =
 pub returns-in-Some-unmasked : goal.returns-in-Some-unmasked
 returns-in-Some-unmasked c =
     let es = c.args.sorted.now in
-    sym (fault_once es (omega arith) (once_in_order es c.requires) ∙ ap (λ b. or_else (option_map MissingBase b) (option_map MissingMask (unmasked (keys es)))) (sym c.in_default.ensures) ∙ ap (option_map MissingMask) (sym c.in-Some-unmasked.ensures))
+    sym (fault_once es (omega arith) (once_in_order es c.requires)
+    ∙ ap (λ b. or_else (option_map MissingBase b) (option_map MissingMask (unmasked (keys es)))) (sym c.in_default.ensures) ∙ ap (option_map MissingMask) (sym c.in-Some-unmasked.ensures))
 
 pub returns-in-None : goal.returns-in-None
 returns-in-None c =
     let es = c.args.sorted.now in
-    sym (fault_once es (omega arith) (once_in_order es c.requires) ∙ ap (λ b. or_else (option_map MissingBase b) (option_map MissingMask (unmasked (keys es)))) (sym c.in_default.ensures) ∙ ap (option_map MissingMask) (sym c.in-None.ensures))
+    sym (fault_once es (omega arith) (once_in_order es c.requires)
+    ∙ ap (λ b. or_else (option_map MissingBase b) (option_map MissingMask (unmasked (keys es)))) (sym c.in_default.ensures) ∙ ap (option_map MissingMask) (sym c.in-None.ensures))

@@ -19,7 +19,8 @@ set_perm-requires-2-clause-has_entry c =
 
 pub set_perm-requires-3-clause-in_order : goal.set_perm-requires-3-clause-in_order
 set_perm-requires-3-clause-in_order c =
-    in_order-put c.set_perm.new.entries _ (in_order-put c.args.entries.now _ c.requires.list.in_order Owner c.args.owner c.set_perm.ensures.put) c.args.group.now c.args.group_perm c.set_perm-2.ensures.put
+    in_order-put c.set_perm.new.entries _
+    (in_order-put c.args.entries.now _ c.requires.list.in_order Owner c.args.owner c.set_perm.ensures.put) c.args.group.now c.args.group_perm c.set_perm-2.ensures.put
 
 pub returns : goal.returns
 returns c =

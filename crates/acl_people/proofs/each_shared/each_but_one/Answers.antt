@@ -1,6 +1,6 @@
 use Rattle.std.proofs.Common.{map, slice_set, ap, ◌∙◌}
 use Rattle.std.proofs.lemmas.List.{map-set}
-use Rattle.acl_people.proofs.Pointers.{same_values}
+use Rattle.acl_names.proofs.Basics.{same_values}
 use Rattle.acl_people.proofs.each_shared.each_but_one.Goals as goal
 
 pub returns : goal.returns

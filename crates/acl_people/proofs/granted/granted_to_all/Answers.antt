@@ -16,6 +16,7 @@ returns c =
     let by_class : Person → ℕ = λ u. if is_matched label u then by_groups label u else of_others label in
     let named = c.put_named.ensures by_class (c.add_groups.ensures (λ u. of_others label) (c.clear_groups.ensures (λ u. of_others label) others)) in
     let long : length c.put.new.row ≡ length users = omega (arith, c.requires) in
-    done_is (λ _. c.unmasked-owner.result) (has_id label.owner) (λ u. by_name_or label u (by_class u)) users c.of_id.result.now c.put_named.new.row c.put.new.row c.of_id.ensures long named c.put.ensures
+    done_is (λ _. c.unmasked-owner.result) (has_id label.owner)
+    (λ u. by_name_or label u (by_class u)) users c.of_id.result.now c.put_named.new.row c.put.new.row c.of_id.ensures long named c.put.ensures
     ∙ (λ j. map (λ u. if has_id label.owner u then c.unmasked-owner.ensures j else by_name_or label u (by_class u)) users)
     ∙ (λ j. map (λ u. rights_is label u j) users)

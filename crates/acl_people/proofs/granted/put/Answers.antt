@@ -11,4 +11,5 @@ bounds-row-place c =
 
 pub loop-place-preserved : goal.loop-place-preserved
 loop-place-preserved c =
-    done_more (λ _. c.args.requests) (λ _. refl) c.args.places.now c.args.row.now c.loop-place.row c.loop-place.place-index c.args.requests c.loop-place-test.true (bounds-row-place c) refl c.loop-place.invariant
+    done_more (λ _. c.args.requests)
+    (λ _. refl) c.args.places.now c.args.row.now c.loop-place.row c.loop-place.place-index c.args.requests c.loop-place-test.true (bounds-row-place c) refl c.loop-place.invariant

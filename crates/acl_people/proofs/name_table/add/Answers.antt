@@ -16,7 +16,8 @@ pub returns : goal.returns
 returns c = record {
   added =
       ap (λ es. map seen es) c.in_ok-insert.ensures.entries
-      ∙ insert-absent _ (is_name c.args.name.now) seen c.in_ok-from_slice.field-0 c.args.id (λ e. ap (λ k. bytes_eq k e.0.items) (sym c.in_ok-from_slice.ensures.items)) c.args.ids.now.entries c.requires
+      ∙ insert-absent _ (is_name c.args.name.now) seen c.in_ok-from_slice.field-0 c.args.id
+      (λ e. ap (λ k. bytes_eq k e.0.items) (sym c.in_ok-from_slice.ensures.items)) c.args.ids.now.entries c.requires
       ∙ ap (λ k. map seen c.args.ids.now.entries ++ (k, c.args.id) ∷ []) c.in_ok-from_slice.ensures.items;
   first = λ id.
       c.in_ok-note.ensures id

@@ -4,4 +4,5 @@ use Rattle.acl_people.specs.Places.{noted_for, is_in}
 use Rattle.acl_people.proofs.places_by_id.leave.Given as goal
 
 abbrev pub invariant-loop-group : goal.invariant-loop-group
-invariant-loop-group l = (g at : ℕ) → is_one_of at (noted_for l.noted g) ≡ (is_one_of at (noted_for l.fn.noted g) && not ((is_one_of g (take l.group-index l.group-items) && not (is_in g l.other)) && (l.place == at)))
+invariant-loop-group l = (g at : ℕ) → is_one_of at (noted_for l.noted g)
+    ≡ (is_one_of at (noted_for l.fn.noted g) && not ((is_one_of g (take l.group-index l.group-items) && not (is_in g l.other)) && (l.place == at)))

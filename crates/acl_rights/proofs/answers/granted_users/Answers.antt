@@ -10,8 +10,11 @@ pub loop-at-preserved : goal.loop-at-preserved
 loop-at-preserved c =
     let q = c.args.request in
     elim c.if-has.branch [
-      | then-has+in_ok-push w ↦ places_step (λ x. has x q) c.args.cells.now c.loop-at.at c.index-cells-at.result true c.loop-at.users.items c.if-has.users.items (who_in q c.args.cells.now) c.loop-at-test.true c.index-cells-at.is (sym w.if-has.true ∙ c.has.ensures) (ap (λ v. v.items) w.users-is ∙ w.in_ok-push.ensures.items) c.loop-at.invariant
-      | else-has w ↦ places_step (λ x. has x q) c.args.cells.now c.loop-at.at c.index-cells-at.result false c.loop-at.users.items c.if-has.users.items (who_in q c.args.cells.now) c.loop-at-test.true c.index-cells-at.is (sym w.if-has.false ∙ c.has.ensures) (ap (λ v. v.items) w.users-is) c.loop-at.invariant
+      | then-has+in_ok-push w ↦
+          places_step (λ x. has x q) c.args.cells.now c.loop-at.at c.index-cells-at.result true c.loop-at.users.items c.if-has.users.items
+          (who_in q c.args.cells.now) c.loop-at-test.true c.index-cells-at.is (sym w.if-has.true ∙ c.has.ensures) (ap (λ v. v.items) w.users-is ∙ w.in_ok-push.ensures.items) c.loop-at.invariant
+      | else-has w ↦ places_step (λ x. has x q) c.args.cells.now c.loop-at.at c.index-cells-at.result false c.loop-at.users.items c.if-has.users.items
+          (who_in q c.args.cells.now) c.loop-at-test.true c.index-cells-at.is (sym w.if-has.false ∙ c.has.ensures) (ap (λ v. v.items) w.users-is) c.loop-at.invariant
     ]
 
 pub returns : goal.returns

@@ -1,4 +1,3 @@
-use Rattle.std.proofs.Common.{sym, ap, subst, ◌∙◌}
 use Rattle.acl_rights.proofs.RowsOfKinds.{row_known}
 use Rattle.acl_rights.proofs.changed_rows.given_row.Goals as goal
 

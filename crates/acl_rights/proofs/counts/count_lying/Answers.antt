@@ -17,7 +17,8 @@ pub overflow_add-count-then-is_set : goal.overflow_add-count-then-is_set
 overflow_add-count-then-is_set c =
     let test = λ (n : ℕ). get_or c.args.table.now n false in
     let last = option_map (λ p. p.now) c.loop-entry.last in
-    let some = lying_passed test last c.loop-entry.rest (seen c.in-Some.entry) c.next.new.self c.in-Some.ensures.steps (sym c.is_covered.ensures ∙ c.if-is_covered.false) (sym c.is_set.ensures ∙ c.if-is_set.true) in
+    let some = lying_passed test last c.loop-entry.rest (seen c.in-Some.entry) c.next.new.self c.in-Some.ensures.steps
+    (sym c.is_covered.ensures ∙ c.if-is_covered.false) (sym c.is_set.ensures ∙ c.if-is_set.true) in
     let few = lying_few test None c.args.numbers.now in
     omega (arith, some, few, c.loop-entry.invariant, c.requires.few)
 

@@ -1,5 +1,4 @@
 use Rattle.std.proofs.Common.{arith}
-use Rattle.std.specs.Prelude.{count_by}
 use Rattle.path_map.specs.Below.{lies_in}
 use Rattle.acl_names.specs.Below.{encloses}
 use Rattle.acl_rights.proofs.Counted.{few_pass, few_counted, top_counted, top_shorter, top_order, none_lie}

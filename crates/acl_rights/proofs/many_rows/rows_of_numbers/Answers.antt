@@ -16,7 +16,8 @@ loop-number-preserved g c =
     let n = c.loop-number.number in
     let more = one_more n (length c.args.users.now) in
     record {
-      made = numbers_more g.J.Judge.verdict_of c.args.users.now c.args.files.now.0 n c.loop-number.rows.items c.push.new.self.items c.in_ok-row.row c.in_ok-push.ensures.items c.loop-number.invariant.made c.in_ok-row.ensures.row;
+      made = numbers_more g.J.Judge.verdict_of c.args.users.now c.args.files.now.0 n c.loop-number.rows.items c.push.new.self.items c.in_ok-row.row
+          c.in_ok-push.ensures.items c.loop-number.invariant.made c.in_ok-row.ensures.row;
       known = c.in_ok-row.ensures.known;
       asked = omega (arith, more, c.loop-number.invariant.asked, c.in_ok-row.ensures.at_most);
     }

@@ -13,7 +13,8 @@ returns-then-is_within-clause-left g c =
       top =
           top_step seen c.args.stack.now top c.loop-depth.depth c.args.path.now c.index-stack-depth.is c.loop-depth-test.true c.loop-depth.invariant.most
           (within_below (seen top).0 c.args.path.now (ap (λ e. encloses (seen e).0 c.args.path.now) c.index-stack-depth.is ∙ sym c.is_within.ensures ∙ c.if-is_within.true)
-          (before_row seen c.args.stack.now top c.loop-depth.depth c.args.path.now c.index-stack-depth.is c.loop-depth-test.true c.loop-depth.invariant.most c.requires.before)) c.loop-depth.invariant.kept;
+          (before_row seen c.args.stack.now top c.loop-depth.depth c.args.path.now c.index-stack-depth.is c.loop-depth-test.true c.loop-depth.invariant.most
+          c.requires.before)) c.loop-depth.invariant.kept;
     }
 
 pub loop-depth-preserved : goal.loop-depth-preserved

@@ -1,4 +1,4 @@
-use Rattle.std.proofs.Common.{map, sym, ap, subst, ◌∙◌, arith}
+use Rattle.std.proofs.Common.{map, ap, subst, ◌∙◌, arith}
 use Rattle.std.specs.Borrow.{Bor}
 use Rattle.path_map.specs.Entries.{IsInOrder, seen}
 use Rattle.acl_entry.specs.declared.label.Label.{Label}
@@ -63,4 +63,5 @@ returns-clause-rows g c =
     let gone = map (seen {V = Bor Label}) c.deref.result.now in
     let gone_are = seen_paths t.gone c.deref.result.now (ap (map with_label) c.deref.ensures.value ∙ c.in_ok-gone.ensures ∙ ap labels_of c.gone.ensures) in
     let same = c.all_subjects-users.ensures ∙ ap persons c.people.ensures in
-    rows_after V es t c.requires.before c.order_law.ensures order c.requires.moved (map with_label c.args.changed.now) gone c.all_subjects-users.result.now (entries_in c.in_ok-new.new.rows) c.requires.changed gone_are same c.in_ok-new.ensures.rows
+    rows_after V es t c.requires.before c.order_law.ensures order c.requires.moved (map with_label c.args.changed.now) gone c.all_subjects-users.result.now
+    (entries_in c.in_ok-new.new.rows) c.requires.changed gone_are same c.in_ok-new.ensures.rows

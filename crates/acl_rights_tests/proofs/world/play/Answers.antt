@@ -20,8 +20,10 @@ stage-requires-clause-goes c = record { state = c.args.world.now.state; whole = 
 
 pub returns-in_err-asked : goal.returns-in_err-asked
 returns-in_err-asked c =
-    subst (λ (t : VerdictTable). IsWhole rights c.commit.new.self t) (sym c.commit-2.ensures) (subst (λ (s : State). IsWhole rights s c.in-Ok-stage.rows.table) (sym c.commit.ensures) c.in-Ok-stage.ensures.whole)
+    subst (λ (t : VerdictTable). IsWhole rights c.commit.new.self t) (sym c.commit-2.ensures)
+    (subst (λ (s : State). IsWhole rights s c.in-Ok-stage.rows.table) (sym c.commit.ensures) c.in-Ok-stage.ensures.whole)
 
 pub returns : goal.returns
 returns c =
-    subst (λ (t : VerdictTable). IsWhole rights c.commit.new.self t) (sym c.commit-2.ensures) (subst (λ (s : State). IsWhole rights s c.in-Ok-stage.rows.table) (sym c.commit.ensures) c.in-Ok-stage.ensures.whole)
+    subst (λ (t : VerdictTable). IsWhole rights c.commit.new.self t) (sym c.commit-2.ensures)
+    (subst (λ (s : State). IsWhole rights s c.in-Ok-stage.rows.table) (sym c.commit.ensures) c.in-Ok-stage.ensures.whole)

@@ -15,9 +15,13 @@ use Rattle.acl_text.proofs.apart.are_apart.Goals as goal
 pub returns : goal.returns
 returns c =
     let order = subst (λ ys. IsPermutation c.in_ok-paths.paths.items ys) (sym c.deref-2.ensures.value) c.sort_by.ensures.permutation in
-    let sorted = c.in_ok-sort_by.ensures.sorted (λ x y. is_lt (path_cmp x.now y.now)) (ranks_by path_total (λ p. p.now)) (always_returns_same _ (λ a r. is_lt r ≡ is_lt (path_cmp a.0.now.now a.1.0.now.now)) c.sort_by.new.compare (λ a r f' k. let w : (r ≡ path_cmp a.0.now.now a.1.0.now.now) × (f' ≡ c.sort_by.new.compare) = search rules in (ap is_lt w.0, w.1))) in (
+    let sorted = c.in_ok-sort_by.ensures.sorted (λ x y. is_lt (path_cmp x.now y.now)) (ranks_by path_total (λ p. p.now))
+    (always_returns_same _ (λ a r. is_lt r ≡ is_lt (path_cmp a.0.now.now a.1.0.now.now)) c.sort_by.new.compare
+    (λ a r f' k. let w : (r ≡ path_cmp a.0.now.now a.1.0.now.now) × (f' ≡ c.sort_by.new.compare) = search rules in (ap is_lt w.0, w.1))) in (
       λ rising. subst (IsDistinct same_path) c.in_ok-paths.ensures (apart_in_order (λ p. p.now) c.in_ok-paths.paths.items c.deref-2.result.now order (c.rise-2.ensures.0 rising)),
-      λ apart. c.rise-2.ensures.1 (sorted_rise_again (λ p. p.now) c.in_ok-paths.paths.items c.deref-2.result.now order (subst (IsSortedBy (λ x y. is_lt (path_cmp x.now y.now))) (sym c.deref-2.ensures.value) sorted) (subst (IsDistinct same_path) (sym c.in_ok-paths.ensures) apart)),
+      λ apart. c.rise-2.ensures.1
+          (sorted_rise_again (λ p. p.now) c.in_ok-paths.paths.items c.deref-2.result.now order
+          (subst (IsSortedBy (λ x y. is_lt (path_cmp x.now y.now))) (sym c.deref-2.ensures.value) sorted) (subst (IsDistinct same_path) (sym c.in_ok-paths.ensures) apart)),
     )
 
 pub returns-then-rise : goal.returns-then-rise

@@ -1,6 +1,6 @@
 use Rattle.std.proofs.Common.{◌≡◌, take}
 use Rattle.std.specs.Prelude.{map}
-use Rattle.acl_text.specs.Again.{paths}
+use Rattle.acl_text.specs.RoundTrips.{paths}
 use Rattle.acl_text.proofs.apart.paths_of.Given as goal
 
 abbrev pub invariant-loop-record : goal.invariant-loop-record

@@ -4,7 +4,7 @@ use Rattle.acl_text.specs.OwnPaths.{have_own_paths}
 use Rattle.std.specs.List.{IsDistinct}
 use Rattle.acl_text.specs.InTurn.{Gives}
 use Rattle.acl_text.specs.Records.{lines_of, same_path}
-use Rattle.acl_text.specs.Again.{paths}
+use Rattle.acl_text.specs.RoundTrips.{paths}
 use Rattle.acl_text.proofs.OwnPaths.{dump_apart, given_ok}
 use Rattle.acl_text.proofs.WatchedPaths.{watched_alike, watched_dump}
 use Rattle.acl_text.proofs.dump.read_dump.Goals as goal

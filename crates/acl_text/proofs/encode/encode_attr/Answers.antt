@@ -1,7 +1,7 @@
 use Rattle.std.proofs.Common.{◌∙◌, ap, ◌≡◌, arith}
 use Rattle.std.proofs.lemmas.Grind.{common_steps}
 use Rattle.acl_text.specs.Attr.{attr_bytes, attr_of}
-use Rattle.acl_text.proofs.ReadAgain.{attr_again}
+use Rattle.acl_text.proofs.EntryRoundTrips.{attr_again}
 use Rattle.acl_text.proofs.encode.encode_attr.Goals as goal
 
 pub returns-clause-read_again : goal.returns-clause-read_again

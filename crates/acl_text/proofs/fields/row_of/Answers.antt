@@ -6,4 +6,5 @@ use Rattle.acl_text.proofs.fields.row_of.Goals as goal
 pub returns : goal.returns
 returns c =
     rw (c.in-Some.ensures.pieces, c.in-Some-cut.ensures.pieces, c.in-Some-cut-2.ensures.pieces)
-    (four_fields (trimmed c.in-Some.first.now) (trimmed c.in-Some-cut.second.now) (trimmed c.in-Some-cut-2.field-0.0.now) (entry_fields c.in-Some-cut-2.field-0.1.now) (fields-nonempty c.in-Some-cut-2.field-0.1.now))
+    (four_fields (trimmed c.in-Some.first.now) (trimmed c.in-Some-cut.second.now) (trimmed c.in-Some-cut-2.field-0.0.now)
+    (entry_fields c.in-Some-cut-2.field-0.1.now) (fields-nonempty c.in-Some-cut-2.field-0.1.now))

@@ -7,4 +7,5 @@ use Rattle.acl_text.proofs.fields.split_default.Goals as goal
 pub returns-in-Some : goal.returns-in-Some
 returns-in-Some c =
     rw c.in-Some.ensures.pieces
-    (default_taken (trimmed c.in-Some.first.now) (entry_fields c.in-Some.rest.now) (fields-nonempty c.in-Some.rest.now) (ap is_default_word (sym c.trim.ensures) ∙ (sym c.is_default_word.ensures ∙ c.if-is_default_word.true)))
+    (default_taken (trimmed c.in-Some.first.now) (entry_fields c.in-Some.rest.now) (fields-nonempty c.in-Some.rest.now)
+    (ap is_default_word (sym c.trim.ensures) ∙ (sym c.is_default_word.ensures ∙ c.if-is_default_word.true)))

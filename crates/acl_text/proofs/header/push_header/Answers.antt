@@ -9,12 +9,14 @@ both old file owner t u first second = second ∙ ap (λ (l : List ℕ). l ++ ow
 
 pub returns-in_err-push_group : goal.returns-in_err-push_group
 returns-in_err-push_group g c =
-    let begins = still_begins c.args.text.now.items _ c.push_owner.new.text.items c.push_group.new.text.items (both c.args.text.now.items _ _ c.push_file.new.text.items c.push_owner.new.text.items c.in_ok-push_file.ensures c.in_ok-push_owner.ensures) c.in_err-push_group.ensures in
+    let begins = still_begins c.args.text.now.items _ c.push_owner.new.text.items c.push_group.new.text.items
+    (both c.args.text.now.items _ _ c.push_file.new.text.items c.push_owner.new.text.items c.in_ok-push_file.ensures c.in_ok-push_owner.ensures) c.in_err-push_group.ensures in
     grind (arith, common_steps, begins)
 
 pub returns-in_err-push_flags : goal.returns-in_err-push_flags
 returns-in_err-push_flags g c =
     let begins = still_begins c.args.text.now.items _ c.push_group.new.text.items c.push_flags.new.text.items
-    (both c.args.text.now.items _ _ c.push_owner.new.text.items c.push_group.new.text.items (both c.args.text.now.items _ _ c.push_file.new.text.items c.push_owner.new.text.items c.in_ok-push_file.ensures c.in_ok-push_owner.ensures) c.in_ok-push_group.ensures)
+    (both c.args.text.now.items _ _ c.push_owner.new.text.items c.push_group.new.text.items
+    (both c.args.text.now.items _ _ c.push_file.new.text.items c.push_owner.new.text.items c.in_ok-push_file.ensures c.in_ok-push_owner.ensures) c.in_ok-push_group.ensures)
     c.in_err-push_flags.ensures in
     grind (arith, common_steps, begins)

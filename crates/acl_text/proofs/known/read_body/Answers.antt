@@ -38,5 +38,6 @@ returns-clause-known g c k among =
       | inr is ↦
           subst (λ rs. IsKnown naming c.args.dump_use rs k) (sym c.in_ok-push.ensures.items)
           (subst (λ k. IsKnown naming c.args.dump_use (records ++ r ∷ []) k) (sym is)
-          (known_last naming c.args.dump_use records r (record { body = c.args.body; mark = c.mark_of-mark.result; place = c.len-place.result }) (c.len-place.ensures ∙ c.args.records.now.ok.0) c.requires.body c.in_ok-record.ensures.0))
+          (known_last naming c.args.dump_use records r (record { body = c.args.body; mark = c.mark_of-mark.result; place = c.len-place.result })
+          (c.len-place.ensures ∙ c.args.records.now.ok.0) c.requires.body c.in_ok-record.ensures.0))
     ]

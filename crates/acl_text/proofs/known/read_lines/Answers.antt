@@ -14,7 +14,8 @@ returns-in-Some-clause-read g c =
     let is = c.requires.known k c.in-Some.ensures.0 in
     let other = record_with c.args.draft (map_of []) None in
     let records = c.args.records.now.items in
-    reads_to naming c.args.dump_use records c.push_like.new.records.items c.args.draft c.args.text.now k.body.bytes.now c.in-Some.after.now k.body.lines c.in-Some.ensures.1.0 is.body c.in-Some.ensures.1.1
+    reads_to naming c.args.dump_use records c.push_like.new.records.items c.args.draft c.args.text.now k.body.bytes.now c.in-Some.after.now k.body.lines
+    c.in-Some.ensures.1.0 is.body c.in-Some.ensures.1.1
     (λ from.
     closed_as naming c.args.dump_use c.args.draft (get_or records k.place other) from k.body.bytes.now records c.requires.opened (is.says other)
     ∙ ap (λ rs. Ok rs) (sym (c.in_ok-push_like.ensures other)))
@@ -32,7 +33,8 @@ pub returns-in-Some-first_body-clause-read : goal.returns-in-Some-first_body-cla
 returns-in-Some-first_body-clause-read g c =
     let cut = c.in-Some-first_body.ensures in
     let body = c.in-Some-first_body.body in
-    reads_to (g.N.Names.naming c.args.names.now) c.args.dump_use c.args.records.now.items c.read_body.new.records.items c.args.draft c.args.text.now body.bytes.now c.in-Some-first_body.after.now body.lines cut.parts cut.lines cut.ends c.in_ok-read_body.ensures.closed
+    reads_to (g.N.Names.naming c.args.names.now) c.args.dump_use c.args.records.now.items c.read_body.new.records.items c.args.draft c.args.text.now
+    body.bytes.now c.in-Some-first_body.after.now body.lines cut.parts cut.lines cut.ends c.in_ok-read_body.ensures.closed
 
 pub returns-clause-known : goal.returns-clause-known
 returns-clause-known g c =

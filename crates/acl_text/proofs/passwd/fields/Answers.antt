@@ -13,4 +13,5 @@ returns-in_err-_gecos c =
 pub returns-in-Some : goal.returns-in-Some
 returns-in-Some c =
     rw (c.in_ok-name.ensures, c.in_ok-uid.ensures, c.in_ok-_gecos.ensures, c.in-Some.ensures.pieces)
-    (eight_fields c.in_ok-name.name.now c.in_ok-name._password.now c.in_ok-uid.uid.now c.in_ok-uid.gid.now c.in_ok-_gecos._gecos.now c.in_ok-_gecos._home.now c.in-Some.field-0.0.now (pieces 58 c.in-Some.field-0.1.now) (pieces-nonempty 58 c.in-Some.field-0.1.now))
+    (eight_fields c.in_ok-name.name.now c.in_ok-name._password.now c.in_ok-uid.uid.now c.in_ok-uid.gid.now c.in_ok-_gecos._gecos.now c.in_ok-_gecos._home.now
+    c.in-Some.field-0.0.now (pieces 58 c.in-Some.field-0.1.now) (pieces-nonempty 58 c.in-Some.field-0.1.now))

@@ -1,9 +1,10 @@
-use Rattle.std.proofs.Common.{◌≡◌, Bool, true, false, cond, ◌||◌, Some, Ok, refl, ap, sym, subst, ◌∙◌}
+use Rattle.std.proofs.Common.{◌≡◌, false, cond, Some, Ok, refl, ap, sym, subst, ◌∙◌}
 use Rattle.std.specs.Ordering.{eq_by_cmp}
 use Rattle.std.specs.FinMap.{find, put}
 use Rattle.std.specs.FinMap.Entries.{find-put}
 use Rattle.acl_names.specs.Paths.{path_cmp, PathOf}
 use Rattle.acl_names.proofs.PathOrder.{path_total}
+use Rattle.acl_names.proofs.Basics.{or_false}
 use Rattle.acl_edit.specs.declared.node.Node.{Node}
 use Rattle.acl_tree.specs.Files.{Files, Recorded}
 use Rattle.acl_tree.specs.Sound.{IsSoundTree}
@@ -14,10 +15,6 @@ use Rattle.acl_tree.specs.declared.user_change.UserChange.TheVariants.{Unchanged
 use Rattle.acl_tree.proofs.NewFiles.{sound_with, gone_with}
 use Rattle.acl_tree.proofs.Reported.{reported_files}
 use Rattle.acl_tree.proofs.creat.prepare_creat.Goals as goal
-
-or_false : (b : Bool) → (b || false) ≡ b
-or_false true = refl
-or_false false = refl
 
 pub of-files-requires : goal.of-files-requires
 of-files-requires c =
@@ -48,7 +45,8 @@ returns c =
     ap (λ (t : Recorded). t.files) c.of-files.ensures ∙ c.in_ok-by_path.ensures ∙ ap (λ (es : Files). put path_cmp e.0 e.1 es) c.files_by_path.ensures.all
     in
     let made : c.of-files.result ≡ after = λ i. record { files = files i; loaded = (ap (λ (t : Recorded). t.loaded) c.of-files.ensures ∙ c.is_loaded.ensures) i } in
-    let is : c.in_ok-staged.staged ≡ staged_from tree.files new Unchanged = c.in_ok-staged.ensures.all ∙ ap (λ (t : Recorded). staged_from tree.files (state_from t c.args.state.now.people.now) Unchanged) made in
+    let is : c.in_ok-staged.staged ≡ staged_from tree.files new Unchanged = c.in_ok-staged.ensures.all
+    ∙ ap (λ (t : Recorded). staged_from tree.files (state_from t c.args.state.now.people.now) Unchanged) made in
     record {
       made =
           ap (λ row. with_tree old (creat_by c.args.new.now tree row)) c.in_ok-owner.ensures.found

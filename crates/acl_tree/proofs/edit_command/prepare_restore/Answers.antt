@@ -15,6 +15,7 @@ returns c =
     record {
       made = ap (with_tree old) c.in_ok-restored.ensures ∙ ap (λ (s : State). Ok s) (sym (ap (λ s. s.state) c.in_ok-staged.ensures.all));
       sound = c.in_ok-staged.ensures.sound;
-      reports = reported_files old new c.in_ok-staged.staged c.in_ok-staged.ensures.all refl (kept_restored c.args.records.now old.tree new.tree c.soundness_law.ensures.order c.in_ok-restored.ensures);
+      reports = reported_files old new c.in_ok-staged.staged c.in_ok-staged.ensures.all refl
+          (kept_restored c.args.records.now old.tree new.tree c.soundness_law.ensures.order c.in_ok-restored.ensures);
       moved = ap (λ s. s.user_change) c.in_ok-staged.ensures.all;
     }

@@ -11,4 +11,5 @@ returns-in_err-next-clause-at_once c =
     let result = c.from_residual-in_err-next.result in
     let p = err_from_is_err_and result c.from_residual-in_err-next.ensures.1 in
     rw (c.in_ok-user.ensures.found, c.in_ok-group.ensures.found)
-    (change_passed_on (Err fault) fault result refl (p.1 ∙ ap (λ (f : TreeFault). Err f) p.2) c.in_ok-user.user (membership_changed c.in_ok-user.user c.in_ok-group.group c.args.change c.args.state.now.people.now) c.in_err-next.ensures.at_once)
+    (change_passed_on (Err fault) fault result refl (p.1 ∙ ap (λ (f : TreeFault). Err f) p.2) c.in_ok-user.user
+    (membership_changed c.in_ok-user.user c.in_ok-group.group c.args.change c.args.state.now.people.now) c.in_err-next.ensures.at_once)

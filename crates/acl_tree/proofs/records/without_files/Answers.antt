@@ -13,7 +13,8 @@ pub without_all-requires : goal.without_all-requires
 without_all-requires c =
     let kept : Kept Node = c.args.files.now in
     let region = c.args.region.now in
-    let gone : map seen c.deref.result.now ≡ files_meant region.0 region.1 kept.1 = ap (λ l. map seen l) c.deref.ensures.value ∙ c.in_ok-entries.ensures ∙ ap (λ (ns : Numbers). files_meant region.0 region.1 ns) c.numbers.ensures.all in
+    let gone : map seen c.deref.result.now ≡ files_meant region.0 region.1 kept.1 = ap (λ l. map seen l) c.deref.ensures.value ∙ c.in_ok-entries.ensures
+    ∙ ap (λ (ns : Numbers). files_meant region.0 region.1 ns) c.numbers.ensures.all in
     subst (λ (ns : Numbers). IsInOrder ns) (sym gone) (in_order-filter (in_region region) kept.1 c.numbers.ensures.sound.order)
 
 pub returns : goal.returns
@@ -21,7 +22,8 @@ returns c =
     let kept : Kept Node = c.args.files.now in
     let region = c.args.region.now in
     let sound = c.numbers.ensures.sound in
-    let gone : map seen c.deref.result.now ≡ files_meant region.0 region.1 kept.1 = ap (λ l. map seen l) c.deref.ensures.value ∙ c.in_ok-entries.ensures ∙ ap (λ (ns : Numbers). files_meant region.0 region.1 ns) c.numbers.ensures.all in
+    let gone : map seen c.deref.result.now ≡ files_meant region.0 region.1 kept.1 = ap (λ l. map seen l) c.deref.ensures.value ∙ c.in_ok-entries.ensures
+    ∙ ap (λ (ns : Numbers). files_meant region.0 region.1 ns) c.numbers.ensures.all in
     IfOk-weaker c.without_all.result _ _ (λ new made. made
     ∙ ap (λ (ns : Numbers). without_all ns (entries_in kept)) gone
     ∙ left_by kept.0 (in_region region) kept.1 sound.used (in_order_by kept.0 kept.1 sound.used sound.order)) c.without_all.ensures

@@ -11,5 +11,6 @@ pub returns-clause-order : goal.returns-clause-order
 returns-clause-order c =
     sorted_are _ _ c.requires
     (sorted_map (λ (x : RestoredFile). x.1) is_before c.sort_unstable_by.new.self.items
-    (c.sort_unstable_by.ensures.sorted (λ (x y : RestoredFile). is_before x.1 y.1) (ranks_by path_total (λ (x : RestoredFile). x.1.path)) (always_returns_same _ _ _ (λ a r f k. search (rules, of_calls)))))
+    (c.sort_unstable_by.ensures.sorted (λ (x y : RestoredFile). is_before x.1 y.1) (ranks_by path_total (λ (x : RestoredFile). x.1.path))
+    (always_returns_same _ _ _ (λ a r f k. search (rules, of_calls)))))
     (IsPermutation-map (λ (x : RestoredFile). x.1) c.args.found.items c.sort_unstable_by.new.self.items c.sort_unstable_by.ensures.permutation)

@@ -1,26 +1,24 @@
 use Rattle.std.proofs.Common.{◌≡◌, false, None, Ok, List, map, sym, ap, subst, ◌∙◌}
 use Rattle.std.specs.Prelude.{option_map}
-use Rattle.std.specs.List.{All}
-use Rattle.std.proofs.lemmas.List.Sorted.{All-permutation}
 use Rattle.std.proofs.lemmas.Result.{err_from_is_err_and}
 use Rattle.acl_text.specs.OwnPaths.{have_own_paths}
 use Rattle.acl_text.specs.declared.record.DumpRecord.{DumpRecord}
 use Rattle.path_map.specs.Merged.{put_all}
 use Rattle.kinds.specs.Numbered.{entries_in}
 use Rattle.acl_edit.specs.declared.node.Node.{Node}
-use Rattle.acl_tree.specs.Loading.{in_path_order, record_at}
+use Rattle.acl_tree.specs.Loading.{record_at}
 use Rattle.acl_names.specs.Paths.{PathOf}
 use Rattle.acl_tree.specs.Files.{Files, Recorded}
 use Rattle.acl_tree.specs.Sound.{IsSoundTree}
 use Rattle.acl_tree.specs.Edits.{unless_missing, KeepsPlace, edit_each, edit_all, with_edits}
-use Rattle.acl_tree.specs.Inner.{RestoredFile, IsFileOf, SomeEdited, restored, restore_each, node_after}
+use Rattle.acl_tree.specs.Inner.{RestoredFile, SomeEdited, restore_each, node_after}
 use Rattle.acl_tree.specs.Operands.{is_file, edit_files, files_meant, first_missing}
 use Rattle.acl_tree.specs.Restoring.{edit_of, restore_one, paths_of}
 use Rattle.acl_tree.proofs.Kept.{edited_sound}
 use Rattle.acl_tree.proofs.Edits.{keeps_after, put_edits}
-use Rattle.acl_tree.proofs.Left.{by_path, each_some, put_some, in_order-some_meant}
+use Rattle.acl_tree.proofs.Left.{each_some, put_some, in_order-some_meant}
 use Rattle.acl_tree.proofs.Placed.{restore_keeps}
-use Rattle.acl_tree.proofs.Restored.{files_are, each_by_record, restored_are, fault_reported}
+use Rattle.acl_tree.proofs.Restored.{AreByRecord, are_by_record, some_by_record, restored_are, fault_reported}
 use Rattle.acl_tree.proofs.restore.restore_files.Goals as goal
 
 pub in_path_order-sorted-requires : goal.in_path_order-sorted-requires
@@ -35,14 +33,12 @@ finish-requires c =
     let edit = restore_one records in
     let test = is_file false (paths_of records) in
     let meant : Files = files_meant false (paths_of records) t in
-    let listed : xs ≡ c.in_path_order-sorted.result.items = c.deref.ensures.value in
-    let whole : map (λ x. x.1) c.in_ok-found.found.items ≡ records = c.in_ok-found.ensures.found.records ∙ c.as_slice.ensures.all in
-    let sorted : map (λ x. x.1) xs ≡ in_path_order records = ap (λ l. map (λ x. x.1) l) listed ∙ c.in_path_order-sorted.ensures.order ∙ ap (λ rs. in_path_order rs) whole in
-    let all : All (IsFileOf t) xs = subst (λ l. All (IsFileOf t) l) (sym listed) (All-permutation (IsFileOf t) c.in_ok-found.found.items c.in_path_order-sorted.result.items c.in_path_order-sorted.ensures.same c.in_ok-found.ensures.found.files) in
-    let seen : map (λ x. x.0) xs ≡ meant = files_are t records xs c.soundness_law.ensures.order sorted all in
-    let by_record = each_by_record t records xs c.soundness_law.ensures.order sorted all in
+    let are : AreByRecord t records xs =
+    are_by_record t records _ c.in_ok-found.found.items c.in_path_order-sorted.result.items xs c.soundness_law.ensures.order c.in_ok-found.ensures.found
+    c.as_slice.ensures.all c.in_path_order-sorted.ensures.order c.in_path_order-sorted.ensures.same c.deref.ensures.value
+    in
     let ns : Files = c.in_ok-puts.puts.1 in
-    let some : SomeEdited (λ e. e) (λ e. edit e.0 e.1) meant ns = subst (λ es. SomeEdited (λ e. e) (λ e. edit e.0 e.1) es ns) seen (by_path (λ x. x.0) restored edit xs ns by_record c.in_ok-puts.ensures.made) in
+    let some : SomeEdited (λ e. e) (λ e. edit e.0 e.1) meant ns = some_by_record t records xs ns are c.in_ok-puts.ensures.made in
     in_order-some_meant edit test t ns c.soundness_law.ensures.order some
 
 pub of-requires : goal.of-requires
@@ -53,14 +49,12 @@ of-requires c =
     let edit = restore_one records in
     let test = is_file false (paths_of records) in
     let meant : Files = files_meant false (paths_of records) t in
-    let listed : xs ≡ c.in_path_order-sorted.result.items = c.deref.ensures.value in
-    let whole : map (λ x. x.1) c.in_ok-found.found.items ≡ records = c.in_ok-found.ensures.found.records ∙ c.as_slice.ensures.all in
-    let sorted : map (λ x. x.1) xs ≡ in_path_order records = ap (λ l. map (λ x. x.1) l) listed ∙ c.in_path_order-sorted.ensures.order ∙ ap (λ rs. in_path_order rs) whole in
-    let all : All (IsFileOf t) xs = subst (λ l. All (IsFileOf t) l) (sym listed) (All-permutation (IsFileOf t) c.in_ok-found.found.items c.in_path_order-sorted.result.items c.in_path_order-sorted.ensures.same c.in_ok-found.ensures.found.files) in
-    let seen : map (λ x. x.0) xs ≡ meant = files_are t records xs c.soundness_law.ensures.order sorted all in
-    let by_record = each_by_record t records xs c.soundness_law.ensures.order sorted all in
+    let are : AreByRecord t records xs =
+    are_by_record t records _ c.in_ok-found.found.items c.in_path_order-sorted.result.items xs c.soundness_law.ensures.order c.in_ok-found.ensures.found
+    c.as_slice.ensures.all c.in_path_order-sorted.ensures.order c.in_path_order-sorted.ensures.same c.deref.ensures.value
+    in
     let ns : Files = c.in_ok-puts.puts.1 in
-    let some : SomeEdited (λ e. e) (λ e. edit e.0 e.1) meant ns = subst (λ es. SomeEdited (λ e. e) (λ e. edit e.0 e.1) es ns) seen (by_path (λ x. x.0) restored edit xs ns by_record c.in_ok-puts.ensures.made) in
+    let some : SomeEdited (λ e. e) (λ e. edit e.0 e.1) meant ns = some_by_record t records xs ns are c.in_ok-puts.ensures.made in
     let new : entries_in c.in_ok-by_path.by_path ≡ edit_files test (node_after edit) t =
     c.in_ok-by_path.ensures ∙ ap (put_all ns) (c.in_ok-puts.ensures.before ∙ c.files_by_path.ensures.all) ∙ put_some edit test t ns c.soundness_law.ensures.order some
     in
@@ -76,14 +70,12 @@ returns c =
     let edit = restore_one records in
     let test = is_file false (paths_of records) in
     let meant : Files = files_meant false (paths_of records) t in
-    let listed : xs ≡ c.in_path_order-sorted.result.items = c.deref.ensures.value in
-    let whole : map (λ x. x.1) c.in_ok-found.found.items ≡ records = c.in_ok-found.ensures.found.records ∙ c.as_slice.ensures.all in
-    let sorted : map (λ x. x.1) xs ≡ in_path_order records = ap (λ l. map (λ x. x.1) l) listed ∙ c.in_path_order-sorted.ensures.order ∙ ap (λ rs. in_path_order rs) whole in
-    let all : All (IsFileOf t) xs = subst (λ l. All (IsFileOf t) l) (sym listed) (All-permutation (IsFileOf t) c.in_ok-found.found.items c.in_path_order-sorted.result.items c.in_path_order-sorted.ensures.same c.in_ok-found.ensures.found.files) in
-    let seen : map (λ x. x.0) xs ≡ meant = files_are t records xs c.soundness_law.ensures.order sorted all in
-    let by_record = each_by_record t records xs c.soundness_law.ensures.order sorted all in
+    let are : AreByRecord t records xs =
+    are_by_record t records _ c.in_ok-found.found.items c.in_path_order-sorted.result.items xs c.soundness_law.ensures.order c.in_ok-found.ensures.found
+    c.as_slice.ensures.all c.in_path_order-sorted.ensures.order c.in_path_order-sorted.ensures.same c.deref.ensures.value
+    in
     let ns : Files = c.in_ok-puts.puts.1 in
-    let some : SomeEdited (λ e. e) (λ e. edit e.0 e.1) meant ns = subst (λ es. SomeEdited (λ e. e) (λ e. edit e.0 e.1) es ns) seen (by_path (λ x. x.0) restored edit xs ns by_record c.in_ok-puts.ensures.made) in
+    let some : SomeEdited (λ e. e) (λ e. edit e.0 e.1) meant ns = some_by_record t records xs ns are c.in_ok-puts.ensures.made in
     let all_after : Files = map (λ e. (e.0, node_after edit e.0 e.1)) meant in
     let each : edit_each edit meant ≡ Ok all_after = each_some edit meant ns some in
     let new : entries_in c.in_ok-by_path.by_path ≡ put_all all_after t =
@@ -103,13 +95,11 @@ returns-in_err-puts c =
     let edit = restore_one records in
     let test = is_file false (paths_of records) in
     let meant : Files = files_meant false (paths_of records) t in
-    let listed : xs ≡ c.in_path_order-sorted.result.items = c.deref.ensures.value in
-    let whole : map (λ x. x.1) c.in_ok-found.found.items ≡ records = c.in_ok-found.ensures.found.records ∙ c.as_slice.ensures.all in
-    let sorted : map (λ x. x.1) xs ≡ in_path_order records = ap (λ l. map (λ x. x.1) l) listed ∙ c.in_path_order-sorted.ensures.order ∙ ap (λ rs. in_path_order rs) whole in
-    let all : All (IsFileOf t) xs = subst (λ l. All (IsFileOf t) l) (sym listed) (All-permutation (IsFileOf t) c.in_ok-found.found.items c.in_path_order-sorted.result.items c.in_path_order-sorted.ensures.same c.in_ok-found.ensures.found.files) in
-    let seen : map (λ x. x.0) xs ≡ meant = files_are t records xs c.soundness_law.ensures.order sorted all in
-    let by_record = each_by_record t records xs c.soundness_law.ensures.order sorted all in
+    let are : AreByRecord t records xs =
+    are_by_record t records _ c.in_ok-found.found.items c.in_path_order-sorted.result.items xs c.soundness_law.ensures.order c.in_ok-found.ensures.found
+    c.as_slice.ensures.all c.in_path_order-sorted.ensures.order c.in_path_order-sorted.ensures.same c.deref.ensures.value
+    in
     let there : first_missing (paths_of records) t ≡ None = ap (λ rs. first_missing (paths_of rs) t) (sym c.as_slice.ensures.all) ∙ c.in_ok-found.ensures.there in
-    let each : restore_each xs ≡ edit_each edit meant = restored_are edit xs by_record ∙ ap (λ es. edit_each edit es) seen in
+    let each : restore_each xs ≡ edit_each edit meant = restored_are edit xs are.are_restored ∙ ap (λ es. edit_each edit es) are.are_meant in
     let p = err_from_is_err_and c.from_residual-in_err-puts.result c.from_residual-in_err-puts.ensures.1 in
     rw (p.1, p.2) (fault_reported records c.args.tree.now c.in_err-puts.field-0.0 there (λ some. ap (λ r. with_edits c.args.tree.now r) (sym each ∙ c.in_err-puts.ensures.refused some)))

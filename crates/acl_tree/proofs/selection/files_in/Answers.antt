@@ -17,7 +17,8 @@ loop-entry-init c =
     let kept : Kept Node = c.files_by_path-files.result.now in
     let region = c.args.region.now in
     let rest : c.walk-walk.result.1 ≡ kept.1 = ap (λ (w : Numbers × Numbers). w.1) c.walk-walk.ensures ∙ c.numbers.ensures.all in
-    let walk : c.walk-walk.result.0 ≡ files_meant region.0 region.1 kept.1 = ap (λ (w : Numbers × Numbers). w.0) c.walk-walk.ensures ∙ ap (λ (ns : Numbers). files_meant region.0 region.1 ns) c.numbers.ensures.all in
+    let walk : c.walk-walk.result.0 ≡ files_meant region.0 region.1 kept.1 = ap (λ (w : Numbers × Numbers). w.0) c.walk-walk.ensures
+    ∙ ap (λ (ns : Numbers). files_meant region.0 region.1 ns) c.numbers.ensures.all in
     record {
       end = record { before = []; joined = rest };
       used = subst (λ (ns : Numbers). AreUsed kept.0 ns) (sym walk) (used_filter kept.0 (in_region region) kept.1 c.numbers.ensures.sound.used);

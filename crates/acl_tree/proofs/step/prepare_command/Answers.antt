@@ -10,7 +10,8 @@ pub returns-in-Load-clause-prepares : goal.returns-in-Load-clause-prepares
 returns-in-Load-clause-prepares c = subst (λ command. Prepares (whole c.args.state.now) command c.prepare_load.result) (sym c.in-Load.is) c.prepare_load.ensures.prepares
 
 pub returns-in-Load-clause-at_once : goal.returns-in-Load-clause-at_once
-returns-in-Load-clause-at_once c = subst (λ command. RefusesAtOnce (whole c.args.state.now) command c.prepare_load.result) (sym c.in-Load.is) (loaded_at_once _ c.prepare_load.result c.prepare_load.ensures.loaded)
+returns-in-Load-clause-at_once c = subst (λ command. RefusesAtOnce (whole c.args.state.now) command c.prepare_load.result) (sym c.in-Load.is)
+    (loaded_at_once _ c.prepare_load.result c.prepare_load.ensures.loaded)
 
 pub returns-in-Gpasswd-clause-at_once : goal.returns-in-Gpasswd-clause-at_once
 returns-in-Gpasswd-clause-at_once c = subst (λ command. RefusesAtOnce (whole c.args.state.now) command c.prepare_gpasswd.result) (sym c.in-Gpasswd.is) c.prepare_gpasswd.ensures.at_once
@@ -20,11 +21,13 @@ returns-in-Useradd-clause-at_once c = subst (λ command. RefusesAtOnce (whole c.
 
 pub returns-in-Chmod-clause-prepares : goal.returns-in-Chmod-clause-prepares
 returns-in-Chmod-clause-prepares c = subst (λ command. Prepares (whole c.args.state.now) command c.prepare_chmod.result) (sym c.in-Chmod.is)
-    (subst (λ (files : Selection). Prepares (whole c.args.state.now) (commands.Chmod files.operands.now c.in-Chmod.mode files.recursive) c.prepare_chmod.result) c.selection_of.ensures c.prepare_chmod.ensures)
+    (subst (λ (files : Selection). Prepares (whole c.args.state.now)
+    (commands.Chmod files.operands.now c.in-Chmod.mode files.recursive) c.prepare_chmod.result) c.selection_of.ensures c.prepare_chmod.ensures)
 
 pub returns-in-Edit-clause-prepares : goal.returns-in-Edit-clause-prepares
 returns-in-Edit-clause-prepares c = subst (λ command. Prepares (whole c.args.state.now) command c.prepare_edit.result) (sym c.in-Edit.is)
-    (subst (λ (files : Selection). Prepares (whole c.args.state.now) (commands.Edit files.operands.now c.in-Edit.edit files.recursive) c.prepare_edit.result) c.selection_of-in-Edit.ensures c.prepare_edit.ensures)
+    (subst (λ (files : Selection). Prepares (whole c.args.state.now)
+    (commands.Edit files.operands.now c.in-Edit.edit files.recursive) c.prepare_edit.result) c.selection_of-in-Edit.ensures c.prepare_edit.ensures)
 
 pub returns-in-Restore-clause-prepares : goal.returns-in-Restore-clause-prepares
 returns-in-Restore-clause-prepares c = subst (λ command. Prepares (whole c.args.state.now) command c.prepare_restore.result) (sym c.in-Restore.is) c.prepare_restore.ensures

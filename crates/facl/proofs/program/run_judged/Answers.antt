@@ -14,7 +14,8 @@ returns-in_err-is_refused-clause-fault g c =
     let asked = g.J.Judge.asked_of c.run_session.new.session.judge.now in
     let old = devices (g.R.Feed.remaining c.args.reader.now) (g.O.Sink.contents c.args.out.now) (g.E.Sink.contents c.args.err.now) in
     let new = devices (g.R.Feed.remaining c.run_session.new.reader) (g.O.Sink.contents c.run_session.new.out) (g.E.Sink.contents c.run_session.new.err) in
-    let ends = ends_by c.in_err-is_refused.field-0.0 V (initial_state c.args.setup.now) c.in_ok-state.state (states_of c.in_ok-session.session) (states_of c.run_session.new.session.session) _ asked old new
+    let ends = ends_by c.in_err-is_refused.field-0.0 V (initial_state c.args.setup.now) c.in_ok-state.state (states_of c.in_ok-session.session)
+    (states_of c.run_session.new.session.session) _ asked old new
     c.in_ok-state.ensures c.in_ok-session.ensures.state c.in_ok-session.ensures.asked c.in_err-is_refused.ensures.answers in
     rw (p.1, p.2)
     (subst (λ (n : ℕ). EndsBy (run_fault_of_script c.in_err-is_refused.field-0.0) V (initial_state c.args.setup.now) n old new)

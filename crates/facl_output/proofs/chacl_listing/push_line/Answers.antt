@@ -16,7 +16,8 @@ returns-in_err-push_default g c =
     let list = short (g.N.Names.naming c.args.names.now) (entries c.node-node.result.now.label.acl) in
     let front = c.append_short.new.text.items in
     let written : front ≡ start ++ (path ++ (codes " [" ++ list)) =
-    three_parts start path (codes " [") list c.push_path_shown.new.text.items c.extend_from_slice.new.self.items front c.in_ok-push_path_shown.ensures c.in_ok-extend_from_slice.ensures.items c.in_ok-append_short.ensures in
+    three_parts start path
+    (codes " [") list c.push_path_shown.new.text.items c.extend_from_slice.new.self.items front c.in_ok-push_path_shown.ensures c.in_ok-extend_from_slice.ensures.items c.in_ok-append_short.ensures in
     let begins = still_begins start (path ++ (codes " [" ++ list)) front c.push_default.new.text.items written c.in_err-push_default.ensures in
     grind (arith, common_steps, begins)
 
@@ -32,5 +33,6 @@ returns g c =
     let n = c.node-node.result.now in
     let of_lists = three_parts opened (short naming (entries n.label.acl)) (default_part naming n.dacl) (93 ∷ 10 ∷ []) c.append_short.new.text.items c.push_default.new.text.items new
     c.in_ok-append_short.ensures c.in_ok-push_default.ensures c.in_ok-extend_from_slice-2.ensures.items in
-    let of_node = two_parts start path (codes " [" ++ lists n) pathed new c.in_ok-push_path_shown.ensures (two_parts pathed (codes " [") (lists n) opened new c.in_ok-extend_from_slice.ensures.items of_lists) in
+    let of_node = two_parts start path
+    (codes " [" ++ lists n) pathed new c.in_ok-push_path_shown.ensures (two_parts pathed (codes " [") (lists n) opened new c.in_ok-extend_from_slice.ensures.items of_lists) in
     subst (λ (n : Node). new ≡ start ++ (path ++ (codes " [" ++ lists n))) c.node-node.ensures of_node

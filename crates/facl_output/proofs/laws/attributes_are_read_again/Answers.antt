@@ -1,4 +1,4 @@
-use Rattle.facl_output.proofs.AttributesAgain.{attributes_again}
+use Rattle.facl_output.proofs.AttributeRoundTrips.{attributes_again}
 use Rattle.facl_output.proofs.laws.attributes_are_read_again.Goals as goal
 
 pub returns : goal.returns

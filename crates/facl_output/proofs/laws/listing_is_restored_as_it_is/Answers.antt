@@ -3,7 +3,7 @@ use Rattle.acl_people.specs.KnownPeople.{naming_of}
 use Rattle.acl_tree.specs.Operands.{files_meant}
 use Rattle.acl_tree.specs.State.{State, state_from}
 use Rattle.facl_output.proofs.Reloaded.{records_of}
-use Rattle.facl_output.proofs.RestoredAgain.{restored_again}
+use Rattle.facl_output.proofs.RestoredRoundTrips.{restored_again}
 use Rattle.facl_output.proofs.laws.listing_is_restored_as_it_is.Goals as goal
 
 pub returns : goal.returns

@@ -10,5 +10,6 @@ returns-then-options g c =
 
 pub returns-else-options : goal.returns-else-options
 returns-else-options g c =
-    subst (λ (b : Bool). Appends c.push_files-else-options.result c.args.text.now c.push_files-else-options.new.text (files_text (names_shown b (g.N.Names.naming c.args.names.now)) c.args.options.now c.args.files.now))
+    subst (λ (b : Bool). Appends c.push_files-else-options.result c.args.text.now c.push_files-else-options.new.text
+    (files_text (names_shown b (g.N.Names.naming c.args.names.now)) c.args.options.now c.args.files.now))
     (sym c.if-options.false) c.push_files-else-options.ensures

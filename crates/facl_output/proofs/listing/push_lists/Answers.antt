@@ -10,5 +10,6 @@ returns g c =
     let naming = g.N.Names.naming c.args.names.now in
     let options = c.args.options.now in
     let node = c.args.node.now in
-    appends_both c.push_last.result c.args.text.now c.append_list.new.text c.push_last.new.text (list_text naming options.effective Access node.label.acl) (default_entries naming options node ++ 10 ∷ [])
+    appends_both c.push_last.result c.args.text.now c.append_list.new.text c.push_last.new.text (list_text naming options.effective Access node.label.acl)
+    (default_entries naming options node ++ 10 ∷ [])
     c.in_ok-append_list.ensures c.push_last.ensures

@@ -1,7 +1,7 @@
 use Rattle.std.proofs.Common.{◌≡◌, length, true, sym, subst}
 use Rattle.std.specs.List.{list_all}
 use Rattle.acl_names.specs.Paths.{is_component, PathOf}
-use Rattle.acl_text.specs.Again.{IsListIf}
+use Rattle.acl_text.specs.RoundTrips.{IsListIf}
 use Rattle.acl_edit.specs.declared.node.Node.{Node}
 use Rattle.acl_people.specs.KnownPeople.{KnownPeople, naming_of}
 use Rattle.facl_output.proofs.round_trips.file_is_read_again.Goals as goal

@@ -15,9 +15,11 @@ returns-in_err-push_default_entry g c =
 pub loop-entry-preserved : goal.loop-entry-preserved
 loop-entry-preserved g c =
     let entry = c.entry-item.result in
-    item_added (default_entry (g.N.Names.naming c.args.names.now)) c.args.entries.now c.args.text.now.items c.loop-entry.entry-index entry entry c.loop-entry.text.items c.push_default_entry.new.text.items
+    item_added (default_entry
+    (g.N.Names.naming c.args.names.now)) c.args.entries.now c.args.text.now.items c.loop-entry.entry-index entry entry c.loop-entry.text.items c.push_default_entry.new.text.items
     c.loop-entry-test.true c.entry-item.is c.loop-entry.invariant c.in_ok-push_default_entry.ensures
 
 pub returns : goal.returns
 returns g c =
-    all_added (default_entry (g.N.Names.naming c.args.names.now)) c.args.entries.now c.args.text.now.items c.loop-entry.entry-index c.loop-entry.text.items c.loop-entry-test.false c.loop-entry.invariant
+    all_added (default_entry
+    (g.N.Names.naming c.args.names.now)) c.args.entries.now c.args.text.now.items c.loop-entry.entry-index c.loop-entry.text.items c.loop-entry-test.false c.loop-entry.invariant

@@ -8,8 +8,9 @@ use Rattle.facl_script.specs.Play.{quiet, joined}
 use Rattle.facl_script.specs.Streams.{streams, moment}
 use Rattle.facl_script.proofs.Progress.{Progress}
 use Rattle.facl_script.proofs.ProgressLemmas.{begins, goes_on}
-use Rattle.facl_script.proofs.RunEnds.{left_consumes, ends_here, at_end, reader_ended, not_over, stops_reading, fails_writing, none_of, not_end, not_full, either_way, IsGiven-joined, IsGivenAt}
+use Rattle.facl_script.proofs.RunEnds.{left_consumes, ends_here, at_end, reader_ended, not_over, stops_reading, fails_writing, none_of, not_end, either_way, IsGiven-joined, IsGivenAt}
 use Rattle.facl_script.proofs.play.run_session.Goals as goal
+use Rattle.facl_script.proofs.TextLemmas.{of_not}
 
 pub loop-script-init : goal.loop-script-init
 loop-script-init g c = record {
@@ -35,7 +36,8 @@ returns-clause-answers g c =
     let after = script_left c.next_unit.new.self (g.R.Feed.remaining c.next_unit.new.reader) in
     let found = rw (none_of c.in_ok-unit.field-0 c.in_default.not-Some) at c.in_ok-unit.ensures.reads in
     let same : is_over c.loop-script.script ≡ true → after ≡ before =
-    λ e. ap (λ s. script_left s (g.R.Feed.remaining c.next_unit.new.reader)) (c.in_ok-unit.ensures.over e).1 ∙ ap (λ r. script_left c.loop-script.script (g.R.Feed.remaining r)) (c.in_ok-unit.ensures.over e).2 in
+    λ e. ap (λ s. script_left s (g.R.Feed.remaining c.next_unit.new.reader)) (c.in_ok-unit.ensures.over e).1
+    ∙ ap (λ r. script_left c.loop-script.script (g.R.Feed.remaining r)) (c.in_ok-unit.ensures.over e).2 in
     let ended = at_end (is_over c.loop-script.script) before after (λ e. (same e, inv.last e)) (λ e. ((found e).0.0, (found e).0.1)) in
     let old = moment (g.S.Session.state c.args.session.now) (g.S.Session.spent c.args.session.now) (streams (g.O.Sink.contents c.args.out.now) (g.E.Sink.contents c.args.err.now)) in
     let new = moment (g.S.Session.state c.loop-script.session) (g.S.Session.spent c.loop-script.session) (streams (g.O.Sink.contents c.loop-script.out) (g.E.Sink.contents c.loop-script.err)) in
@@ -50,7 +52,8 @@ returns-clause-end g c =
     let after = script_left c.next_unit.new.self (g.R.Feed.remaining c.next_unit.new.reader) in
     let found = rw (none_of c.in_ok-unit.field-0 c.in_default.not-Some) at c.in_ok-unit.ensures.reads in
     let same : is_over c.loop-script.script ≡ true → after ≡ before =
-    λ e. ap (λ s. script_left s (g.R.Feed.remaining c.next_unit.new.reader)) (c.in_ok-unit.ensures.over e).1 ∙ ap (λ r. script_left c.loop-script.script (g.R.Feed.remaining r)) (c.in_ok-unit.ensures.over e).2 in
+    λ e. ap (λ s. script_left s (g.R.Feed.remaining c.next_unit.new.reader)) (c.in_ok-unit.ensures.over e).1
+    ∙ ap (λ r. script_left c.loop-script.script (g.R.Feed.remaining r)) (c.in_ok-unit.ensures.over e).2 in
     let ended = at_end (is_over c.loop-script.script) before after (λ e. (same e, inv.last e)) (λ e. ((found e).0.0, (found e).0.1)) in
     reader_ended (pending c.next_unit.new.self.source) (g.R.Feed.remaining c.next_unit.new.reader) ended.1
 
@@ -93,7 +96,8 @@ returns-in_err-is_refused-clause-answers g c =
     let a = g.R.Feed.remaining c.args.reader.now in
     let old = moment (g.S.Session.state c.args.session.now) (g.S.Session.spent c.args.session.now) (streams (g.O.Sink.contents c.args.out.now) (g.E.Sink.contents c.args.err.now)) in
     let now = moment (g.S.Session.state c.loop-script.session) (g.S.Session.spent c.loop-script.session) (streams (g.O.Sink.contents c.loop-script.out) (g.E.Sink.contents c.loop-script.err)) in
-    let new = moment (g.S.Session.state c.answer_unit.new.session) (g.S.Session.spent c.answer_unit.new.session) (streams (g.O.Sink.contents c.answer_unit.new.out) (g.E.Sink.contents c.answer_unit.new.err)) in
+    let new = moment (g.S.Session.state c.answer_unit.new.session) (g.S.Session.spent c.answer_unit.new.session)
+    (streams (g.O.Sink.contents c.answer_unit.new.out) (g.E.Sink.contents c.answer_unit.new.err)) in
     let h = c.in_err-is_refused.ensures.answers.0 unit (c.unit-held.ensures.held g.S.Session.asks unit found.3) in
     rw (p.1, p.2, c.in_err-is_refused.ensures.answers.1)
     (fails_writing g.S.Session.asks g.S.Session.answered old now new a (g.R.Feed.remaining c.next_unit.new.reader) c.next_unit.new.self
@@ -115,8 +119,10 @@ loop-script-preserved g c =
     let after = script_left c.next_unit.new.self (g.R.Feed.remaining c.next_unit.new.reader) in
     let old = moment (g.S.Session.state c.args.session.now) (g.S.Session.spent c.args.session.now) (streams (g.O.Sink.contents c.args.out.now) (g.E.Sink.contents c.args.err.now)) in
     let now = moment (g.S.Session.state c.loop-script.session) (g.S.Session.spent c.loop-script.session) (streams (g.O.Sink.contents c.loop-script.out) (g.E.Sink.contents c.loop-script.err)) in
-    let new = moment (g.S.Session.state c.answer_unit.new.session) (g.S.Session.spent c.answer_unit.new.session) (streams (g.O.Sink.contents c.answer_unit.new.out) (g.E.Sink.contents c.answer_unit.new.err)) in
-    let h = subst (λ s. IsGivenAt g.S.Session.answered unit s c.in_ok-is_refused.field-0 now new) inv.gives.state_is (c.in_ok-is_refused.ensures.answers unit (c.unit-held.ensures.held g.S.Session.asks unit found.3)) in
+    let new = moment (g.S.Session.state c.answer_unit.new.session) (g.S.Session.spent c.answer_unit.new.session)
+    (streams (g.O.Sink.contents c.answer_unit.new.out) (g.E.Sink.contents c.answer_unit.new.err)) in
+    let h = subst (λ s. IsGivenAt g.S.Session.answered unit s c.in_ok-is_refused.field-0 now new) inv.gives.state_is
+    (c.in_ok-is_refused.ensures.answers unit (c.unit-held.ensures.held g.S.Session.asks unit found.3)) in
     let ends : is_over c.next_unit.new.self ≡ not unit.is_full = (rw c.in-Some.is at c.in_ok-unit.ensures.ends) ∙ ap not (sym found.3.full) in
     let answer_so_far = joined inv.answer_so_far (g.S.Session.answered h.0 unit inv.answer_so_far.state) in
     record {
@@ -127,8 +133,9 @@ loop-script-preserved g c =
       answer_so_far = answer_so_far;
       progress = rw ends (goes_on g.S.Session.asks g.S.Session.answered start inv.taken number (next_number c.next_unit.new.self) inv.answer_so_far progress before after _ _ piece unit next h.0);
       consumes = Consumes-trans (g.R.Feed.remaining c.args.reader.now) before after inv.taken piece inv.consumes next.consumes;
-      last = λ e. next.last (not_full unit.is_full (sym ends ∙ e));
-      ready = c.answer_unit.ensures.ready (next_number c.next_unit.new.self) (omega (arith, c.unit-held.ensures.number, found.3.number, next.numbered, next.grows)) (omega (arith, c.next_unit.new.self.counted, c.next_unit.new.self.source.within));
+      last = λ e. next.last (of_not unit.is_full (sym ends ∙ e));
+      ready = c.answer_unit.ensures.ready (next_number c.next_unit.new.self)
+          (omega (arith, c.unit-held.ensures.number, found.3.number, next.numbered, next.grows)) (omega (arith, c.next_unit.new.self.counted, c.next_unit.new.self.source.within));
       gives = IsGiven-joined inv.answer_so_far (g.S.Session.answered h.0 unit inv.answer_so_far.state) old now new inv.gives h.1;
       refused = rw (inv.refused, h.2) refl;
       count = omega (arith, next.count, inv.count, length-append inv.taken piece);

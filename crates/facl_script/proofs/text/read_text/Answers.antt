@@ -15,8 +15,13 @@ returns-in_err-found-clause-reads g c =
     let h = c.in_err-found.ensures.reads in
     let p = err_from_is_err_and c.from_residual.result c.from_residual.ensures.1 in
     let stop = stops_later c.in_err-found.field-0.0 _ _ _ _ _ inv.piece h.0 inv.consumes h.2 in
-    rw (p.1, p.2)
-    (inv.piece ++ h.0, λ asks number line n. ap full_units (inv.splits asks number line n h.0) ∙ no_unit asks h.0 h.1 (so_far number line inv.content) (n + c.loop-found.lines), stop, omega (arith, h.3, inv.count, length-append inv.piece h.0))
+    rw (p.1, p.2) (
+      inv.piece ++ h.0,
+      λ asks number line n. ap full_units (inv.splits asks number line n h.0)
+          ∙ no_unit asks h.0 h.1 (so_far number line inv.content) (n + c.loop-found.lines),
+      stop,
+      omega (arith, h.3, inv.count, length-append inv.piece h.0),
+    )
 
 pub returns-then-ends_here-clause-reads : goal.returns-then-ends_here-clause-reads
 returns-then-ends_here-clause-reads g c =
@@ -33,7 +38,8 @@ returns-then-ends_here-clause-reads g c =
         ended_text inv.content,
         record {
           consumes = Consumes-trans _ _ _ _ _ inv.consumes line.consumes;
-          splits = λ asks number l n rest last. ap (λ bs. cut asks (within (opened number l)) n (lines_of bs)) (append_assoc inv.piece (spelled t e) rest) ∙ inv.splits asks number l n (spelled t e ++ rest)
+          splits = λ asks number l n rest last. ap (λ bs. cut asks (within (opened number l)) n (lines_of bs)) (append_assoc inv.piece (spelled t e) rest)
+              ∙ inv.splits asks number l n (spelled t e ++ rest)
               ∙ text_end asks (so_far number l inv.content) (n + c.loop-found.lines) e t rest line.no_line_feed ends (λ h. ((line.last h).0, last h))
               ∙ ap (λ k. closed (opened number l) (ended_text inv.content) e ∷ cut asks outside k (lines_of rest)) (add_assoc n c.loop-found.lines 1);
           last = λ h. (line.last h).1;
@@ -61,8 +67,11 @@ returns-then-not-found-clause-reads g c =
         inv.piece ++ t,
         unended,
         record {
-          consumes = Consumes-trans _ _ _ _ _ inv.consumes (subst (λ (b : Bool). Consumes (unread c.loop-found.source (g.R.Feed.remaining c.loop-found.reader)) (unread c.next_line.new.self (g.R.Feed.remaining c.next_line.new.reader)) (spelled t b)) no_end line.consumes);
-          splits = λ asks number l n rest last. rw (last refl, append-nil (inv.piece ++ t)) (inv.splits asks number l n t ∙ text_breaks asks (so_far number l inv.content) (n + c.loop-found.lines) t line.no_line_feed goes some);
+          consumes = Consumes-trans _ _ _ _ _ inv.consumes
+              (subst (λ (b : Bool). Consumes (unread c.loop-found.source (g.R.Feed.remaining c.loop-found.reader))
+              (unread c.next_line.new.self (g.R.Feed.remaining c.next_line.new.reader)) (spelled t b)) no_end line.consumes);
+          splits = λ asks number l n rest last. rw (last refl, append-nil (inv.piece ++ t))
+              (inv.splits asks number l n t ∙ text_breaks asks (so_far number l inv.content) (n + c.loop-found.lines) t line.no_line_feed goes some);
           last = λ h. (line.last no_end).1;
           holds = refl;
           count = omega (arith, count, inv.count, length-append inv.piece t);
@@ -89,7 +98,9 @@ loop-found-preserved g c =
       works = c.in_ok-found.ensures.reads.1;
       piece = inv.piece ++ more;
       content = more_text inv.content t;
-      consumes = Consumes-trans _ _ _ _ _ inv.consumes (subst (λ (b : Bool). Consumes (unread c.loop-found.source (g.R.Feed.remaining c.loop-found.reader)) (unread c.next_line.new.self (g.R.Feed.remaining c.next_line.new.reader)) (spelled t b)) ended line.consumes);
+      consumes = Consumes-trans _ _ _ _ _ inv.consumes
+          (subst (λ (b : Bool). Consumes (unread c.loop-found.source (g.R.Feed.remaining c.loop-found.reader))
+          (unread c.next_line.new.self (g.R.Feed.remaining c.next_line.new.reader)) (spelled t b)) ended line.consumes);
       splits = λ asks number l n rest. ap (λ bs. cut asks (within (opened number l)) n (lines_of bs)) (append_assoc inv.piece more rest) ∙ inv.splits asks number l n (more ++ rest)
           ∙ text_line asks (so_far number l inv.content) (n + c.loop-found.lines) t rest line.no_line_feed goes
           ∙ ap (λ k. cut asks (within (so_far number l (more_text inv.content t))) k (lines_of rest)) (add_assoc n c.loop-found.lines 1);

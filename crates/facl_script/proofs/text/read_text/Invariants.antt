@@ -14,7 +14,8 @@ invariant-loop-found g l = record {
   piece : List ℕ;
   content : Option (List ℕ);
   consumes : Consumes (unread l.fn.source (g.R.Feed.remaining l.fn.reader)) (unread l.source (g.R.Feed.remaining l.reader)) piece;
-  splits : (asks : List ℕ → Bool) (number : ℕ) (line : List ℕ) (n : ℕ) (rest : List ℕ) → cut asks (within (opened number line)) n (lines_of (piece ++ rest)) ≡ cut asks (within (so_far number line content)) (n + l.lines) (lines_of rest);
+  splits : (asks : List ℕ → Bool) (number : ℕ) (line : List ℕ) (n : ℕ) (rest : List ℕ)
+      → cut asks (within (opened number line)) n (lines_of (piece ++ rest)) ≡ cut asks (within (so_far number line content)) (n + l.lines) (lines_of rest);
   holds : HoldsText l.held l.text.items content;
   count : taken_count l.source ≡ taken_count l.fn.source + length piece;
   lines : l.lines ≤ length piece;

@@ -42,7 +42,8 @@ loop-b-preserved c =
           })
       | in-Ends w ↦
           let h = rw (sym c.char_action.ensures ∙ w.in-Ends.is) at seen in
-          let asks = w.asks-takes.ensures ∙ ap (word_asks c.loop-b.is_first) (w.as_slice.ensures ∙ inv.beginning) ∙ asks_by_beginning c.loop-b.is_first inv.word ∙ ap (λ f. word_asks f inv.word) inv.first in
+          let asks = w.asks-takes.ensures ∙ ap (word_asks c.loop-b.is_first) (w.as_slice.ensures ∙ inv.beginning)
+          ∙ asks_by_beginning c.loop-b.is_first inv.word ∙ ap (λ f. word_asks f inv.word) inv.first in
           rw (c.after-place.ensures, w.beginning-is, w.is_first-is, w.takes-is)
           (record {
             done = inv.done ++ inv.word ∷ [];
@@ -66,7 +67,8 @@ returns-else-takes c =
     let inv = c.loop-b.invariant in
     let line = c.args.line.now in
     let h = rw (drop_all c.loop-b.b-index line c.loop-b-test.false, c.in-Within.is) at inv.seen in
-    let asks = c.asks.ensures ∙ ap (word_asks c.loop-b.is_first) (c.as_slice-else-takes.ensures ∙ inv.beginning) ∙ asks_by_beginning c.loop-b.is_first inv.word ∙ ap (λ f. word_asks f inv.word) inv.first in
+    let asks = c.asks.ensures ∙ ap (word_asks c.loop-b.is_first) (c.as_slice-else-takes.ensures ∙ inv.beginning) ∙ asks_by_beginning c.loop-b.is_first inv.word
+    ∙ ap (λ f. word_asks f inv.word) inv.first in
     rw (words_ask_within line inv.done inv.word h, sym inv.takes, c.if-takes.false) asks
 
 pub returns-in-Between : goal.returns-in-Between

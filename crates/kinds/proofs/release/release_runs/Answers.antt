@@ -9,7 +9,8 @@ loop-one-preserved g c =
     let i = c.loop-one.one-index in
     let found = c.args.found.now in
     subst (λ (os : List (Option ℕ)). ReleasesBut c.args.kinds os c.in_ok-released.released c.in_ok-released.number c.in_ok-released.count) (sym (take_more found i None c.loop-one-test.true))
-    (releases_more c.args.kinds c.loop-one.kinds c.in_ok-released.released (take i found) (get_or found i None) c.loop-one.last c.loop-one.pending c.in_ok-released.number c.in_ok-released.count c.loop-one.invariant c.in_ok-released.ensures)
+    (releases_more c.args.kinds c.loop-one.kinds c.in_ok-released.released (take i found)
+    (get_or found i None) c.loop-one.last c.loop-one.pending c.in_ok-released.number c.in_ok-released.count c.loop-one.invariant c.in_ok-released.ensures)
 
 pub returns : goal.returns
 returns g c =

@@ -25,8 +25,10 @@ push_replaced-requires g t c κs within =
         (
           within.1,
           (
-            order_of_front (λ c. g.P.Part.entries_of c.value) (length c.args.parts.now / 2) c.args.parts.now c.split_at.result.0.now c.split_at.result.1.now c.split_at.ensures.front c.split_at.ensures.back c.requires.entries,
-            front_order seen c.start.result c.args.puts.now c.split_at-in_default.result.0.now c.split_at-in_default.result.1.now c.split_at-in_default.ensures.front c.split_at-in_default.ensures.back c.requires.puts,
+            order_of_front (λ c. g.P.Part.entries_of c.value)
+                (length c.args.parts.now / 2) c.args.parts.now c.split_at.result.0.now c.split_at.result.1.now c.split_at.ensures.front c.split_at.ensures.back c.requires.entries,
+            front_order seen c.start.result c.args.puts.now c.split_at-in_default.result.0.now c.split_at-in_default.result.1.now
+                c.split_at-in_default.ensures.front c.split_at-in_default.ensures.back c.requires.puts,
           ),
         ),
       ),
@@ -41,8 +43,10 @@ push_replaced-requires-in_default g t c κs within =
         (
           within.1,
           (
-            order_of_back (λ c. g.P.Part.entries_of c.value) (length c.args.parts.now / 2) c.args.parts.now c.split_at.result.0.now c.split_at.result.1.now c.split_at.ensures.front c.split_at.ensures.back c.requires.entries,
-            back_order seen c.start.result c.args.puts.now c.split_at-in_default.result.0.now c.split_at-in_default.result.1.now c.split_at-in_default.ensures.front c.split_at-in_default.ensures.back c.requires.puts,
+            order_of_back (λ c. g.P.Part.entries_of c.value)
+                (length c.args.parts.now / 2) c.args.parts.now c.split_at.result.0.now c.split_at.result.1.now c.split_at.ensures.front c.split_at.ensures.back c.requires.entries,
+            back_order seen c.start.result c.args.puts.now c.split_at-in_default.result.0.now c.split_at-in_default.result.1.now
+                c.split_at-in_default.ensures.front c.split_at-in_default.ensures.back c.requires.puts,
           ),
         ),
       ),
@@ -56,7 +60,8 @@ returns-in_ok-push_replaced-in_default-2-clause-entries g t c =
     c.args.parts.now c.split_at.result.0.now c.split_at.result.1.now
     c.args.puts.now c.split_at-in_default.result.0.now c.split_at-in_default.result.1.now
     part c.first-middle.result.now
-    (flat_map (λ c. g.P.Part.entries_of c.value) c.args.new.now.items) (flat_map (λ c. g.P.Part.entries_of c.value) c.push_replaced.new.new.items) (flat_map (λ c. g.P.Part.entries_of c.value) c.push_replaced-in_default.new.new.items)
+    (flat_map (λ c. g.P.Part.entries_of c.value) c.args.new.now.items) (flat_map (λ c. g.P.Part.entries_of c.value) c.push_replaced.new.new.items)
+    (flat_map (λ c. g.P.Part.entries_of c.value) c.push_replaced-in_default.new.new.items)
     c.requires.entries c.split_at.ensures.front c.split_at.ensures.back
     some c.index-right-0.is
     (subst (λ n. 0 < n) (ap (λ es. length (g.P.Part.entries_of es)) c.deref-in_default.ensures) c.first-middle.ensures.some)
@@ -67,7 +72,8 @@ returns-in_ok-push_replaced-in_default-2-clause-entries g t c =
 pub returns-in-empty-clause-was : goal.returns-in-empty-clause-was
 returns-in-empty-clause-was g t c =
     let none : length c.args.parts.now ≡ 0 = omega (arith, c.in-empty.len_below) in
-    subst (λ es. OnOk c.push_none.result (c.push_none.new.new.items ≡ c.args.was.now.items ++ found (map seen c.args.puts.now) es)) (sym (no_part (λ c. g.P.Part.entries_of c.value) c.args.parts.now none)) c.push_none.ensures
+    subst (λ es. OnOk c.push_none.result (c.push_none.new.new.items ≡ c.args.was.now.items ++ found (map seen c.args.puts.now) es))
+    (sym (no_part (λ c. g.P.Part.entries_of c.value) c.args.parts.now none)) c.push_none.ensures
 
 pub returns-in_ok-push_replaced-in_default-2-clause-was : goal.returns-in_ok-push_replaced-in_default-2-clause-was
 returns-in_ok-push_replaced-in_default-2-clause-was g t c =

@@ -18,7 +18,8 @@ loop-part-preserved g c =
       same = length_left (g.P.Part.entries_of part) more all c.loop-part.left.now c.split_values.result.1.now whole back c.loop-part.invariant.same;
       entries =
           valued_step (g.P.Part.entries_of part) more all c.loop-part.left.now c.split_values.result.0.now c.split_values.result.1.now whole front back c.loop-part.invariant.same
-          (g.P.New.Part.entries_of c.in_ok-valued.field-0) old (flat_map (λ c. g.P.New.Part.entries_of c.value) c.push.new.self.items) (c.in_ok-valued.ensures ∙ ap (λ p. zip (map (λ e. e.0) (g.P.Part.entries_of p)) c.split_values.result.0.now) c.deref-in-Some.ensures)
+          (g.P.New.Part.entries_of c.in_ok-valued.field-0) old (flat_map (λ c. g.P.New.Part.entries_of c.value) c.push.new.self.items)
+          (c.in_ok-valued.ensures ∙ ap (λ p. zip (map (λ e. e.0) (g.P.Part.entries_of p)) c.split_values.result.0.now) c.deref-in-Some.ensures)
           (ap (λ l. flat_map (λ c. g.P.New.Part.entries_of c.value) l) c.in_ok-push.ensures.items
           ∙ flat_map-append (λ c. g.P.New.Part.entries_of c.value) c.loop-part.new.items (c.in_ok-new.field-0 ∷ [])
           ∙ ap (λ l. old ++ l) (append-nil (g.P.New.Part.entries_of c.in_ok-new.field-0.value) ∙ ap g.P.New.Part.entries_of c.in_ok-new.ensures.ok))

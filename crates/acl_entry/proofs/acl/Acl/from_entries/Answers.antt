@@ -28,7 +28,8 @@ returns-in-Some-unmasked-clause-reported c =
     let sorted = c.in_ok-sorted.ensures in
     let moved = IsPermutation-map (λ (e : Entry). e.key) es c.in_ok-sorted.sorted.items sorted.permutation in
     let base : missing_base (keys es) ≡ None = missing_base-moved _ _ moved ∙ ap (λ l. missing_base (keys l)) (sym c.deref.ensures) ∙ sym c.in_default.ensures in
-    λ _. fault_once es (omega arith) sorted.once ∙ ap (λ b. or_else (option_map MissingBase b) (option_map MissingMask (unmasked (keys es)))) base ∙ ap (option_map MissingMask) (sym c.in-Some-unmasked.ensures)
+    λ _. fault_once es (omega arith) sorted.once ∙ ap (λ b. or_else (option_map MissingBase b) (option_map MissingMask (unmasked (keys es)))) base
+    ∙ ap (option_map MissingMask) (sym c.in-Some-unmasked.ensures)
 
 pub invariant_of-result : goal.invariant_of-result
 invariant_of-result c =
@@ -51,7 +52,8 @@ returns-clause-no_fault c =
     let sorted = c.in_ok-sorted.ensures in
     let moved = IsPermutation-map (λ (e : Entry). e.key) es c.in_ok-sorted.sorted.items sorted.permutation in
     let base : missing_base (keys es) ≡ None = missing_base-moved _ _ moved ∙ ap (λ l. missing_base (keys l)) (sym c.deref.ensures) ∙ sym c.in_default.ensures in
-    fault_once es (omega arith) sorted.once ∙ ap (λ b. or_else (option_map MissingBase b) (option_map MissingMask (unmasked (keys es)))) base ∙ ap (option_map MissingMask) (sym c.in_default-unmasked.ensures)
+    fault_once es (omega arith) sorted.once ∙ ap (λ b. or_else (option_map MissingBase b) (option_map MissingMask (unmasked (keys es)))) base
+    ∙ ap (option_map MissingMask) (sym c.in_default-unmasked.ensures)
 
 pub returns-then-entries-gt-MAX_ENTRIES-clause-reported : goal.returns-then-entries-gt-MAX_ENTRIES-clause-reported
 returns-then-entries-gt-MAX_ENTRIES-clause-reported c = grind (arith, common_steps)

@@ -1,7 +1,7 @@
 use Rattle.std.proofs.Common.{◌≡◌, ◌∷◌, ◌++◌, [], map, ap, ◌∙◌}
 use Rattle.std.proofs.lemmas.List.{map_push}
+use Rattle.acl_names.proofs.Basics.{same_values}
 use Rattle.acl_people.specs.Changes.{name_added}
-use Rattle.acl_people.proofs.Pointers.{same_values}
 use Rattle.acl_people.proofs.Changed.{group_row}
 use Rattle.acl_people.proofs.groups.Group.with_name.Goals as goal
 

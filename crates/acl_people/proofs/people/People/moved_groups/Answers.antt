@@ -14,15 +14,20 @@ moved : (c : In_ok-groups) → AreMoved c.requires.before c.requires.after c.in_
 moved c =
     let old = persons c.args.self.now in
     let new = persons c.args.next.now in
-    let at : slice_get new c.args.user ≡ Some c.requires.after = ap (λ ps. slice_get ps c.args.user) c.requires.becomes ∙ slice_get-set_same old c.args.user c.requires.before c.requires.after c.requires.was in
-    let before : c.deref.result.now ≡ c.requires.before = c.deref.ensures ∙ subject_is (λ s. s.value) c.subjects.result.now old c.args.user c.index-subjects-user.result c.requires.before c.subjects.ensures c.requires.was c.index-subjects-user.is in
-    let after : c.deref-2.result.now ≡ c.requires.after = c.deref-2.ensures ∙ subject_is (λ s. s.value) c.subjects-2.result.now new c.args.user c.index-subjects-user-2.result c.requires.after c.subjects-2.ensures at c.index-subjects-user-2.is in
-    subst (λ (p : Person). AreMoved c.requires.before p c.in_ok-groups.groups.items) after (subst (λ (p : Person). AreMoved p c.deref-2.result.now c.in_ok-groups.groups.items) before c.in_ok-groups.ensures)
+    let at : slice_get new c.args.user ≡ Some c.requires.after = ap (λ ps. slice_get ps c.args.user) c.requires.becomes
+    ∙ slice_get-set_same old c.args.user c.requires.before c.requires.after c.requires.was in
+    let before : c.deref.result.now ≡ c.requires.before = c.deref.ensures
+    ∙ subject_is (λ s. s.value) c.subjects.result.now old c.args.user c.index-subjects-user.result c.requires.before c.subjects.ensures c.requires.was c.index-subjects-user.is in
+    let after : c.deref-2.result.now ≡ c.requires.after = c.deref-2.ensures
+    ∙ subject_is (λ s. s.value) c.subjects-2.result.now new c.args.user c.index-subjects-user-2.result c.requires.after c.subjects-2.ensures at c.index-subjects-user-2.is in
+    subst (λ (p : Person). AreMoved c.requires.before p c.in_ok-groups.groups.items) after
+    (subst (λ (p : Person). AreMoved p c.deref-2.result.now c.in_ok-groups.groups.items) before c.in_ok-groups.ensures)
 
 pub returns : goal.returns
 returns c =
     let old = persons c.args.self.now in
-    let at : slice_get (persons c.args.next.now) c.args.user ≡ Some c.requires.after = ap (λ ps. slice_get ps c.args.user) c.requires.becomes ∙ slice_get-set_same old c.args.user c.requires.before c.requires.after c.requires.was in
+    let at : slice_get (persons c.args.next.now) c.args.user ≡ Some c.requires.after = ap (λ ps. slice_get ps c.args.user) c.requires.becomes
+    ∙ slice_get-set_same old c.args.user c.requires.before c.requires.after c.requires.was in
     record {
       moved = record { change = c.requires; moved = moved c };
       ids = moved_ids c.args.self.now c.args.next.now c.args.user c.requires.before c.requires.after c.in_ok-groups.groups.items c.requires.was at (moved c);
@@ -38,7 +43,8 @@ bounds-subjects-user c =
 pub bounds-subjects-user-2 : goal.bounds-subjects-user-2
 bounds-subjects-user-2 c =
     let old = persons c.args.self.now in
-    let at : slice_get (persons c.args.next.now) c.args.user ≡ Some c.requires.after = ap (λ ps. slice_get ps c.args.user) c.requires.becomes ∙ slice_get-set_same old c.args.user c.requires.before c.requires.after c.requires.was in
+    let at : slice_get (persons c.args.next.now) c.args.user ≡ Some c.requires.after = ap (λ ps. slice_get ps c.args.user) c.requires.becomes
+    ∙ slice_get-set_same old c.args.user c.requires.before c.requires.after c.requires.was in
     let long = sym (length-map c.subjects-2.result.now (λ s. s.value)) ∙ ap length c.subjects-2.ensures in
     let within = slice_get_within (persons c.args.next.now) c.args.user c.requires.after at in
     omega (arith, long, within)

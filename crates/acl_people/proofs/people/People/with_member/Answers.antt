@@ -20,7 +20,8 @@ groups c =
     ∙ ap (λ rows. change_at c.args.group (name_added (name_of c.args.user c.args.self.now)) rows) (c.deref.ensures ∙ c.group_rows.ensures.rows)
 
 changes : (c : After-user_rows) → ChangesUser (persons c.args.self.now) (map (person c.in_ok-groups-2.groups.value) c.user_rows.result.now.value) c.args.user
-changes c = changes_as (persons c.args.self.now) _ _ _ _ c.args.user (groups c) c.user_rows.ensures.rows (added_changes c.args.self.now c.group_rows.ensures.sound c.args.user c.requires.user c.args.group)
+changes c = changes_as (persons c.args.self.now) _ _ _ _ c.args.user (groups c) c.user_rows.ensures.rows
+    (added_changes c.args.self.now c.group_rows.ensures.sound c.args.user c.requires.user c.args.group)
 
 pub with_rows-requires : goal.with_rows-requires
 with_rows-requires c = changes (goal.at.with_rows-requires c).After-user_rows

@@ -20,7 +20,8 @@ users c =
     ∙ ap (λ rows. change_at c.args.user (with_gid (gid_of c.args.group c.args.self.now)) rows) (c.deref.ensures ∙ c.user_rows.ensures.rows)
 
 changes : (c : After-group_rows) → ChangesUser (persons c.args.self.now) (map (person c.group_rows.result.now.value) c.in_ok-users-2.users.value) c.args.user
-changes c = changes_as (persons c.args.self.now) _ _ _ _ c.args.user c.group_rows.ensures.rows (users c) (primary_changes c.args.self.now c.user_rows.ensures.sound c.args.user c.requires.user c.args.group)
+changes c = changes_as (persons c.args.self.now) _ _ _ _ c.args.user c.group_rows.ensures.rows (users c)
+    (primary_changes c.args.self.now c.user_rows.ensures.sound c.args.user c.requires.user c.args.group)
 
 pub with_rows-requires : goal.with_rows-requires
 with_rows-requires c = changes c
@@ -29,7 +30,8 @@ pub returns-clause-rows : goal.returns-clause-rows
 returns-clause-rows c =
     let known = c.args.self.now in
     let before = (goal.at.returns-clause-rows c).After-group_rows in
-    IfOk-weaker c.with_rows.result (λ people. people ≡ with_rows_of known c.in_ok-users-2.users.value c.group_rows.result.now.value) (λ people. people ≡ with_primary_group c.args.user c.args.group known)
+    IfOk-weaker c.with_rows.result (λ people. people ≡ with_rows_of known c.in_ok-users-2.users.value c.group_rows.result.now.value)
+    (λ people. people ≡ with_primary_group c.args.user c.args.group known)
     (λ people is. is ∙ (λ i. with_rows_of known (users before i) (c.group_rows.ensures.rows i)))
     c.with_rows.ensures
 

@@ -63,4 +63,9 @@ bounds-rows-user c =
     omega (arith, within, as_long)
 
 pub returns : goal.returns
-returns c = λ i. record { users = c.in_ok-clone.ensures.cases i; groups = c.in_ok-clone-2.ensures.cases i; passwd_loaded = (c.self.view_is i).passwd_loaded; group_loaded = (c.self.view_is i).group_loaded }
+returns c = λ i. record {
+  users = c.in_ok-clone.ensures.cases i;
+  groups = c.in_ok-clone-2.ensures.cases i;
+  passwd_loaded = (c.self.view_is i).passwd_loaded;
+  group_loaded = (c.self.view_is i).group_loaded;
+}

@@ -24,7 +24,8 @@ pub with_user_row-requires : goal.with_user_row-requires
 with_user_row-requires c =
     let known = c.args.self.now in
     let next = user_row c.args.name.now c.args.uid c.gid_of-gid.result in
-    let counted : AreCounted (users_of known) = record { names = c.soundness_law.ensures.user_names; few = subst (λ n. n ≤ most_rows) (sym (length-map known.users user_entry)) c.soundness_law.ensures.few_users } in
+    let counted : AreCounted (users_of known) =
+    record { names = c.soundness_law.ensures.user_names; few = subst (λ n. n ≤ most_rows) (sym (length-map known.users user_entry)) c.soundness_law.ensures.few_users } in
     let name : c.as_bytes.result.now ≡ c.args.name.now = c.as_bytes.ensures ∙ c.as_name.ensures.all in
     let text : IsNameText c.args.name.now = record {
       filled = c.as_name.ensures.filled;

@@ -18,5 +18,6 @@ loop-first-preserved c id at =
     let count = c.count_of-count.result in
     let rest_is = take_all (length others - count) (drop count others) (let long = length-drop count others in omega (arith, long)) in
     ap (λ l. is_one_of at (noted_for c.add_all.new.self id) || is_noted id at l) rest_is
-    ∙ run_more c.in-Some.first.now others count id at c.loop-first.rest.now (is_one_of at (noted_for c.loop-first.noted id)) (is_one_of at (noted_for c.add_all.new.self id)) (is_noted id at c.args.notes.items)
+    ∙ run_more c.in-Some.first.now others count id at c.loop-first.rest.now (is_one_of at (noted_for c.loop-first.noted id))
+    (is_one_of at (noted_for c.add_all.new.self id)) (is_noted id at c.args.notes.items)
     c.in-Some.ensures.cases.0 c.count_of-count.ensures.all (c.in_ok-add_all.ensures id at) (c.loop-first.invariant id at)

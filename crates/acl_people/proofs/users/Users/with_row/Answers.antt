@@ -1,9 +1,9 @@
 use Rattle.std.proofs.Common.{◌≡◌, ◌∷◌, ◌++◌, [], map, sym, subst, ap, ◌∙◌}
 use Rattle.std.proofs.lemmas.List.{map_push}
 use Rattle.std.proofs.lemmas.Result.{IfOk-weaker}
+use Rattle.acl_names.proofs.Basics.{same_values}
 use Rattle.acl_people.specs.NameTables.{AreCounted}
 use Rattle.acl_people.specs.Entries.{user_entry}
-use Rattle.acl_people.proofs.Pointers.{same_values}
 use Rattle.acl_people.proofs.users.Users.with_row.Goals as goal
 use Rattle.acl_people.proofs.users.Users.with_row.Goals.{In_ok-push}
 

@@ -2,9 +2,10 @@ use Rattle.std.proofs.Common.{◌≡◌, ◌<◌, length, map, sym, subst, ap, �
 use Rattle.std.specs.List.{remove}
 use Rattle.std.proofs.lemmas.List.{length-map}
 use Rattle.std.proofs.lemmas.Result.{IfOk-weaker}
+use Rattle.acl_names.proofs.Basics.{same_values}
 use Rattle.acl_people.specs.NameTables.{AreCounted}
 use Rattle.acl_people.specs.Entries.{user_entry}
-use Rattle.acl_people.proofs.Pointers.{same_values, map-remove}
+use Rattle.acl_people.proofs.Pointers.{map-remove}
 use Rattle.acl_people.proofs.Counted.{counted_remove}
 use Rattle.acl_people.proofs.users.Users.without_row.Goals as goal
 use Rattle.acl_people.proofs.users.Users.without_row.Goals.{After-remove-gone}

@@ -55,7 +55,8 @@ invariant_of-self-2 c =
     let s = c.self.inside in
     let new = c.class_of.new.self in
     subst (AllPlaced new.rows) (sym c.in_ok-put.ensures)
-    (placed_pushed s.classes.rows new.rows (map seen s.files.items) c.depth_above-depth.result c.self.invariant c.in_ok-class.ensures.more c.args.path.now c.in_ok-class.class c.in_ok-class.ensures.class.within)
+    (placed_pushed s.classes.rows new.rows
+    (map seen s.files.items) c.depth_above-depth.result c.self.invariant c.in_ok-class.ensures.more c.args.path.now c.in_ok-class.class c.in_ok-class.ensures.class.within)
 
 pub returns-clause-found : goal.returns-clause-found
 returns-clause-found c =

@@ -9,4 +9,5 @@ pub returns : goal.returns
 returns c =
     ap (map seen) (c.in_ok-push-2.ensures.items ∙ ap (λ l. l ++ (c.args.path, c.args.row) ∷ []) c.truncate.ensures.items)
     ∙ map-append seen (take c.args.depth c.in-Some.rows.items) ((c.args.path, c.args.row) ∷ [])
-    ∙ ap (λ l. l ++ (c.args.path.now, c.args.row) ∷ []) (sym (take_seen seen c.args.depth c.in-Some.rows.items) ∙ ap (take c.args.depth) (ap (λ o. map seen (option_map_or (λ v. v.items) o [])) (sym c.in-Some.is) ∙ c.self.view_is))
+    ∙ ap (λ l. l ++ (c.args.path.now, c.args.row) ∷ [])
+    (sym (take_seen seen c.args.depth c.in-Some.rows.items) ∙ ap (take c.args.depth) (ap (λ o. map seen (option_map_or (λ v. v.items) o [])) (sym c.in-Some.is) ∙ c.self.view_is))

@@ -12,5 +12,6 @@ pub returns-clause-whole : goal.returns-clause-whole
 returns-clause-whole g c = record {
   users = ap (λ (x : VerdictTable). x.users) c.in_ok-table.ensures ∙ c.users.ensures;
   files = ap (λ (x : VerdictTable). x.files) c.in_ok-table.ensures;
-  rows = ap (λ (x : VerdictTable). x.rows) c.in_ok-table.ensures ∙ rowed_rows g.J.Judge.verdict_of (persons c.args.people.now) (entries_in c.in_ok-rows.rows.rows) c.args.tree.now.files c.in_ok-rows.ensures.rows;
+  rows = ap (λ (x : VerdictTable). x.rows) c.in_ok-table.ensures
+      ∙ rowed_rows g.J.Judge.verdict_of (persons c.args.people.now) (entries_in c.in_ok-rows.rows.rows) c.args.tree.now.files c.in_ok-rows.ensures.rows;
 }

@@ -48,7 +48,8 @@ returns-clause-whole g c =
     record {
       users = ap (λ (x : VerdictTable). x.users) c.in_ok-table.ensures ∙ c.users.ensures ∙ ap (λ (known : KnownPeople). length known.users) c.people.ensures;
       files = ap (λ (x : VerdictTable). x.files) c.in_ok-table.ensures ∙ ap (λ (r : Recorded). r.files) c.tree-2.ensures;
-      rows = ap (λ (x : VerdictTable). x.rows) c.in_ok-table.ensures ∙ rowed_rows g.J.Judge.verdict_of (persons t.state.people) (entries_in c.in_ok-new.new.rows.rows) t.state.tree.files c.in_ok-new.ensures.after.rows;
+      rows = ap (λ (x : VerdictTable). x.rows) c.in_ok-table.ensures
+          ∙ rowed_rows g.J.Judge.verdict_of (persons t.state.people) (entries_in c.in_ok-new.new.rows.rows) t.state.tree.files c.in_ok-new.ensures.after.rows;
     }
 
 pub returns-in_err-new-clause-bounded : goal.returns-in_err-new-clause-bounded

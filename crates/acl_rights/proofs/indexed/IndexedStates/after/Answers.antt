@@ -12,4 +12,5 @@ returns-in_ok-state-in-Ok-clause-same g c =
     let order =
     subst (λ (t : Recorded). IsInOrder t.files) (c.tree.ensures ∙ ap (λ (x : State). x.tree) c.state.ensures ∙ ap (λ (w : StatePair). w.state.tree) c.self.view_is) c.soundness_law.ensures.order in
     let ordered = subst (λ (t : Recorded). IsInOrder t.files) c.tree-2.ensures c.soundness_law-2.ensures.order in
-    same_next g.J.Judge.verdict_of c.args.self.now (record { state = s.state; loaded = s.loaded }) c.args.staged s.changed c.in-Ok.changed c.self.view_is c.requires.reports order ordered c.self.invariant c.in-Ok.ensures
+    same_next g.J.Judge.verdict_of c.args.self.now
+    (record { state = s.state; loaded = s.loaded }) c.args.staged s.changed c.in-Ok.changed c.self.view_is c.requires.reports order ordered c.self.invariant c.in-Ok.ensures

@@ -12,7 +12,8 @@ invariant_of-result c =
     let es = entries_in c.args.self.now.rows in
     let top = c.args.top.now in
     let are = ap rows_at (entries_after c.from-rest.result c.next-first.new.self c.next-first.result c.next-first.ensures.steps ∙ c.from-rest.ensures) ∙ rows_at-from top es in
-    left_from c.args.along (rows_at es) (rows_at (entries_left c.next-first.result c.next-first.new.self)) top c.in_ok-above.above (in_order-values (λ e. e.1.row) es c.order_law.ensures) are c.in_ok-above.ensures
+    left_from c.args.along (rows_at es) (rows_at (entries_left c.next-first.result c.next-first.new.self)) top c.in_ok-above.above
+    (in_order-values (λ e. e.1.row) es c.order_law.ensures) are c.in_ok-above.ensures
 
 pub returns : goal.returns
 returns c =

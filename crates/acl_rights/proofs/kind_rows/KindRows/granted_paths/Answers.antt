@@ -1,4 +1,4 @@
-use Rattle.std.proofs.Common.{map, ◌∙◌}
+use Rattle.std.proofs.Common.{◌∙◌}
 use Rattle.kinds.specs.Numbered.{entries_in}
 use Rattle.acl_rights.proofs.Granted.{may_rows}
 use Rattle.acl_rights.proofs.kind_rows.KindRows.granted_paths.Goals as goal

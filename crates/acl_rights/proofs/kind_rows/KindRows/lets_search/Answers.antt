@@ -12,7 +12,8 @@ loop-above-init c = asked_first (entries_in c.args.self.now.rows) c.args.user c.
 pub loop-above-smaller : goal.loop-above-smaller
 loop-above-smaller c =
     let es = entries_in c.args.self.now.rows in
-    let less = count_less es c.order_law.ensures (option_map borrowed c.loop-above.above) (borrowed c.in-Some.entry) (ap (option_map borrowed) c.in-Some.is) (option_map borrowed c.nearest_above-above-in-Some.result) c.nearest_above-above-in-Some.ensures in
+    let less = count_less es c.order_law.ensures (option_map borrowed c.loop-above.above) (borrowed c.in-Some.entry) (ap (option_map borrowed) c.in-Some.is)
+    (option_map borrowed c.nearest_above-above-in-Some.result) c.nearest_above-above-in-Some.ensures in
     omega (arith, less)
 
 pub loop-above-preserved : goal.loop-above-preserved

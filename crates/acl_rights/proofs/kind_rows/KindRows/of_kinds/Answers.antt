@@ -11,13 +11,16 @@ rows_of_numbers-requires-clause-known g c =
 
 pub with_nodes-requires-clause-long : goal.with_nodes-requires-clause-long
 with_nodes-requires-clause-long g c =
-    rows_long g.J.Judge.verdict_of c.args.users.now c.args.files.now.0 c.args.files.now.1 c.deref.result.now c.kinds-kinds.ensures.sound (ap (λ l. shared_nodes l) c.deref.ensures.value ∙ c.in_ok-nodes.ensures.rows)
+    rows_long g.J.Judge.verdict_of c.args.users.now c.args.files.now.0 c.args.files.now.1 c.deref.result.now c.kinds-kinds.ensures.sound
+    (ap (λ l. shared_nodes l) c.deref.ensures.value ∙ c.in_ok-nodes.ensures.rows)
 
 pub with_nodes-requires-clause-used : goal.with_nodes-requires-clause-used
 with_nodes-requires-clause-used g c =
-    rows_have g.J.Judge.verdict_of c.args.users.now c.args.files.now.0 c.args.files.now.1 c.deref.result.now c.kinds-kinds.ensures.sound (ap (λ l. shared_nodes l) c.deref.ensures.value ∙ c.in_ok-nodes.ensures.rows)
+    rows_have g.J.Judge.verdict_of c.args.users.now c.args.files.now.0 c.args.files.now.1 c.deref.result.now c.kinds-kinds.ensures.sound
+    (ap (λ l. shared_nodes l) c.deref.ensures.value ∙ c.in_ok-nodes.ensures.rows)
 
 pub returns-clause-rows : goal.returns-clause-rows
 returns-clause-rows g c =
     c.in_ok-rows.ensures
-    ∙ rows_rowed g.J.Judge.verdict_of c.args.users.now c.args.files.now.0 c.args.files.now.1 c.deref.result.now c.kinds-kinds.ensures.sound (ap (λ l. shared_nodes l) c.deref.ensures.value ∙ c.in_ok-nodes.ensures.rows)
+    ∙ rows_rowed g.J.Judge.verdict_of c.args.users.now c.args.files.now.0 c.args.files.now.1 c.deref.result.now c.kinds-kinds.ensures.sound
+    (ap (λ l. shared_nodes l) c.deref.ensures.value ∙ c.in_ok-nodes.ensures.rows)

@@ -15,7 +15,8 @@ pub returns-then-lets_search : goal.returns-then-lets_search
 returns-then-lets_search c =
     let requests : ℕ = c.in_ok-requests.requests in
     sym
-    (cell_here (entries_in c.args.self.now.rows) c.args.path.now c.args.user c.in_ok-node.node.now requests c.lets_search.result (sym c.in_ok-node.ensures) (sym c.in_ok-requests.ensures) c.lets_search.ensures
+    (cell_here (entries_in c.args.self.now.rows) c.args.path.now c.args.user c.in_ok-node.node.now requests c.lets_search.result (sym c.in_ok-node.ensures)
+    (sym c.in_ok-requests.ensures) c.lets_search.ensures
     ∙ ap (λ b. Some (cond b requests 0)) c.if-lets_search.true)
 
 pub returns-else-lets_search : goal.returns-else-lets_search
@@ -23,5 +24,6 @@ returns-else-lets_search c =
     let requests : ℕ = c.in_ok-requests.requests in
     ap (λ (n : ℕ). Some n) c.none.ensures
     ∙ sym
-    (cell_here (entries_in c.args.self.now.rows) c.args.path.now c.args.user c.in_ok-node.node.now requests c.lets_search.result (sym c.in_ok-node.ensures) (sym c.in_ok-requests.ensures) c.lets_search.ensures
+    (cell_here (entries_in c.args.self.now.rows) c.args.path.now c.args.user c.in_ok-node.node.now requests c.lets_search.result (sym c.in_ok-node.ensures)
+    (sym c.in_ok-requests.ensures) c.lets_search.ensures
     ∙ ap (λ b. Some (cond b requests 0)) c.if-lets_search.false)

@@ -14,7 +14,8 @@ reach-requires c =
 pub loop-at-preserved : goal.loop-at-preserved
 loop-at-preserved c =
     let here : c.loop-at.at < length c.in_ok-files.files.items = omega arith in
-    above_more c.args.top.now (entries_in c.args.self.now.rows) c.in_ok-files.files.items c.loop-at.at c.index-file.result.now c.loop-at.above here c.index-file.ensures c.reach.new.self c.in_ok-reach.field-0
+    above_more c.args.top.now
+    (entries_in c.args.self.now.rows) c.in_ok-files.files.items c.loop-at.at c.index-file.result.now c.loop-at.above here c.index-file.ensures c.reach.new.self c.in_ok-reach.field-0
     c.loop-at.invariant c.in_ok-reach.ensures.reached
 
 pub returns : goal.returns

@@ -7,4 +7,6 @@ use Rattle.acl_text.proofs.seen.Seen.contains.Goals as goal
 pub returns : goal.returns
 returns c =
     c.contains.ensures
-    ∙ any_same _ _ c.args.self.now.paths.keys (λ k. ap is_eq (by_bytes (λ v. v.items) c.as_slice.result.now k.items ∙ ap (λ p. path_cmp p (map (λ v. v.items) k.items)) (ap (λ l. map (λ v. v.items) l) c.as_slice.ensures.value ∙ c.in_ok-components.ensures)))
+    ∙ any_same _ _ c.args.self.now.paths.keys
+    (λ k. ap is_eq (by_bytes (λ v. v.items) c.as_slice.result.now k.items
+    ∙ ap (λ p. path_cmp p (map (λ v. v.items) k.items)) (ap (λ l. map (λ v. v.items) l) c.as_slice.ensures.value ∙ c.in_ok-components.ensures)))

@@ -16,7 +16,8 @@ loop-order-init c = side_begins c.args.users.now c.args.before c.args.after c.ar
 pub loop-order-preserved : goal.loop-order-preserved
 loop-order-preserved c =
     side_more c.args.users.now c.args.before c.args.after c.args.text.now.items c.loop-order.rest_before c.loop-order.rest_after c.push_next.new.before c.push_next.new.after
-    c.loop-order.text.items c.push_next.new.text.items c.in-Some.order (sym c.in-Some.ensures) c.in_ok-push_next.ensures.lines c.in_ok-push_next.ensures.before c.in_ok-push_next.ensures.after c.loop-order.invariant
+    c.loop-order.text.items c.push_next.new.text.items c.in-Some.order
+    (sym c.in-Some.ensures) c.in_ok-push_next.ensures.lines c.in_ok-push_next.ensures.before c.in_ok-push_next.ensures.after c.loop-order.invariant
 
 pub loop-order-smaller : goal.loop-order-smaller
 loop-order-smaller c =
@@ -27,4 +28,5 @@ loop-order-smaller c =
     (subst (λ (left : Walked). length (left_before c.in-Some.order before) + length left < length before + length after) (sym c.in_ok-push_next.ensures.after) fewer)
 
 pub returns : goal.returns
-returns c = side_ends c.args.users.now c.args.before c.args.after c.args.text.now.items c.loop-order.rest_before c.loop-order.rest_after c.loop-order.text.items (sym c.in_default.ensures) c.loop-order.invariant
+returns c = side_ends c.args.users.now c.args.before c.args.after c.args.text.now.items c.loop-order.rest_before c.loop-order.rest_after
+    c.loop-order.text.items (sym c.in_default.ensures) c.loop-order.invariant

@@ -24,4 +24,5 @@ returns-in-None g c =
     let now = c.args.verdicts.now.state.now in
     let same = subst (λ (o : Option (Bor PathOf)). SameOutside V (option_map (λ p. p.now) o) loaded now) c.in-None.is c.requires.same in
     let keeps = sym c.keep_places.ensures ∙ c.if-not-keep_places.false in
-    sym (ap (λ (lines : List ℕ). c.args.text.now.items ++ lines) (no_lines V c.args.verdicts.now.along loaded now c.args.users.now keeps c.requires.before c.requires.after same) ∙ append-nil c.args.text.now.items)
+    sym (ap (λ (lines : List ℕ). c.args.text.now.items ++ lines)
+    (no_lines V c.args.verdicts.now.along loaded now c.args.users.now keeps c.requires.before c.requires.after same) ∙ append-nil c.args.text.now.items)

@@ -7,11 +7,14 @@ use Rattle.facl.proofs.answers.class_counts.count_files.Goals as goal
 
 pub loop-counter-preserved-in-Continue-branch-3 : goal.loop-counter-preserved-in-Continue-branch-3
 loop-counter-preserved-in-Continue-branch-3 c =
-    let taken : IsFileTaken c.loop-counter.classes (c.in-Some.path.now, c.in-Some.class) c.next.new.self = subst (λ o. TakesFile c.loop-counter.classes (option_map seen o) c.next.new.self) c.in-Some.is c.in_ok-path.ensures.file in
+    let taken : IsFileTaken c.loop-counter.classes (c.in-Some.path.now, c.in-Some.class) c.next.new.self =
+    subst (λ o. TakesFile c.loop-counter.classes (option_map seen o) c.next.new.self) c.in-Some.is c.in_ok-path.ensures.file in
     file_counted c.args.paths.now c.args.classes.now.1 c.loop-counter.classes c.next.new.self c.loop-counter.counter.tallies c.in-Some.path.now c.in-Some.class taken c.loop-counter.invariant
     c.count.new.self.tallies (sym c.lies_in.ensures ∙ c.if-lies_in.true) c.in_ok-count.ensures
 
 pub loop-counter-preserved : goal.loop-counter-preserved
 loop-counter-preserved c =
-    let taken : IsFileTaken c.loop-counter.classes (c.in-Some.path.now, c.in-Some.class) c.next.new.self = subst (λ o. TakesFile c.loop-counter.classes (option_map seen o) c.next.new.self) c.in-Some.is c.in_ok-path.ensures.file in
-    file_passed c.args.paths.now c.args.classes.now.1 c.loop-counter.classes c.next.new.self c.loop-counter.counter.tallies c.in-Some.path.now c.in-Some.class taken c.loop-counter.invariant (sym c.lies_in.ensures ∙ c.if-lies_in.false)
+    let taken : IsFileTaken c.loop-counter.classes (c.in-Some.path.now, c.in-Some.class) c.next.new.self =
+    subst (λ o. TakesFile c.loop-counter.classes (option_map seen o) c.next.new.self) c.in-Some.is c.in_ok-path.ensures.file in
+    file_passed c.args.paths.now c.args.classes.now.1 c.loop-counter.classes c.next.new.self c.loop-counter.counter.tallies c.in-Some.path.now c.in-Some.class
+    taken c.loop-counter.invariant (sym c.lies_in.ensures ∙ c.if-lies_in.false)

@@ -15,7 +15,8 @@ loop-before-init c =
 pub returns-in_err-push_before : goal.returns-in_err-push_before
 returns-in_err-push_before c =
     let line_of : ℕ → List ℕ = λ after. lines_after (text_in c.args.loaded.now c.args.now.now) c.args.user.now (map tallied c.args.tallies.now) (side_of after) in
-    let begins = still_begins c.args.text.now.items (lines_up_to line_of c.loop-before.before) c.loop-before.text.items c.push_before.new.text.items c.loop-before.invariant c.in_err-push_before.ensures in
+    let begins = still_begins c.args.text.now.items
+    (lines_up_to line_of c.loop-before.before) c.loop-before.text.items c.push_before.new.text.items c.loop-before.invariant c.in_err-push_before.ensures in
     grind (arith, common_steps, begins)
 
 pub loop-before-preserved : goal.loop-before-preserved

@@ -13,7 +13,8 @@ returns g c =
     let V = g.J.Judge.verdict_of in
     let s = c.args.indexed.now in
     let of_people = c.people.ensures ∙ ap (λ (known : State). known.people) c.state.ensures in
-    let names : map (λ n. n.items) c.in_ok-names.names.items ≡ map (λ row. escaped row.name) s.people.users = c.in_ok-names.ensures ∙ ap (λ (known : KnownPeople). map (λ row. escaped row.name) known.users) of_people in
+    let names : map (λ n. n.items) c.in_ok-names.names.items ≡ map (λ row. escaped row.name) s.people.users = c.in_ok-names.ensures
+    ∙ ap (λ (known : KnownPeople). map (λ row. escaped row.name) known.users) of_people in
     let is = c.verdicts-verdicts.ensures in
     let files = c.of_verdicts-files.ensures in
     c.in_ok-push_files.ensures

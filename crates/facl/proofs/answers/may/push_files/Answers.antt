@@ -20,7 +20,8 @@ loop-file-preserved-then-is_first c =
     let e : PathOf × Node = (c.in-Some.file.0.now, c.in-Some.file.1.now) in
     let first : is_first e.0 left ≡ true = sym c.is_first.ensures ∙ c.if-is_first.true in
     step_taken c.args.tree.now.files c.loop-file.files c.next.new.self (map (λ p. p.now) c.args.paths.now) left c.args.text.now.items c.loop-file.text.items e
-    c.soundness_law.ensures.order c.in-Some.ensures.steps c.loop-file.invariant _ _ (found_file (next_file_below e.0 c.next.new.self) e) first (ap (map (λ p. p.now)) (rest_is c.loop-file.rest.now) ∙ map_drop (λ p. p.now) c.loop-file.rest.now) refl c.in_ok-push_before.ensures
+    c.soundness_law.ensures.order c.in-Some.ensures.steps c.loop-file.invariant _ _ (found_file (next_file_below e.0 c.next.new.self) e) first
+    (ap (map (λ p. p.now)) (rest_is c.loop-file.rest.now) ∙ map_drop (λ p. p.now) c.loop-file.rest.now) refl c.in_ok-push_before.ensures
 
 pub loop-file-preserved : goal.loop-file-preserved
 loop-file-preserved c =
@@ -31,4 +32,5 @@ loop-file-preserved c =
     c.soundness_law.ensures.order c.in-Some.ensures.steps c.loop-file.invariant other
 
 pub returns : goal.returns
-returns c = step_ends c.args.tree.now.files c.loop-file.files (map (λ p. p.now) c.args.paths.now) (map (λ p. p.now) c.loop-file.rest.now) c.args.text.now.items c.loop-file.text.items c.in_default.ensures.steps.0 c.loop-file.invariant
+returns c = step_ends c.args.tree.now.files c.loop-file.files (map (λ p. p.now) c.args.paths.now)
+    (map (λ p. p.now) c.loop-file.rest.now) c.args.text.now.items c.loop-file.text.items c.in_default.ensures.steps.0 c.loop-file.invariant

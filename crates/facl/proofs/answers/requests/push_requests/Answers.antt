@@ -37,7 +37,8 @@ loop-number-preserved c =
           let is = w.in-Some.ensures.1 in
           let more = one_granted granted numbers i c.loop-number-test.true (ap (has granted) (sym is) ∙ (sym w.has.ensures ∙ w.if-has.true)) in
           record {
-            text = text_step c.args.text.now.items c.loop-number.text.items c.match-from_number.text.items before (among granted (take (i + 1) numbers)) (numbered (get_or numbers i 0)) w.in-Some.request c.loop-number.is_first
+            text = text_step c.args.text.now.items c.loop-number.text.items c.match-from_number.text.items before (among granted (take (i + 1) numbers))
+                (numbered (get_or numbers i 0)) w.in-Some.request c.loop-number.is_first
                 (ap (λ t. t.items) w.text-is ∙ w.in_ok-push_request.ensures) c.loop-number.invariant.text c.loop-number.invariant.first is more;
             first = w.is_first-is ∙ sym (ap is_empty more ∙ not_empty before (numbered (get_or numbers i 0)));
           }

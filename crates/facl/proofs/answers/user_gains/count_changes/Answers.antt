@@ -10,7 +10,8 @@ loop-tally-init c = passed_none (both_of c.args.both.now) (map gained_of c.args.
 
 pub loop-tally-preserved : goal.loop-tally-preserved
 loop-tally-preserved c =
-    passed_next (both_of c.args.both.now) c.args.tallies.now c.loop-tally.tally-index c.tally-item.result c.tally-item.result c.args.users.now c.loop-tally.users c.count_tally.new.users c.loop-tally-test.true c.tally-item.is
+    passed_next (both_of c.args.both.now) c.args.tallies.now c.loop-tally.tally-index c.tally-item.result c.tally-item.result c.args.users.now
+    c.loop-tally.users c.count_tally.new.users c.loop-tally-test.true c.tally-item.is
     c.loop-tally.invariant c.in_ok-count_tally.ensures
 
 pub count_tally-requires : goal.count_tally-requires

@@ -12,14 +12,14 @@ use Rattle.facl.specs.Inner.{is_chosen}
 use Rattle.facl.proofs.Deciding.{chosen_decides}
 use Rattle.facl_output.proofs.Loops.{passed_added, other_left, all_passed}
 use Rattle.facl.proofs.answers.why.push_deciding.Goals as goal
-use Rattle.facl.proofs.answers.why.push_deciding.Goals.{then-is_chosen+in_ok-append_line, else-is_chosen}
+use Rattle.facl.proofs.answers.why.push_deciding.Goals.{then-is_chosen+in_ok-push_line, else-is_chosen}
 
-pub returns-in_err-append_line : goal.returns-in_err-append_line
-returns-in_err-append_line g c =
+pub returns-in_err-push_line : goal.returns-in_err-push_line
+returns-in_err-push_line g c =
     let line = entry_line (g.N.Names.naming c.args.names.now) WhereMasked Access c.get-mask.result in
     let chosen = is_chosen c.args.subject.now c.args.label.now.group c.sole_key-sole.result in
     let shown = flat_map line (filter chosen (take c.loop-entry.entry-index c.entries-entry-items.result.now)) in
-    let begins = still_begins c.args.text.now.items shown c.loop-entry.text.items c.append_line.new.text.items c.loop-entry.invariant c.in_err-append_line.ensures in
+    let begins = still_begins c.args.text.now.items shown c.loop-entry.text.items c.push_line.new.text.items c.loop-entry.invariant c.in_err-push_line.ensures in
     grind (arith, common_steps, begins)
 
 pub loop-entry-preserved : goal.loop-entry-preserved
@@ -31,9 +31,9 @@ loop-entry-preserved g c =
     let i = c.loop-entry.entry-index in
     let entry = c.entry-item.result in
     elim c.if-is_chosen.branch [
-      | then-is_chosen+in_ok-append_line w ↦
+      | then-is_chosen+in_ok-push_line w ↦
           passed_added line listed start chosen i entry entry c.loop-entry.text.items c.if-is_chosen.text.items c.loop-entry-test.true c.entry-item.is (sym c.is_chosen.ensures ∙ w.if-is_chosen.true)
-          c.loop-entry.invariant (ap (λ t. t.items) w.text-is ∙ w.in_ok-append_line.ensures)
+          c.loop-entry.invariant (ap (λ t. t.items) w.text-is ∙ w.in_ok-push_line.ensures)
       | else-is_chosen w ↦
           other_left line listed start chosen i entry entry c.loop-entry.text.items c.if-is_chosen.text.items c.loop-entry-test.true c.entry-item.is (sym c.is_chosen.ensures ∙ w.if-is_chosen.false)
           c.loop-entry.invariant (ap (λ t. t.items) w.text-is)

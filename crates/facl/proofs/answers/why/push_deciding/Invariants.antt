@@ -8,4 +8,5 @@ use Rattle.facl.proofs.answers.why.push_deciding.Given as goal
 
 abbrev pub invariant-loop-entry : goal.invariant-loop-entry
 invariant-loop-entry g l =
-    l.text.items ≡ l.initial.text.items ++ flat_map (entry_line (g.N.Names.naming l.names) WhereMasked Access l.mask) (filter (is_chosen l.subject l.label.group l.sole) (take l.entry-index l.entry-items))
+    l.text.items ≡ l.initial.text.items ++ flat_map (entry_line (g.N.Names.naming l.names) WhereMasked Access l.mask)
+    (filter (is_chosen l.subject l.label.group l.sole) (take l.entry-index l.entry-items))

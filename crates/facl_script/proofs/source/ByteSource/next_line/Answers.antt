@@ -15,7 +15,8 @@ returns-in-Some-clause-reads g c =
     let n : ℕ = c.in-Some.at in
     let front = take n piece in
     let cut : pending c.fill.new.self ≡ (front ++ 10 ∷ []) ++ pending c.skip.new.self =
-    sym c.pending-piece.ensures ∙ found.2 ∙ sym (append_assoc front (10 ∷ []) (drop (n + 1) piece)) ∙ ap (λ l. (front ++ 10 ∷ []) ++ l) (ap (drop (n + 1)) c.pending-piece.ensures ∙ sym c.skip.ensures.pending) in (
+    sym c.pending-piece.ensures ∙ found.2 ∙ sym (append_assoc front (10 ∷ []) (drop (n + 1) piece))
+    ∙ ap (λ l. (front ++ 10 ∷ []) ++ l) (ap (drop (n + 1)) c.pending-piece.ensures ∙ sym c.skip.ensures.pending) in (
       (
         inv.text ++ front,
         record {

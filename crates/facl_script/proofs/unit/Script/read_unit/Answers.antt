@@ -57,7 +57,9 @@ returns-then-not-found g c =
     let is = c.of-line.ensures t held in
     let takes : takes_text g.S.Session.asks t ≡ true = sym (takes_within g.S.Session.asks t) ∙ sym (c.takes.ensures (within_limit t) is) ∙ c.if-not-takes.false in
     let some = (line.last no_end).0 in
-    let consumes = subst (λ (b : Bool). Consumes (unread c.args.self.now.source (g.R.Feed.remaining c.args.reader.now)) (unread c.next_line.new.self (g.R.Feed.remaining c.next_line.new.reader)) (spelled t b)) no_end line.consumes in
+    let consumes = subst
+    (λ (b : Bool). Consumes (unread c.args.self.now.source (g.R.Feed.remaining c.args.reader.now))
+    (unread c.next_line.new.self (g.R.Feed.remaining c.next_line.new.reader)) (spelled t b)) no_end line.consumes in
     let count = subst (λ (b : Bool). taken_count c.next_line.new.self ≡ taken_count c.args.self.now.source + length (spelled t b)) no_end line.count in (
       (
         t,
@@ -71,7 +73,14 @@ returns-then-not-found g c =
           lines = omega (arith, some);
           count = count;
         },
-        record { number = refl; line_is = subst (λ (l : List ℕ). IsLineFound c.of-line.result l (Some t)) c.as_slice-bytes.ensures.value (subst (λ o. IsLineFound c.of-line.result c.as_slice-bytes.result.now o) (takes_some g.S.Session.asks t takes) is); text_is = refl; full = refl; lost = λ e. cc },
+        record {
+          number = refl;
+          line_is = subst (λ (l : List ℕ). IsLineFound c.of-line.result l (Some t)) c.as_slice-bytes.ensures.value
+              (subst (λ o. IsLineFound c.of-line.result c.as_slice-bytes.result.now o) (takes_some g.S.Session.asks t takes) is);
+          text_is = refl;
+          full = refl;
+          lost = λ e. cc;
+        },
       ),
       c.in_ok-found.ensures.reads.1,
     )
@@ -85,7 +94,9 @@ returns-in_err-read g c =
     let held = subst (λ (l : List ℕ). Held c.in-Some.found.is_too_long l t) (sym c.as_slice-bytes.ensures.value) line.held in
     let is = c.of-line.ensures t held in
     let takes : takes_text g.S.Session.asks t ≡ true = sym (takes_within g.S.Session.asks t) ∙ sym (c.takes.ensures (within_limit t) is) ∙ c.if-not-takes.false in
-    let consumes = subst (λ (b : Bool). Consumes (unread c.args.self.now.source (g.R.Feed.remaining c.args.reader.now)) (unread c.next_line.new.self (g.R.Feed.remaining c.next_line.new.reader)) (spelled t b)) ended line.consumes in
+    let consumes = subst
+    (λ (b : Bool). Consumes (unread c.args.self.now.source (g.R.Feed.remaining c.args.reader.now))
+    (unread c.next_line.new.self (g.R.Feed.remaining c.next_line.new.reader)) (spelled t b)) ended line.consumes in
     let count = subst (λ (b : Bool). taken_count c.next_line.new.self ≡ taken_count c.args.self.now.source + length (spelled t b)) ended line.count in
     let h = c.in_err-read.ensures.reads in
     let p = err_from_is_err_and c.from_residual-in_err-read.result c.from_residual-in_err-read.ensures.1 in
@@ -116,8 +127,11 @@ returns g c =
     let held = subst (λ (l : List ℕ). Held c.in-Some.found.is_too_long l t) (sym c.as_slice-bytes.ensures.value) line.held in
     let is = c.of-line.ensures t held in
     let takes : takes_text g.S.Session.asks t ≡ true = sym (takes_within g.S.Session.asks t) ∙ sym (c.takes.ensures (within_limit t) is) ∙ c.if-not-takes.false in
-    let same = subst (λ (l : List ℕ). IsLineFound c.of-line.result l (Some t)) c.as_slice-bytes.ensures.value (subst (λ o. IsLineFound c.of-line.result c.as_slice-bytes.result.now o) (takes_some g.S.Session.asks t takes) is) in
-    let consumes = subst (λ (b : Bool). Consumes (unread c.args.self.now.source (g.R.Feed.remaining c.args.reader.now)) (unread c.next_line.new.self (g.R.Feed.remaining c.next_line.new.reader)) (spelled t b)) ended line.consumes in
+    let same = subst (λ (l : List ℕ). IsLineFound c.of-line.result l (Some t)) c.as_slice-bytes.ensures.value
+    (subst (λ o. IsLineFound c.of-line.result c.as_slice-bytes.result.now o) (takes_some g.S.Session.asks t takes) is) in
+    let consumes = subst
+    (λ (b : Bool). Consumes (unread c.args.self.now.source (g.R.Feed.remaining c.args.reader.now))
+    (unread c.next_line.new.self (g.R.Feed.remaining c.next_line.new.reader)) (spelled t b)) ended line.consumes in
     let count = subst (λ (b : Bool). taken_count c.next_line.new.self ≡ taken_count c.args.self.now.source + length (spelled t b)) ended line.count in
     let found = c.in_ok-read.ensures.reads.0 in
     let piece : List ℕ = found.0 in
@@ -128,7 +142,8 @@ returns g c =
         closed (opened n t) found.1 c.in_ok-read.read.is_full,
         record {
           consumes = Consumes-trans _ _ _ _ _ consumes text.consumes;
-          splits = λ rest last. ap (λ l. cut g.S.Session.asks outside n (lines_of l)) (append_assoc front piece rest) ∙ unit_opens g.S.Session.asks n t (piece ++ rest) line.no_line_feed takes ∙ text.splits g.S.Session.asks n t (n + 1) rest last
+          splits = λ rest last. ap (λ l. cut g.S.Session.asks outside n (lines_of l)) (append_assoc front piece rest)
+              ∙ unit_opens g.S.Session.asks n t (piece ++ rest) line.no_line_feed takes ∙ text.splits g.S.Session.asks n t (n + 1) rest last
               ∙ ap (λ k. closed (opened n t) found.1 c.in_ok-read.read.is_full ∷ cut g.S.Session.asks outside k (lines_of rest)) (add_assoc n 1 c.in_ok-read.read.lines);
           last = text.last;
           numbered = refl;

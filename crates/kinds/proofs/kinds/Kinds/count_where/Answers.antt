@@ -1,7 +1,7 @@
-use Rattle.std.proofs.Common.{◌≡◌, ◌+◌, ◌<◌, ◌≤◌, ℕ, suc, length, sym, ap, subst, ◌∙◌, arith, rules}
+use Rattle.std.proofs.Common.{◌≡◌, ◌+◌, ◌<◌, suc, length, sym, ap, ◌∙◌, arith}
 use Rattle.std.proofs.lemmas.List.{length-map}
 use Rattle.kinds.specs.Kinds.{KindsOf}
-use Rattle.kinds.specs.Renewed.{one_where, weight_at, weight_before}
+use Rattle.kinds.specs.Renewed.{one_where, weight_before}
 use Rattle.kinds.proofs.Renewals.{weight_fits}
 use Rattle.kinds.proofs.kinds.Kinds.count_where.Goals as goal
 

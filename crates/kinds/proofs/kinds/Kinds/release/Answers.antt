@@ -1,5 +1,5 @@
-use Rattle.std.proofs.Common.{◌≡◌, ◌-◌, ◌≤◌, [], ◌∷◌, List, Option, ℕ, None, set, get_or, sym, ap, subst, ◌∙◌, arith}
-use Rattle.kinds.specs.Kinds.{KindsOf, kinds_of, count_at, Releases}
+use Rattle.std.proofs.Common.{◌≡◌, ◌-◌, ◌≤◌, None, set, get_or, sym, ap, subst, ◌∙◌, arith}
+use Rattle.kinds.specs.Kinds.{KindsOf, kinds_of, Releases}
 use Rattle.kinds.proofs.Numbers.{freed, freed_at}
 use Rattle.kinds.proofs.kinds.Kinds.release.Goals as goal
 

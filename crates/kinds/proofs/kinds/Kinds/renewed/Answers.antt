@@ -1,4 +1,4 @@
-use Rattle.std.proofs.Common.{◌≡◌, ◌+◌, ◌<◌, ◌≤◌, ◌++◌, [], ◌∷◌, ℕ, suc, List, Option, length, sym, ap, subst, ◌∙◌, arith}
+use Rattle.std.proofs.Common.{◌≡◌, ◌+◌, ◌<◌, suc, length, sym, ap, subst, ◌∙◌, arith}
 use Rattle.std.proofs.lemmas.List.{length-map}
 use Rattle.kinds.specs.Kinds.{KindsOf, kinds_of, HasRoom}
 use Rattle.kinds.specs.Renewed.{renewed_before, counts_before, weight_before, Renews}
@@ -55,5 +55,6 @@ returns-clause-renews g c =
     let k : KindsOf g.row.N.Denot = c.args.self.now in
     let same : length c.self.inside.slots ≡ length k.0 = sym (length-map c.self.inside.slots (λ s. s.0)) ∙ ap (λ (k : KindsOf g.row.N.Denot). length k.0) c.self.view_is in
     let end : c.loop-number.number ≡ length k.0 = omega (arith, c.loop-number-test.false, c.loop-number.auto.number-end, c.len-number-end.ensures, same) in
-    let made : kinds_of c.loop-number.slots ≡ (renewed_before f k (length k.0), counts_before k (length k.0)) = c.loop-number.invariant.slots ∙ ap (λ m. (renewed_before f k m, counts_before k m)) end in
+    let made : kinds_of c.loop-number.slots ≡ (renewed_before f k (length k.0), counts_before k (length k.0)) = c.loop-number.invariant.slots
+    ∙ ap (λ m. (renewed_before f k m, counts_before k m)) end in
     subst (λ (new : KindsOf g.row.M.Denot). Renews f k new) (sym made) (renews f k (subst (λ (k : KindsOf g.row.N.Denot). HasRoom k) c.self.view_is (room c.self.inside.slots)))

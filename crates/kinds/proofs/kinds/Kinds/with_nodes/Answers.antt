@@ -26,6 +26,7 @@ returns g c =
     let k : KindsOf g.row.M.Denot = (shared_nodes c.args.nodes.now, c.args.self.now.1) in
     let long : length k.0 ≡ length c.args.nodes.now = length-map c.args.nodes.now (option_map (λ r. r.value)) in
     let end : c.loop-number.number ≡ length k.0 = omega (arith, c.loop-number-test.false, c.loop-number.auto.number-end, long) in
-    let made : kinds_of c.loop-number.slots ≡ (renewed_before (λ x. x) k (length k.0), counts_before k (length k.0)) = c.loop-number.invariant ∙ ap (λ m. (renewed_before (λ x. x) k m, counts_before k m)) end in
+    let made : kinds_of c.loop-number.slots ≡ (renewed_before (λ x. x) k (length k.0), counts_before k (length k.0)) = c.loop-number.invariant
+    ∙ ap (λ m. (renewed_before (λ x. x) k m, counts_before k m)) end in
     let has_room : HasRoom k = subst (λ (k : KindsOf g.row.N.Denot). HasRoom k) c.self.view_is (room c.self.inside.slots) ∙ sym c.requires ∙ sym long in
     subst (λ (new : KindsOf g.row.M.Denot). Renews (λ x. x) k new) (sym made) (renews (λ x. x) k has_room)

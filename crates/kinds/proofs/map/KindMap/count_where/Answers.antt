@@ -1,8 +1,8 @@
-use Rattle.std.proofs.Common.{◌≡◌, ◌+◌, ◌<◌, ◌≤◌, ℕ, length, count_by, sym, ap, subst, ◌∙◌, arith}
+use Rattle.std.proofs.Common.{length, ap, ◌∙◌, arith}
 use Rattle.std.proofs.lemmas.List.Sums.{count_by-le-length}
 use Rattle.kinds.specs.Kinds.{KindsOf}
-use Rattle.kinds.specs.Numbered.{Numbers, Kept, entries_in}
-use Rattle.kinds.specs.Renewed.{one_where, weight_of, weight_before}
+use Rattle.kinds.specs.Numbered.{Kept, entries_in}
+use Rattle.kinds.specs.Renewed.{one_where, weight_before}
 use Rattle.kinds.proofs.Renewals.{weight_all}
 use Rattle.kinds.proofs.map.KindMap.count_where.Goals as goal
 

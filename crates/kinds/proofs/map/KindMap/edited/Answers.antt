@@ -36,7 +36,8 @@ of-requires g c =
     let done : Numbers = map seen c.args.entries.now in
     let puts : Numbers = map seen e.puts.items in
     let edit = g.E.KindEdit.edited c.args.edit.now in
-    let made : AreEdited edit k0 done e.kinds e.memo.met.items puts = subst (λ (k : KindsOf g.row.N.Denot). AreEdited edit k done e.kinds e.memo.met.items puts) (c.in_ok-share.ensures ∙ c.kinds.ensures.all) c.in_ok-edited.ensures.made in
+    let made : AreEdited edit k0 done e.kinds e.memo.met.items puts =
+    subst (λ (k : KindsOf g.row.N.Denot). AreEdited edit k done e.kinds e.memo.met.items puts) (c.in_ok-share.ensures ∙ c.kinds.ensures.all) c.in_ok-edited.ensures.made in
     let moves : Moves e.kinds e.memo.met.items c.in_ok-kinds.kinds = subst (λ (ms : List Met). Moves e.kinds ms c.in_ok-kinds.kinds) c.deref-2.ensures.value c.in_ok-kinds.ensures in
     let numbers : c.in_ok-numbers.numbers ≡ put_all puts ns =
     c.in_ok-numbers.ensures ∙ (λ i. with_values (map seen (c.deref.ensures.value i)) (c.numbers.ensures.all i))
@@ -53,7 +54,8 @@ returns-clause-made g c =
     let done : Numbers = map seen c.args.entries.now in
     let puts : Numbers = map seen e.puts.items in
     let edit = g.E.KindEdit.edited c.args.edit.now in
-    let made : AreEdited edit k0 done e.kinds e.memo.met.items puts = subst (λ (k : KindsOf g.row.N.Denot). AreEdited edit k done e.kinds e.memo.met.items puts) (c.in_ok-share.ensures ∙ c.kinds.ensures.all) c.in_ok-edited.ensures.made in
+    let made : AreEdited edit k0 done e.kinds e.memo.met.items puts =
+    subst (λ (k : KindsOf g.row.N.Denot). AreEdited edit k done e.kinds e.memo.met.items puts) (c.in_ok-share.ensures ∙ c.kinds.ensures.all) c.in_ok-edited.ensures.made in
     let moves : Moves e.kinds e.memo.met.items c.in_ok-kinds.kinds = subst (λ (ms : List Met). Moves e.kinds ms c.in_ok-kinds.kinds) c.deref-2.ensures.value c.in_ok-kinds.ensures in
     edits_are edit k0 e.kinds c.in_ok-kinds.kinds ns done puts e.memo.met.items c.kinds.ensures.sound c.requires.order c.requires.among made moves
     ∙ ap (λ (m : Kept g.row.N.Denot). Ok (entries_by m.0 puts)) (sym c.in_ok-map.ensures)
@@ -66,7 +68,8 @@ returns-clause-put g c =
     let done : Numbers = map seen c.args.entries.now in
     let puts : Numbers = map seen e.puts.items in
     let edit = g.E.KindEdit.edited c.args.edit.now in
-    let made : AreEdited edit k0 done e.kinds e.memo.met.items puts = subst (λ (k : KindsOf g.row.N.Denot). AreEdited edit k done e.kinds e.memo.met.items puts) (c.in_ok-share.ensures ∙ c.kinds.ensures.all) c.in_ok-edited.ensures.made in
+    let made : AreEdited edit k0 done e.kinds e.memo.met.items puts =
+    subst (λ (k : KindsOf g.row.N.Denot). AreEdited edit k done e.kinds e.memo.met.items puts) (c.in_ok-share.ensures ∙ c.kinds.ensures.all) c.in_ok-edited.ensures.made in
     let moves : Moves e.kinds e.memo.met.items c.in_ok-kinds.kinds = subst (λ (ms : List Met). Moves e.kinds ms c.in_ok-kinds.kinds) c.deref-2.ensures.value c.in_ok-kinds.ensures in
     let numbers : c.in_ok-numbers.numbers ≡ put_all puts ns =
     c.in_ok-numbers.ensures ∙ (λ i. with_values (map seen (c.deref.ensures.value i)) (c.numbers.ensures.all i))

@@ -5,7 +5,8 @@ use Rattle.kinds.proofs.map.KindMap.len.Goals as goal
 
 pub len-requires : goal.len-requires
 len-requires g c = record {
-  few = subst (λ n. n < 18446744073709551616) (length_same c.args.self.now.0 c.args.self.now.1 c.numbers.ensures.sound.used ∙ ap (λ (ns : Numbers). length ns) (sym c.numbers.ensures.all)) c.requires.few;
+  few = subst (λ n. n < 18446744073709551616)
+      (length_same c.args.self.now.0 c.args.self.now.1 c.numbers.ensures.sound.used ∙ ap (λ (ns : Numbers). length ns) (sym c.numbers.ensures.all)) c.requires.few;
 }
 
 pub returns : goal.returns

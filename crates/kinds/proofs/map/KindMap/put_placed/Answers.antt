@@ -16,7 +16,9 @@ pub entries_numbered-requires : goal.entries_numbered-requires
 entries_numbered-requires g c =
     let k0 : KindsOf g.row.N.Denot = c.args.self.now.0 in
     let nodes = map (given k0) c.args.nodes.now in
-    let adds : AddsNodes k0 nodes c.in_ok-kinds.numbers.items c.in_ok-kinds.kinds = subst (λ (k : KindsOf g.row.N.Denot). AddsNodes k (map (given k) c.args.nodes.now) c.in_ok-kinds.numbers.items c.in_ok-kinds.kinds) (c.in_ok-share.ensures ∙ c.kinds.ensures.all) c.in_ok-kinds.ensures in
+    let adds : AddsNodes k0 nodes c.in_ok-kinds.numbers.items c.in_ok-kinds.kinds =
+    subst (λ (k : KindsOf g.row.N.Denot). AddsNodes k (map (given k) c.args.nodes.now) c.in_ok-kinds.numbers.items c.in_ok-kinds.kinds)
+    (c.in_ok-share.ensures ∙ c.kinds.ensures.all) c.in_ok-kinds.ensures in
     let long : length c.args.nodes.now ≡ length c.deref.result.now = sym (length-map c.args.nodes.now (given k0)) ∙ sym adds.long ∙ sym (ap length c.deref.ensures.value) in
     subst (λ m. ArePlaces m (map seen c.args.entries.now)) long c.requires.places
 
@@ -27,7 +29,8 @@ put_numbered-requires-clause-added g c =
     let numbers = c.in_ok-kinds.numbers.items in
     let nodes = map (given k0) c.args.nodes.now in
     let asked : Numbers = map seen c.args.entries.now in
-    let adds : AddsNodes k0 nodes numbers k1 = subst (λ (k : KindsOf g.row.N.Denot). AddsNodes k (map (given k) c.args.nodes.now) numbers k1) (c.in_ok-share.ensures ∙ c.kinds.ensures.all) c.in_ok-kinds.ensures in
+    let adds : AddsNodes k0 nodes numbers k1 = subst (λ (k : KindsOf g.row.N.Denot). AddsNodes k (map (given k) c.args.nodes.now) numbers k1)
+    (c.in_ok-share.ensures ∙ c.kinds.ensures.all) c.in_ok-kinds.ensures in
     let long : length c.args.nodes.now ≡ length numbers = sym (length-map c.args.nodes.now (given k0)) ∙ sym adds.long in
     let are : AllByRecursion (λ n. IsNode k1 n) numbers = nodes_used k0 k1 nodes (all_given k0 c.args.nodes.now c.requires.given) numbers adds in
     let same : map (seen {V = ℕ}) c.deref-2.result.now ≡ by_place numbers asked =
@@ -49,11 +52,13 @@ returns g c =
     let numbers = c.in_ok-kinds.numbers.items in
     let nodes = map (given k0) c.args.nodes.now in
     let asked : Numbers = map seen c.args.entries.now in
-    let adds : AddsNodes k0 nodes numbers k1 = subst (λ (k : KindsOf g.row.N.Denot). AddsNodes k (map (given k) c.args.nodes.now) numbers k1) (c.in_ok-share.ensures ∙ c.kinds.ensures.all) c.in_ok-kinds.ensures in
+    let adds : AddsNodes k0 nodes numbers k1 = subst (λ (k : KindsOf g.row.N.Denot). AddsNodes k (map (given k) c.args.nodes.now) numbers k1)
+    (c.in_ok-share.ensures ∙ c.kinds.ensures.all) c.in_ok-kinds.ensures in
     let same : map (seen {V = ℕ}) c.deref-2.result.now ≡ by_place numbers asked =
     ap (map (seen {V = ℕ})) c.deref-2.ensures.value ∙ c.in_ok-entries.ensures ∙ ap (λ (ns : List ℕ). by_place ns asked) c.deref.ensures.value in
     let puts : entries_by k1 (map seen c.deref-2.result.now) ≡ placed nodes asked =
     ap (λ (es : Numbers). entries_by k1 es) same
-    ∙ placed_entries k0 k1 nodes (all_given k0 c.args.nodes.now c.requires.given) numbers adds asked (subst (λ m. ArePlaces m asked) (sym (length-map c.args.nodes.now (given k0))) c.requires.places) in
+    ∙ placed_entries k0 k1 nodes (all_given k0 c.args.nodes.now c.requires.given) numbers adds asked
+    (subst (λ m. ArePlaces m asked) (sym (length-map c.args.nodes.now (given k0))) c.requires.places) in
     c.in_ok-map.ensures
     ∙ ap (λ (es : List (PathOf × g.row.N.Denot)). put_all es (entries_in c.args.self.now)) puts

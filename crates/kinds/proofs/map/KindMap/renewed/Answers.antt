@@ -1,7 +1,7 @@
-use Rattle.std.proofs.Common.{◌≡◌, ◌+◌, ◌<◌, ◌≤◌, ℕ, length, sym, ap, subst, ◌∙◌, arith}
+use Rattle.std.proofs.Common.{◌≡◌, length, sym, ap, subst, ◌∙◌, arith}
 use Rattle.kinds.specs.Kinds.{KindsOf}
 use Rattle.kinds.specs.Numbered.{Numbers, Kept, AreSound, entries_by, entries_in}
-use Rattle.kinds.specs.Renewed.{renewed, weight_of, weight_before, Renews}
+use Rattle.kinds.specs.Renewed.{renewed, weight_before, Renews}
 use Rattle.kinds.proofs.Renewals.{weight_all, renewed_entries, renewed_sound}
 use Rattle.kinds.proofs.map.KindMap.renewed.Goals as goal
 

@@ -1,4 +1,4 @@
-use Rattle.std.proofs.Common.{◌≡◌, ◌<◌, Some, sym, ap, subst, arith, ◌∙◌}
+use Rattle.std.proofs.Common.{◌≡◌, ◌<◌, Some, sym, ap, arith, ◌∙◌}
 use Rattle.std.specs.Option.{option_copied}
 use Rattle.kinds.specs.Kinds.{KindsOf, node_at, count_at}
 use Rattle.kinds.specs.Numbered.{paths_with}

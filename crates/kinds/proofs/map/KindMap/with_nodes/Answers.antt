@@ -11,7 +11,8 @@ pub of-requires : goal.of-requires
 of-requires g c =
     let kept : Kept g.row.N.Denot = c.args.self.now in
     let nodes : List (Option g.row.M.Denot) = shared_nodes c.args.nodes.now in
-    let renews : Renews (λ x. x) (nodes, kept.0.1) c.in_ok-kinds.kinds = subst (λ (k : KindsOf g.row.N.Denot). Renews (λ x. x) (nodes, k.1) c.in_ok-kinds.kinds) c.kinds.ensures.all c.in_ok-kinds.ensures in
+    let renews : Renews (λ x. x) (nodes, kept.0.1) c.in_ok-kinds.kinds =
+    subst (λ (k : KindsOf g.row.N.Denot). Renews (λ x. x) (nodes, k.1) c.in_ok-kinds.kinds) c.kinds.ensures.all c.in_ok-kinds.ensures in
     let numbers : c.in_ok-numbers.numbers ≡ kept.1 = c.in_ok-numbers.ensures ∙ c.numbers.ensures.all in
     subst (λ (ns : Numbers). AreSound c.in_ok-kinds.kinds ns) (sym numbers)
     (renewed_sound (λ x. x) (nodes, kept.0.1) c.in_ok-kinds.kinds kept.1 (given_sound kept.0 nodes kept.1 c.kinds.ensures.sound c.requires.used) renews)
@@ -20,7 +21,8 @@ pub returns : goal.returns
 returns g c =
     let kept : Kept g.row.N.Denot = c.args.self.now in
     let nodes : List (Option g.row.M.Denot) = shared_nodes c.args.nodes.now in
-    let renews : Renews (λ x. x) (nodes, kept.0.1) c.in_ok-kinds.kinds = subst (λ (k : KindsOf g.row.N.Denot). Renews (λ x. x) (nodes, k.1) c.in_ok-kinds.kinds) c.kinds.ensures.all c.in_ok-kinds.ensures in
+    let renews : Renews (λ x. x) (nodes, kept.0.1) c.in_ok-kinds.kinds =
+    subst (λ (k : KindsOf g.row.N.Denot). Renews (λ x. x) (nodes, k.1) c.in_ok-kinds.kinds) c.kinds.ensures.all c.in_ok-kinds.ensures in
     let numbers : c.in_ok-numbers.numbers ≡ kept.1 = c.in_ok-numbers.ensures ∙ c.numbers.ensures.all in
     ap (λ (m : Kept g.row.M.Denot). entries_in m) c.in_ok-map.ensures
     ∙ ap (entries_by c.in_ok-kinds.kinds) numbers

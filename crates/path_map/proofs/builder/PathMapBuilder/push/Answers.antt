@@ -21,5 +21,6 @@ invariant_of-self-2 g c =
 
 pub returns : goal.returns
 returns g c =
-    one_more (flat_map (λ c. c.value) c.make_room.new.chunks.items) _ _ _ _ c.args.path c.args.value c.in_ok-make_room.ensures.gathered.same c.in_ok-push_both.ensures.paths c.in_ok-push_both.ensures.values
+    one_more (flat_map (λ c. c.value) c.make_room.new.chunks.items) _ _ _ _ c.args.path c.args.value c.in_ok-make_room.ensures.gathered.same
+    c.in_ok-push_both.ensures.paths c.in_ok-push_both.ensures.values
     ∙ ap (λ l. l ++ (c.args.path, c.args.value) ∷ []) (c.in_ok-make_room.ensures.same ∙ c.self.view_is)

@@ -25,7 +25,8 @@ loop-entry-smaller g c =
 pub loop-entry-preserved : goal.loop-entry-preserved
 loop-entry-preserved g c =
     let out : encloses (seen c.in-Some.entry).0 c.loop-entry.top ≡ false = sym c.is_within.ensures ∙ c.if-is_within.false in
-    subst (λ q. Alike c.args.path.now q c.args.self.now) (sym c.common-top.ensures) (alike_on c.args.self.now c.loop-entry.top (seen c.in-Some.entry) c.order_law.ensures (sym c.in-Some.ensures) out c.args.path.now c.loop-entry.invariant)
+    subst (λ q. Alike c.args.path.now q c.args.self.now) (sym c.common-top.ensures)
+    (alike_on c.args.self.now c.loop-entry.top (seen c.in-Some.entry) c.order_law.ensures (sym c.in-Some.ensures) out c.args.path.now c.loop-entry.invariant)
 
 pub returns : goal.returns
 returns g c = sym (alike_ends c.args.path.now c.args.self.now c.loop-entry.top c.loop-entry.invariant (sym c.in_default.ensures))

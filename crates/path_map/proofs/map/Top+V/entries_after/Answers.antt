@@ -14,7 +14,8 @@ value b = b.value
 pub returns-then-passed-eq0 : goal.returns-then-passed-eq0
 returns-then-passed-eq0 g c =
     let order : IsInOrder (flat_map value c.parts-branches.result.now) = subst IsInOrder (sym c.parts-branches.ensures.all) c.parts-branches.ensures.order in
-    let counted : ArePassed value c.parts-branches.result.now c.args.top.now 0 = subst (λ n. ArePassed value c.parts-branches.result.now c.args.top.now n) c.if-passed-eq0.true c.count_passed-passed.ensures in
+    let counted : ArePassed value c.parts-branches.result.now c.args.top.now 0 =
+    subst (λ n. ArePassed value c.parts-branches.result.now c.args.top.now n) c.if-passed-eq0.true c.count_passed-passed.ensures in
     ap (λ l. l ++ [] ++ flat_map value c.parts-branches.result.now) c.new.ensures
     ∙ sym (after_whole value c.parts-branches.result.now c.args.top.now order counted)
     ∙ ap (λ es. after c.args.top.now es) c.parts-branches.ensures.all

@@ -3,7 +3,7 @@ use Rattle.std.proofs.Common.{◌≡◌, ℕ, ◌+◌, Bool, true, false, cond, 
 use Rattle.std.specs.List.{AllByRecursion}
 use Rattle.acl_text.specs.declared.record.DumpRecord.{DumpRecord}
 use Rattle.acl_text.specs.declared.record.DumpUse.TheVariants.{Restore}
-use Rattle.acl_text.specs.Again.{AreApart, IsReadable, paths, placed, dump_text, line_count}
+use Rattle.acl_text.specs.RoundTrips.{AreApart, IsReadable, paths, placed, dump_text, line_count}
 use Rattle.acl_text.specs.Records.{dump_of}
 use Rattle.acl_edit.specs.declared.node.Node.{Node}
 use Rattle.acl_people.specs.KnownPeople.{KnownPeople, naming_of}

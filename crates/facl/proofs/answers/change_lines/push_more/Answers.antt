@@ -3,7 +3,7 @@ use Rattle.acl_entry.specs.Perms.{text}
 use Rattle.facl.specs.ChangesText.{after_comma}
 use Rattle.facl_output.proofs.Loops.{item_added, all_added}
 use Rattle.facl_output.proofs.Parts.{two_parts}
-use Rattle.facl.proofs.answers.changes.push_more.Goals as goal
+use Rattle.facl.proofs.answers.change_lines.push_more.Goals as goal
 
 pub loop-request-preserved : goal.loop-request-preserved
 loop-request-preserved c =

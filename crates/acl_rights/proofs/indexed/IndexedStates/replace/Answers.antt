@@ -6,7 +6,7 @@ use Rattle.acl_tree.specs.State.{State}
 use Rattle.acl_people.specs.KnownPeople.{KnownPeople}
 use Rattle.acl_rights.specs.Outside.{SameRows}
 use Rattle.acl_rights.specs.States.{loaded_state}
-use Rattle.acl_rights.proofs.indexed.IndexedStates.accept.Goals as goal
+use Rattle.acl_rights.proofs.indexed.IndexedStates.replace.Goals as goal
 
 pub put-requires : goal.put-requires
 put-requires g c =

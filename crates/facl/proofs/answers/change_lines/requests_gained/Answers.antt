@@ -4,8 +4,8 @@ use Rattle.std.proofs.lemmas.List.{take_all}
 use Rattle.acl_entry.specs.Check.{has}
 use Rattle.facl.proofs.Spaced.{among, below_eight}
 use Rattle.facl.proofs.Gained.{one_gained, one_kept}
-use Rattle.facl.proofs.answers.changes.requests_gained.Goals as goal
-use Rattle.facl.proofs.answers.changes.requests_gained.Goals.{in-Some+then-is_gained+in_ok-push, in-Some+else-is_gained, in_default}
+use Rattle.facl.proofs.answers.change_lines.requests_gained.Goals as goal
+use Rattle.facl.proofs.answers.change_lines.requests_gained.Goals.{in-Some+then-is_gained+in_ok-push, in-Some+else-is_gained, in_default}
 
 abbrev numbers : List ℕ
 numbers = 1 ∷ 2 ∷ 3 ∷ 4 ∷ 5 ∷ 6 ∷ 7 ∷ []

@@ -1,11 +1,12 @@
 -- What is written is read as it was.
-use Rattle.std.proofs.Common.{◌≡◌, IsTrue, ℕ, ◌+◌, ◌<◌, ◌≤◌, ◌^◌, Bool, true, false, cond, ltb, List, [], ◌∷◌, ◌++◌, map, length, drop, Option, Some, None, Ok, Err, Less, Greater, refl, sym, ap, subst, ◌∙◌, arith, inl, inr, append_assoc}
+use Rattle.std.proofs.Common.{◌≡◌, IsTrue, ℕ, ◌+◌, ◌<◌, ◌≤◌, ◌^◌, Bool, true, false, cond, ltb, List, [], ◌∷◌, ◌++◌, map, length, drop, Option, Some, None, Ok}
+use Rattle.std.proofs.Common.{Err, Less, Greater, refl, sym, ap, subst, ◌∙◌, arith, inl, inr, append_assoc}
 use Rattle.std.specs.Prelude.{◌&&◌, is_some, ◌||◌, option_map, option_and_then}
 use Rattle.std.specs.List.{flat_map, AllByRecursion}
 use Rattle.std.specs.Ordering.{nat_cmp, is_eq, ordering_then}
 use Rattle.std.specs.FinMap as maps
 use Rattle.std.specs.FinMap.Entries.{below_all}
-use Rattle.std.proofs.lemmas.List.{map-append, append-nil, length-map}
+use Rattle.std.proofs.lemmas.List.{append-nil, length-map}
 use Rattle.std.proofs.lemmas.List.Elements.{recursion_from_All}
 use Rattle.acl_text.proofs.Chunks.{entries_step}
 use Rattle.std.proofs.lemmas.Bool.{and_parts, cases_Bool, lt-ltb, le-ltb, le-leb, ltb-true, ltb-false}
@@ -21,14 +22,16 @@ use Rattle.acl_entry.specs.Keys.{key_cmp, rank, id_of}
 use Rattle.acl_entry.specs.Lists.{KeyMap, IsInOrder, IsValid, HasIds, keys, pairs, map_of, entries, fault, most_entries}
 use Rattle.acl_entry.specs.Perms.{number}
 use Rattle.acl_entry.proofs.KeyLaws.{key_total, exact_keys, above}
-use Rattle.acl_entry.proofs.Placed.{less}
 use Rattle.acl_entry.proofs.Maps.{get-map_of, map_of-entries, in_order-entries}
+use Rattle.acl_entry.proofs.Faults.{pairs-append}
+use Rattle.acl_entry.proofs.Basics.{is_less}
 use Rattle.acl_text.specs.InTurn.{at_place, read_each_from, or_fault}
 use Rattle.acl_text.specs.declared.fault.FaultKind.TheVariants.{BadAttr}
 use Rattle.byteorder.specs.Endian.{little_number, little_bytes}
 use Rattle.byteorder.specs.Numbers.{little_number-reads_back}
 use Rattle.acl_text.specs.declared.decode.Reading.{Reading}
-use Rattle.acl_text.specs.Attr.{tag_of, written_id, entry_bytes, attr_bytes, id_from, key_of, perm_of, start, with_key, with_numbers, with_entry, one_entry, entries_in, has_head, list_from, list_of, list_in, attr_of, bad_attr}
+use Rattle.acl_text.specs.Attr.{tag_of, written_id, entry_bytes, attr_bytes, id_from, key_of, perm_of, start, with_key, with_numbers, with_entry, one_entry}
+use Rattle.acl_text.specs.Attr.{entries_in, has_head, list_from, list_of, list_in, attr_of, bad_attr}
 
 -- ---- one entry
 
@@ -73,7 +76,8 @@ key_again Mask lt = refl
 key_again Other lt = refl
 
 -- the numbers of a written entry are read as they were
-entry_again : (at : ℕ) (reading : Reading) (e : Entry) → at ≤ most_entries → id_of e.key < nobody → with_entry at reading (entry_bytes e) ≡ with_numbers reading (tag_of e.key) (number e.perm) (written_id e.key)
+entry_again : (at : ℕ) (reading : Reading) (e : Entry) → at ≤ most_entries → id_of e.key < nobody
+    → with_entry at reading (entry_bytes e) ≡ with_numbers reading (tag_of e.key) (number e.perm) (written_id e.key)
 entry_again at reading e le lt =
     let bytes = entry_bytes e in
     let id = little_bytes 4 (written_id e.key) in
@@ -100,7 +104,7 @@ added at reading e le lt rises new =
 -- ---- entries in list order
 
 above_all : (k : Key) (done : List Entry) (e : Entry) (es : List Entry) → IsTrue (below_all key_cmp k (pairs (done ++ e ∷ es))) → key_cmp k e.key ≡ Less
-above_all k [] e es h = less _ (and_parts _ _ h).0
+above_all k [] e es h = is_less _ (and_parts _ _ h).0
 above_all k (d ∷ done) e es h = above_all k done e es (and_parts _ _ h).1
 
 -- the next key is new
@@ -123,26 +127,24 @@ tag_rank Mask = refl
 tag_rank Other = refl
 
 ranks_rise : (a b m n : ℕ) → ordering_then (nat_cmp a b) (nat_cmp m n) ≡ Less → a ≤ b
-ranks_rise a b m n less =
+ranks_rise a b m n is_less =
     elim (cases_Bool (ltb b a)) [
       | inl falls ↦
           let greater : Greater ≡ nat_cmp a b = nat_cmp_is a b Greater (ltb-true b a falls) in
-          let not : Greater ≡ Less = ap (λ o. ordering_then o (nat_cmp m n)) greater ∙ less in
+          let not : Greater ≡ Less = ap (λ o. ordering_then o (nat_cmp m n)) greater ∙ is_less in
           absurd (cc not)
       | inr fine ↦ ltb-false b a fine
     ]
 
 tags_rise : (a b : Key) → key_cmp a b ≡ Less → tag_of a ≤ tag_of b
-tags_rise a b less = subst (λ (n : ℕ). n ≤ tag_of b) (sym (tag_rank a)) (subst (λ (n : ℕ). 2 ^ rank a ≤ n) (sym (tag_rank b)) (pow-le-pow_right (omega arith) (ranks_rise (rank a) (rank b) (id_of a) (id_of b) less)))
+tags_rise a b is_less = subst (λ (n : ℕ). n ≤ tag_of b) (sym (tag_rank a))
+    (subst (λ (n : ℕ). 2 ^ rank a ≤ n) (sym (tag_rank b)) (pow-le-pow_right (omega arith) (ranks_rise (rank a) (rank b) (id_of a) (id_of b) is_less)))
 
 -- ---- lists
 
 -- tags never fall
 abbrev TagsRise : ℕ → List Entry → Type 0
 TagsRise tag es = AllByRecursion (λ e. tag ≤ tag_of e.key) es
-
-pairs-append : (xs ys : List Entry) → pairs (xs ++ ys) ≡ pairs xs ++ pairs ys
-pairs-append xs ys = map-append (λ (e : Entry). (e.key, e.perm)) xs ys
 
 pub one_more : (done : List Entry) (e : Entry) → maps.find key_cmp e.key (pairs done) ≡ None → maps.insert (map_of done) e.key e.perm ≡ map_of (done ++ e ∷ [])
 one_more done e none = sym (ap maps.from_entries (pairs-append done (e ∷ [])) ∙ maps.from_entries_push key_total exact_keys (pairs done) e.key e.perm none)
@@ -156,7 +158,7 @@ rising : (t : ℕ) (e : Entry) (es : List Entry) → t ≤ tag_of e.key → IsTr
 rising t e [] le below = tt
 rising t e (f ∷ es) le below =
     let parts = and_parts _ _ below in
-    let more = tags_rise e.key f.key (less _ parts.0) in
+    let more = tags_rise e.key f.key (is_less _ parts.0) in
     (omega arith, rising t e es le parts.1)
 
 encoded_again : (at : ℕ) (tag : ℕ) (done es : List Entry) → at + length es ≤ 4097 → IsInOrder (done ++ es) → AllByRecursion (λ e. id_of e.key < nobody) es → TagsRise tag es
@@ -169,7 +171,8 @@ encoded_again at tag done (e ∷ es) room order ids rise =
     let tail = later done (e ∷ es) order in
     ap (λ j. at_place at j (λ more. read_each_from one_entry (at + 1) more (map entry_bytes es))) (added at reading e (omega arith) ids.0 rise.0 new)
     ∙ ap (λ m. read_each_from one_entry (at + 1) (record { entries = m; last_tag = tag_of e.key }) (map entry_bytes es)) (one_more done e none)
-    ∙ encoded_again (at + 1) (tag_of e.key) (done ++ e ∷ []) es (omega arith) (subst IsInOrder (sym (append_assoc done (e ∷ []) es)) order) ids.1 (rising (tag_of e.key) e es (omega arith) (and_parts _ _ tail).0)
+    ∙ encoded_again (at + 1) (tag_of e.key) (done ++ e ∷ []) es (omega arith) (subst IsInOrder (sym (append_assoc done (e ∷ []) es)) order) ids.1
+    (rising (tag_of e.key) e es (omega arith) (and_parts _ _ tail).0)
     ∙ ap (λ (l : List Entry). Ok (record { entries = map_of l; last_tag = lasting (tag_of e.key) es })) (append_assoc done (e ∷ []) es)
 
 no_tag : (es : List Entry) → TagsRise 0 es
@@ -199,7 +202,8 @@ attr_again acl valid ids =
     let bytes = flat_map entry_bytes es in
     let last = length (entries_in bytes) in
     let read_each = encoded_again 1 0 [] es (omega (arith, few acl valid)) (in_order-entries acl) (recursion_from_All (λ (e : Entry). id_of e.key < nobody) es ids) (no_tag es) in
-    let read : list_in bytes ≡ list_from last (map_of es) (fault (entries (map_of es))) = ap (λ cut. list_of last (read_each_from one_entry 1 start cut)) (cut_again es) ∙ ap (list_of last) read_each in
+    let read : list_in bytes ≡ list_from last (map_of es) (fault (entries (map_of es))) =
+    ap (λ cut. list_of last (read_each_from one_entry 1 start cut)) (cut_again es) ∙ ap (list_of last) read_each in
     let whole : list_in bytes ≡ Ok acl = read ∙ (ap (λ m. list_from last m (fault (entries m))) (map_of-entries acl) ∙ ap (list_from last acl) valid) in
     let head : has_head (attr_bytes acl) ≡ true = ap (λ b. b && true) (le-leb 4 (length (attr_bytes acl)) (omega arith)) in
     ap (λ b. cond b (list_in bytes) (Err (bad_attr 0))) head ∙ whole

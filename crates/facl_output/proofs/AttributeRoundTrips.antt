@@ -2,10 +2,10 @@
 use Rattle.std.proofs.Common.{◌<◌, ◌%◌, ◌/◌, ◌^◌, ℕ, zero, suc, List, [], ◌∷◌, ◌++◌, Option, Some, None, arith}
 use Rattle.std.specs.Int.{byte_at, bytes_low_first}
 use Rattle.std.specs.List.{flat_map, AllByRecursion}
-use Rattle.acl_text.proofs.ReadAgain.{attr_again}
+use Rattle.acl_text.proofs.EntryRoundTrips.{attr_again}
 use Rattle.acl_text.specs.Attr.{tag_of, written_id, entry_bytes, attr_bytes}
 use Rattle.std.specs.Prelude.{IfSome}
-use Rattle.acl_text.specs.Again.{IsListIf}
+use Rattle.acl_text.specs.RoundTrips.{IsListIf}
 use Rattle.acl_edit.specs.declared.node.Node.{Node}
 use Rattle.acl_entry.specs.Lists.{KeyMap, entries}
 use Rattle.acl_entry.specs.Perms.{number}

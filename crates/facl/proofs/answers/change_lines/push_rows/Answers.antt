@@ -6,8 +6,8 @@ use Rattle.facl.specs.Inner.{verdict_or_none, lines_between}
 use Rattle.facl.specs.declared.answers.placed_users.PlacedUser.{PlacedUser}
 use Rattle.facl_output.proofs.Loops.{item_added, all_added}
 use Rattle.facl.proofs.Unchanged.{no_change}
-use Rattle.facl.proofs.answers.changes.push_rows.Goals as goal
-use Rattle.facl.proofs.answers.changes.push_rows.Goals.{then-bits+in_ok-push_user, else-bits}
+use Rattle.facl.proofs.answers.change_lines.push_rows.Goals as goal
+use Rattle.facl.proofs.answers.change_lines.push_rows.Goals.{then-bits+in_ok-push_user, else-bits}
 
 abbrev lines_for : (path before after : List ℕ) → PlacedUser → List ℕ
 lines_for path before after user = change_lines path user.name.items (verdict_or_none before user.before) (verdict_or_none after user.after)

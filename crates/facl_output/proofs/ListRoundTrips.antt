@@ -1,15 +1,16 @@
 -- The texts that are printed of lists in the short form are read as the entries of these lists.
-use Rattle.std.proofs.Common.{◌≡◌, ℕ, ◌+◌, ◌<◌, ◌≤◌, Bool, true, false, cond, leb, List, [], ◌∷◌, ◌++◌, map, length, Option, Some, None, Result, Ok, Err, refl, sym, ap, ◌∙◌, append_assoc, length-append, arith}
+use Rattle.std.proofs.Common.{◌≡◌, ℕ, ◌+◌, ◌<◌, ◌≤◌, Bool, true, false, cond, leb, List, [], ◌∷◌, ◌++◌, map, length, Option, Some, None, Result, Ok, Err, refl}
+use Rattle.std.proofs.Common.{sym, ap, ◌∙◌, append_assoc, length-append, arith}
 use Rattle.std.specs.Prelude.{◌==◌, codes}
 use Rattle.std.specs.List.{flat_map, AllByRecursion}
 use Rattle.std.proofs.lemmas.Bool.{ne_eqb, lt-leb}
 use Rattle.std.proofs.lemmas.Grind.{flat_map-append}
 use Rattle.std.proofs.lemmas.List.{append-nil, length-map}
 use Rattle.std.proofs.lemmas.List.Elements.{recursion_from_All}
-use Rattle.acl_text.proofs.ReadAgain.{few}
+use Rattle.acl_text.proofs.EntryRoundTrips.{few}
 use Rattle.acl_text.proofs.Plain.{plain-blank, plain-comma, trimmed_none, pieces_at, pieces_none, fields_again}
 use Rattle.acl_text.proofs.WrittenLists.{plain_text, tag_plain, qualifier_plain, key_again, entry_again, in_entry, short_again}
-use Rattle.acl_text.specs.Again.{IsList, IsListIf}
+use Rattle.acl_text.specs.RoundTrips.{IsList, IsListIf}
 use Rattle.acl_edit.specs.declared.node.Node.{Node}
 use Rattle.acl_entry.specs.Ids.{nobody}
 use Rattle.acl_entry.specs.Keys.{id_of}
@@ -35,6 +36,7 @@ use Rattle.acl_text.specs.declared.fault.FaultKind.{FaultKind}
 use Rattle.acl_text.specs.declared.fault.FaultKind.TheVariants.{BadTag}
 use Rattle.acl_text.specs.declared.fault.TextFault.{TextFault}
 use Rattle.acl_text.specs.declared.entries.Form.TheVariants.{Short}
+use Rattle.acl_text.proofs.WrittenEntries.{bind_same}
 use Rattle.facl_output.specs.RoundTrips.{IsListAgain, IsShortAgain, entries_for, dacl_entries, all_entries, specs_of}
 use Rattle.facl_output.specs.TestListing.{default_entry, default_entries, lists_text}
 
@@ -46,10 +48,6 @@ rules = rules_of wants.WithPerms
 abbrev as_default : Result Spec FaultKind → Result Spec FaultKind
 as_default (Ok spec) = Ok (record spec { dflt = true })
 as_default (Err kind) = Err kind
-
-bind_same : {A : Type 0} (r : Result A FaultKind) (f g : A → Result Spec FaultKind) → ((x : A) → f x ≡ as_default (g x)) → (r >>= f) ≡ as_default (r >>= g)
-bind_same (Ok x) f g same = same x
-bind_same (Err kind) f g same = refl
 
 default_tag : (k : Key) → is_default_word (tag_text Short k) ≡ false
 default_tag keys.Owner = refl
@@ -78,7 +76,8 @@ module _ (naming : Naming) where
       let fields = tag ∷ word ∷ perm ∷ [] in
       bind_same (or_fault (row_of fields) BadTag) (from_row at true) (from_row at false)
       (λ row. bind_same (wanted_perms rules row.perms) (from_perm at true row) (from_perm at false row)
-      (λ p. bind_same (key_of naming row.tag row.word) (from_key at true p) (from_key at false p) (λ k. bind_same (allowed_key rules k) (from_allowed at true p) (from_allowed at false p) (λ a. refl))))
+      (λ p. bind_same (key_of naming row.tag row.word) (from_key at true p) (from_key at false p)
+      (λ k. bind_same (allowed_key rules k) (from_allowed at true p) (from_allowed at false p) (λ a. refl))))
       ∙ ap (λ d. as_default (or_fault (tagged rules d) BadTag >>= from_row at d.0)) (ap (λ b. cond b (true, word ∷ perm ∷ []) (false, fields)) (sym plain))
 
   -- ---- one entry of one of the lists

@@ -4,7 +4,7 @@ use Rattle.std.specs.List.{flat_map}
 use Rattle.acl_entry.specs.Perms.{text}
 use Rattle.facl.specs.ChangesText.{after_comma}
 use Rattle.facl_output.proofs.Parts.{two_parts, begins_itself, begins_later, begins_more}
-use Rattle.facl.proofs.answers.changes.push_line.Goals as goal
+use Rattle.facl.proofs.answers.change_lines.push_line.Goals as goal
 
 -- the parts of a line of `changes`
 module _ (user word request more path a b c d e f g h k l : List ℕ) where
@@ -17,7 +17,8 @@ module _ (user word request more path a b c d e f g h k l : List ℕ) where
       let requests : l ≡ e ++ (request ++ (more ++ 32 ∷ (path ++ 10 ∷ []))) = two_parts e request (more ++ 32 ∷ (path ++ 10 ∷ [])) f l five from_more in
       let after_word : l ≡ d ++ 32 ∷ (request ++ (more ++ 32 ∷ (path ++ 10 ∷ []))) = two_parts d (32 ∷ []) (request ++ (more ++ 32 ∷ (path ++ 10 ∷ []))) e l four requests in
       let from_word : l ≡ c ++ (word ++ 32 ∷ (request ++ (more ++ 32 ∷ (path ++ 10 ∷ [])))) = two_parts c word (32 ∷ (request ++ (more ++ 32 ∷ (path ++ 10 ∷ [])))) d l three after_word in
-      let after_user : l ≡ b ++ 32 ∷ (word ++ 32 ∷ (request ++ (more ++ 32 ∷ (path ++ 10 ∷ [])))) = two_parts b (32 ∷ []) (word ++ 32 ∷ (request ++ (more ++ 32 ∷ (path ++ 10 ∷ [])))) c l two from_word in
+      let after_user : l ≡ b ++ 32 ∷ (word ++ 32 ∷ (request ++ (more ++ 32 ∷ (path ++ 10 ∷ [])))) =
+      two_parts b (32 ∷ []) (word ++ 32 ∷ (request ++ (more ++ 32 ∷ (path ++ 10 ∷ [])))) c l two from_word in
       two_parts a user (32 ∷ (word ++ 32 ∷ (request ++ (more ++ 32 ∷ (path ++ 10 ∷ []))))) b l one after_user
 
 -- after five parts the text still begins as it did
@@ -31,7 +32,8 @@ returns-in_err-push_more c =
     let start = c.args.text.now.items in
     let requested = c.extend_from_slice-3.new.self.items in
     let begins_before =
-    after_five c.args.user.now (32 ∷ []) c.args.word.now (32 ∷ []) c.text.result start c.extend_from_slice.new.self.items c.push.new.self.items c.extend_from_slice-2.new.self.items c.push-2.new.self.items requested
+    after_five c.args.user.now (32 ∷ []) c.args.word.now
+    (32 ∷ []) c.text.result start c.extend_from_slice.new.self.items c.push.new.self.items c.extend_from_slice-2.new.self.items c.push-2.new.self.items requested
     c.in_ok-extend_from_slice.ensures.items c.in_ok-push.ensures.items c.in_ok-extend_from_slice-2.ensures.items c.in_ok-push-2.ensures.items c.in_ok-extend_from_slice-3.ensures.items in
     let begins = begins_later start requested c.push_more.new.text.items begins_before c.in_err-push_more.ensures in
     grind (arith, common_steps, begins)
@@ -41,7 +43,8 @@ returns-in_err-push-3 c =
     let start = c.args.text.now.items in
     let requested = c.extend_from_slice-3.new.self.items in
     let begins_before =
-    after_five c.args.user.now (32 ∷ []) c.args.word.now (32 ∷ []) c.text.result start c.extend_from_slice.new.self.items c.push.new.self.items c.extend_from_slice-2.new.self.items c.push-2.new.self.items requested
+    after_five c.args.user.now (32 ∷ []) c.args.word.now
+    (32 ∷ []) c.text.result start c.extend_from_slice.new.self.items c.push.new.self.items c.extend_from_slice-2.new.self.items c.push-2.new.self.items requested
     c.in_ok-extend_from_slice.ensures.items c.in_ok-push.ensures.items c.in_ok-extend_from_slice-2.ensures.items c.in_ok-push-2.ensures.items c.in_ok-extend_from_slice-3.ensures.items in
     let more = flat_map after_comma c.args.more.now in
     let with_more = begins_more start requested more c.push_more.new.text.items begins_before c.in_ok-push_more.ensures in
@@ -52,7 +55,8 @@ returns-in_err-extend_from_slice-4 c =
     let start = c.args.text.now.items in
     let requested = c.extend_from_slice-3.new.self.items in
     let begins_before =
-    after_five c.args.user.now (32 ∷ []) c.args.word.now (32 ∷ []) c.text.result start c.extend_from_slice.new.self.items c.push.new.self.items c.extend_from_slice-2.new.self.items c.push-2.new.self.items requested
+    after_five c.args.user.now (32 ∷ []) c.args.word.now
+    (32 ∷ []) c.text.result start c.extend_from_slice.new.self.items c.push.new.self.items c.extend_from_slice-2.new.self.items c.push-2.new.self.items requested
     c.in_ok-extend_from_slice.ensures.items c.in_ok-push.ensures.items c.in_ok-extend_from_slice-2.ensures.items c.in_ok-push-2.ensures.items c.in_ok-extend_from_slice-3.ensures.items in
     let more = flat_map after_comma c.args.more.now in
     let with_more = begins_more start requested more c.push_more.new.text.items begins_before c.in_ok-push_more.ensures in
@@ -64,7 +68,8 @@ returns-in_err-push-4 c =
     let start = c.args.text.now.items in
     let requested = c.extend_from_slice-3.new.self.items in
     let begins_before =
-    after_five c.args.user.now (32 ∷ []) c.args.word.now (32 ∷ []) c.text.result start c.extend_from_slice.new.self.items c.push.new.self.items c.extend_from_slice-2.new.self.items c.push-2.new.self.items requested
+    after_five c.args.user.now (32 ∷ []) c.args.word.now
+    (32 ∷ []) c.text.result start c.extend_from_slice.new.self.items c.push.new.self.items c.extend_from_slice-2.new.self.items c.push-2.new.self.items requested
     c.in_ok-extend_from_slice.ensures.items c.in_ok-push.ensures.items c.in_ok-extend_from_slice-2.ensures.items c.in_ok-push-2.ensures.items c.in_ok-extend_from_slice-3.ensures.items in
     let more = flat_map after_comma c.args.more.now in
     let with_more = begins_more start requested more c.push_more.new.text.items begins_before c.in_ok-push_more.ensures in
