@@ -6,8 +6,9 @@
 #
 # With --all it also tests facl-ask at a terminal, and several snapshots by GNU parallel, which takes a minute more.
 # Each of these counts as a failed test where it finds something: shellcheck and mypy where they are installed,
-# tools/check/documents.py and tools/check/memory_faults.py. Pages are tested in Chromium where it is installed. What
-# needs a real file system and root is in tools/check/live.py and tools/check/snapshot.py.
+# tools/check/documents.py, tools/check/memory_faults.py, tools/check/line_lengths.py and, where there is a C compiler,
+# tools/check/growth.py --quick. Pages are tested in Chromium where it is installed. What needs a real file system and root
+# is in tools/check/live.py and tools/check/snapshot.py.
 set -eu
 top=$(cd "$(dirname "$0")/.." && pwd)
 if [ "${1:-}" = --all ]; then
@@ -35,7 +36,11 @@ lint() {
 
 lint shellcheck -x commands/facl-snapshot commands/facl-daily commands/completion/facl.bash .ci/run tools/*.sh tools/*/*.sh
 lint mypy
-for check in tools/check/documents.py tools/check/memory_faults.py; do
+for check in tools/check/documents.py tools/check/memory_faults.py tools/check/line_lengths.py; do
     "$check" >&2 || lint_faults=$((lint_faults + 1))
 done
+lint cc --version >/dev/null
+if command -v cc >/dev/null; then
+    tools/check/growth.py --quick "$FACL" >&2 || lint_faults=$((lint_faults + 1))
+fi
 exec python3 commands/tests/run.py "$lint_faults"

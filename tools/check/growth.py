@@ -1,23 +1,28 @@
 #!/usr/bin/env python3
 """Refuses each growth of the program's memory in turn, and looks for growths in its machine code where none are to be.
 
-usage: tools/check/growth.py PROGRAM [--code] [--record]
+usage: tools/check/growth.py PROGRAM [--quick | --code] [--record]
 
 Growth 1, 2, .. is refused (refuse_growth.c) until a run meets no refusal. A run in whose setup or line buffer memory
-ran out prints the units before in full, then `facl: no memory`, and ends with 2. Any other run has one message `line N:
+ran out prints the units before in full, then `facl: no memory`, and ends with 2. These are all units that meet fewer
+growths than were let through, when the script ends after them. Any other run has one message `line N:
 facl: no memory` at most; all else is as if the lines of that unit were empty, or, where there is none (a growth that
 the program can do without), as in the run that meets no refusal. With all growths after it refused too, a run prints
 some units in full; each unit after them has that message, for which nothing is allocated; and it may end with 2 and
 `facl: no memory`.
 
-Then, or alone with --code, two things are looked at in the machine code, where a call through a pointer is a growth:
+A list of up to eight entries takes no memory of its own: a line that makes a list of eight meets as many growths as one
+that makes a list of five, and one that makes a list of nine meets more.
+
+With --quick, which the gate runs, that is all, and growths are refused in one of the five sessions, one at a time: less
+than a minute. Otherwise, or alone with --code, two things are looked at in the machine code, where a call through a pointer is a growth:
 - the calls that are documented as taking no memory (docs/PROOFS.md), or functions in which they are done, as far as
   the program has them as functions of their own: no call from one of them leads to the system's allocator, on any way;
 - the answer of a line from where the prepared state is taken out to be put in place (`Staged::into_parts`): on no way
   from there to its end is the allocator called, so neither the state and its index, nor what `changes` compares with,
   nor the output is put in place with memory.
 
-It needs a C compiler, and objdump of binutils; the gate has no way to refuse a growth. The exit status is 1 where an
+It needs a C compiler, and without --quick objdump of binutils. The exit status is 1 where an
 answer is none that may be, a growth is found, or the program has none of these functions, 2 where the words are others.
 """
 from __future__ import annotations
@@ -150,6 +155,11 @@ SESSIONS = [
     ("attributes and lists", SHORT_DUMP, ATTRIBUTES),
     ("each tool and option", SHORT_DUMP, EVERY),
 ]
+# The session of --quick.
+QUICK = "changes"
+# Entries of a list of four, and those that make it longer.
+FOUR = "user::rw- group::r-- mask::rw- other::---"
+MORE = ["user:ann:r--", "user:lisa:r--", "group:staff:r--", "group:cool:r--"]
 OUT_OF_MEMORY = b"facl: no memory\n"
 Units = List[Unit]
 
@@ -181,6 +191,17 @@ class Program:
         self.first_lines = numbers_of(units)
         self.whole = self.run(units)
         self.before = [self.run(units[:count]) for count in range(len(units) + 1)]
+        self.met = [self.growths(units[:count]) for count in range(len(units) + 1)]
+
+    def growths(self, units: Units) -> int:
+        """How many growths a run meets."""
+        least, most = 0, 1
+        while self.run(units, most).was_refused:
+            least, most = most, 2 * most
+        while most - least > 1:
+            middle = (least + most) // 2
+            least, most = (middle, most) if self.run(units, middle).was_refused else (least, middle)
+        return least
 
     def run(self, units: Units, refuse: int = 0, goes_on: bool = False) -> Run:
         reported, report = os.pipe()
@@ -193,15 +214,16 @@ class Program:
         with open(reported, "rb") as reports:
             return Run(done.stdout, done.stderr, done.returncode, bool(reports.read()))
 
-    def kind_of(self, result: Run) -> str:
+    def kind_of(self, result: Run, growth: int) -> str:
         """What kind of run this is where one growth was refused; raises where it is none that may be."""
         out, err, status, _ = result
         if result[:3] == self.whole[:3]:
             return "as without"
         if err.endswith(OUT_OF_MEMORY) and status == 2:
-            if any((it.out, it.err + OUT_OF_MEMORY) == (out, err) for it in self.before):
+            due = max((count for count, met in enumerate(self.met) if met < growth), default=0)
+            if any((it.out, it.err + OUT_OF_MEMORY) == (out, err) for it in self.before[due:]):
                 return "runs stopped"
-            raise Failed("what was written is no beginning of the session")
+            raise Failed(f"what was written is no beginning of the session that has {due} units or more")
         reports = [line for line in err.splitlines(True) if line.endswith(b": " + OUT_OF_MEMORY)]
         if len(reports) != 1:
             raise Failed(f"{len(reports)} lines report that memory ran out")
@@ -240,7 +262,7 @@ class Program:
         growth = 1
         while (result := self.run(self.units, growth, goes_on)).was_refused:
             try:
-                kinds[self.kind_of_all(result) if goes_on else self.kind_of(result)] += 1
+                kinds[self.kind_of_all(result) if goes_on else self.kind_of(result, growth)] += 1
             except Failed as fault:
                 those = f"growth {growth}" + " and all after it" * goes_on
                 raise Failed(f"{self.name}: {those}: {fault}: {result}") from None
@@ -252,18 +274,37 @@ class Program:
         return growth - 1
 
 
-def refused_growths(program: str) -> int:
+def lists(program: str, library: str, folder: str) -> List[int]:
+    """How many growths a line meets that makes a list of five entries, and of six, seven, eight and nine."""
+    met = []
+    for more in range(5):
+        os.mkdir(texts := os.path.join(folder, f"{more + 5} entries"))
+        entries = " ".join([FOUR, *MORE[:more]])
+        for text, content in zip(TEXTS, (PASSWD, GROUP, dump_of(f"f|lisa|staff||{entries}"))):
+            write_text(texts, text, [content])
+        one = Program(words_of(program, texts), library, texts, units_of("setfacl -n -m u:joe:rw f"))
+        met.append(one.met[1] - one.met[0])
+    return met
+
+
+def refused_growths(program: str, is_quick: bool) -> int:
     """Refuses each growth of each session, alone and with all after it; returns how many there are."""
     growths = 0
     with tempfile.TemporaryDirectory(prefix="facl-growth.") as folder:
         library, source = os.path.join(folder, "refuse_growth.so"), os.path.join(HERE, "refuse_growth.c")
         subprocess.run(["cc", "-O1", "-shared", "-fPIC", "-o", library, source, "-ldl"], check=True)
+        met = lists(program, library, folder)
+        print(f"A line that makes a list of 5, 6, 7, 8 and 9 entries meets {met} growths", flush=True)
+        if len(set(met[:-1])) > 1 or met[-1] <= met[0]:
+            raise Failed("a list of up to eight entries takes memory, or one of nine takes none")
         for name, dump, script in SESSIONS:
+            if is_quick and name != QUICK:
+                continue
             os.mkdir(texts := os.path.join(folder, name))
             for text, content in zip(TEXTS, (PASSWD, GROUP, dump) if dump else ()):
                 write_text(texts, text, [content])
             one = Program(words_of(program, texts), library, name, units_of(script))
-            growths += max(one.sweep(False), one.sweep(True))
+            growths += one.sweep(False) if is_quick else max(one.sweep(False), one.sweep(True))
     return growths
 
 
@@ -371,10 +412,14 @@ def growths_in_code(program: str) -> Tuple[int, List[str]]:
 def main() -> int:
     options = options_of(__doc__)
     options.add_argument("--code", action="store_true")
+    options.add_argument("--quick", action="store_true")
     given = options.parse_args()
-    if missing := [tool for tool in ("objdump", "cc") if not shutil.which(tool)]:
+    tools = ("cc",) if given.quick else ("objdump", "cc")
+    if missing := [tool for tool in tools if not shutil.which(tool)]:
         raise Failed(f"{missing[0]} is not installed (Debian packages gcc, binutils)")
-    amount = "" if given.code else f"{refused_growths(given.program)} growths refused, "
+    if given.quick:
+        return conclude(given, f"{refused_growths(given.program, True)} growths refused", [])
+    amount = "" if given.code else f"{refused_growths(given.program, False)} growths refused, "
     functions, faults = growths_in_code(given.program)
     return conclude(given, f"{amount}{functions} functions in the machine code", faults)
 
