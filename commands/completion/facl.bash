@@ -12,7 +12,7 @@ _facl_words() {
     --list | --edits) _facl_help "$1" '^    (high|middle|low) +[a-z-]+' | sed 's/.* //' ;;
     --fail-on) printf '%s\n' high middle low none ;;
     --user | --owner | --names) compgen -u ;;
-    --group) compgen -g ;;
+    --readers) compgen -g ;;
     *) case $2 in -*) _facl_help "$1" '(^|[[ ])--[a-z][a-z-]+' | tr -d '[ ' ;; esac ;;
     esac
 }

@@ -62,8 +62,8 @@ def parse(words: List[str]) -> argparse.Namespace:
     parser.add_argument("--json", action="store_true",
                         help="print one JSON object; bytes that are no UTF-8 are escapes")
     parser.add_argument("--keep-going", action="store_true", help="plan the other lines where some were refused")
-    parser.add_argument("--group", metavar="GROUP", help="let the members of a group read the plan")
-    texts.add_source(parser, words, "--groups")
+    parser.add_argument("--readers", metavar="GROUP", help="let the members of a group read the plan")
+    texts.add_source(parser, words)
     parser.add_argument("scripts", metavar="SCRIPT", nargs="+")
     return parser.parse_args(words)
 
@@ -253,7 +253,7 @@ def body(command: Command, words: List[str]) -> int:
 def plan_over(command: Command, given: argparse.Namespace, source: texts.Source) -> int:
     snapshot = read_snapshot(source.folder, needs_links=False)
     name = os.fsencode(given.plan) if given.plan else beside(source.shown)
-    group = None if given.group is None else group_of(given.group)
+    group = None if given.readers is None else group_of(given.readers)
     target = plan_folder.open_target(name)
     scripts = list(map(read_text, given.scripts))
     units = [unit for script in scripts for unit in script.units()]

@@ -40,12 +40,12 @@ class Source(NamedTuple):
     is_made: bool  # Whether the folder is made here, and goes with the command.
 
 
-def add_source(parser: argparse.ArgumentParser, words: List[str], group_option: str = "--group") -> None:
+def add_source(parser: argparse.ArgumentParser, words: List[str]) -> None:
     """Takes SNAPSHOT, or --dump FILE in its place; and which program is to answer."""
     parser.add_argument("--program", metavar="FILE", help="the program facl; without it $FACL, or facl on the path")
     parser.add_argument("--dump", metavar="FILE", help="a file of getfacl -R, in place of SNAPSHOT")
     parser.add_argument("--passwd", metavar="FILE", help="with --dump: the users; without it those of the system")
-    parser.add_argument(group_option, metavar="FILE", dest="group_file",
+    parser.add_argument("--group", metavar="FILE", dest="group_file",
                         help="with --dump: the groups; without it those of the system")
     options = words[: words.index("--")] if "--" in words else words
     if any(word == "--dump" or word.startswith("--dump=") for word in options):
@@ -60,7 +60,7 @@ def opened(given: argparse.Namespace) -> Iterator[Source]:
     end."""
     if given.dump is None:
         if given.passwd is not None or given.group_file is not None:
-            raise Failure(b"--passwd and the file of groups go with --dump: a SNAPSHOT has its own")
+            raise Failure(b"--passwd and --group go with --dump: a SNAPSHOT has its own")
         yield Source(os.fsencode(given.snapshot), os.fsencode(given.snapshot), False)
         return
     with tempfile.TemporaryDirectory(prefix="facl.") as work:

@@ -132,6 +132,13 @@ class Week(Daily):
         self.assertEqual((done.status, self.plain(done.out), done.messages), (1, wanted, b""))
         self.assertEqual(os.stat(self.path("kept")).st_mode & 0o777, 0o700)
 
+    def test_no_finding_counts(self) -> None:
+        os.chmod(os.path.join(self.tree, "file"), 0o646)
+        self.write("rules", b"never 71001 write %s/file\n" % os.fsencode(self.tree))
+        done = self.daily("--fail-on", "none")
+        self.assertEqual((done.status, [line for line in done.out.splitlines() if line.startswith(b"== ")]),
+                         (1, [b"== rules that do not hold (facl-check)"]))
+
     def test_accepted_and_options_of_the_snapshot(self) -> None:
         self.make("x.tmp", 0o666)
         self.make("y.tmp", 0o666)
@@ -175,7 +182,7 @@ class Faults(Daily):
 
     def test_words(self) -> None:
         for words, text in ((["--keep", "0"], b"--keep 0: is no number of snapshots"), (["--keep"], b"--keep: takes a word"),
-                            (["--mail", "a b"], b"--mail a b: is no address"), (["--fail-on", "x"], b"give high, middle or low"),
+                            (["--mail", "a b"], b"--mail a b: is no address"), (["--fail-on", "x"], b"give high, middle, low or none"),
                             (["--snapshot", "--quiet --split 9"], b"leave --split out"), (["--nix"], b"--nix: is no option")):
             done = self.daily(*words, folders=[] if words == ["--keep"] else None)
             self.assertEqual((done.status, done.out, text in done.messages), (2, b"", True), done)

@@ -560,7 +560,7 @@ class ADumpByName(Case):
         self.write("edits", b"setfacl -m u:guest:r srv/share/notes\n")
         for name in ("dump", "passwd", "group"):
             self.write("its_" + name, self.read("before/" + name))
-        words = ["--dump", "its_dump", "--passwd", "its_passwd", "--groups", "its_group", "edits"]
+        words = ["--dump", "its_dump", "--passwd", "its_passwd", "--group", "its_group", "edits"]
         by_name, by_folder = self.run_command("facl-plan", words), self.run_command("facl-plan", ["before", "edits"])
         self.assertEqual(by_name.status, 0, by_name.messages)
         self.assertEqual(by_name.out.replace(b"its_dump.plan", b"before.plan"), by_folder.out)

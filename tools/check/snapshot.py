@@ -117,7 +117,7 @@ class Snapshots(Check):
         """Words that are none of its own."""
         self.took(0, "--help", out=["usage: facl-snapshot "])
         usage = b"".join(self.done.stdout.splitlines(True)[:2])
-        for words in ("", "other", "--group", "--exclude", "--exclude / odd other", "--frob odd other", "--program",
+        for words in ("", "other", "--readers", "--exclude", "--exclude / odd other", "--frob odd other", "--program",
                       "--program odd"):
             self.took(2, words)
             expect(self.done.stderr == usage, f"usage: {words}: {self.done}")
