@@ -1,7 +1,7 @@
 #!/usr/bin/env python3
 """Measures the program and the commands, and prints tables in Markdown.
 
-usage: tools/bench/bench.py MEASUREMENT PROGRAM [FOLDER] [--files N,..] [--users N] [--runs N]
+usage: tools/bench/bench.py MEASUREMENT PROGRAM [FOLDER] [--files N,..] [--users N] [--runs N] [--beside OTHER]
        tools/bench/bench.py tree [--files N] [--users N]
 
   tools    each tool on the trees of tools/lib/texts.py (10000,100000,1000000 files, 1000 users, 3 runs)
@@ -15,6 +15,9 @@ usage: tools/bench/bench.py MEASUREMENT PROGRAM [FOLDER] [--files N,..] [--users
   tree     commands at the tree and the people alone, below the index and the tools, by a program of its own
            (tree_bench.rt.txt): it is proved and built in a temporary folder, over copies of the crates below acl_tree
            (100000 files, 1000 users, one run; the median of four hundred `creat`, `rm` and `gpasswd`)
+
+With --beside, tools, index and limits measure another program in turn with the first, on the same lines but those of tools
+that it does not have, and have columns of its figures and of the ratios: how many times as much the first one takes.
 
 FOLDER is that of temporary files if it is left out; what is made in it is removed. Times are processor time, the best
 of the runs, as the most memory is the least; those of `live` are by the clock, the median of the runs. Standard error
@@ -74,6 +77,8 @@ def print_table(head: str, columns: Mapping[str, Mapping[str, Union[str, float]]
         texts = (cell if isinstance(cell, str) else shown(name, cell) for cell in cells)
         print("| " + " | ".join([name, *texts]) + " |", flush=True)
 
+
+BESIDE = ("tools", "index", "limits")  # What measures another program too.
 
 # The program on trees that are made.
 
@@ -169,22 +174,44 @@ def session_times(program: str, tree: Tree, steps: Iterable[Step]) -> Figures:
     return found
 
 
-def best_times(given: Words, tree: Tree, steps: Iterable[Step], number_of: Optional[NumberOf] = None) -> Figures:
-    """The best of the runs, on a tree whose files have the labels of some numbers, or on that of texts.py."""
+def steps_of(program: str, steps: Iterable[Step]) -> List[Step]:
+    """The steps whose tools a program has: of others it says so itself, and not as the tool."""
+    lines = {step: step.line.split(" ")[0] for step in steps}
+    script = "".join(f"{tool}\n" for tool in lines.values()).encode()
+    done = subprocess.run([program], input=script, capture_output=True, check=False)
+    return [step for number, step in enumerate(lines, 1) if b"line %d: facl: " % number not in done.stderr]
+
+
+def best_times(given: Words, tree: Tree, steps: Iterable[Step], number_of: Optional[NumberOf] = None) -> List[Figures]:
+    """The best of the runs of each program, on a tree whose files have the labels of some numbers, or on that of texts.py."""
+    programs: List[str] = [given.program, given.beside] if given.beside else [given.program]
+    taken = {program: steps_of(program, steps) for program in programs}
+    runs: Dict[str, List[Figures]] = {program: [] for program in taken}
     with tempfile.TemporaryDirectory(prefix="facl-bench.") as folder:
         if number_of:
             write_labels(folder, tree.files, tree.users, number_of)
         else:
             write_tree(folder, tree.files, tree.users)
-        best = best_of([session_times(given.program, tree._replace(folder=folder), steps) for _ in range(given.runs)])
+        for program in list(taken) * given.runs:
+            runs[program].append(session_times(program, tree._replace(folder=folder), taken[program]))
     say(f"{tree.files:,} files are measured")
-    return best
+    return [best_of(found) for found in runs.values()]
+
+
+def columns_of(name: str, found: List[Figures]) -> Dict[str, Mapping[str, Union[str, float]]]:
+    """A column of figures; and where there are those of another program, one of these and one of ratios."""
+    columns: Dict[str, Mapping[str, Union[str, float]]] = {name: found[0]}
+    for other in found[1:]:
+        columns[f"{name}: beside"] = other
+        columns[f"{name}: ratio"] = {row: f"{found[0][row] / other[row]:.2g}" for row in other if other[row] > 0}
+    return columns
 
 
 def measure_tools(given: Words) -> int:
-    print_table(f"{given.users:,} users", {
-        f"{files:,} files": best_times(given, Tree("", files, given.users, 1_000, 10), OF_TOOLS)
-        for files in given.files})
+    columns: Dict[str, Mapping[str, Union[str, float]]] = {}
+    for files in given.files:
+        columns.update(columns_of(f"{files:,} files", best_times(given, Tree("", files, given.users, 1_000, 10), OF_TOOLS)))
+    print_table(f"{given.users:,} users", columns)
     return 0
 
 
@@ -220,22 +247,28 @@ def write_labels(folder: str, files: int, users: int, number_of: NumberOf) -> No
 
 
 def measure_index(given: Words) -> int:
-    tree, columns = Tree("", given.files[-1], given.users, 200, 4), {}
+    tree = Tree("", given.files[-1], given.users, 200, 4)
+    columns: Dict[str, Mapping[str, Union[str, float]]] = {}
     for kind, number_of in NUMBER_OF.items():
-        columns[f"{kind} labels"] = best_times(given, tree, OF_INDEX, number_of)
+        columns.update(columns_of(f"{kind} labels", best_times(given, tree, OF_INDEX, number_of)))
         columns[f"aimed at: {kind}"] = {step.name: getattr(step, kind) for step in (*OF_LOAD, *OF_INDEX)}
     print_table(f"{tree.files:,} files, {tree.users:,} users", columns)
     return 0
 
 
+def of_limits(best: Figures, files: int) -> Figures:
+    """The figures of a session at the limits: of the load as a whole, and of each line."""
+    return {"load, and one `who`": best[LOAD] * files + best[WHO.name], "memory of the load": best[LOAD_BYTES] * files,
+            **{step.name: best[step.name] for step in OF_LIMITS if step.name in best},
+            "memory of the session": best["most bytes a file of the session"] * files}
+
+
 def measure_limits(given: Words) -> int:
     files, users = given.files[-1], given.users
-    best = best_times(given, Tree("", files, users, 1, 1), OF_LIMITS, lambda n: n % LABELS)
-    found = {"load, and one `who`": best[LOAD] * files + best[WHO.name], "memory of the load": best[LOAD_BYTES] * files,
-             **{step.name: best[step.name] for step in OF_LIMITS},
-             "memory of the session": best["most bytes a file of the session"] * files}
+    found = best_times(given, Tree("", files, users, 1, 1), OF_LIMITS, lambda n: n % LABELS)
     aims = {"load, and one `who`": "10 s", "memory of the load": "1.5 GB"}
-    print_table(f"{files:,} files of {LABELS:,} labels, {users:,} users", {"": found, "aimed at": aims})
+    columns = columns_of("seconds", [of_limits(best, files) for best in found])
+    print_table(f"{files:,} files of {LABELS:,} labels, {users:,} users", {**columns, "aimed at": aims})
     return 0
 
 
@@ -482,6 +515,7 @@ def words() -> Words:
     options.add_argument("--files", type=lambda text: [int(number) for number in text.split(",")])
     options.add_argument("--users", type=int)
     options.add_argument("--runs", type=int)
+    options.add_argument("--beside", type=program_at, metavar="OTHER")
     given = options.parse_args()
     kind, chosen = given.measurement, MEASUREMENTS[given.measurement]
     given.files = given.files or chosen.files
@@ -493,7 +527,8 @@ def words() -> Words:
             (kind == "live" and os.geteuid() != 0, "run it as root"),
             (min(given.files) < PER_DIRECTORY + 2 or given.users < 10 or given.runs < 1,
              "FILES from 102 on, USERS from 10 on, RUNS from 1 on"),
-            (len(given.files) > 1 and kind != "tools", "several FILES are of `tools` alone")):
+            (len(given.files) > 1 and kind != "tools", "several FILES are of `tools` alone"),
+            (given.beside and kind not in BESIDE, "--beside is of tools, index and limits")):
         if is_so:
             options.error(f"{kind}: {text}")
     return given
