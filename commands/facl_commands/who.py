@@ -11,7 +11,7 @@ from .asking import Asker, read_rights
 from .messages import Command, Failure, parser_of
 from .names import json_text
 from .program import Session, find_program
-from .snapshot import NEEDED, check_texts
+from .snapshot import NEEDED, check_texts, is_hidden
 from .texts import Source
 from .trusted import read_trusted
 from .who_answers import Answer, user_of, user_with_row
@@ -103,7 +103,8 @@ def parse(words: List[str]) -> argparse.Namespace:
 
 def check_source(source: Source, given: argparse.Namespace) -> None:
     """Fails where there is no snapshot, with the order of the words, which are easily exchanged."""
-    if not all(os.path.exists(os.path.join(source.folder, name)) for name in NEEDED):
+    names = [os.path.join(source.folder, name) for name in NEEDED]
+    if not all(os.path.exists(name) or is_hidden(name) for name in names):
         raise Failure(source.shown + b": is no snapshot, which is made as root by facl-snapshot DIR FOLDER; the words here "
                       b"are: facl-who " + QUESTIONS[given.question].encode())
     os.close(check_texts(source.folder))

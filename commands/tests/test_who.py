@@ -357,6 +357,13 @@ class Words(WhoCase):
         self.write("project/group", b"staff\n")
         self.assertEqual(self.message("read", "project"), b"facl-who: project: the program does not load it: facl: setup: group: text line 1: bad row\n")
 
+    @unittest.skipUnless(os.geteuid() == 0 and shutil.which("setpriv"), "it takes root and setpriv")
+    def test_a_snapshot_that_may_not_be_read(self) -> None:
+        os.chmod(self.path("project"), 0)
+        words = ["setpriv", "--bounding-set=-all", sys.executable, "-I", os.path.join(COMMANDS, "facl-who"), "read", "project"]
+        done = subprocess.run(words, cwd=self.folder, capture_output=True, check=False)
+        self.assertEqual((done.returncode, done.stdout, done.stderr), (2, b"", b"facl-who: project: Permission denied\n"))
+
     def test_a_program_that_is_older(self) -> None:
         self.write("program", b"#!/bin/sh\nn=0\nwhile read -r tool rest; do n=$((n + 1)); case $tool$rest in getfacl--*) ;;\n"
                               b'getfacl*) echo "line $n: getfacl: $rest: no such file" >&2 ;; *) echo "line $n: facl: unknown tool" >&2 ;; esac; done\n')
