@@ -107,11 +107,15 @@ def unknown(folder: bytes, dump: bytes) -> Iterator[bytes]:
     found = source_texts.notice(folder, dump)
     if found is not None:
         yield found
-        passwd, group = (read_trusted(os.path.join(folder, name)) for name in (b"passwd", b"group"))
-        names = source_texts.names_without_row(passwd, group, dump)
-        if names:
-            yield warning_of(b"users and groups in the dump without a row, with which the program does not load it",
-                             names)
+        yield from names_without_row(folder, dump)
+
+
+def names_without_row(folder: bytes, dump: bytes) -> Iterator[bytes]:
+    """A warning where a dump has such names, with which the program does not load it."""
+    passwd, group = (read_trusted(os.path.join(folder, name)) for name in (b"passwd", b"group"))
+    names = source_texts.names_without_row(passwd, group, dump)
+    if names:
+        yield warning_of(b"users and groups in the dump without a row, with which the program does not load it", names)
 
 
 def say_notices(command: Command, source: Source, has_masks: bool = True) -> None:

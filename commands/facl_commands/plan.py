@@ -212,6 +212,8 @@ def say_unknown(command: Command, source: texts.Source) -> bool:
     if found is not None:
         rest = b"; names do not start at the root of the file system, so no plan is written for facl-apply"
         command.say(source.shown + b": " + found + rest * (not is_whole))
+        for warning in overview.names_without_row(source.folder, dump):
+            command.say(warning)
     return is_whole
 
 

@@ -72,7 +72,14 @@ def opened(given: argparse.Namespace) -> Iterator[Source]:
             else:
                 with open(target, "wb") as made:
                     made.write(rows_of_system(name, read_trusted(os.fsencode(given.dump))))
-        yield Source(os.fsencode(work), os.fsencode(given.dump), True)
+        source = Source(os.fsencode(work), os.fsencode(given.dump), True)
+        try:
+            yield source
+        except Failure as failure:
+            start = source.folder + b": "
+            if not failure.text.startswith(start):
+                raise
+            raise Failure(source.shown + b": " + failure.text[len(start) :], failure.status) from failure
 
 
 def getent(words: List[bytes]) -> bytes:

@@ -8,7 +8,7 @@ import subprocess
 import sys
 import time
 import unittest
-from typing import Dict, List, Set
+from typing import Dict, List, Set, Tuple
 
 from common import COMMANDS, Case, Done, restore_signals
 
@@ -566,6 +566,18 @@ class ADumpByName(Case):
         self.assertEqual(by_name.out.replace(b"its_dump.plan", b"before.plan"), by_folder.out)
         self.assertEqual(self.read("its_dump.plan/new"), self.read("before.plan/new"))
         self.assertEqual(self.run_command("facl-plan", ["--passwd", "its_passwd", "before", "edits"]).status, 2)
+
+    def test_names_without_a_row(self) -> None:
+        self.write("edits", b"setfacl -m u:guest:r srv/share/notes\n")
+        self.write("acls", b"# file: srv\n# owner: gone\n# group: 7\nuser::rwx\ngroup::r-x\nother::--x\n")
+        words = ["--dump", "acls", "--passwd", "before/passwd", "--group", "before/group"]
+        warning = b"users and groups in the dump without a row, with which the program does not load it: 1, first: user gone\n"
+        fault = b": acls: the program does not load it: facl: setup: dump: text line 2: unknown user\n"
+        cases: List[Tuple[str, List[str]]] = [("facl-plan", ["edits"]), ("facl-audit", [])]
+        for name, more in cases:
+            done = self.run_command(name, [*words, *more])
+            self.assertEqual((done.status, done.out), (2, b""))
+            self.assertTrue(done.messages.endswith(name.encode() + b": warning: " + warning + name.encode() + fault), done.messages)
 
 
 class BadInput(Case):
