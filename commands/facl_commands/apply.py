@@ -72,7 +72,8 @@ def say_changed(command: Command, way: Way, look: Look, found: Dict[bytes, bytes
     say_list(command, way, found, look.files)
     count = counted(len(found), "file is", "files are")
     if way.is_undo:
-        command.say(count + b" not as the plan left them, so nothing is touched; --leave-changed takes back the others")
+        command.say(count + b" not as the plan left " + (b"it" if len(found) == 1 else b"them")
+                    + b", so nothing is touched; --leave-changed takes back the others")
     else:
         command.say(count + b" not as in the snapshot, so nothing is touched: make a new snapshot and a new plan")
 
