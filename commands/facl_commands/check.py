@@ -72,7 +72,7 @@ def write_rules(command: Command, world: World, given: argparse.Namespace, sourc
     tops = choice.folders_of(world.session, given.rules)
     if not given.rules:
         tops = choice.folders_made_of(world.session) or tops
-    command.write(b"# These rules hold in %s; see RULES of man facl-commands.\n" % shown(
+    command.write(b"# These rules hold in %s; see FACL-CHECK of man facl-commands.\n" % shown(
         named(source.shown, meta_of(source.folder))))
     for line in lines_of_rules(rights, Reader(world, set(chosen), given.with_root), tops):
         command.write(line + b"\n")

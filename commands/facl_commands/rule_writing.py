@@ -8,6 +8,7 @@ from .rule_answers import Rights
 from .rules import ALWAYS, NEVER, ONLY, OTHERS, PEOPLE, READ, WRITE, Reader, group_word, path_word, user_word
 
 FEWEST = 2  # Users for whom a group is written.
+NONE = b"# none: others may read some of these files, and write some, and no user may read all or write all"
 
 
 def words_of(names: Set[bytes], reader: Reader) -> List[bytes]:
@@ -48,6 +49,6 @@ def lines_of(rights: Rights, reader: Reader, tops: List[bytes]) -> Iterator[byte
     for top in tops:
         word = path_word(top, rights.files[top].is_directory if top in rights.files else True)
         yield b"\n# " + word
-        for right in (READ, WRITE):
-            for words in rules_of(rights, reader, right, top):
-                yield b" ".join([*words, right, word])
+        rules = [b" ".join([*words, right, word]) for right in (READ, WRITE)
+                 for words in rules_of(rights, reader, right, top)]
+        yield from rules or [NONE]

@@ -207,6 +207,14 @@ class Written(Checks):
         self.assertIn(b"\n# srv/hr/\n", done.out)
         self.assertEqual(self.run_command("facl-check", ["--write", "--json", "small"]).status, 2)
 
+    def test_where_no_rule_holds(self) -> None:
+        base = b"# owner: 0\n# group: 0\nuser::rwx\ngroup::rwx\nother::"
+        self.take({b"/srv/hr/": base + b"rwx\n", b"/srv/hr/pay": base + b"---\n"})
+        done = self.run_command("facl-check", ["--write", "small"])
+        self.assertEqual((done.status, done.messages), (0, b""))
+        self.assertTrue(done.out.endswith(b"\n\n# srv/hr/\n# none: others may read some of these files, and write some, and no user "
+                                          b"may read all or write all\n"), done.out)
+
 
 class Streams(Checks):
     def test_an_interrupted_run_leaves_nothing(self) -> None:
