@@ -1,6 +1,7 @@
 """The findings of facl-audit, a record each; and a file with what is found of it, and the line that mends it."""
 from __future__ import annotations
 
+import re
 from typing import Dict, Iterator, List, NamedTuple
 
 from .names import script_word, shown_path, write_name
@@ -9,6 +10,7 @@ from .program import parts_of
 HIGH, MIDDLE, LOW = "high", "middle", "low"
 WEIGHTS = (HIGH, MIDDLE, LOW)
 ROOM = 60_000  # Bytes of names in a line, which may have 65,536.
+PLAIN_WORD = re.compile(rb"[A-Za-z0-9_./:=@%+,\\-]+\Z")
 
 
 class Kind(NamedTuple):
@@ -60,10 +62,8 @@ def file_word(path: bytes) -> bytes:
 
 
 def plain_word(text: bytes) -> bytes:
-    """A word of a script, in quotes where it needs them."""
-    word = script_word(text)
-    is_plain = word[1:-1] == text and b" " not in text and text[:1] not in (b"#", b"-", b"")
-    return text if is_plain else word
+    """A word of a script, in quotes where it needs them, or where a shell would make something else of it."""
+    return text if PLAIN_WORD.match(text) and text[:1] != b"-" else script_word(text)
 
 
 def name_word(name: bytes) -> bytes:

@@ -216,6 +216,14 @@ class Written(Checks):
                                           b"may read all or write all\n"), done.out)
 
 
+    def test_a_name_that_a_shell_would_run_is_quoted(self) -> None:
+        for name, word in ((b"$(id)", b"'srv/hr/$(id)'"), (b"`id`", b"'srv/hr/`id`'"), (b"a;b", b"'srv/hr/a;b'"), (b"a-b.c", b"srv/hr/a-b.c")):
+            self.take({b"/srv/hr/" + name: FILE % b"rw-"})
+            done = self.run_command("facl-check", ["--write", "small", os.fsdecode(b"srv/hr/" + name)])
+            self.assertIn(b"\nnever others read " + word + b"\n", done.out)
+            self.assertEqual(self.rows(done.out), [])
+
+
 class Streams(Checks):
     def test_an_interrupted_run_leaves_nothing(self) -> None:
         self.write("rules", Report.RULES)
