@@ -1,16 +1,14 @@
 """The findings of facl-audit, a record each; and a file with what is found of it, and the line that mends it."""
 from __future__ import annotations
 
-import re
 from typing import Dict, Iterator, List, NamedTuple
 
-from .names import script_word, shown_path, write_name
+from .names import PLAIN_SHELL_WORD, script_word, shown_path, write_name
 from .program import parts_of
 
 HIGH, MIDDLE, LOW = "high", "middle", "low"
 WEIGHTS = (HIGH, MIDDLE, LOW)
 ROOM = 60_000  # Bytes of names in a line, which may have 65,536.
-PLAIN_WORD = re.compile(rb"[A-Za-z0-9_./:=@%+,\\-]+\Z")
 
 
 class Kind(NamedTuple):
@@ -63,7 +61,7 @@ def file_word(path: bytes) -> bytes:
 
 def plain_word(text: bytes) -> bytes:
     """A word of a script, in quotes where it needs them, or where a shell would make something else of it."""
-    return text if PLAIN_WORD.match(text) and text[:1] != b"-" else script_word(text)
+    return text if PLAIN_SHELL_WORD.match(text) and text[:1] != b"-" else script_word(text)
 
 
 def name_word(name: bytes) -> bytes:

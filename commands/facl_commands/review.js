@@ -47,7 +47,7 @@ function shownPath(file) {
 // A word with this text: in quotes where it needs them, or where a shell would make something else of it, and then bytes
 // that are not printable ASCII as escapes.
 function wordOf(text) {
-  if (/^[A-Za-z0-9_.\/:=@%+,\\-]+$/.test(text)) return text;
+  if (/^[A-Za-z0-9_.\/:=@%+,-]+$/.test(text)) return text;
   const escaped = byte => byte < 0x20 || byte > 0x7e || byte === 0x27 ? "\\" + byte.toString(8).padStart(3, "0") : String.fromCharCode(byte);
   return "'" + Array.from(new TextEncoder().encode(text), escaped).join("") + "'";
 }

@@ -9,9 +9,10 @@ from typing import Dict, List, Optional, Tuple
 from . import choice, meta, overview, tables, texts, who_files, who_folder, who_rights, who_user
 from .asking import Asker, read_rights
 from .messages import Command, Failure, parser_of
-from .names import json_text
+from .names import json_text, read_name
 from .program import Session, find_program
 from .snapshot import NEEDED, check_texts, is_hidden
+from .superuser import ids_in
 from .texts import Source
 from .trusted import read_trusted
 from .who_answers import Answer, user_of, user_with_row
@@ -142,6 +143,12 @@ def write_answer(command: Command, asker: Asker, answer: Answer) -> None:
             command.tell(line)
 
 
+def is_superuser(word: bytes, passwd: bytes) -> bool:
+    """Whether a word names a user of the uid 0, or is this id."""
+    ids = ids_in(passwd)
+    return ids.get(read_name(word), int(word) if word.isdigit() else None) == 0
+
+
 def body(command: Command, words: List[str]) -> int:
     given = parse(words)
     if not given.question:
@@ -158,4 +165,7 @@ def body(command: Command, words: List[str]) -> int:
                 write_answer(command, asker, answer)
         for note in () if given.json else choice.notes(answer.left_out, passwd):
             command.say(note)
+        if given.user is not None and not given.with_root and is_superuser(os.fsencode(given.user), passwd):
+            command.say(os.fsencode(given.user) + b": has the uid 0, to which the kernel grants nearly everything; "
+                        b"this is what lists grant it")
     return SOMEBODY if answer.table.rows else NOBODY

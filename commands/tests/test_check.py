@@ -215,7 +215,6 @@ class Written(Checks):
         self.assertTrue(done.out.endswith(b"\n\n# srv/hr/\n# none: others may read some of these files, and write some, and no user "
                                           b"may read all or write all\n"), done.out)
 
-
     def test_a_name_that_a_shell_would_run_is_quoted(self) -> None:
         for name, word in ((b"$(id)", b"'srv/hr/$(id)'"), (b"`id`", b"'srv/hr/`id`'"), (b"a;b", b"'srv/hr/a;b'"), (b"a-b.c", b"srv/hr/a-b.c")):
             self.take({b"/srv/hr/" + name: FILE % b"rw-"})

@@ -135,9 +135,10 @@ class Week(Daily):
     def test_no_finding_counts(self) -> None:
         os.chmod(os.path.join(self.tree, "file"), 0o646)
         self.write("rules", b"never 71001 write %s/file\n" % os.fsencode(self.tree))
-        done = self.daily("--fail-on", "none")
-        self.assertEqual((done.status, [line for line in done.out.splitlines() if line.startswith(b"== ")]),
-                         (1, [b"== rules that do not hold (facl-check)"]))
+        for words in (("--fail-on", "none"), ("--fail-on=none",)):
+            done = self.daily(*words)
+            self.assertEqual((done.status, [line for line in done.out.splitlines() if line.startswith(b"== ")]),
+                             (1, [b"== rules that do not hold (facl-check)"]))
 
     def test_accepted_and_options_of_the_snapshot(self) -> None:
         self.make("x.tmp", 0o666)

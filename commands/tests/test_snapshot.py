@@ -223,7 +223,7 @@ class Written(SnapshotCase):
             self.expect_status(self.snapshot("--readers", group, "shared", "tree"), 0)
             self.assertEqual(self.modes("shared"), [0o750] + [0o640] * 6)
             self.assertEqual({os.stat(self.path("shared/" + name)).st_gid for name in FILES}, {os.getgid()})
-        self.expect_status(self.snapshot("--readers", "no such group", "other", "tree"), 2, b"no such group: no such group")
+        self.expect_status(self.snapshot("--readers=no such group", "other", "tree"), 2, b"no such group: no such group")
         self.assertFalse(os.path.exists(self.path("other")))
 
     def test_long_names(self) -> None:

@@ -164,6 +164,9 @@ class OneUser(WhoCase):
     def test_each_file_alone(self) -> None:
         self.assertEqual(self.rows("--user", "guest", "project", status=1), [])
         self.expect(self.who("--user", "guest", "project"), 1, b"guest may read, write and enter nothing at or below /srv/project\n")
+        note = b"has the uid 0, to which the kernel grants nearly everything; this is what lists grant it\n"
+        for words, has_note in ((["--user", "root"], True), (["--user", "0"], True), (["--user", "root", "--with-root"], False)):
+            self.assertEqual(note in self.who(*words, "project").messages, has_note, words)
         self.assertEqual(self.rows("--user", "guest", "--file-alone", "project"), [
             ["/srv/project", "none", "read", "3", "0", "1", "9"], ["/srv/project/drafts", "r-x", "read", "2", "0", "1", "4"]])
 
