@@ -104,13 +104,13 @@ enter_private() {
     setfacl -k --set u::rwx,g::---,o::--- -- .
 }
 
-# remove_private: removes the closed folder, which is empty by now. No call of the system removes exactly that one: who puts
+# remove_private: removes the closed folder, which is empty by now, but for a file that could not be put back. No call of the system removes exactly that one: who puts
 # another one there after the look, an empty one, can remove that too.
 remove_private() {
     if has_identity "./$private" "$closed" && rmdir -- "./$private"; then
         private=''
     else
-        say "$shown: somebody moves files there; an empty folder .facl.* is left beside it"
+        say "$shown: somebody moves files there; a folder .facl.* is left beside it"
     fi
 }
 

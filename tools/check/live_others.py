@@ -414,7 +414,8 @@ class Others(Check):
 
     def race_script(self, before: List[State], what: str, words: List[bytes], chance: random.Random) -> None:
         """Runs a script while MALLORY is at work. An empty directory of root that MALLORY put in the place of a closed
-        folder may go, which MALLORY can do too, and a closed folder, of root, may be left where it was exchanged."""
+        folder may go, which MALLORY can do too, and a closed folder, of root, may be left where it was exchanged. It has a
+        file of MALLORY's where the script says that this cannot be put back."""
         number = child(MALLORY, lambda: attack_for_a_while(self.hand, what, chance))
         script = words[1].rpartition(b"/")[2].decode()
         if chance.random() < 0.67:
@@ -429,7 +430,9 @@ class Others(Check):
         lost, added = [it for it in before if it not in after], [it for it in after if it not in before]
         self.count("empty directories of root, in the place of a closed folder, removed", sum(map(is_closed, lost)))
         is_entered = os.WIFEXITED(status) and os.WEXITSTATUS(status) == ENTERED
-        is_kept = all(map(is_closed, lost + added)) and not is_entered and done.returncode in (0, 1)
+        most = 1 if b"cannot be put back" in done.stderr else 0
+        is_kept = all(map(is_closed, lost)) and all(is_closed(it, most) for it in added)
+        is_kept = is_kept and not is_entered and done.returncode in (0, 1)
         expect(is_kept, f"{script}, {what}: entered {is_entered}, {done}\n  {lost}\n  {added}")
         said = (done.stderr.decode(errors="replace").strip().splitlines() or ["done"])[-1]
         self.count("messages of scripts: " + said.rpartition(": ")[2][:70])
@@ -449,9 +452,11 @@ class Others(Check):
         return sorted(found, key=repr)
 
 
-def is_closed(found: State) -> bool:
-    """Whether what of_root has found is an empty directory in MALLORY's folder that nobody else can enter."""
-    return len(found) == 7 and found[0] == [] and isinstance(found[4], int) and found[4] & 0o77 == 0
+def is_closed(found: State, most: int = 0) -> bool:
+    """Whether what of_root has found is a directory in MALLORY's folder that nobody else can enter, with so many files at
+    most."""
+    return (len(found) == 7 and isinstance(found[0], list) and len(found[0]) <= most
+            and isinstance(found[4], int) and found[4] & 0o77 == 0)
 
 
 def enters(name: bytes) -> bool:
