@@ -26,3 +26,4 @@ mod RowsOfNumbers
 mod ClassedRows
 mod Outside
 mod RowsFrom
+mod ClassesFrom

@@ -13,10 +13,11 @@ use Rattle.acl_names.specs.Below.{is_above}
 use Rattle.acl_names.proofs.Below.{below_less}
 use Rattle.acl_names.proofs.PathOrder.{path_total, exact_paths}
 use Rattle.acl_names.proofs.Basics.{is_less, not_both, false_from}
-use Rattle.path_map.specs.Entries.{IsInOrder}
+use Rattle.path_map.specs.Entries.{IsInOrder, seen}
 use Rattle.path_map.specs.Below.{from, nearest_above}
 use Rattle.path_map.proofs.AllAbove.{nearest_empty, nearest_last}
 use Rattle.path_map.proofs.Places.{below}
+use Rattle.kinds.specs.Numbered.{Numbers}
 use Rattle.kinds.specs.Puts.{borrowed}
 use Rattle.acl_rights.specs.declared.kind_rows.LabelRow.{LabelRow}
 use Rattle.acl_rights.specs.KindRows.{RowedPaths, rows_at}
@@ -248,6 +249,9 @@ map_reverse f (x ∷ xs) = ap (map f) (reverse-append (x ∷ []) xs) ∙ map-app
 
 pub turned : (files more : List (Bor PathOf × Bor LabelRow)) (those : RowedPaths) → more ≡ reverse files → reverse (map borrowed files) ≡ those → map borrowed more ≡ those
 turned files more those is are = ap (map borrowed) is ∙ map_reverse borrowed files ∙ are
+
+pub turned_numbers : (files more : List (Bor PathOf × ℕ)) (those : Numbers) → more ≡ reverse files → reverse (map seen files) ≡ those → map seen more ≡ those
+turned_numbers files more those is are = ap (map seen) is ∙ map_reverse seen files ∙ are
 
 -- ---- what is reached at the files above a path
 

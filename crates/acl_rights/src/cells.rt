@@ -162,7 +162,7 @@ pub(crate) fn judged_last<J: Judge>(
     ensures cells { IfOk result (λ new. new ≡ cells.now ++ J.verdict_of user.now label.now ∷ []) }
     ensures at_most { J.asked_of judge.new ≤ J.asked_of judge.old + 1 }
 {
-    let mut new = Vec::new(alloc);
+    let mut new = Vec::with_capacity(alloc, cells.len().saturating_add(1))?;
     new.extend_from_slice(cells)?;
     new.push(judge.verdict(user, label))?;
     Cells::new_or_shared(alloc, new, other)

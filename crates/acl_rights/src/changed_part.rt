@@ -12,8 +12,8 @@ use std::alloc::{AllocError, Global};
 /// More changed files than these, apart from one another, are not looked at one by one.
 const MOST_FILES: usize = 64;
 
-/// The path, or the nearest one above it that encloses another path.
-fn raised(alloc: Global, top: Path, path: &Path) -> Result<Path, AllocError>
+/// A path, or the nearest one above it at or below which another path is. Fails only if memory runs out.
+pub fn enclosing(alloc: Global, top: Path, path: &Path) -> Result<Path, AllocError>
     ensures holds { IfOk result (λ new. encloses new path.now ≡ true) }
     ensures wider { IfOk result (λ new. encloses new top ≡ true) }
 {
@@ -30,7 +30,7 @@ fn with_path(alloc: Global, top: Option<Path>, path: &Path) -> Result<Path, Allo
     ensures wider { IfOk result (λ new. Holds (Some new) top []) }
 {
     match top {
-        Some(top) => raised(alloc, top, path),
+        Some(top) => enclosing(alloc, top, path),
         None => path.try_clone(alloc),
     }
 }

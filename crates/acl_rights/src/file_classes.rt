@@ -1,13 +1,16 @@
 //! Files by classes, one after another: all files of a class have the same row of verdicts, alone, or along paths where each
 //! directory above has to grant search.
 
-ghost use Rattle.std.specs.Prelude.{◌≡◌, [], slice_get, option_map, IfOk, OnErr};
+ghost use Rattle.std.specs.Prelude.{◌≡◌, [], true, map, slice_get, option_map, IfOk, OnErr};
 ghost use Rattle.std.specs.Option.{option_copied};
+ghost use Rattle.path_map.specs.Below.{from};
 ghost use Rattle.path_map.specs.Entries.{first, seen};
 ghost use Rattle.kinds.specs.Numbered.{entries_in};
 ghost use Rattle.acl_rights.specs.KindRows.{rows_at};
 ghost use Rattle.acl_rights.specs.ReachedRows.{rows_along};
+ghost use Rattle.acl_rights.specs.RowsLeft.{those, AreAbove};
 ghost use Rattle.acl_rights.specs.Classes.{KeepRows, TakesFile};
+ghost use Rattle.acl_rights.specs.ClassRows.{rows_by};
 
 use crate::classes::FilesAbove;
 use crate::kind_rows::KindRows;
@@ -97,5 +100,76 @@ impl KindRows {
             rest,
             above: FilesAbove::new(alloc, self.rows.kinds()),
         }
+    }
+
+    /// The files above a path with their numbers, in path order.
+    fn numbers_above(&self, alloc: Global, path: &Path) -> Result<Vec<(&Path, usize)>, AllocError>
+        ensures { IfOk result (λ files. map seen files.items ≡ those path.now self.now.rows.1) }
+    {
+        let numbers = self.rows.numbers();
+        numbers.order_law();
+        let mut files = Vec::new(alloc);
+        let mut above = numbers.nearest_above(path);
+        while let Some(file) = above {
+            files.push(file)?;
+            above = numbers.nearest_above(file.0);
+        }
+        files.reverse();
+        Ok(files)
+    }
+
+    /// The classes of the files above a path, along paths.
+    fn classes_above(&self, alloc: Global, top: &Path) -> Result<FilesAbove<'_>, AllocError>
+        ensures numbers { IfOk result (λ above. above.numbers ≡ rows_by self.now.rows.0) }
+        ensures above { IfOk result (λ above. AreAbove (rows_at (entries_in self.now.rows)) top.now above.above) }
+    {
+        self.rows.order_law();
+        let files = self.numbers_above(alloc, top)?;
+        let mut above = FilesAbove::new(alloc, self.rows.kinds());
+        for at in 0..files.len() {
+            let file = files[at];
+            let _class = above.class_of(alloc, true, file.0, file.1)?;
+        }
+        Ok(above)
+    }
+
+    /// What is known of classes above a path: nothing where search along paths is not asked.
+    fn classes_above_if(
+        &self,
+        alloc: Global,
+        along: bool,
+        top: &Path,
+    ) -> Result<FilesAbove<'_>, AllocError>
+        ensures numbers { IfOk result (λ above. above.numbers ≡ rows_by self.now.rows.0) }
+        ensures above { IfOk result (λ above. along ≡ true → AreAbove (rows_at (entries_in self.now.rows)) top.now above.above) }
+    {
+        if along {
+            self.classes_above(alloc, top)
+        } else {
+            Ok(FilesAbove::new(alloc, self.rows.kinds()))
+        }
+    }
+
+    /// The files that are not before a path with their classes, as [`KindRows::file_classes`] has them. Fails only if memory
+    /// runs out.
+    pub fn file_classes_from(
+        &self,
+        alloc: Global,
+        along: bool,
+        top: &Path,
+    ) -> Result<FileClasses<'_>, AllocError>
+        ensures { IfOk result (λ classes. classes.1 ≡ from top.now (rows_along along (rows_at (entries_in self.now.rows)))) }
+    {
+        self.rows.order_law();
+        let above = self.classes_above_if(alloc, along, top)?;
+        let mut rest = self.rows.numbers().from(top);
+        let first = rest.next();
+        Ok(FileClasses {
+            all: self,
+            along,
+            first,
+            rest,
+            above,
+        })
     }
 }

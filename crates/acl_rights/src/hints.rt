@@ -6,9 +6,9 @@ use std::rc::Rc;
 
 /// The number that a label of this hash was given.
 #[derive(Clone, Copy)]
-struct Hint {
-    hash: u64,
-    number: usize,
+pub(crate) struct Hint {
+    pub hash: u64,
+    pub number: usize,
 }
 
 /// For each hash the number that a label of this hash was given last. Nothing rests on it: whoever is given a number compares
@@ -23,6 +23,9 @@ pub(crate) struct Hints {
 
 /// Where there are more hints than these, all are dropped before others are added.
 const MAX_HINTS: usize = 1 << 20;
+
+/// So many numbers of a tree are hinted at from the start: with more of them it would take long.
+pub(crate) const FIRST_HINTS: usize = 1 << 16;
 
 /// The number of a hash in a block.
 fn number_in(block: &[Hint], hash: u64) -> Option<usize> {
@@ -83,6 +86,15 @@ impl Hints {
         Hints {
             blocks: Vec::new(alloc),
         }
+    }
+
+    /// These hints. Fails only if memory runs out.
+    pub fn of(alloc: Global, hints: Vec<Hint>) -> Result<Hints, AllocError> {
+        let mut block = hints;
+        block.sort_unstable_by_key(|hint| hint.hash);
+        let mut blocks = Vec::new(alloc);
+        blocks.push(Rc::new(alloc, block)?)?;
+        Ok(Hints { blocks })
     }
 
     /// The number that a hash was given last. Allocates nothing.

@@ -10,7 +10,8 @@ ghost use Rattle.kinds.specs.Renewed.{one_where};
 ghost use Rattle.acl_rights.specs.KindRows.{rows_at, label_row, rowed, each_row, with_last, without_at, with_again, asked_again, mentions_any};
 
 use crate::cells::{Cells, judged, judged_at, judged_last, without};
-use crate::hints::Hints;
+use crate::hash::hash_of;
+use crate::hints::{FIRST_HINTS, Hint, Hints};
 use crate::judge::Judge;
 use acl_edit::Node;
 use acl_entry::{Id, Label, Subject};
@@ -27,7 +28,7 @@ pub struct LabelRow {
     pub row: Cells,
 }
 
-/// For each file its label and row; and hints at the numbers of labels that lines gave files.
+/// For each file its label and row; and hints at the numbers of labels.
 #[derive(Drop)]
 pub struct KindRows {
     pub rows: KindMap<LabelRow>,
@@ -51,6 +52,18 @@ pub(crate) fn with_row(alloc: Global, label: &Label, row: Cells) -> Result<Label
 {
     let label = copied(alloc, label)?;
     Ok(LabelRow { label, row })
+}
+
+/// Hints at the numbers that files have, or at the first of them.
+pub(crate) fn hints_of(alloc: Global, rows: &KindMap<LabelRow>) -> Result<Hints, AllocError> {
+    let mut hints = Vec::new(alloc);
+    for number in 0..rows.numbers_len().min(FIRST_HINTS) {
+        if let Some(row) = rows.used(number) {
+            let hash = hash_of(&row.label);
+            hints.push(Hint { hash, number })?;
+        }
+    }
+    Hints::of(alloc, hints)
 }
 
 /// The verdicts of all users.
@@ -248,10 +261,8 @@ impl KindRows {
     {
         let all = AllUsers { users };
         let rows = files.files_by_path().renewed(alloc, judge, &all)?;
-        Ok(KindRows {
-            rows,
-            hints: Hints::new(alloc),
-        })
+        let hints = hints_of(alloc, &rows)?;
+        Ok(KindRows { rows, hints })
     }
 
     /// The rows with one user more, the last. Fails only if memory runs out.

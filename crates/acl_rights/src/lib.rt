@@ -49,6 +49,7 @@ mod stack;
 mod stage;
 
 pub use cells::{Cells, same_row};
+pub use changed_part::enclosing;
 pub use file_classes::FileClasses;
 pub use file_rows::{FileRow, FileRows};
 pub use index::{Index, Rows};

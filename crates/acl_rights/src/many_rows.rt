@@ -9,9 +9,8 @@ ghost use Rattle.acl_rights.specs.KindRows.{label_row, node_row, rowed, shared_r
 
 use crate::changed_rows::{is_same_label, judged_row};
 use crate::hash::hash_of;
-use crate::hints::Hints;
 use crate::judge::Judge;
-use crate::kind_rows::{KindRows, LabelRow};
+use crate::kind_rows::{KindRows, LabelRow, hints_of};
 use acl_edit::Node;
 use acl_entry::Label;
 use acl_people::Subjects;
@@ -177,7 +176,7 @@ impl KindRows {
         let known = known_rows(alloc, &self.rows)?;
         let nodes = rows_of_numbers(alloc, judge, users, known, files)?;
         let rows = files.with_nodes(alloc, &nodes)?;
-        let hints = Hints::new(alloc);
+        let hints = hints_of(alloc, &rows)?;
         Ok(KindRows { rows, hints })
     }
 }

@@ -95,3 +95,19 @@ fn each_file_has_a_class(rt: HostRuntime) {
     drop(world);
     assert!(rt; (alone, along) == (Some(true), Some(true)));
 }
+
+/// The files from one on, below a directory that is closed to joe and ann; the classes of the directories above it count too.
+#[test]
+fn each_file_from_a_path_on_has_a_class(rt: HostRuntime) {
+    let alloc = rt.alloc();
+    let mut world = nothing(alloc).expect(&rt, "memory");
+    assert_eq!(rt; first_wrong(alloc, &mut world, &SETUP), None);
+    let file = read_path(alloc, b"a/f").expect(&rt, "memory");
+    let top = file.expect(&rt, "a path");
+    let alone = world.index.file_classes_from(alloc, false, &top);
+    let is_alone = are(alloc, alone.expect(&rt, "memory"), ALONE.split_at(2).1, 2);
+    let along = world.index.file_classes_from(alloc, true, &top);
+    let is_along = are(alloc, along.expect(&rt, "memory"), ALONG.split_at(2).1, 4);
+    drop(world);
+    assert!(rt; (is_alone, is_along) == (Some(true), Some(true)));
+}

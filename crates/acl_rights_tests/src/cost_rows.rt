@@ -1,4 +1,4 @@
-//! Lines, and what each costs and leaves.
+//! Lines on files, and what each costs and leaves.
 
 use crate::lines::Line;
 use crate::world::{Row, Verdict};
@@ -7,7 +7,7 @@ use acl_tree::Table;
 const PASSWD: &[u8] = b"lisa:x:1001:50:Lisa:/home/lisa:/bin/sh\n\
 joe:x:1000:100:Joe:/home/joe:/bin/sh\nann:x:1002:100:Ann:/home/ann:/bin/sh\n";
 
-const GROUP: &[u8] = b"staff:x:50:\nusers:x:100:\ncool:x:60:lisa\nadm:x:70:\n";
+pub const GROUP: &[u8] = b"staff:x:50:\nusers:x:100:\ncool:x:60:lisa\nadm:x:70:\n";
 
 const FILES: &[u8] =
     b"# file: .\n# owner: lisa\n# group: staff\nuser::rwx\ngroup::r-x\nother::r-x\n\n\
@@ -16,9 +16,9 @@ const FILES: &[u8] =
 # file: pub/\n# owner: ann\n# group: users\nuser::rwx\ngroup::r-x\ngroup:adm:rwx\nmask::rwx\nother::r-x\n\n\
 # file: log\n# owner: lisa\n# group: adm\nuser::rw-\ngroup::r--\nother::---\n\n";
 
-const LISA: usize = 0;
+pub const LISA: usize = 0;
 
-const JOE: usize = 1;
+pub const JOE: usize = 1;
 
 const ANN: usize = 2;
 
@@ -45,81 +45,6 @@ pub static SETUP: [Row; 3] = [
         looked: 0,
         refreshed: 15,
         verdicts: &[],
-        reach: &[],
-    },
-];
-
-/// No file mentions cool, adm is mentioned by log and pub, users is joe's primary group.
-pub static MEMBERSHIPS: [Row; 6] = [
-    Row {
-        line: Line::Join(b"joe", b"cool"),
-        asked: (0, 0),
-        looked: 0,
-        refreshed: 0,
-        verdicts: &[Verdict {
-            user: JOE,
-            path: b"pub",
-            byte: 0x33,
-        }],
-        reach: &[],
-    },
-    Row {
-        line: Line::Join(b"joe", b"users"),
-        asked: (0, 0),
-        looked: 0,
-        refreshed: 0,
-        verdicts: &[],
-        reach: &[],
-    },
-    Row {
-        line: Line::Join(b"joe", b"adm"),
-        asked: (2, 2),
-        looked: 2,
-        refreshed: 2,
-        verdicts: &[
-            Verdict {
-                user: JOE,
-                path: b"log",
-                byte: 0x11,
-            },
-            Verdict {
-                user: JOE,
-                path: b"pub",
-                byte: 0xff,
-            },
-        ],
-        reach: &[],
-    },
-    Row {
-        line: Line::Leave(b"joe", b"adm"),
-        asked: (2, 2),
-        looked: 2,
-        refreshed: 2,
-        verdicts: &[Verdict {
-            user: JOE,
-            path: b"log",
-            byte: 0x01,
-        }],
-        reach: &[],
-    },
-    Row {
-        line: Line::Chmod(0o770, b"pub"),
-        asked: (3, 3),
-        looked: 0,
-        refreshed: 3,
-        verdicts: &[],
-        reach: &[],
-    },
-    Row {
-        line: Line::Leave(b"joe", b"users"),
-        asked: (0, 0),
-        looked: 0,
-        refreshed: 0,
-        verdicts: &[Verdict {
-            user: JOE,
-            path: b"pub",
-            byte: 0x33,
-        }],
         reach: &[],
     },
 ];
@@ -159,6 +84,31 @@ pub static FILES_ALONE: [Row; 4] = [
     },
 ];
 
+/// The root and run have the label that f gets first: its row is there. The one that f gets back is of no other file: its row may be asked
+/// for again.
+pub static LIKE_ANOTHER: [Row; 2] = [
+    Row {
+        line: Line::Chmod(0o755, b"f"),
+        asked: (0, 0),
+        looked: 0,
+        refreshed: 3,
+        verdicts: &[Verdict {
+            user: JOE,
+            path: b"f",
+            byte: 0x33,
+        }],
+        reach: &[],
+    },
+    Row {
+        line: Line::Chmod(0o640, b"f"),
+        asked: (0, 3),
+        looked: 0,
+        refreshed: 3,
+        verdicts: &[],
+        reach: &[],
+    },
+];
+
 /// All five files change. Then there are four labels: the root and run have the same owner, group and list.
 pub static FOUR_LABELS: [Row; 1] = [Row {
     line: Line::Setfacl(b"u:joe:rX", true, b"."),
@@ -189,236 +139,6 @@ pub static FOUR_LABELS: [Row; 1] = [Row {
     ],
     reach: &[],
 }];
-
-/// Users is left and staff joined.
-pub static PRIMARY: [Row; 1] = [Row {
-    line: Line::Usermod(b"joe", b"staff"),
-    asked: (0, 4),
-    looked: 4,
-    refreshed: 5,
-    verdicts: &[Verdict {
-        user: JOE,
-        path: b"f",
-        byte: 0x11,
-    }],
-    reach: &[],
-}];
-
-pub static NAMED: [Row; 2] = [
-    Row {
-        line: Line::Setfacl(b"g:users:r", false, b"f"),
-        asked: (0, 3),
-        looked: 0,
-        refreshed: 3,
-        verdicts: &[],
-        reach: &[],
-    },
-    Row {
-        line: Line::Usermod(b"joe", b"staff"),
-        asked: (0, 4),
-        looked: 4,
-        refreshed: 5,
-        verdicts: &[],
-        reach: &[],
-    },
-];
-
-pub static COMES_AND_GOES: [Row; 4] = [
-    Row {
-        line: Line::Useradd(b"bob", 1003, b"staff"),
-        asked: (0, 5),
-        looked: 0,
-        refreshed: 5,
-        verdicts: &[Verdict {
-            user: 3,
-            path: b"f",
-            byte: 0x11,
-        }],
-        reach: &[],
-    },
-    Row {
-        line: Line::Setfacl(b"u:joe:rw", false, b"f"),
-        asked: (0, 4),
-        looked: 0,
-        refreshed: 4,
-        verdicts: &[],
-        reach: &[],
-    },
-    Row {
-        line: Line::Userdel(b"joe"),
-        asked: (0, 0),
-        looked: 0,
-        refreshed: 0,
-        verdicts: &[],
-        reach: &[],
-    },
-    Row {
-        line: Line::Useradd(b"zoe", 1000, b"cool"),
-        asked: (0, 5),
-        looked: 0,
-        refreshed: 5,
-        verdicts: &[
-            Verdict {
-                user: 3,
-                path: b"f",
-                byte: 0x55,
-            },
-            Verdict {
-                user: 2,
-                path: b"f",
-                byte: 0x11,
-            },
-        ],
-        reach: &[],
-    },
-];
-
-/// The last user goes, and another one comes.
-pub static NOBODY_IS_LEFT: [Row; 4] = [
-    Row {
-        line: Line::Userdel(b"joe"),
-        asked: (0, 0),
-        looked: 0,
-        refreshed: 0,
-        verdicts: &[],
-        reach: &[],
-    },
-    Row {
-        line: Line::Userdel(b"lisa"),
-        asked: (0, 0),
-        looked: 0,
-        refreshed: 0,
-        verdicts: &[],
-        reach: &[],
-    },
-    Row {
-        line: Line::Userdel(b"ann"),
-        asked: (0, 0),
-        looked: 0,
-        refreshed: 0,
-        verdicts: &[],
-        reach: &[],
-    },
-    Row {
-        line: Line::Useradd(b"bob", 1003, b"staff"),
-        asked: (0, 5),
-        looked: 0,
-        refreshed: 5,
-        verdicts: &[Verdict {
-            user: 0,
-            path: b"f",
-            byte: 0x11,
-        }],
-        reach: &[],
-    },
-];
-
-/// A file of users and groups without rows.
-const FILE_OF_NUMBERS: &[u8] =
-    b"# file: f\n# owner: 7\n# group: 8\nuser::rw-\ngroup::r--\nother::r--\n";
-
-/// There is nobody until a user comes, who goes again. The label that the file had before is kept meanwhile.
-pub static NOBODY_IS_LOADED: [Row; 5] = [
-    Row {
-        line: Line::Load(Table::Group, GROUP),
-        asked: (0, 0),
-        looked: 0,
-        refreshed: 0,
-        verdicts: &[],
-        reach: &[],
-    },
-    Row {
-        line: Line::Load(Table::Dump, FILE_OF_NUMBERS),
-        asked: (0, 0),
-        looked: 0,
-        refreshed: 0,
-        verdicts: &[],
-        reach: &[],
-    },
-    Row {
-        line: Line::Chmod(0o600, b"f"),
-        asked: (0, 0),
-        looked: 0,
-        refreshed: 0,
-        verdicts: &[],
-        reach: &[],
-    },
-    Row {
-        line: Line::Useradd(b"bob", 1003, b"staff"),
-        asked: (0, 1),
-        looked: 0,
-        refreshed: 1,
-        verdicts: &[Verdict {
-            user: 0,
-            path: b"f",
-            byte: 0x01,
-        }],
-        reach: &[],
-    },
-    Row {
-        line: Line::Userdel(b"bob"),
-        asked: (0, 0),
-        looked: 0,
-        refreshed: 0,
-        verdicts: &[],
-        reach: &[],
-    },
-];
-
-/// No file has f's label while a user comes. Run then gets the label that f has, which is asked for no more.
-pub static COMES_BACK: [Row; 4] = [
-    Row {
-        line: Line::Chmod(0o600, b"f"),
-        asked: (0, 3),
-        looked: 0,
-        refreshed: 3,
-        verdicts: &[],
-        reach: &[],
-    },
-    Row {
-        line: Line::Useradd(b"bob", 1003, b"staff"),
-        asked: (0, 5),
-        looked: 0,
-        refreshed: 5,
-        verdicts: &[Verdict {
-            user: 3,
-            path: b"f",
-            byte: 0x01,
-        }],
-        reach: &[],
-    },
-    Row {
-        line: Line::Chmod(0o640, b"f"),
-        asked: (0, 4),
-        looked: 0,
-        refreshed: 4,
-        verdicts: &[
-            Verdict {
-                user: 3,
-                path: b"f",
-                byte: 0x11,
-            },
-            Verdict {
-                user: LISA,
-                path: b"f",
-                byte: 0x55,
-            },
-        ],
-        reach: &[],
-    },
-    Row {
-        line: Line::Chmod(0o640, b"run"),
-        asked: (0, 0),
-        looked: 0,
-        refreshed: 4,
-        verdicts: &[Verdict {
-            user: 3,
-            path: b"run",
-            byte: 0x11,
-        }],
-        reach: &[],
-    },
-];
 
 pub static SEARCH: [Row; 1] = [Row {
     line: Line::Chmod(0o754, b"."),

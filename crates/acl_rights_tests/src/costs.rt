@@ -2,9 +2,9 @@
 ghost use Rattle.acl_entry.specs.Check.{rights};
 ghost use Rattle.acl_rights.specs.Tables.{IsWhole};
 
-use crate::cost_rows::{
-    COMES_AND_GOES, COMES_BACK, FILES_ALONE, FOUR_LABELS, MEMBERSHIPS, NAMED, NOBODY_IS_LEFT,
-    NOBODY_IS_LOADED, PRIMARY, SEARCH, SETUP,
+use crate::cost_rows::{FILES_ALONE, FOUR_LABELS, LIKE_ANOTHER, SEARCH, SETUP};
+use crate::people_rows::{
+    COMES_AND_GOES, COMES_BACK, MEMBERSHIPS, NAMED, NOBODY_IS_LEFT, NOBODY_IS_LOADED, PRIMARY,
 };
 use crate::world::{Row, World, asked_by_build, first_wrong, nothing};
 use std::alloc::Global;
@@ -33,7 +33,11 @@ fn expect_all(rt: &impl Abort, alloc: Global, tables: &[&[Row]]) {
 
 #[test]
 fn lines_on_files_cost_what_they_change(rt: HostRuntime) {
-    expect_all(&rt, rt.alloc(), &[&FILES_ALONE, &FOUR_LABELS, &SEARCH]);
+    expect_all(
+        &rt,
+        rt.alloc(),
+        &[&FILES_ALONE, &FOUR_LABELS, &LIKE_ANOTHER, &SEARCH],
+    );
 }
 
 #[test]

@@ -29,6 +29,8 @@ mod made;
 #[cfg(test)]
 mod many;
 #[cfg(test)]
+mod people_rows;
+#[cfg(test)]
 mod requests;
 #[cfg(test)]
 mod rows;

@@ -179,9 +179,33 @@ static A_FOLDER: [Row; 2] = [
     },
 ];
 
+/// After a line on all files, one gets the label that others have: their row is there.
+static THEN_ONE: [Row; 2] = [
+    Row {
+        line: Line::Setfacl(b"u:joe:rX", true, b"."),
+        asked: (0, 6),
+        looked: 0,
+        refreshed: 36,
+        verdicts: &[],
+        reach: &[],
+    },
+    Row {
+        line: Line::Setfacl(b"u::rwx,u:joe:rx,g::rx,m::rx,o::rx", false, b"c"),
+        asked: (0, 0),
+        looked: 0,
+        refreshed: 3,
+        verdicts: &[Verdict {
+            user: ANN,
+            path: b"c",
+            byte: 0x33,
+        }],
+        reach: &[],
+    },
+];
+
 #[test]
 fn lines_on_many_files_cost_their_labels(rt: HostRuntime) {
-    for rows in [&ALL_FILES as &[Row], &A_FOLDER] {
+    for rows in [&ALL_FILES as &[Row], &A_FOLDER, &THEN_ONE] {
         let mut world = nothing(rt.alloc()).expect(&rt, "memory");
         assert_eq!(rt; first_wrong(rt.alloc(), &mut world, &SETUP), None);
         assert_eq!(rt; first_wrong(rt.alloc(), &mut world, rows), None);

@@ -5,9 +5,10 @@ use crate::judge::OwnerAlone;
 use crate::small_tree::{load, path};
 use acl_rights::{
     Acl, Cells, Command, FileClasses, FileRow, FileRows, Id, Index, Judge, Label, Membership,
-    NoMemory, Path, Perm, Posix, Requests, Subject, read_name,
+    NoMemory, Path, Perm, Posix, Requests, Subject, enclosing, read_name,
 };
 use std::alloc::Global;
+use std::cmp::Ordering;
 use std::process::Abort;
 
 /// `gpasswd -a joe adm`.
@@ -126,6 +127,16 @@ fn verdicts_and_questions(rt: HostRuntime) {
     expect_rows(&rt, rt.alloc(), &index);
     expect_classes(&rt, rt.alloc(), &index);
     drop(index);
+}
+
+#[test]
+fn the_nearest_path_that_encloses(rt: HostRuntime) {
+    let other: Path = path(&rt, rt.alloc(), b"a/c/d");
+    let top: Path = path(&rt, rt.alloc(), b"a/b");
+    let found: Path = enclosing(rt.alloc(), top, &other).expect(&rt, "memory");
+    assert!(rt; found.order(&path(&rt, rt.alloc(), b"a")) == Ordering::Equal);
+    let itself: Path = enclosing(rt.alloc(), found, &other).expect(&rt, "memory");
+    assert!(rt; itself.order(&path(&rt, rt.alloc(), b"a")) == Ordering::Equal);
 }
 
 #[test]

@@ -224,9 +224,9 @@ walk_from top (e ∷ es) (row ∷ rows) h order =
         ∙ ap (λ l. (row.0, (shown_before (next_path es) e, row.1)) ∷ l) (sym (all_walked is))
         ∙ sym (ap (λ b. cond (not b) ((row.0, (shown_before (next_path es) e, row.1)) ∷ from top (walk_of es rows)) (from top (walk_of es rows))) kept)
 
-none_within : (top q : PathOf) (files : Walked) → is_gt (path_cmp top q) ≡ false → encloses top q ≡ false → IsTrue (below_all path_cmp q files) → within top files ≡ []
+none_within : {A : Type 0} (top q : PathOf) (files : List (PathOf × A)) → is_gt (path_cmp top q) ≡ false → encloses top q ≡ false → IsTrue (below_all path_cmp q files) → within top files ≡ []
 none_within top q [] le apart h = refl
-none_within top q (file ∷ files) le apart h =
+none_within {A = A} top q (file ∷ files) le apart h =
     let parts = and_parts (is_lt (path_cmp q file.0)) (below_all path_cmp q files) h in
     ap (λ b. cond b (file ∷ within top files) (within top files)) (off (encloses top file.0) refl (is_less (path_cmp q file.0) parts.0)) ∙ none_within top q files le apart parts.1
   where
@@ -234,9 +234,9 @@ none_within top q (file ∷ files) le apart h =
     off false is lt = is
     off true is lt = absurd (not_both (encloses top q) (convex top q file.0 le lt is) apart)
 
-front_within : (top : PathOf) (files : Walked) → IsInOrder files → front top (from top files) ≡ within top files
+pub front_within : {A : Type 0} (top : PathOf) (files : List (PathOf × A)) → IsInOrder files → front top (from top files) ≡ within top files
 front_within top [] order = refl
-front_within top (file ∷ files) order =
+front_within {A = A} top (file ∷ files) order =
     let parts = and_parts (below_all path_cmp file.0 files) (is_sorted path_cmp files) order in
     by (is_gt (path_cmp top file.0)) refl (encloses top file.0) refl (front_within top files parts.1) parts.0
   where

@@ -1,5 +1,5 @@
 -- For inner functions: walks over the files of a state at a path or below it.
-use Rattle.std.specs.Prelude.{Bool, [], ◌∷◌, if◌then◌else◌}
+use Rattle.std.specs.Prelude.{Bool, List, [], ◌∷◌, if◌then◌else◌}
 use Rattle.acl_names.specs.Below.{encloses}
 use Rattle.acl_names.specs.Paths.{PathOf}
 use Rattle.acl_tree.specs.State.{State}
@@ -8,7 +8,7 @@ use Rattle.acl_rights.specs.Verdicts.{rows_granted}
 use Rattle.facl.specs.Inner.{Walked, walk_of}
 
 -- the first files, as long as they are at a path or below it
-abbrev pub front : PathOf → Walked → Walked
+abbrev pub front : {A : Type 0} → PathOf → List (PathOf × A) → List (PathOf × A)
 front top [] = []
 front top (file ∷ files) = if encloses top file.0 then file ∷ front top files else []
 

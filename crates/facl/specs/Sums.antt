@@ -4,14 +4,16 @@ use Rattle.std.specs.Option.{option_map_or, option_or}
 use Rattle.std.specs.List.{AllByRecursion, find, flat_map}
 use Rattle.acl_entry.specs.Check.{has}
 use Rattle.acl_entry.specs.Perms.{Perms}
+use Rattle.acl_names.specs.Below.{encloses}
 use Rattle.acl_names.specs.Paths.{PathOf}
-use Rattle.acl_rights.specs.Classes.{Classed}
+use Rattle.acl_rights.specs.Classes.{Classed, IsFileTaken}
 use Rattle.acl_rights.specs.Rows.{Rows, grants_to}
 use Rattle.acl_tree.specs.Found.{files_found}
 use Rattle.acl_tree.specs.Files.{Files}
 use Rattle.acl_tree.specs.Operands.{is_file}
 use Rattle.facl.specs.Answers.{file_line}
 use Rattle.facl.specs.CountTexts.{count_text}
+use Rattle.facl.specs.PartWalks.{front}
 use Rattle.facl.specs.declared.answers.sums.UserSum.{UserSum}
 use Rattle.facl.specs.Tallies.{Tallied, Sides, SaysAs, one}
 
@@ -62,10 +64,15 @@ pub record AreCounted (classes : List (List ℕ)) (rows : Rows) (ts : List (Tall
   pub are : map (λ k. k.1) files ≡ rows
   pub have : AllByRecursion (λ k. row_of classes k.0 ≡ Some k.1.1) files
 
--- after some files, the counts are of those of them that are at or below some paths
-pub record IsCounting (paths : List PathOf) (all : Rows) (left : Classed) (ts : List (Tallied Sides)) : Type 0 where
+-- the first file that was to come is taken, if it is at a path or below it
+abbrev pub TakesWithin : PathOf → Classed → Option (PathOf × ℕ) → Classed → Type 0
+TakesWithin top old None new = (front top old.1 ≡ []) × (new ≡ old)
+TakesWithin top old (Some file) new = (encloses top file.0 ≡ true) × IsFileTaken old file new
+
+-- after some files at or below a path, the counts are of those of them that are at or below some paths
+pub record IsCounting (top : PathOf) (paths : List PathOf) (all : Rows) (left : Classed) (ts : List (Tallied Sides)) : Type 0 where
   pub seen : Rows
-  pub whole : seen ++ left.1 ≡ all
+  pub whole : seen ++ front top left.1 ≡ all
   pub counted : AreCounted left.0 (filter (λ row. is_file true paths row.0) seen) ts
 
 -- on how many of some files a user is granted a request, and the first of them

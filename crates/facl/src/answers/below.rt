@@ -2,6 +2,8 @@
 
 ghost use Rattle.std.specs.Prelude.{◌≡◌, ◌≢◌, ◌++◌, None, true, map, filter, IfOk, IfErr, OnOk};
 ghost use Rattle.std.specs.List.{flat_map};
+ghost use Rattle.acl_names.specs.Below.{encloses};
+ghost use Rattle.acl_names.specs.Paths.{PathOf};
 ghost use Rattle.acl_rights.specs.Verdicts.{rows_granted};
 ghost use Rattle.acl_tree.specs.Operands.{first_missing, is_file, IsMissing};
 ghost use Rattle.facl.specs.Answers.{file_line};
@@ -16,7 +18,7 @@ use crate::answers::path_texts::files_at;
 use crate::answers::sums::{UserSum, UserSums};
 use acl_entry::Perm;
 use acl_names::Path;
-use acl_rights::{Judge, Verdicts};
+use acl_rights::{Judge, Verdicts, enclosing};
 use acl_tree::{FoundFile, Paths, Selection, Tree, TreeFault};
 use std::alloc::{AllocError, Global};
 
@@ -79,7 +81,22 @@ fn look_up(alloc: Global, tree: &Tree, paths: &Paths) -> Result<(), TreeFault>
     Ok(())
 }
 
-/// For each user on how many files at or below some paths a request is granted, and the first of these files.
+/// The nearest path at or below which some paths are; the root where there are none.
+fn top_of(alloc: Global, paths: &[Path]) -> Result<Path, AllocError>
+    ensures { IfOk result (λ top. (q : PathOf) → is_file true paths.now q ≡ true → encloses top q ≡ true) }
+{
+    let mut top = match paths.first() {
+        Some(path) => path.try_clone(alloc)?,
+        None => Path::new(Vec::new(alloc)).unwrap(),
+    };
+    for path in paths {
+        top = enclosing(alloc, top, path)?;
+    }
+    Ok(top)
+}
+
+/// For each user on how many files at or below some paths a request is granted, and the first of these files. No file is
+/// looked at outside the folder that they have in common.
 fn sums_below<'a, J: Judge>(
     alloc: Global,
     verdicts: &Verdicts<'a, J>,
@@ -89,8 +106,10 @@ fn sums_below<'a, J: Judge>(
 ) -> Result<UserSums<'a>, AllocError>
     ensures { IfOk result (λ sums. AreSums request (filter (λ row. is_file true paths.now row.0) (rows_granted J.verdict_of verdicts.now.along verdicts.now.state.now)) names.now sums) }
 {
-    let mut classes = verdicts.classes(alloc);
-    let tallies = count_files(alloc, &mut classes, paths)?;
+    verdicts.state.state().tree().soundness_law();
+    let top = top_of(alloc, paths)?;
+    let mut classes = verdicts.classes_from(alloc, &top)?;
+    let tallies = count_files(alloc, &mut classes, &top, paths)?;
     let mut sums = UserSums::new(alloc, names)?;
     add_tallies(&mut sums, &classes, request, tallies.as_slice())?;
     Ok(sums)

@@ -1,10 +1,12 @@
 //! Files at or below some paths, counted by their classes, and what they add to the sums of users.
 
-ghost use Rattle.std.specs.Prelude.{◌≡◌, ◌++◌, ◌∷◌, [], List, None, Some, true, map, filter, IfOk, OnOk};
+ghost use Rattle.std.specs.Prelude.{◌≡◌, ◌++◌, ◌∷◌, [], List, None, Some, true, map, filter, option_map, IfOk, OnOk};
 ghost use Rattle.std.specs.Option.{option_copied};
+ghost use Rattle.path_map.specs.Entries.{seen};
 ghost use Rattle.acl_tree.specs.Operands.{is_file};
 ghost use Rattle.facl.specs.Counting.{tallied};
-ghost use Rattle.facl.specs.Sums.{row_of, after_tally, after_tallies, AreCounted};
+ghost use Rattle.facl.specs.PartWalks.{front};
+ghost use Rattle.facl.specs.Sums.{row_of, after_tally, after_tallies, AreCounted, TakesWithin};
 ghost use Rattle.facl.specs.Tallies.{Tallied, Sides, SaysAs, one};
 
 use crate::answers::sums::UserSums;
@@ -71,16 +73,31 @@ fn lies_in(paths: &[Path], path: &Path) -> bool
     paths.iter().any(|top| path.is_within(top))
 }
 
-/// Counts the files at or below some paths by their classes.
+/// The next file with its class, if it is at a path or below it.
+fn next_within<'a>(
+    alloc: Global,
+    classes: &mut FileClasses<'a>,
+    top: &Path,
+) -> Result<Option<(&'a Path, usize)>, AllocError>
+    ensures { IfOk result (λ found. TakesWithin top.now classes.old (option_map seen found) classes.new) }
+{
+    match classes.path() {
+        Some(path) if path.is_within(top) => classes.next(alloc),
+        _ => Ok(None),
+    }
+}
+
+/// Counts the files at or below some paths by their classes, of those that come first and are at a path or below it.
 pub(crate) fn count_files<'a>(
     alloc: Global,
     classes: &mut FileClasses<'a>,
+    top: &Path,
     paths: &[Path],
 ) -> Result<Tallies<'a>, AllocError>
-    ensures { IfOk result (λ tallies. AreCounted classes.new.0 (filter (λ row. is_file true paths.now row.0) classes.old.1) tallies) }
+    ensures { IfOk result (λ tallies. AreCounted classes.new.0 (filter (λ row. is_file true paths.now row.0) (front top.now classes.old.1)) tallies) }
 {
     let mut counter = Counter::new(alloc);
-    while let Some((path, class)) = classes.next(alloc)? {
+    while let Some((path, class)) = next_within(alloc, classes, top)? {
         if lies_in(paths, path) {
             counter.count(class, path)?;
         }

@@ -27,3 +27,9 @@ returns-clause-at_most g c =
     let u = length c.args.users.now in
     let sum = sum_of_each u (entries_in c.files_by_path.result.now) ∙ ap (λ es. length es * u) c.files_by_path.ensures.all in
     omega (arith, sum, c.in_ok-rows.ensures.at_most)
+
+pub returns-in_err-hints-clause-at_most : goal.returns-in_err-hints-clause-at_most
+returns-in_err-hints-clause-at_most g c =
+    let u = length c.args.users.now in
+    let sum = sum_of_each u (entries_in c.files_by_path.result.now) ∙ ap (λ es. length es * u) c.files_by_path.ensures.all in
+    omega (arith, sum, c.in_ok-rows.ensures.at_most)

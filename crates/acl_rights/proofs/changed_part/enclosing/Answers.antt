@@ -3,7 +3,7 @@ use Rattle.acl_names.specs.Below.{encloses}
 use Rattle.acl_names.specs.Paths.{PathOf}
 use Rattle.acl_names.proofs.Below.{within_itself}
 use Rattle.acl_rights.proofs.Outside.{parent_wider}
-use Rattle.acl_rights.proofs.changed_part.raised.Goals as goal
+use Rattle.acl_rights.proofs.changed_part.enclosing.Goals as goal
 
 pub loop-alloc-init : goal.loop-alloc-init
 loop-alloc-init c = within_itself c.args.top
