@@ -175,8 +175,12 @@ def by_hand(way: Way) -> List[bytes]:
     """The line that names what is to be done by hand, where there is something. It is made before anything is touched:
     a script that cannot be read has no part in what is said of the files."""
     name = b"by_hand_undo" if way.is_undo else b"by_hand"
-    is_there = way.folder.has(name) and way.folder.read(name)
-    return [b"still to be done by hand: sh " + shell_word(way.file(name))] if is_there else []
+    if not (way.folder.has(name) and way.folder.read(name)):
+        return []
+    if not way.is_undo:
+        return [b"still to be done by hand: sh " + shell_word(way.file(name))]
+    is_done = way.folder.has(b"by_hand_done") and way.folder.read(b"by_hand_done")
+    return [b"to take back what by_hand did: sh " + shell_word(way.file(name))] if is_done else []
 
 
 def body(command: Command, words: List[str]) -> int:

@@ -93,7 +93,8 @@ class Comparison:
         self.is_alone: bool = given.file_alone
         self.tops = tops_of((sessions[0], states[0]), (sessions[1], states[1]))
         self.folders = folders_of(sessions, given.folders)
-        self.listings = [texts.list_below(session, self.tops) for session in sessions]
+        self.listings = [texts.list_below(session, texts.find_tops(session, state.folder))
+                         for session, state in zip(sessions, states)]
 
     def pairs(self, is_all: bool = False) -> Iterable[Pair]:
         """What differs in the files that are looked at, and the directories above them; or all of these."""

@@ -34,8 +34,9 @@ class CannotLead(Exception):
 
 
 def group_text(old: State, new: State) -> bytes:
-    """The groups before, with a row without members for each other id that a user has afterwards."""
-    rows = rows_of(old.group)
+    """The groups before, with a row without members for each other id that a user has afterwards. A bad row stays, and
+    the program names it."""
+    rows = [row for row in rows_of(old.group) if len(row) > 2 and row[2].isdigit()]
     names, ids = {row[0] for row in rows}, {int(row[2]) for row in rows}
     lacking = {gid for member in members_of(new.people()).values() for gid in member.groups} - ids
     text = old.group + b"\n" * (old.group[-1:] not in (b"", b"\n"))

@@ -1,12 +1,12 @@
 """What facl-diff prints: a table for a person, rows for a script, or one object."""
 from __future__ import annotations
 
-from typing import Callable, Dict, List, NamedTuple, Sequence, Set, Tuple
+from typing import Callable, Dict, Iterable, Iterator, List, NamedTuple, Sequence, Set, Tuple
 
 from .diff_gains import Row
 from .diff_moved import Moved
 from .diff_states import Counts, PeopleCounts, State
-from .meta import fields_of
+from .meta import UNREAD, Meta, fields_of
 from .names import json_text, live_name, shown_path, write_user
 from .records import path_of
 from .rights import ABSENT
@@ -141,17 +141,44 @@ def object_of(compared: Compared) -> Dict[str, object]:
 
 # --- warnings
 
+MAY = b", so what is there may be new or gone for that alone: "
+SCOPES: List[Tuple[bytes, Callable[[Meta], List[bytes]]]] = [
+    (b"recorded in %s alone" + MAY, lambda about: about.folders),
+    (b"left out of %s alone by --exclude" + MAY, lambda about: about.excludes),
+    (b"left out of %s alone as another file system" + MAY, lambda about: about.mounts),
+]
+NOT_READ = b"warning: %s lacks what could not be read (unread %s in its meta)" + MAY[:-2]
+
+
+def is_within(folder: bytes, others: Iterable[bytes]) -> bool:
+    """Whether a folder is one of others, or below one."""
+    return any(folder == it or folder.startswith(it.rstrip(b"/") + b"/") for it in others)
+
+
+def scope_warnings(text: bytes, states: Tuple[State, State], names: Callable[[Meta], List[bytes]]) -> Iterator[bytes]:
+    """The names that one of two snapshots has alone, in its meta."""
+    for state, other in (states, states[::-1]):
+        only = sorted(name for name in set(names(state.about)) if not is_within(name, names(other.about)))
+        if only:
+            shown = b", ".join(only[:MOST_FOLDERS]) + b" .." * (len(only) > MOST_FOLDERS)
+            yield b"warning: " + text % state.folder + shown
+
+
+def unread_warnings(states: Tuple[State, State]) -> Iterator[bytes]:
+    """What only one of two snapshots could read."""
+    unread = [state.about.counts.get(UNREAD, b"0") for state in states]
+    for state, count in zip(states, unread):
+        if count != b"0" and unread[0] != unread[1]:
+            yield NOT_READ % (state.folder, count)
+
 
 def warnings(old: State, new: State) -> List[bytes]:
     """What is likely not meant: snapshots in the wrong order, or of other folders."""
     found = []
     if old.about.date and new.about.date and new.about.date < old.about.date:
         found.append(b"warning: the second snapshot is older than the first one: " + new.named())
-    folders = set(old.about.folders), set(new.about.folders)
-    if all(folders) and folders[0] != folders[1]:
-        for state, only in ((old, folders[0] - folders[1]), (new, folders[1] - folders[0])):
-            if only:
-                names = b", ".join(sorted(only)[:MOST_FOLDERS]) + b" .." * (len(only) > MOST_FOLDERS)
-                found.append(b"warning: recorded in %s alone, so that all there is new or gone: %s"
-                             % (state.folder, names))
+    if old.about.folders and new.about.folders:
+        for text, names in SCOPES:
+            found += scope_warnings(text, (old, new), names)
+    found += unread_warnings((old, new))
     return found

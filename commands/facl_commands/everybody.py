@@ -11,7 +11,7 @@ from typing import Dict, Iterator, NamedTuple, Set
 from .names import read_path, script_word, write_name
 from .people import rows_of
 from .program import OutputSlice, Session
-from .protocol import FREE_FILE_LINE, GROUP_ID_LINE, LIST_EFFECTIVE, USER_ID_LINE
+from .protocol import FREE_FILE_LINE, GROUP_ID_LINE, LIST, LIST_EFFECTIVE, USER_ID_LINE
 from .records import Listing, list_files, path_of
 from .snapshot import NEEDED
 from .texts import Source, find_tops, operands_of
@@ -95,6 +95,7 @@ def world_of(program: str, source: Source) -> Iterator[World]:
                 file.write(text)
         with Session(program, folder) as session:
             session.folder = source.folder  # Which messages name.
+            session.ask(LIST + b" .\n")  # Where the program does not load the texts, it says so before they are looked at.
             yield World(session, texts, everybody)
 
 

@@ -14,6 +14,7 @@ ENTRY = struct.Struct("<HHI")
 USER_OBJ, USER, GROUP_OBJ, GROUP, MASK, OTHER = 0x01, 0x02, 0x04, 0x08, 0x10, 0x20
 NO_ID = 0xFFFFFFFF  # Of an entry that names nobody.
 NAMED = (USER, GROUP)
+ALONE = (USER_OBJ, GROUP_OBJ, OTHER)  # Each list has one entry of each of these.
 GROUP_CLASS = (USER, GROUP_OBJ, GROUP)
 Key = Tuple[int, int]  # The tag of an entry, and its id.
 Entries = Dict[Key, int]  # Permissions by key.
@@ -44,6 +45,19 @@ def bytes_of(entries: Entries) -> bytes:
     """A list in the order of its keys, as the program and libacl write it."""
     return HEAD + b"".join(ENTRY.pack(tag, permissions, number) for (tag, number),
                            permissions in sorted(entries.items()))
+
+
+def is_valid(data: bytes) -> bool:
+    """Whether bytes are a valid list (acl_valid(3)), in the order in which the program writes it."""
+    try:
+        entries = entries_of(data)
+    except struct.error:
+        return False
+    tags = [tag for tag, _ in entries]
+    has_named = any(tag in NAMED for tag in tags)
+    return (bytes_of(entries) == data and all(tags.count(tag) == 1 for tag in ALONE) and {*tags} <= {*ALONE, *NAMED, MASK}
+            and (MASK in tags or not has_named) and max(entries.values()) <= 7
+            and all((number == NO_ID) == (tag not in NAMED) for tag, number in entries))
 
 
 def canonical(data: bytes) -> bytes:

@@ -8,6 +8,7 @@ from .names import json_text
 from .trusted import read_trusted
 
 NAME = b"meta"
+UNREAD, FILES = b"unread", b"files"
 
 
 class Meta(NamedTuple):
@@ -15,6 +16,9 @@ class Meta(NamedTuple):
     date: bytes  # In UTC.
     folders: List[bytes]
     version: bytes = b""  # Of the facl that made it.
+    excludes: List[bytes] = []  # The globs of --exclude.
+    mounts: List[bytes] = []  # Mount points of other file systems, which are left out.
+    counts: Dict[bytes, bytes] = {}  # Of FILES, how many are recorded; of UNREAD, how many names could not be read.
 
     def text(self) -> bytes:
         """In a line of a command: of which host, and when."""
@@ -32,7 +36,9 @@ def read_meta(text: bytes) -> Meta:
         found.setdefault(key, []).append(value)
     if b"host" not in found or b"date" not in found:
         return UNKNOWN
-    return Meta(found[b"host"][0], found[b"date"][0], found.get(b"folder", []), found.get(b"version", [b""])[0])
+    return Meta(found[b"host"][0], found[b"date"][0], found.get(b"folder", []), found.get(b"version", [b""])[0],
+                found.get(b"exclude", []), found.get(b"other-file-system", []),
+                {key: found[key][0] for key in (FILES, UNREAD) if key in found})
 
 
 def text_of(folder: bytes) -> bytes:

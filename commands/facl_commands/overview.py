@@ -8,6 +8,7 @@ import os
 import re
 from typing import Iterator, List, NamedTuple, Set
 
+from . import meta
 from . import texts as source_texts
 from .messages import Command, counted
 from .names import live_name
@@ -118,11 +119,21 @@ def names_without_row(folder: bytes, dump: bytes) -> Iterator[bytes]:
         yield warning_of(b"users and groups in the dump without a row, with which the program does not load it", names)
 
 
+def torn_dump(folder: bytes, dump: bytes) -> Iterator[bytes]:
+    """A warning where the dump has other files than facl-snapshot counted."""
+    count = sum(1 for _ in FILE_NAME.finditer(dump))
+    recorded = meta.meta_of(folder).counts.get(meta.FILES, b"%d" % count)
+    if recorded != b"%d" % count:
+        yield b"warning: %s: has %d files, of which facl-snapshot recorded %s" % (os.path.join(folder, b"dump"), count, recorded)
+
+
 def say_notices(command: Command, source: Source, has_masks: bool = True) -> None:
     """What answers over this snapshot cannot tell, and the warning of empty masks, where there are any."""
     dump = read_trusted(os.path.join(source.folder, b"dump"))
     for text in unknown(source.folder, dump):
         command.say(source.shown + b": " + text if not text.startswith(b"warning: ") else text)
+    for text in torn_dump(source.folder, dump):
+        command.say(text)
     names = list(open_empty_masks(dump)) if has_masks else []
     if names:
         command.say(warning_of(EMPTY_MASKS, names))

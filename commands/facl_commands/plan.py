@@ -45,7 +45,8 @@ snapshot is planned for all of them.
 """
 STATUS = """\
 The exit status is 0 where there is something to do, and 3 where there is nothing; 1 where lines were refused: then no
-plan is written, but with --keep-going; 2 where the words, the snapshot or a script cannot be used.
+plan is written, but with --keep-going; 2 where the words, the snapshot or a script cannot be used; 5 where the plan is
+written, and what is printed of it could not be.
 """
 
 
@@ -207,6 +208,8 @@ def say_unknown(command: Command, source: texts.Source) -> bool:
     """Says what a snapshot that facl-snapshot did not make cannot tell; whether there can be a plan, which has names
     from the root of the file system."""
     dump = read_trusted(os.path.join(source.folder, b"dump"))
+    for warning in overview.torn_dump(source.folder, dump):
+        command.say(warning)
     found = texts.notice(source.folder, dump)
     is_whole = found is None or RELATIVE_NAME.search(dump) is None
     if found is not None:
@@ -246,6 +249,14 @@ def plan_files(
     }
 
 
+def check_inodes(snapshot: Snapshot, changes: Changes) -> None:
+    """Fails where a snapshot has the inodes of other files, and not of each one that changes."""
+    lacking = [path for path in changes.changed if path not in snapshot.inodes] if snapshot.inodes else []
+    if lacking:
+        raise Failure(snapshot.folder + b"/inodes: has no " + live_path(lacking[0])
+                      + b", so it is not as facl-snapshot wrote it: make the snapshot again")
+
+
 def body(command: Command, words: List[str]) -> int:
     given = parse(words)
     with texts.opened(given) as source:
@@ -272,6 +283,7 @@ def plan_over(command: Command, given: argparse.Namespace, source: texts.Source)
     if is_shown:
         warn_of_empty_masks(command, changes, outcome)
     if written is not None:
+        check_inodes(snapshot, changes)
         files = plan_files(find_program(given.program), snapshot, scripts, outcome, changes)
         kept = plan_folder.write_plan(target, files, group)
         if kept is not None:

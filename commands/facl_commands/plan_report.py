@@ -120,6 +120,12 @@ def summary(changes: Changes, commands: List[bytes], outcome: Outcome) -> bytes:
     return shown(b"; ".join(parts)) + b"\n"
 
 
+def next_step(plan: bytes, changes: Changes) -> bytes:
+    """The command that a person runs when the plan is read. facl-apply says what is still to be done by hand."""
+    name = b"./" * plan.startswith(b"-") + plan
+    return b"facl-apply " + shell_word(name) if changes.changed else b"sh " + shell_word(name + b"/by_hand")
+
+
 def text_report(given: argparse.Namespace, outcome: Outcome, changes: Changes, commands: List[bytes],
                 target: Optional[bytes]) -> Iterator[bytes]:
     if given.full:
@@ -127,8 +133,7 @@ def text_report(given: argparse.Namespace, outcome: Outcome, changes: Changes, c
     yield from short_lines(outcome, [] if given.full else outcome.kinds.kinds)
     yield summary(changes, commands, outcome)
     if target is not None:
-        yield shown(target + b": is written" + (b"; next: facl-apply " + shell_word(target) if changes.changed
-                                                else b"")) + b"\n"
+        yield shown(target + b": is written; next: " + next_step(target, changes)) + b"\n"
     for command in commands:
         yield shown(b"by hand: " + command) + b"\n"
     for left in outcome.left:

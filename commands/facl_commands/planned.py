@@ -6,6 +6,7 @@ import json
 import re
 from typing import TYPE_CHECKING, Dict, Iterable, List, NamedTuple, Optional, Tuple
 
+from . import lists
 from .lists import Record
 from .messages import Failure
 from .names import path_order
@@ -18,6 +19,7 @@ if TYPE_CHECKING:
 HEAD_OF_RECORD = re.compile(OWNER_LINES + b"(?:" + FLAGS_LINE + b")?")
 ATTRIBUTES = re.compile(ATTRIBUTE_LINES)
 PORTION = 10_000  # Questions that are sent at once.
+ALL_FLAGS = 0o7000
 NOWHERE = Identity(0, 0, 0)  # Of a file of a snapshot without inodes.
 
 
@@ -77,22 +79,57 @@ def work_text(program: str, snapshot: Snapshot, changes: Changes, old: Files, ne
 # --- read by facl-apply
 
 
+def read_record(fields: List[object]) -> Record:
+    """A record of a plan; ValueError or TypeError where it is none."""
+    owner, group, flags, access, default = fields
+    if not (isinstance(access, str) and isinstance(default, str)):
+        raise TypeError
+    record = Record(number_of(owner), number_of(group), number_of(flags), bytes.fromhex(access), bytes.fromhex(default))
+    lists_of = (record.access, record.default) if record.default else (record.access,)
+    if max(record.ids()) >= lists.NO_ID or record.flags & ~ALL_FLAGS or not all(map(lists.is_valid, lists_of)):
+        raise ValueError
+    return record
+
+
+def whole_of(field: object) -> int:
+    if not isinstance(field, int):
+        raise TypeError
+    return field
+
+
+def number_of(field: object) -> int:
+    if whole_of(field) < 0:
+        raise ValueError
+    return whole_of(field)
+
+
+def identity_of(fields: List[object]) -> Identity:
+    """Which file it has to be: a birth before 1970 is negative."""
+    device, inode, birth = map(whole_of, fields)
+    return Identity(device, inode, birth)
+
+
+def read_file(fields: List[object], records: List[Record]) -> PlannedFile:
+    """A file of a plan, without its path; it has a default list only where it is a directory."""
+    kind, *identity, same, old, new = fields
+    file = PlannedFile(bool(number_of(kind)), identity_of(identity), number_of(same), records[number_of(old)],
+                       records[number_of(new)])
+    if not file.is_directory and (file.old.default or file.new.default):
+        raise ValueError
+    return file
+
+
 def read_work(name: bytes, text: bytes) -> Work:
     """What work_text wrote; each path once, in path order."""
     try:
         fields = json.loads(text)
-        records = [Record(int(a), int(b), int(c), bytes.fromhex(d), bytes.fromhex(e)) for a, b, c, d,
-                   e in fields["records"]]
-        files = {
-            path.encode("latin-1"): PlannedFile(bool(kind), Identity(device, inode, birth), same, records[old],
-                                                records[new])
-            for path, kind, device, inode, birth, same, old, new in fields["files"]
-        }
+        records = [read_record(row) for row in fields["records"]]
+        files = {row[0].encode("latin-1"): read_file(row[1:], records) for row in fields["files"]}
         paths = list(files)
         if len(paths) != len(fields["files"]) or paths != sorted(paths, key=path_order) or not all(map(is_path, paths)):
             raise ValueError
         return Work(str(fields["boot"]), files)
-    except (ValueError, KeyError, TypeError, IndexError, AttributeError) as error:
+    except (ValueError, KeyError, TypeError, IndexError, AttributeError, RecursionError) as error:
         raise Failure(name + b": is not as facl-plan wrote it: make the plan again") from error
 
 
@@ -117,10 +154,9 @@ def journal_text(boot: str, files: Dict[bytes, Identity]) -> bytes:
 def read_journal(name: bytes, text: bytes) -> Journal:
     try:
         fields = json.loads(text)
-        files = {path.encode("latin-1"): Identity(device, inode, birth) for path, device, inode,
-                 birth in fields["files"]}
+        files = {path.encode("latin-1"): identity_of(identity) for path, *identity in fields["files"]}
         return Journal(str(fields["boot"]), files)
-    except (ValueError, KeyError, TypeError, AttributeError) as error:
+    except (ValueError, KeyError, TypeError, AttributeError, RecursionError) as error:
         raise Failure(name + b": is not as facl-apply wrote it") from error
 
 

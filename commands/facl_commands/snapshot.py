@@ -35,6 +35,8 @@ def read_links(text: bytes) -> List[List[bytes]]:
 def read_inodes(text: bytes) -> Dict[bytes, Identity]:
     """The records after the first one, `DEVICE INODE BIRTH NAME`, each of which ends in a NUL byte."""
     found = {}
+    if text and not text.endswith(b"\0"):
+        raise ValueError
     for record in text.split(b"\0")[1:-1]:
         device, inode, birth, name = record.split(b" ", 3)
         found[name.strip(b"/")] = Identity(int(device), int(inode), nanoseconds(birth))

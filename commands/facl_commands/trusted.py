@@ -144,9 +144,10 @@ def read_in(folder: int, shown: bytes, name: bytes) -> bytes:
         descriptor = os.open(name, os.O_RDONLY | os.O_NOFOLLOW | os.O_NONBLOCK | os.O_CLOEXEC, dir_fd=folder)
     except OSError as error:
         raise Failure(shown + b"/" + name + b": " + reason(error)) from error
+    look = os.fstat(descriptor)
+    fault = b"is no plain file" if not stat.S_ISREG(look.st_mode) else fault_of(descriptor, look)
+    if fault is not None:
+        os.close(descriptor)
+        raise Failure(shown + b"/" + name + b": " + fault + b", so it is not trusted")
     with open(descriptor, "rb") as file:
-        look = os.fstat(descriptor)
-        fault = b"is no plain file" if not stat.S_ISREG(look.st_mode) else fault_of(descriptor, look)
-        if fault is not None:
-            raise Failure(shown + b"/" + name + b": " + fault + b", so it is not trusted")
         return file.read()

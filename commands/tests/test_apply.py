@@ -6,6 +6,7 @@ import os
 import signal
 import unittest
 import unittest.mock
+from functools import partial
 from typing import Any, Callable, Dict, Set
 
 from common import Case, Done
@@ -13,6 +14,17 @@ from real import RealCase
 
 from facl_commands import apply, carrying, differences, lists, live, plan_folder, way  # noqa: E402
 from facl_commands.messages import SIGNALS  # noqa: E402
+
+
+VERSION, USER, GROUP, OTHER = "02000000", "01000600ffffffff", "04000400ffffffff", "20000400ffffffff"
+NAMED, MASK = "0200040069040000", "10000400ffffffff"
+LIST = VERSION + USER + GROUP + OTHER
+NO_LISTS = {
+    "no others": USER + GROUP, "an owner's entry twice": USER + USER + GROUP + OTHER, "another order": GROUP + USER + OTHER,
+    "a named user without a mask": USER + NAMED + GROUP + OTHER, "no such tag": USER + GROUP + "40000400ffffffff" + OTHER,
+    "permissions of eight": "01000800ffffffff" + GROUP + OTHER, "half an entry": USER + GROUP + OTHER[:-8],
+    "an entry of nobody": USER + "02000400ffffffff" + GROUP + MASK + OTHER,
+}
 
 
 class Plans(Case):
@@ -47,7 +59,17 @@ class Plans(Case):
             "a way out": lambda: fields["files"][0].__setitem__(0, "srv/../etc/shadow"),
             "no such record": lambda: fields["files"][0].__setitem__(6, 77),
             "too few fields": lambda: fields["files"][0].pop(),
+            "a record from the end": lambda: fields["files"][0].__setitem__(6, -1),
+            "a default list of a file": lambda: fields["records"][1].__setitem__(4, LIST),
+            "no owner": lambda: fields["records"][1].__setitem__(0, lists.NO_ID),
+            "a negative group": lambda: fields["records"][1].__setitem__(1, -1),
+            "other bits than flags": lambda: fields["records"][1].__setitem__(2, 0o7),
         }
+
+        def put_list(entries: str) -> None:
+            fields["records"][1][3] = VERSION + entries
+
+        changes.update({what: partial(put_list, entries) for what, entries in NO_LISTS.items()})
         damaged = [text[:-10], b"", b"[]\n"]
         for change in changes.values():
             fields = json.loads(text)
@@ -57,6 +79,9 @@ class Plans(Case):
             self.write("before.plan/files", it)
             self.expect_unusable(self.whole("before.plan/files") + b": is not as facl-plan wrote it: make the plan again", "before.plan")
         os.unlink(self.path("before.plan/files"))
+        os.mkdir(self.path("before.plan/files"), 0o700)
+        self.expect_unusable(self.whole("before.plan/files") + b": is no plain file, so it is not trusted", "before.plan")
+        os.rmdir(self.path("before.plan/files"))
         self.expect_unusable(self.whole("before.plan/files") + b": No such file or directory", "before.plan")
 
     def test_nothing_to_do(self) -> None:

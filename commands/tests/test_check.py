@@ -166,6 +166,12 @@ class WrongRules(Checks):
                     b"FOLDER >rules writes a file of those that hold\n")
         self.expect(self.run_command("facl-check", ["small", "-"], b"never anna see srv\n"), 2, b"", b"facl-check: standard input, "
                     b"line 1: a rule is never|only|always WHO.. read|write|enter PATH\n")
+        rows = self.read("small/passwd")
+        for row in (b"+", b"zoe:x:one:100::/:/bin/sh"):
+            self.write("small/passwd", row + b"\n" + rows)
+            self.expect(self.check(b"never anna read srv\n"), 2, b"",
+                        b"facl-check: small: the program does not load it: facl: setup: passwd: text line 1: bad row\n")
+        self.write("small/passwd", rows)
         self.expect(self.run_command("facl-check", ["small", "nix"]), 2, b"", b"facl-check: nix: No such file or directory\n")
 
     def test_a_file_that_others_can_write(self) -> None:

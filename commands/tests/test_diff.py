@@ -331,9 +331,38 @@ class Snapshots(DiffCase):
         self.write("after/meta", META % (b"srva", 26, b"/srv/other"))
         self.expect(self.diff(), 0, NOTHING, b"""\
 facl-diff: warning: the second snapshot is older than the first one: after (of srva, 2026-11-26T03:10:00Z)
-facl-diff: warning: recorded in before alone, so that all there is new or gone: /srv/share
-facl-diff: warning: recorded in after alone, so that all there is new or gone: /srv/other
+facl-diff: warning: recorded in before alone, so what is there may be new or gone for that alone: /srv/share
+facl-diff: warning: recorded in after alone, so what is there may be new or gone for that alone: /srv/other
 """)
+
+    def test_bad_rows(self) -> None:
+        for row in (b"torn", b"short:x", b"word:x:staff:", b"sign:x:-1:"):
+            self.edit("before/group", (b"staff:x:100:", row + b"\nstaff:x:100:"))
+            done = self.diff()
+            self.assertEqual((done.status, done.out), (2, b""))
+            self.assertIn(b"before: the program does not load it: facl: setup: group: text line ", done.messages)
+            self.edit("before/group", (row + b"\n", b""))
+
+    def test_other_files_left_out(self) -> None:
+        self.write("before/meta", META % (b"srva", 26, b"/srv/share") + b"exclude *.bak\nother-file-system /srv/share/mnt\n")
+        self.write("after/meta", META % (b"srva", 27, b"/srv/share") + b"exclude *.bak\nexclude *.old\n")
+        self.expect(self.diff(), 0, NOTHING, b"""\
+facl-diff: warning: left out of after alone by --exclude, so what is there may be new or gone for that alone: *.old
+facl-diff: warning: left out of before alone as another file system, so what is there may be new or gone for that alone: /srv/share/mnt
+""")
+
+    def test_what_could_not_be_read(self) -> None:
+        self.write("before/meta", META % (b"srva", 26, b"/srv/share") + b"unread 0\n")
+        self.write("after/meta", META % (b"srva", 27, b"/srv/share") + b"folder /srv/share/drafts\nunread 2\n")
+        self.expect(self.diff(), 0, NOTHING, b"facl-diff: warning: after lacks what could not be read (unread 2 in its meta),"
+                                             b" so what is there may be new or gone for that alone\n")
+
+    def test_a_top_that_one_snapshot_lacks(self) -> None:
+        dump = self.read("after/dump")
+        self.write("after/dump", dump[dump.index(b"# file: /srv/"):])
+        done = self.diff()
+        self.assertIn(b"files: ", done.out)
+        self.assertIn(b"1 gone", done.out)
 
     def test_json(self) -> None:
         self.write("before/meta", META % (b"srva", 26, b"/srv/share"))

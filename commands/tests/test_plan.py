@@ -63,6 +63,25 @@ class Reports(Case):
         at = out.index(b"mara")
         self.expect(done, 0, out[:at] + ben + out[at:] + b"3 files change owner, group, flags or lists\n" + WRITTEN)
 
+    def test_torn_texts(self) -> None:
+        self.write("before/inodes", b"boot b\0001 2 0.000000000 /srv\0")
+        done = self.plan(b"chmod 600 srv/share/one\n")
+        self.assertEqual((done.status, done.out), (2, b""))
+        self.assertIn(b"before/inodes: has no /srv/share/one, so it is not as facl-snapshot wrote it: make the snapshot again\n", done.messages)
+        self.write("before/inodes", b"boot b\0001 2 0.000000000 /srv")
+        self.assertIn(b"before/inodes: is not as facl-snapshot wrote it", self.plan(b"chmod 600 srv/share/one\n").messages)
+        os.unlink(self.path("before/inodes"))
+        self.write("before/meta", b"host srva\ndate 2026-11-26T03:10:00Z\nfolder /srv\nfiles 99\n")
+        self.assertIn(b"warning: before/dump: has 14 files, of which facl-snapshot recorded 99\n", self.plan(b"chmod 600 srv/share/one\n").messages)
+
+    def test_a_plan_whose_name_starts_with_a_hyphen(self) -> None:
+        self.assertIn(b"-p: is written; next: facl-apply ./-p\n", self.plan(b"chmod 600 srv/share/one\n", "--plan=-p").out)
+
+    def test_by_hand_alone(self) -> None:
+        done = self.plan(b"gpasswd -a guest design\n")
+        self.assertEqual(done.status, 0)
+        self.assertIn(b"\nbefore.plan: is written; next: sh before.plan/by_hand\nby hand: gpasswd -a guest design\n", done.out)
+
     def test_along_paths(self) -> None:
         # Neither may search srv/share; mara is not named by the line.
         done = self.plan(b"setfacl -m u:guest:r srv/share/notes\n")

@@ -134,7 +134,8 @@ SETFACL = Step("`setfacl -m` of one file", "setfacl -m u:u{user}:rwx {file}", "4
 DIRECTORY = Step("`chmod` of a directory", "chmod 751 {directory}")
 FIRST = Step("`chmod` of the first file", "chmod 000 d00000/f000")
 CHANGES = Step("`changes` of one file", "changes", "50 ms", "50 ms")
-BELOW = (Step("`below` of all files", "below r ."), Step("`below --reach` of all files", "below --reach r ."))
+BELOW = (Step("`below` of all files", "below r ."), Step("`below --reach` of all files", "below --reach r ."),
+         Step("`below` of a folder", "below r {directory}"), Step("`below --reach` of a folder", "below --reach r {directory}"))
 GAINS = (Step("`gains` of one file", "gains"), Step("`gains --reach` of one file", "gains --reach"))
 NEW = (Step("`creat`", "creat --user=u1 --mode=640 {file}.{k}", "40 us", "40 us"),
        Step("`rm` of one file", "rm {file}.{k}", "40 us", "40 us"))

@@ -23,7 +23,7 @@ same state has to answer the same, as far as the root is not removed: `index`, w
 each user and request, `can --reach` and `who --reach` of each file.
 
 With --memory the tree of tools/lib/texts.py, --files (100,000) and --users (1,000), gets --lines (20,000) that are all
-accepted: most change one file or one user or ask something, one of 50 a directory with its hundred files, one of 1,000
+accepted; or, with --tree FOLDER, the files of a real folder, as getfacl(1) prints them, with such users: most change one file or one user or ask something, one of 50 a directory with its hundred files, one of 1,000
 all files. After each --report (2,000) it prints the memory that the program has and the most that it had. A session
 keeps two states: the one after the load, of which `changes` and `gains` tell what differs, and the present one. So at
 the end it has to have at most a tenth more than it had after the load and a new session on the present state has,
@@ -52,7 +52,7 @@ from random_lines import GROUP, OF_PEOPLE, PASSWD, ROOT, TOOLS, Grammar, Unit  #
 from random_lines import is_of_tools, numbers_of, script_of  # noqa: E402
 from script import Failed, run  # noqa: E402
 from session import TEXTS, KeptSession, conclude, options_of, words_of, write_text  # noqa: E402
-from texts import PER_DIRECTORY, write_tree  # noqa: E402
+from texts import PER_DIRECTORY, write_people, write_tree  # noqa: E402
 
 MESSAGE = re.compile(rb"line ([0-9]+): ([^ ]+): (.+)")
 # The message of a unit, and whether it is a warning.
@@ -292,13 +292,37 @@ def states(program: Program, given: argparse.Namespace) -> Tuple[str, int]:
     return f"{given.count} states of {given.lines} lines, {compared}", faults
 
 
-class Lines:
-    """Random lines that are accepted on the tree of texts.py, with the users and groups after them."""
+class Paths(NamedTuple):
+    """The words that lines have for directories and plain files."""
 
-    def __init__(self, seed: int, files: int, folder: str) -> None:
-        self.random = random.Random(seed)
+    directories: List[str]
+    files: List[str]
+
+
+def made_tree(folder: str, files: int, users: int) -> Paths:
+    """Writes the texts of the tree of texts.py."""
+    write_tree(folder, files, users)
+    directories = [f"d{n:05}" for n in range(max(1, (files - 1) // (PER_DIRECTORY + 1)))]
+    return Paths(directories, [f"{name}/f{k:03}" for name in directories for k in range(PER_DIRECTORY)])
+
+
+def real_tree(folder: str, top: str, users: int) -> Paths:
+    """Writes the texts of a real folder, with the users of texts.py; lines have the names that need no quotes."""
+    write_people(folder, users)
+    head = ROOT.replace(b"owner: root", b"owner: u0").replace(b"group: root", b"group: g0")
+    done = subprocess.run(["getfacl", "-R", "-n", "--", os.path.relpath(top, "/")], cwd="/", capture_output=True, check=False)
+    write_text(folder, "dump", [head, done.stdout])
+    names = [name.decode() for name in re.findall(rb"(?m)^# file: ([\w./+-]+)$", done.stdout)]
+    above = {os.path.dirname(name) for name in names}  # A folder that has nothing recorded is a plain file for the program.
+    return Paths([name for name in names if name in above], [name for name in names if not os.path.isdir("/" + name)])
+
+
+class Lines:
+    """Random lines that are accepted on a tree, with the users and groups after them."""
+
+    def __init__(self, seed: int, paths: Paths, folder: str) -> None:
+        self.random, self.paths = random.Random(seed), paths
         self.people = People(*(Path(folder, name).read_bytes() for name in TEXTS[:2]))
-        self.directories = max(1, (files - 1) // (PER_DIRECTORY + 1))
         self.added: List[str] = []
         self.made: List[str] = []
         self.count = 0
@@ -310,10 +334,10 @@ class Lines:
         return self.random.choice(self.people.rows).name.decode()
 
     def directory(self) -> str:
-        return f"d{self.random.randrange(self.directories):05}"
+        return self.random.choice(self.paths.directories)
 
     def file(self) -> str:
-        return f"{self.directory()}/f{self.random.randrange(PER_DIRECTORY):03}"
+        return self.random.choice(self.paths.files)
 
     def mode(self) -> str:
         return f"{self.random.randrange(0o1000):o}"
@@ -399,16 +423,17 @@ def memory(given: argparse.Namespace, folder: str) -> Tuple[str, List[str]]:
 
     def show(what: str, session: KeptSession) -> int:
         present, most = session.present_memory(), session.most_memory()
-        each = f"{present / given.files:.0f} bytes a file"
+        each = f"{present / files:.0f} bytes a file"
         print(f"{what}: {present / 1e6:.1f} MB ({each}), at most {most / 1e6:.1f} MB", flush=True)
         return present
 
     os.mkdir(first := os.path.join(folder, "first"))
-    write_tree(first, given.files, given.users)
-    lines = Lines(given.seed, given.files, first)
+    paths = (real_tree(first, given.tree, given.users) if given.tree else made_tree(first, given.files, given.users))
+    files = sum(map(len, paths))
+    lines = Lines(given.seed, paths, first)
     with KeptSession(given.program, first) as old:
         answer(old, [])
-        present = loaded = show(f"{given.files} files, {given.users} users, loaded", old)
+        present = loaded = show(f"{files} files, {given.users} users, loaded", old)
         for done in range(0, given.lines, given.report):
             count = min(given.report, given.lines - done)
             answer(old, [lines.next() for _ in range(count)])
@@ -422,7 +447,7 @@ def memory(given: argparse.Namespace, folder: str) -> Tuple[str, List[str]]:
             asked = lines.questions()
             is_same = answer(old, asked) == answer(new, asked)
     faults = ["more than a tenth more memory"] * (part > 1.1) + ["answers differ"] * (not is_same)
-    amount = f"{given.files} files, {given.users} users, {given.lines} lines"
+    amount = f"{files} {'real ' * bool(given.tree)}files, {given.users} users, {given.lines} lines"
     return f"{amount}, {part:.2f} times the memory of both states", faults
 
 
@@ -432,6 +457,7 @@ def read_words() -> argparse.Namespace:
     kinds = options.add_mutually_exclusive_group()
     kinds.add_argument("--restart", action="store_true")
     kinds.add_argument("--memory", action="store_true")
+    options.add_argument("--tree", metavar="FOLDER")
     options.add_argument("--verbose", action="store_true")
     given = options.parse_args()
     given.count = given.count or (200 if given.restart else 1000)

@@ -355,10 +355,10 @@ class Snapshots(Check):
         self.tool("mark/getent", f'[ "$*" != group ] || : >"{self.text("at_work")}"\nexec "{real}" "$@"')
         self.shell("""cd trust; chown 65534 empty theirs; chmod 1777 sticky; ln -s "$PWD" sticky/leads
             chown -h 65534 sticky/leads""")
-        self.untrusted("empty", "empty: belongs to user 65534")
+        self.untrusted("empty", "empty: belongs to nobody")
         for last in ("new", "mine/new", "mine/snapshot"):
             self.untrusted("theirs/" + last, "theirs: belongs to")
-        self.untrusted("sticky/leads/new", "sticky/leads: belongs to user 65534")
+        self.untrusted("sticky/leads/new", "sticky/leads: belongs to nobody")
         self.shell("cd trust/theirs; chown 0 .; chown 65534 mine/snapshot/links")
         has_other = "is there, and is no snapshot of yours, or has other files too: links"
         self.untrusted("theirs/mine/snapshot", f"theirs/mine/snapshot: {has_other}")
