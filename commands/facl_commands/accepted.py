@@ -8,15 +8,16 @@ from .findings import BY_NAME, Findings
 from .messages import Failure
 from .names import read_path
 from .scripts import is_empty, words_of
-from .trusted import read_trusted
+from .trusted import read_given
 
 FIELDS = 3  # The finding, the path, and the first word of the reason.
 FORM = b"a line is FINDING PATH REASON; words with spaces are in single quotes"
 
 
 class Accepted(NamedTuple):
-    """A line."""
+    """A line of a file."""
 
+    file: bytes
     number: int
     kind: str
     word: bytes  # The path as it is written.
@@ -41,13 +42,13 @@ def read_line(name: bytes, number: int, line: bytes) -> Accepted:
     kind = words[0].decode("utf-8", "replace")
     if kind not in BY_NAME:
         raise Failure(b"%s, line %d: %s: is no finding; facl-audit --help lists them" % (name, number, words[0]))
-    return Accepted(number, kind, words[1], b" ".join(words[2:]))
+    return Accepted(name, number, kind, words[1], b" ".join(words[2:]))
 
 
 def read_accepted(name: str) -> List[Accepted]:
     """The lines of a file that nobody else than root and the caller can have written."""
     shown = os.fsencode(name)
-    lines = read_trusted(shown).split(b"\n")
+    lines = read_given(shown).split(b"\n")
     return [read_line(shown, number, line) for number, line in enumerate(lines, 1) if not is_empty(line)]
 
 
@@ -77,7 +78,7 @@ def sort_out(findings: Findings, lines: List[Accepted]) -> Sorted:
 
 def why_unused(line: Accepted, findings: Findings) -> bytes:
     """What is said of a line that accepts nothing."""
-    text = b"accepted, line %d: %s %s: is not found" % (line.number, line.kind.encode(), line.word)
+    text = b"%s, line %d: %s %s: is not found" % (line.file, line.number, line.kind.encode(), line.word)
     if not line.is_folder() and any(it.path.startswith(line.path() + b"/") for it in findings[line.kind]):
         return text + b" there, but below it: end the path with a slash"
     return text + b": remove the line"

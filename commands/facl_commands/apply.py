@@ -6,7 +6,7 @@ import os
 from collections import Counter
 from typing import Dict, List, Mapping
 
-from . import differences, live, meta, plan_folder, planned
+from . import by_hand_done, differences, live, meta, plan_folder, planned
 from .carrying import Carrier
 from .live import Seen
 from .messages import Command, Failure, counted, parser_of, reason
@@ -174,13 +174,11 @@ def give_all(command: Command, way: Way, carrier: Carrier, is_whole: bool) -> in
 def by_hand(way: Way) -> List[bytes]:
     """The line that names what is to be done by hand, where there is something. It is made before anything is touched:
     a script that cannot be read has no part in what is said of the files."""
-    name = b"by_hand_undo" if way.is_undo else b"by_hand"
-    if not (way.folder.has(name) and way.folder.read(name)):
-        return []
-    if not way.is_undo:
-        return [b"still to be done by hand: sh " + shell_word(way.file(name))]
-    is_done = way.folder.has(b"by_hand_done") and way.folder.read(b"by_hand_done")
-    return [b"to take back what by_hand did: sh " + shell_word(way.file(name))] if is_done else []
+    if way.is_undo and by_hand_done.is_to_take_back(way.folder):
+        return [b"to take back what by_hand did: sh " + shell_word(way.file(b"by_hand_undo"))]
+    if not way.is_undo and by_hand_done.is_left(way.folder):
+        return [b"still to be done by hand: sh " + shell_word(way.file(b"by_hand"))]
+    return []
 
 
 def body(command: Command, words: List[str]) -> int:

@@ -61,12 +61,13 @@ plan=${plan%%??}
 exec 9>>"$plan/by_hand_done"
 flock -n 9 || stop 'by_hand or by_hand_undo of this plan is at work already'
 
-# note NUMBER WORD..: a line of by_hand_done: that a thing is begun, finished or undone, with the identity of what is made
+# note NUMBER WORD..: a line of by_hand_done: that a thing is begun, finished, found done or undone, with the identity of what
+# is made
 note() {
     printf '%%s\\n' "$*" >&9 || stop 'by_hand_done cannot be written'
 }
 
-# state_of NUMBER: sets state to begun, finished, undone or nothing, and noted to the identity
+# state_of NUMBER: sets state to begun, finished, found, undone or nothing, and noted to the identity
 state_of() {
     state=$(sed -n "s/^$1 //p" "$plan/by_hand_done" | tail -n 1)
     noted=${state#* }
@@ -120,7 +121,11 @@ is_member() {
 CHANGE_USERS = b"""
 # found_done NUMBER: a thing is as it should be already. Where it was not begun, somebody else did it, and by_hand_undo leaves it.
 found_done() {
-    [ "$state" != begun ] || note "$1" finished
+    case $state in
+    begun) note "$1" finished ;;
+    found) ;;
+    *) note "$1" found ;;
+    esac
 }
 
 # change_member OPTION NUMBER USER UID GROUP GID

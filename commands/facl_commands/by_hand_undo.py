@@ -5,7 +5,7 @@ UNDO_HEAD = b"""\
 #!/bin/sh
 # Takes back what by_hand of this plan has done, the last thing first.
 #
-# Read it. Then run it as root, before facl-apply --undo: sh PLAN/by_hand_undo. Below the functions each line is one
+# Read it. Then run it as root, before facl-apply --undo or after it: sh PLAN/by_hand_undo. Below the functions each line is one
 # thing. What by_hand has done is in the file by_hand_done; what it has not done, or found done already, is left as it is.
 # A file that was made is removed where it is still that file and still empty, a directory where it is still that one and
 # is empty by then. Both are looked up as by_hand does it, in their folders, which have to be those of the plan.

@@ -7,7 +7,7 @@ from typing import List
 from .cause_tests import (
     ENTRY, NO_NAME, NO_PATH, NO_SUCH_FILE, WRONG_WORDS, Cause, always, excludes, first, has, has_equals_in_entries,
     has_left_out_option, has_letters_as_entries, has_links_alone, has_no_action, has_option, has_permissions_and_more,
-    has_too_few_words, has_too_many_files, has_words_for_permissions, is_about, is_any, is_other, is_path,
+    has_too_few_words, has_too_many_files, has_words_for_permissions, is_about, is_above_all_ids, is_any, is_other, is_path,
     is_permissions, is_twice, lacks_a_word, number_of_operands, operands, row, sets_and_changes, takes_file,
 )
 from .protocol import (
@@ -204,6 +204,8 @@ OF_NAMES: List[Cause] = [
     row("owner with a dot", of_name(b"chown", NO_USER), is_about(rb"\A[^.]+\.[^.]+\Z"),
         "A colon is between USER and GROUP.", replaced(rb"(\s[^\s./]+)\.(?=[^\s./]+\s)", rb"\1:"),
         "chown ines.staff FILE", "chown ines:staff FILE"),
+    row("a number above all ids", NO_NAME, is_above_all_ids, "Digits alone are an id, and the highest one is 4294967294.",
+        "", "chown 4294967295 FILE"),
     row("no such user", of_name(ANY_TOOL, NO_USER), always, "No row of the snapshot's passwd has this name or id.",
         "",
         "userdel nobody", "userdel mara"),

@@ -23,6 +23,7 @@ NO_PATH = by(ANY_TOOL, rb"operand \d+: " + BAD_PATH)
 UNKNOWN = by(PROGRAM, UNKNOWN_TOOL, TEXT_WITHOUT_END)
 WORDS = b"|".join((WRONG_WORDS, NO_SUCH_FILE, NO_NAME, ENTRY, NO_PATH))
 SHELLS = WORDS + b"|" + UNKNOWN
+HIGHEST_ID = 4_294_967_294
 OF_LINKS = (b"-h", b"-P", b"--no-dereference")
 Fits = Callable[[Line], bool]
 Test = Callable[[bytes], bool]
@@ -80,6 +81,11 @@ def has_unquoted(pattern: bytes) -> Fits:
 def is_about(pattern: bytes) -> Fits:
     """Whether the name that the message is of has this in it; of a message without a name, the line."""
     return lambda line: re.search(pattern, line.about()) is not None
+
+
+def is_above_all_ids(line: Line) -> bool:
+    """Whether the name that the message is of is a number above all ids."""
+    return line.about().isdigit() and int(line.about()) > HIGHEST_ID
 
 
 def operands(tool: bytes, *tests: Test) -> Fits:

@@ -89,6 +89,12 @@ def paths_of(word: bytes) -> List[bytes]:
     return list(dict.fromkeys([plain, read_path(word)]))
 
 
+def refuse_empty(word: bytes) -> None:
+    """Fails for a word without characters, as a variable that is not set leaves it: it would mean all files."""
+    if not word:
+        raise Failure(b"an empty word is no FILE or FOLDER; all files are those of /")
+
+
 def is_recorded(session: Session, path: bytes) -> bool:
     """Whether the program has a file of this path; it has none of one with `..`, or of one that is too long."""
     return not session.ask(LIST + b" " + script_word(shown_path(path)) + b"\n").messages
@@ -103,6 +109,7 @@ def folders_made_of(session: Session) -> List[bytes]:
 
 def folder_of(session: Session, word: bytes) -> bytes:
     """The path of a word of a person."""
+    refuse_empty(word)
     for path in paths_of(word):
         if is_recorded(session, path):
             return path

@@ -79,6 +79,7 @@ def folders_of(sessions: Tuple[Session, Session], words: Iterable[str]) -> List[
     """The paths of words; each is recorded before or after."""
     found = []
     for word in map(os.fsencode, words):
+        choice.refuse_empty(word)
         paths = [path for path in choice.paths_of(word) if any(choice.is_recorded(it, path) for it in sessions)]
         found.append(paths[0] if paths else choice.folder_of(sessions[1], word))
     return found

@@ -6,7 +6,7 @@ from typing import Callable, Dict, Iterable, Iterator, List, NamedTuple, Sequenc
 from .diff_gains import Row
 from .diff_moved import Moved
 from .diff_states import Counts, PeopleCounts, State
-from .meta import UNREAD, Meta, fields_of
+from .meta import EXCLUDED, PART, UNREAD, Meta, fields_of
 from .names import json_text, live_name, shown_path, write_user
 from .records import path_of
 from .rights import ABSENT
@@ -144,7 +144,7 @@ def object_of(compared: Compared) -> Dict[str, object]:
 MAY = b", so what is there may be new or gone for that alone: "
 SCOPES: List[Tuple[bytes, Callable[[Meta], List[bytes]]]] = [
     (b"recorded in %s alone" + MAY, lambda about: about.folders),
-    (b"left out of %s alone by --exclude" + MAY, lambda about: about.excludes),
+    (b"left out of %s alone by --exclude" + MAY, lambda about: about.excludes if about.numbers.get(EXCLUDED) != b"0" else []),
     (b"left out of %s alone as another file system" + MAY, lambda about: about.mounts),
 ]
 NOT_READ = b"warning: %s lacks what could not be read (unread %s in its meta)" + MAY[:-2]
@@ -166,19 +166,27 @@ def scope_warnings(text: bytes, states: Tuple[State, State], names: Callable[[Me
 
 def unread_warnings(states: Tuple[State, State]) -> Iterator[bytes]:
     """What only one of two snapshots could read."""
-    unread = [state.about.counts.get(UNREAD, b"0") for state in states]
+    unread = [state.about.numbers.get(UNREAD, b"0") for state in states]
     for state, count in zip(states, unread):
         if count != b"0" and unread[0] != unread[1]:
             yield NOT_READ % (state.folder, count)
 
 
+def part_warnings(states: Tuple[State, State]) -> Iterator[bytes]:
+    """What is a part of several snapshots."""
+    for state in states:
+        if PART in state.about.numbers:
+            yield (b"warning: " + state.folder + b": is part " + state.about.numbers[PART]
+                   + b", so files of the other parts are not looked at")
+
+
 def warnings(old: State, new: State) -> List[bytes]:
-    """What is likely not meant: snapshots in the wrong order, or of other folders."""
+    """What is likely not meant: snapshots in the wrong order, of other folders, or parts of several ones."""
     found = []
     if old.about.date and new.about.date and new.about.date < old.about.date:
         found.append(b"warning: the second snapshot is older than the first one: " + new.named())
     if old.about.folders and new.about.folders:
         for text, names in SCOPES:
             found += scope_warnings(text, (old, new), names)
-    found += unread_warnings((old, new))
+    found += [*unread_warnings((old, new)), *part_warnings((old, new))]
     return found

@@ -8,7 +8,10 @@ from .names import json_text
 from .trusted import read_trusted
 
 NAME = b"meta"
-UNREAD, FILES = b"unread", b"files"
+FILES, USERS, GROUPS, LINKED = b"files", b"users", b"groups", b"linked-names"  # How many are recorded.
+EXCLUDED, UNREAD = b"excluded", b"unread"  # How many names are left out, and how many could not be read.
+PART = b"part"  # Of several snapshots, `001 of 003`.
+NUMBERS = (FILES, USERS, GROUPS, LINKED, EXCLUDED, UNREAD, PART)
 
 
 class Meta(NamedTuple):
@@ -18,7 +21,7 @@ class Meta(NamedTuple):
     version: bytes = b""  # Of the facl that made it.
     excludes: List[bytes] = []  # The globs of --exclude.
     mounts: List[bytes] = []  # Mount points of other file systems, which are left out.
-    counts: Dict[bytes, bytes] = {}  # Of FILES, how many are recorded; of UNREAD, how many names could not be read.
+    numbers: Dict[bytes, bytes] = {}  # Those of NUMBERS that it has.
 
     def text(self) -> bytes:
         """In a line of a command: of which host, and when."""
@@ -38,7 +41,7 @@ def read_meta(text: bytes) -> Meta:
         return UNKNOWN
     return Meta(found[b"host"][0], found[b"date"][0], found.get(b"folder", []), found.get(b"version", [b""])[0],
                 found.get(b"exclude", []), found.get(b"other-file-system", []),
-                {key: found[key][0] for key in (FILES, UNREAD) if key in found})
+                {key: found[key][0] for key in NUMBERS if key in found})
 
 
 def text_of(folder: bytes) -> bytes:

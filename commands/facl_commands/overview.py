@@ -99,8 +99,6 @@ def warnings(texts: Texts) -> Iterator[bytes]:
     for text, names in found:
         if names:
             yield warning_of(text, names)
-    if not rows_of(texts.passwd):
-        yield b"warning: passwd is empty: who, may and index will name nobody"
 
 
 def unknown(folder: bytes, dump: bytes) -> Iterator[bytes]:
@@ -119,21 +117,35 @@ def names_without_row(folder: bytes, dump: bytes) -> Iterator[bytes]:
         yield warning_of(b"users and groups in the dump without a row, with which the program does not load it", names)
 
 
-def torn_dump(folder: bytes, dump: bytes) -> Iterator[bytes]:
-    """A warning where the dump has other files than facl-snapshot counted."""
-    count = sum(1 for _ in FILE_NAME.finditer(dump))
-    recorded = meta.meta_of(folder).counts.get(meta.FILES, b"%d" % count)
-    if recorded != b"%d" % count:
-        yield b"warning: %s: has %d files, of which facl-snapshot recorded %s" % (os.path.join(folder, b"dump"), count, recorded)
+def torn(texts: Texts) -> Iterator[bytes]:
+    """What is said of each text that is empty and should not be, or has another number of rows, files or names than
+    facl-snapshot counted; it starts with the name in the folder."""
+    recorded = meta.meta_of(texts.folder).numbers
+    for name, key, noun, number in (
+        (b"dump", meta.FILES, "file", sum(1 for _ in FILE_NAME.finditer(texts.dump))),
+        (b"passwd", meta.USERS, "row", texts.passwd.count(b"\n")),
+        (b"group", meta.GROUPS, "row", texts.group.count(b"\n")),
+        (b"links", meta.LINKED, "name", sum(map(len, read_links(texts.links)))),
+    ):
+        if recorded.get(key, b"%d" % number) != b"%d" % number:
+            yield name + b": has " + counted(number, noun) + b", and facl-snapshot recorded " + recorded[key]
+        elif number == 0 and key in (meta.FILES, meta.USERS):
+            yield name + b": is empty, so " + (b"nobody is named" if key == meta.USERS else b"there are no files")
+
+
+def torn_warnings(texts: Texts, source: Source) -> Iterator[bytes]:
+    """The same as warnings; files that are given in place of a snapshot are named by what they are."""
+    for text in torn(texts):
+        yield b"warning: " + (text if source.is_made else os.path.join(source.shown, text))
 
 
 def say_notices(command: Command, source: Source, has_masks: bool = True) -> None:
     """What answers over this snapshot cannot tell, and the warning of empty masks, where there are any."""
-    dump = read_trusted(os.path.join(source.folder, b"dump"))
-    for text in unknown(source.folder, dump):
+    found = read_texts(source.folder)
+    for text in unknown(source.folder, found.dump):
         command.say(source.shown + b": " + text if not text.startswith(b"warning: ") else text)
-    for text in torn_dump(source.folder, dump):
+    for text in torn_warnings(found, source):
         command.say(text)
-    names = list(open_empty_masks(dump)) if has_masks else []
+    names = list(open_empty_masks(found.dump)) if has_masks else []
     if names:
         command.say(warning_of(EMPTY_MASKS, names))

@@ -20,7 +20,6 @@ from .records import Changes, Files, Listing, compare, has_open_empty_mask, list
 from .scripts import Script, Unit, read_text
 from .snapshot import Snapshot, read_snapshot
 from .tools import CHANGES_OF_PEOPLE, EDITS, EMPTY_ANSWERS, OF_RECORDS, TOOLS_OF_PLANS
-from .trusted import read_trusted
 
 SOMETHING, REFUSED, NOTHING = 0, 1, 3
 # In a dump: a name that does not start at the root.
@@ -207,15 +206,15 @@ def beside(folder: bytes) -> bytes:
 def say_unknown(command: Command, source: texts.Source) -> bool:
     """Says what a snapshot that facl-snapshot did not make cannot tell; whether there can be a plan, which has names
     from the root of the file system."""
-    dump = read_trusted(os.path.join(source.folder, b"dump"))
-    for warning in overview.torn_dump(source.folder, dump):
+    read = overview.read_texts(source.folder)
+    for warning in overview.torn_warnings(read, source):
         command.say(warning)
-    found = texts.notice(source.folder, dump)
-    is_whole = found is None or RELATIVE_NAME.search(dump) is None
+    found = texts.notice(source.folder, read.dump)
+    is_whole = found is None or RELATIVE_NAME.search(read.dump) is None
     if found is not None:
         rest = b"; names do not start at the root of the file system, so no plan is written for facl-apply"
         command.say(source.shown + b": " + found + rest * (not is_whole))
-        for warning in overview.names_without_row(source.folder, dump):
+        for warning in overview.names_without_row(source.folder, read.dump):
             command.say(warning)
     return is_whole
 

@@ -110,11 +110,11 @@ def identity_of(fields: List[object]) -> Identity:
 
 
 def read_file(fields: List[object], records: List[Record]) -> PlannedFile:
-    """A file of a plan, without its path; it has a default list only where it is a directory."""
+    """A file of a plan, without its path: it changes, and has a default list only where it is a directory."""
     kind, *identity, same, old, new = fields
     file = PlannedFile(bool(number_of(kind)), identity_of(identity), number_of(same), records[number_of(old)],
                        records[number_of(new)])
-    if not file.is_directory and (file.old.default or file.new.default):
+    if file.old == file.new or not file.is_directory and (file.old.default or file.new.default):
         raise ValueError
     return file
 
@@ -123,12 +123,15 @@ def read_work(name: bytes, text: bytes) -> Work:
     """What work_text wrote; each path once, in path order."""
     try:
         fields = json.loads(text)
+        boot, rows = fields["boot"], fields["files"]
         records = [read_record(row) for row in fields["records"]]
-        files = {row[0].encode("latin-1"): read_file(row[1:], records) for row in fields["files"]}
+        files = {row[0].encode("latin-1"): read_file(row[1:], records) for row in rows}
         paths = list(files)
-        if len(paths) != len(fields["files"]) or paths != sorted(paths, key=path_order) or not all(map(is_path, paths)):
+        if not isinstance(boot, str) or not isinstance(rows, list) or len(paths) != len(rows):
             raise ValueError
-        return Work(str(fields["boot"]), files)
+        if paths != sorted(paths, key=path_order) or not all(map(is_path, paths)):
+            raise ValueError
+        return Work(boot, files)
     except (ValueError, KeyError, TypeError, IndexError, AttributeError, RecursionError) as error:
         raise Failure(name + b": is not as facl-plan wrote it: make the plan again") from error
 

@@ -12,7 +12,7 @@ from .names import read_name, read_path, shown_path, write_name
 from .people import Group, People, User
 from .scripts import WORD, is_empty, read_text, words_of
 from .superuser import ids_in
-from .trusted import read_trusted
+from .trusted import read_given
 
 NEVER, ONLY, ALWAYS = b"never", b"only", b"always"
 READ, WRITE, ENTER = b"read", b"write", b"enter"
@@ -119,6 +119,8 @@ class Reader:
     def path(self, word: bytes) -> bytes:
         if b".." in word.split(b"/"):
             raise BadRule(word + b": write the path from the root, without ..")
+        if not word:
+            raise BadRule(b"an empty word is no PATH; all files are those of /")
         path = read_path(word)
         if path and not is_recorded(self.world.session, path):
             raise BadRule(word + b": is not in the snapshot")
@@ -139,7 +141,7 @@ class Reader:
     def read(self, name: str) -> List[Rule]:
         """The rules of a file; fails with what is wrong in all of its lines."""
         shown = b"standard input" if name == INPUT else os.fsencode(name)
-        text = read_text(name).text if name == INPUT else read_trusted(shown)
+        text = read_text(name).text if name == INPUT else read_given(shown)
         found: List[Rule] = []
         faults: List[bytes] = []
         for number, line in enumerate(text.split(b"\n"), 1):

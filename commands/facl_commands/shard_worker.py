@@ -21,7 +21,6 @@ from .program import Answer, Session
 from .protocol import FREE_FILE_LINE, LIST, is_refused, lacks_file
 from .scripts import Script, Unit
 from .tools import COUNTING, EDITS, FILE, MAKERS, OF_RECORDS, RESTORING, WITH_FILES, operand_kinds, split
-from .trusted import read_trusted
 
 COUNTING_SOME = tuple(tool for tool in COUNTING if tool in WITH_FILES)
 OF_FILES = (*EDITS, *OF_RECORDS, *COUNTING_SOME)  # Tools that take several FILEs, or edit one.
@@ -113,10 +112,10 @@ def answer(command: Command, session: Session, unit: Unit, shared: SharedFiles) 
 
 
 def head_of(folder: bytes, size: int) -> Head:
-    passwd, group, dump = (read_trusted(os.path.join(folder, name)) for name in (b"passwd", b"group", b"dump"))
-    users, groups = ({row[0].decode("latin-1"): int(row[2]) for row in rows_of(rows)} for rows in (passwd, group))
-    return Head(folder, users, groups, list(overview.unknown(folder, dump)), list(overview.open_empty_masks(dump)),
-                size)
+    found = overview.read_texts(folder)
+    users, groups = ({row[0].decode("latin-1"): int(row[2]) for row in rows_of(rows)} for rows in (found.passwd, found.group))
+    unknown = [*overview.unknown(folder, found.dump), *overview.torn(found)]
+    return Head(folder, users, groups, unknown, list(overview.open_empty_masks(found.dump)), size)
 
 
 def write_part(command: Command, program: str, folder: bytes, script: Script, has_records: bool,

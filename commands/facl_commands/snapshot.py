@@ -43,6 +43,16 @@ def read_inodes(text: bytes) -> Dict[bytes, Identity]:
     return found
 
 
+def check_links(folder: bytes, links: List[List[bytes]], inodes: Dict[bytes, Identity]) -> None:
+    """Fails where links are not the sets of names that are one file by inodes."""
+    names = [name for its in links for name in its]
+    files = [{inodes[name][:2] if name in inodes else None for name in its} for its in links]
+    more = len(inodes) - len({it[:2] for it in inodes.values()})  # Names beside the first one of each file.
+    if len(names) - len(links) != more or any(len(its) > 1 or None in its for its in files):
+        raise Failure(folder + b"/links: has other names of files than inodes, so it is not as facl-snapshot wrote it: make the "
+                      b"snapshot again")
+
+
 def nanoseconds(text: bytes) -> int:
     """A number of seconds with nine digits after its point, or 0."""
     seconds, _, rest = text.partition(b".")
@@ -90,11 +100,15 @@ def read_snapshot(folder: bytes, needs_links: bool = True) -> Snapshot:
     if needs_links and not has(descriptor, b"links"):
         raise Failure(folder + b": is no snapshot: links is not in it: make one by facl-snapshot")
     passwd, group = (trusted.read_trusted(os.path.join(folder, name)) for name in (b"passwd", b"group"))
-    links = read_optional(descriptor, folder, b"links")
-    inodes = read_optional(descriptor, folder, b"inodes")
+    links = read_links(read_optional(descriptor, folder, b"links"))
+    has_inodes = has(descriptor, b"inodes")
+    text = read_optional(descriptor, folder, b"inodes")
     os.close(descriptor)
-    boot = inodes.partition(b"\0")[0].partition(b" ")[2].decode("ascii", "replace") or "-"  # In the first record.
+    boot = text.partition(b"\0")[0].partition(b" ")[2].decode("ascii", "replace") or "-"  # In the first record.
     try:
-        return Snapshot(folder, passwd, group, read_links(links), boot, read_inodes(inodes))
+        inodes = read_inodes(text)
     except ValueError as error:
         raise Failure(folder + b"/inodes: is not as facl-snapshot wrote it: make the snapshot again") from error
+    if has_inodes:
+        check_links(folder, links, inodes)
+    return Snapshot(folder, passwd, group, links, boot, inodes)

@@ -9,11 +9,13 @@ import errno
 import grp
 import os
 import pwd
+import re
 import stat
 from typing import List, Optional
 
 from .messages import Failure, reason
 
+DESCRIPTOR = re.compile(rb"/(?:dev|proc/self)/fd/([0-9]{1,9})")
 LINKS_LIMIT = 40  # Symbolic links on one way, as in the kernel.
 ACCESS_LIST = b"system.posix_acl_access"
 
@@ -134,8 +136,24 @@ def open_folder(name: bytes) -> int:
 
 def read_trusted(name: bytes) -> bytes:
     """What is in a file that nobody else can have written."""
-    with open(open_trusted(name, os.O_RDONLY), "rb") as file:
-        return file.read()
+    try:
+        with open(open_trusted(name, os.O_RDONLY), "rb") as file:
+            return file.read()
+    except OSError as error:  # Of a folder, or of a disk: it has no name.
+        raise Failure(name + b": " + reason(error)) from error
+
+
+def read_given(name: bytes) -> bytes:
+    """The same of a word of the caller, which may be a descriptor that came with the command, as `<(COMMAND)` of a shell:
+    that is trusted as standard input is."""
+    number = DESCRIPTOR.fullmatch(name)
+    if number is None:
+        return read_trusted(name)
+    try:
+        with open(int(number[1]), "rb", closefd=False) as file:
+            return file.read()
+    except OSError as error:
+        raise Failure(name + b": " + reason(error)) from error
 
 
 def read_in(folder: int, shown: bytes, name: bytes) -> bytes:

@@ -274,15 +274,27 @@ class Page:
         self.call("Input.insertText", text=text)
         return self
 
-    def place_of(self, selector: str) -> List[float]:
-        """The middle of the first thing that a selector finds, which is shown."""
+    def shown_at(self, selector: str) -> Optional[List[float]]:
+        """The middle of the first thing that a selector finds; None where it is not there now, or covered."""
         found = self.evaluate("""(() => { const it = document.querySelector(%s); if (!it) return null;
             it.scrollIntoView({block: 'nearest', behavior: 'instant'}); const box = it.getBoundingClientRect();
             const x = box.x + box.width / 2, y = box.y + box.height / 2, top = document.elementFromPoint(x, y);
             return [x, y, box.width > 0 && !!top && (it.contains(top) || top.contains(it))]; })()""" % json.dumps(selector))
-        if not found or not found[2]:
-            raise Failed("%s: is not there, or covered" % selector)
-        return [float(found[0]), float(found[1])]
+        return [float(found[0]), float(found[1])] if found and found[2] else None
+
+    def place_of(self, selector: str) -> List[float]:
+        """The middle of the first thing that a selector finds, once that is shown, and at the same place at two looks: what
+        was scrolled or drawn just before may move yet."""
+        looks: List[Optional[List[float]]] = []
+
+        def stands_still() -> bool:
+            looks.append(self.shown_at(selector))
+            return looks[-1] is not None and looks[-2:-1] == looks[-1:]
+
+        self.wait_until(stands_still, "%s: is not there, covered, or moves" % selector)
+        place = looks[-1]
+        assert place is not None
+        return place
 
     def click(self, selector: str) -> Page:
         """Clicks on the middle of the first thing that a selector finds."""

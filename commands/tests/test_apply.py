@@ -12,8 +12,9 @@ from typing import Any, Callable, Dict, Set
 from common import Case, Done
 from real import RealCase
 
-from facl_commands import apply, carrying, differences, lists, live, plan_folder, way  # noqa: E402
+from facl_commands import apply, by_hand_done, carrying, differences, lists, live, plan_folder, way  # noqa: E402
 from facl_commands.messages import SIGNALS  # noqa: E402
+from facl_commands.plan_folder import Folder  # noqa: E402
 
 
 VERSION, USER, GROUP, OTHER = "02000000", "01000600ffffffff", "04000400ffffffff", "20000400ffffffff"
@@ -64,6 +65,9 @@ class Plans(Case):
             "no owner": lambda: fields["records"][1].__setitem__(0, lists.NO_ID),
             "a negative group": lambda: fields["records"][1].__setitem__(1, -1),
             "other bits than flags": lambda: fields["records"][1].__setitem__(2, 0o7),
+            "a file that does not change": lambda: fields["files"][0].__setitem__(7, fields["files"][0][6]),
+            "files that are no list": lambda: fields.__setitem__("files", {}),
+            "no start of the system": lambda: fields.__setitem__("boot", None),
         }
 
         def put_list(entries: str) -> None:
@@ -92,6 +96,20 @@ class Plans(Case):
         self.assertEqual(self.plan(b"gpasswd -a guest audit\n", "--plan", "other").status, 0)
         self.expect(self.apply("other"), 3, b"still to be done by hand: sh " + self.whole("other/by_hand") + b"\n",
                     b"facl-apply: " + self.whole("other") + b": has no records to change\n")
+
+    def test_by_hand(self) -> None:
+        """It is named until all of it is done, and by_hand_undo as long as something of that is not taken back."""
+        self.assertEqual(self.plan(b"gpasswd -a guest audit\nuserdel mara\n", "--plan", "other").status, 0)
+        folder = Folder(os.open(self.path("other"), os.O_RDONLY | os.O_DIRECTORY), b"other")
+        for notes, is_left, is_to_take_back in (
+            ("", True, False), ("1 begun\n", True, True), ("1 begun\n1 finished\n", True, True), ("1 found\n2 begun\n", True, False),
+            ("1 found\n2 begun\n2 finished\n", False, False), ("1 begun\n1 finished\n2 finished\n", False, True),
+            ("1 begun\n1 finished\n2 finished\n1 undone\n", True, False),
+        ):
+            self.write("other/by_hand_done", notes.encode())
+            os.chmod(self.path("other/by_hand_done"), 0o600)
+            self.assertEqual((by_hand_done.is_left(folder), by_hand_done.is_to_take_back(folder)), (is_left, is_to_take_back), notes)
+        os.close(folder.descriptor)
 
     def test_files_that_are_not_there(self) -> None:
         done = self.apply("before.plan")

@@ -355,9 +355,21 @@ class Overview(Case):
     def test_other_texts(self) -> None:
         for name, text in (("passwd", b""), ("group", b""), ("dump", b"# file: a\nuser::rwx\ngroup::r-x\nother::r-x\n\n"), ("links", b"")):
             self.write("before/" + name, text)
-        self.assertEqual(list(overview.warnings(overview.read_texts(os.fsencode(self.path("before"))))), [
-            b"warning: passwd is empty: who, may and index will name nobody",
+        texts = overview.read_texts(os.fsencode(self.path("before")))
+        self.assertEqual([*overview.warnings(texts), *overview.torn(texts)], [b"passwd: is empty, so nobody is named"])
+
+    def test_texts_with_other_numbers_than_recorded(self) -> None:
+        self.write("before/meta", b"host srva\ndate 2026-11-27T03:10:00Z\nfiles 14\nusers 5\ngroups 5\nlinked-names 2\n")
+        folder = os.fsencode(self.path("before"))
+        self.assertEqual(list(overview.torn(overview.read_texts(folder))), [])
+        for name, text in (("passwd", b""), ("group", b"root:x:0:"), ("dump", b""), ("links", b"/srv/share/one\n")):
+            self.write("before/" + name, text)
+        self.assertEqual(list(overview.torn(overview.read_texts(folder))), [
+            b"dump: has 0 files, and facl-snapshot recorded 14", b"passwd: has 0 rows, and facl-snapshot recorded 5",
+            b"group: has 0 rows, and facl-snapshot recorded 5", b"links: has 1 name, and facl-snapshot recorded 2",
         ])
+
+    def test_texts_that_can_be_read(self) -> None:
         with self.assertRaises(Failure):
             check_texts(os.fsencode(self.path("absent")))
 

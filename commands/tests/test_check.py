@@ -151,11 +151,12 @@ class WrongRules(Checks):
     def test_each_fault_is_said(self) -> None:
         done = self.check(b"never anna read srv/hr/\nnever nobody read srv/hr/\nonly @nix read srv/hr/\nalways anna read srv/nix\n"
                           b"never hr read srv/hr/\nnever anna see srv/hr/\nnever 4711 read srv/hr/\nnever 'anna read srv\n"
-                          b"never anna read srv/../srv\nnever read srv/hr/\n")
+                          b"never anna read srv/../srv\nnever read srv/hr/\nnever anna read ''\n")
         form = b"a rule is never|only|always WHO.. read|write|enter PATH"
         texts = [b"nobody: no such user in the snapshot", b"@nix: no such group in the snapshot", b"srv/nix: is not in the snapshot",
                  b"hr: no such user in the snapshot; @hr is a group", form, b"4711: no such user in the snapshot",
-                 b"a single quote is open: in a name write it as \\047", b"srv/../srv: write the path from the root, without ..", form]
+                 b"a single quote is open: in a name write it as \\047", b"srv/../srv: write the path from the root, without ..", form,
+                 b"an empty word is no PATH; all files are those of /"]
         wanted = b"".join(b"facl-check: rules, line %d: %s\n" % (place, text) for place, text in enumerate(texts, 2))
         self.expect(done, 2, b"", wanted)
 

@@ -149,6 +149,19 @@ class Week(Daily):
         self.expect(self.daily("--accepted", "accepted", "--snapshot", "--exclude x.*"), 0, b"")
 
 
+    def test_a_text_that_cannot_be_printed(self) -> None:
+        os.chmod(os.path.join(self.tree, "file"), 0o646)
+        words = ["--folder", self.path("kept"), self.tree]
+        reader, writer = os.pipe()
+        os.close(reader)
+        for number, output in enumerate((os.open("/dev/full", os.O_WRONLY), writer), 1):
+            done = subprocess.run([os.path.join(COMMANDS, "facl-daily"), *words], env=self.environment(), stdin=subprocess.DEVNULL,
+                                  stdout=output, stderr=subprocess.PIPE, check=False)
+            os.close(output)
+            self.assertEqual((done.returncode, done.stderr), (2, b"facl-daily: standard output cannot be written\n"))
+            self.assertEqual(len(self.kept()), 1 + number)
+
+
 class Units(Daily):
     """The files that the package has for systemd and cron."""
 

@@ -319,6 +319,9 @@ class Snapshots(DiffCase):
         self.assertEqual((done.status, done.out), (2, b""))
         self.assertIn(b"facl-diff: after: the program does not load it: facl: setup: dump: ", done.messages)
 
+    def test_an_empty_folder(self) -> None:
+        self.expect(self.diff(""), 2, b"", b"facl-diff: an empty word is no FILE or FOLDER; all files are those of /\n")
+
     def test_servers(self) -> None:
         self.write("before/meta", META % (b"srva", 26, b"/srv/share"))
         self.write("after/meta", META % (b"srvb", 27, b"/srv/share"))
@@ -350,6 +353,11 @@ facl-diff: warning: recorded in after alone, so what is there may be new or gone
 facl-diff: warning: left out of after alone by --exclude, so what is there may be new or gone for that alone: *.old
 facl-diff: warning: left out of before alone as another file system, so what is there may be new or gone for that alone: /srv/share/mnt
 """)
+
+    def test_parts_and_globs_that_match_nothing(self) -> None:
+        self.write("before/meta", META % (b"srva", 26, b"/srv/share") + b"exclude *.bak\nexcluded 0\n")
+        self.write("after/meta", META % (b"srva", 27, b"/srv/share") + b"excluded 0\npart 001 of 002\n")
+        self.expect(self.diff(), 0, NOTHING, b"facl-diff: warning: after: is part 001 of 002, so files of the other parts are not looked at\n")
 
     def test_what_could_not_be_read(self) -> None:
         self.write("before/meta", META % (b"srva", 26, b"/srv/share") + b"unread 0\n")

@@ -71,8 +71,24 @@ class Reports(Case):
         self.write("before/inodes", b"boot b\0001 2 0.000000000 /srv")
         self.assertIn(b"before/inodes: is not as facl-snapshot wrote it", self.plan(b"chmod 600 srv/share/one\n").messages)
         os.unlink(self.path("before/inodes"))
+        self.write("before/links", b"")
+        self.assertEqual(self.plan(b"chmod 600 srv/share/one\n").status, 0)
         self.write("before/meta", b"host srva\ndate 2026-11-26T03:10:00Z\nfolder /srv\nfiles 99\n")
-        self.assertIn(b"warning: before/dump: has 14 files, of which facl-snapshot recorded 99\n", self.plan(b"chmod 600 srv/share/one\n").messages)
+        self.assertIn(b"warning: before/dump: has 14 files, and facl-snapshot recorded 99\n", self.plan(b"chmod 600 srv/share/one\n").messages)
+
+    def test_links_that_are_not_those_of_inodes(self) -> None:
+        files = {b"/srv/share/one": 7, b"/srv/share/two": 7, b"/srv/share/notes": 8}
+        self.write("before/inodes", b"boot b\0" + b"".join(b"1 %d 0.000000000 %s\0" % (inode, name) for name, inode in files.items()))
+        links = self.read("before/links")
+        self.assertEqual(links, b"/srv/share/one\n/srv/share/two\n")
+        script = b"chmod 600 srv/share/one\n"
+        self.assertEqual(self.plan(script).status, 0)
+        for other in (b"", b"/srv/share/one\n", links + b"/srv/share/notes\n", links + b"\n" + links, b"/srv/share/one\n/srv/share/notes\n",
+                      links + b"/srv/share/absent\n"):
+            self.write("before/links", other)
+            done = self.plan(script)
+            self.assertEqual((done.status, done.out), (2, b""), other)
+            self.assertIn(b"before/links: has other names of files than inodes, so it is not as facl-snapshot wrote it", done.messages)
 
     def test_a_plan_whose_name_starts_with_a_hyphen(self) -> None:
         self.assertIn(b"-p: is written; next: facl-apply ./-p\n", self.plan(b"chmod 600 srv/share/one\n", "--plan=-p").out)

@@ -134,11 +134,11 @@ class Written(SnapshotCase):
         self.assertTrue(text.endswith(b"\n"))
         return [line.split(b" ", 1) for line in text[:-1].split(b"\n")]
 
-    def numbers(self, links: int, unread: int, files: int) -> List[List[bytes]]:
+    def numbers(self, links: int, unread: int, files: int, linked: int = 0) -> List[List[bytes]]:
         users, groups = (subprocess.run([self.path("bin/getent"), name], env=self.environment(), capture_output=True, check=True)
                          .stdout.count(b"\n") for name in ("passwd", "group"))
-        keys = (b"symbolic-links", b"unread", b"files", b"users", b"users-asked-for", b"groups", b"groups-asked-for")
-        return [[key, b"%d" % number] for key, number in zip(keys, (links, unread, files, users, 0, groups, 0))]
+        keys = (b"symbolic-links", b"unread", b"files", b"linked-names", b"users", b"users-asked-for", b"groups", b"groups-asked-for")
+        return [[key, b"%d" % number] for key, number in zip(keys, (links, unread, files, linked, users, 0, groups, 0))]
 
     def test_meta(self) -> None:
         odd = b"tree/x\ny\\z\r"

@@ -62,6 +62,26 @@ class Folders(Case):
         with self.assertRaises(Failure):
             trusted.open_folder(os.fsencode(self.path("loop")))
 
+    def test_a_folder_in_the_place_of_a_file(self) -> None:
+        for name in ("passwd", "group", "dump", "links"):
+            os.rename(self.path("before/" + name), self.path("kept"))
+            os.mkdir(self.path("before/" + name), 0o700)
+            for done in (self.run_command(*it) for it in (("facl-who", ["read", "before"]), ("facl-report", ["before"]))):
+                self.assertEqual((done.status, done.out), (2, b""))
+                self.assertTrue(done.messages.endswith(b"before/" + name.encode() + b": Is a directory\n"), done.messages)
+            os.rmdir(self.path("before/" + name))
+            os.rename(self.path("kept"), self.path("before/" + name))
+
+    def test_descriptors_of_the_caller(self) -> None:
+        reader, writer = os.pipe()
+        os.write(writer, b"text")
+        os.close(writer)
+        for name in (b"/dev/fd/%d", b"/proc/self/fd/%d"):
+            self.assertEqual(trusted.read_given(name % reader), b"text" if name.startswith(b"/dev") else b"")
+        os.close(reader)
+        with self.assertRaises(Failure):
+            trusted.read_given(b"/dev/fd/%d" % reader)
+
     def test_a_plan(self) -> None:
         for name in ("before.plan", "before.plan/files", "before.plan/plan"):
             mode = os.stat(self.path(name)).st_mode & 0o777

@@ -377,6 +377,7 @@ class Words(WhoCase):
 
     def test_files_and_users(self) -> None:
         self.assertEqual(self.message("read", "project", "/tmp"), b"facl-who: /tmp: is not recorded: the snapshot is of /srv/project\n")
+        self.assertEqual(self.message("read", "project", ""), b"facl-who: an empty word is no FILE or FOLDER; all files are those of /\n")
         self.assertEqual(self.message("--remove", "/srv/project/nothing", "project"),
                          b"facl-who: /srv/project/nothing: is not recorded: the snapshot is of /srv/project\n")
         self.assertEqual(self.message("--user", "mata", "project"), b"facl-who: mata: is no user of the snapshot: there is mara\n")
