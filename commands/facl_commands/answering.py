@@ -2,6 +2,7 @@
 printed."""
 from __future__ import annotations
 
+import os
 from typing import Iterable, Iterator, List, Optional
 
 from .messages import Command
@@ -25,13 +26,21 @@ def write_messages(command: Command, place: bytes, unit: Unit, messages: List[by
     """The messages of a line, after what was printed so far, each with its place; below it, after a beginning, what was
     probably meant."""
     command.flush()
+    is_terminal = os.isatty(2)
     for message in messages:
-        command.put(command.messages, place + b": " + message + b"\n")
+        line = place + b": " + message
+        command.put(command.messages, (shown(line) if is_terminal else line) + b"\n")
         if begin is not None:
             from .causes import explained  # Few runs need it.
 
             command.explain(explained(unit, message), begin)
     command.put(command.messages)
+
+
+def lines_for_terminal(lines: Iterable[bytes]) -> Iterator[bytes]:
+    """The lines of an answer; at a terminal without what this obeys."""
+    is_terminal = os.isatty(1)
+    return (shown(line) if is_terminal else line for line in lines)
 
 
 # --- answers with the question above each, as facl-plan prints them

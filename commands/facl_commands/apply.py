@@ -187,7 +187,7 @@ def body(command: Command, words: List[str]) -> int:
     way = read_way(plan_folder.open_plan(os.fsencode(given.plan)), given.undo)
     rest = by_hand(way)
     if nothing_to_do(command, way):
-        for line in rest if not way.is_undo else []:
+        for line in rest:
             command.tell(line)
         return NOTHING
     warn_of_host(command, way)

@@ -100,18 +100,19 @@ def units_of_input() -> Dict[int, Unit]:
     return {unit.number: unit for unit in read_script(b"", text)}
 
 
-def run_explained(command: Command, program: str, source: Source) -> int:
-    """Runs the program over a script by name, and returns its status; below each message comes what was probably
-    meant."""
+def run_explained(command: Command, program: str, source: Source, is_explained: bool) -> int:
+    """Runs the program over a script, and returns its status; below each message comes what was probably meant, of a
+    script by name. A terminal gets messages without what it obeys."""
     from .causes import explained_by_number
 
-    units: Optional[Dict[int, Unit]] = None
+    units: Optional[Dict[int, Unit]] = None if is_explained else {}
+    is_terminal = os.isatty(2)
     with subprocess.Popen(program_words(program, source.folder), stderr=subprocess.PIPE,
                           env=environment_of_called()) as run:
         assert run.stderr is not None
         for line in run.stderr:
             units = units_of_input() if units is None else units
-            command.put(command.messages, line)
+            command.put(command.messages, shown(line.rstrip(b"\n")) + b"\n" if is_terminal else line)
             command.explain(explained_by_number(units, line.rstrip(b"\n")))
             command.put(command.messages)
     return run.returncode if run.returncode >= 0 else 128 - run.returncode
@@ -140,7 +141,7 @@ def answer_units(
         for unit in units:
             output, messages = answer_unit(session, unit)
             lines = marked(unit, output.lines()) if is_terminal else output.lines()
-            pieces = (line + b"\n" for line in lines) if is_terminal else output.pieces()
+            pieces = (shown(line) + b"\n" for line in lines) if is_terminal else output.pieces()
             for piece in below_heading(unit, lines, messages) if has_headings else pieces:
                 command.write(piece)
             write_messages(command, place_of(unit), unit, messages, b"" if is_explained else None)
@@ -235,8 +236,8 @@ def answer_one(command: Command, given: argparse.Namespace, source: Source) -> i
     overview.say_notices(command, source)
     if os.isatty(1):
         return answer_input(command, program, source.folder, is_named)
-    if is_named:
-        return run_explained(command, program, source)
+    if is_named or os.isatty(2):
+        return run_explained(command, program, source, is_named)
     if source.is_made:  # The folder is removed after it.
         words = program_words(program, source.folder)
         status = subprocess.run(words, env=environment_of_called(), check=False).returncode

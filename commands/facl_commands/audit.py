@@ -16,7 +16,7 @@ from .everybody import World, listing_of, world_of
 from .findings import KINDS, WEIGHTS, Findings, Found, edits_of
 from .messages import Command, parser_of
 from .meta import meta_of
-from .names import parent_of, shown_path
+from .names import parent_of, shell_word, shown, shown_path
 from .new_file import NewFile
 from .program import find_program
 from .records import Files
@@ -94,7 +94,8 @@ def links_of(source: Source) -> List[List[bytes]]:
 
 
 def across_folders(sets: List[List[bytes]], paths: List[bytes]) -> List[Found]:
-    """Names in another folder than the first one; a folder that is mounted at two places is one folder."""
+    """Those of some plain files that are in another folder than the first name; a folder that is mounted at two places is
+    one folder."""
     first_of = {name: names[0] for names in sets for name in names}
     known, found = set(paths), []
     for names in sets:
@@ -112,7 +113,8 @@ def findings_of(audited: Audited, program: str, source: Source) -> Findings:
     for name, look in of_lists(audited.files, audited.paths, audited.ids).items():
         found[name] = list(look())
     found["entry-without-effect"] = list(entries_without_effect(audited, program))
-    found["links-across-folders"] = across_folders(links_of(source), audited.paths)
+    plain = [path for path in audited.paths if not audited.is_directory(path)]
+    found["links-across-folders"] = across_folders(links_of(source), plain)
     return found
 
 
@@ -133,12 +135,27 @@ def report_of(world: World, given: argparse.Namespace, source: Source, program: 
     found = findings_of(audited, program, source)
     rest = sort_out(found, lines)
     unused = {line: why_unused(line, found) for line in rest.unused if is_about(line, folders, files)}
-    return Report(source.shown, meta_of(source.folder), folders, len(audited.paths), rest.rest, rest.accepted, unused)
+    is_whole = texts.find_tops(world.session, source.folder) == [b""]
+    return Report(source.shown, meta_of(source.folder), folders, len(audited.paths), rest.rest, rest.accepted, unused,
+                  is_whole, written(texts.source_words(given)), written(words_again(given)))
+
+
+def words_again(given: argparse.Namespace) -> List[str]:
+    """The words that say what the findings are of, for another run."""
+    flags = [name for name, is_given in (("--all-users", given.all_users), ("--with-root", given.with_root),
+                                         ("--file-alone", given.file_alone)) if is_given]
+    accepted = [] if given.accepted is None else ["--accepted", given.accepted]
+    return [*flags, *accepted, *texts.source_words(given), *given.folders]
+
+
+def written(words: List[str]) -> bytes:
+    """Words for a shell."""
+    return shown(b" ".join(shell_word(os.fsencode(word)) for word in words))
 
 
 def page_of(given: argparse.Namespace, report: Report, source: Source, program: str) -> Optional[bytes]:
     """The page, where one is asked for."""
-    if not given.page:
+    if given.page is None:
         return None
     from .audit_page import page_with  # Few runs need it.
 
@@ -168,7 +185,7 @@ def fails_on(weight: str) -> List[str]:
 
 def body(command: Command, words: List[str]) -> int:
     given = parse(words)
-    target = NewFile(os.fsencode(given.page)) if given.page else None
+    target = NewFile(os.fsencode(given.page)) if given.page is not None else None
     with texts.opened(given) as source:
         os.close(check_texts(source.folder))
         overview.say_notices(command, source, has_masks=False)

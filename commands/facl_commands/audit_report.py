@@ -24,6 +24,12 @@ class Report(NamedTuple):
     findings: Findings  # Without what is accepted.
     accepted: int  # Files.
     unused: Dict[Accepted, bytes]  # The lines that accept nothing, each with what is said of it.
+    is_whole: bool  # Whether paths start at the root of the file system.
+    source: bytes  # The words of a command over the same snapshot,
+    words: bytes  # and those of facl-audit about the same files and users.
+
+    def name_of(self, path: bytes) -> bytes:
+        return live_name(path) if self.is_whole else shown_path(path)
 
     def kinds(self) -> List[Kind]:
         """Those of which something is found, by weight."""
@@ -68,7 +74,7 @@ def summary(report: Report) -> bytes:
 
 
 def lines_of(report: Report) -> Iterator[bytes]:
-    folders = b", ".join(map(live_name, report.folders))
+    folders = b", ".join(map(report.name_of, report.folders))
     head = b"%s: %s at or below %s" % (named(report.snapshot, report.meta), counted(report.files, "file"), folders)
     yield fitting(head)
     paint = Paint()
@@ -76,9 +82,9 @@ def lines_of(report: Report) -> Iterator[bytes]:
         yield from lines_of_kind(kind, report.findings[kind.name], paint)
     yield summary(report)
     if report.kinds():
-        name, word = report.kinds()[0].name.encode(), shown(report.snapshot)
-        yield b"all files of one: facl-audit --list %s %s" % (name, word)
-        yield b"all lines of one: facl-audit --edits %s %s >edits; facl-plan %s edits" % (name, word, word)
+        name = report.kinds()[0].name.encode()
+        yield b"all files of one: facl-audit --list %s %s" % (name, report.words)
+        yield b"all lines of one: facl-audit --edits %s %s >edits; facl-plan %s edits" % (name, report.words, report.source)
 
 
 def table_of(report: Report) -> Table:
@@ -112,7 +118,7 @@ def json_of(report: Report, only: Optional[str]) -> Dict[str, object]:
     snapshot: Dict[str, object] = {"name": json_text(report.snapshot), **fields_of(report.meta)}
     return {
         "snapshot": snapshot,
-        "folders": [json_text(live_name(path)) for path in report.folders],
+        "folders": [json_text(report.name_of(path)) for path in report.folders],
         "files": report.files,
         "findings": [json_of_kind(kind, report.findings[kind.name], only is not None) for kind in kinds],
         "accepted": report.accepted,

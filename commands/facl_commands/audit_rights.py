@@ -119,7 +119,7 @@ class Teams:
 def writers_of(audited: Audited, alike: Alike) -> Set[bytes]:
     """The users who may write files that are judged alike."""
     request = IN_DIRECTORY if alike.file.is_directory else WRITE
-    line = b"who %s%s %s" % (audited.world.reach(audited.given.file_alone), request, file_word(alike.first()))
+    line = b"who %s-- %s %s" % (audited.world.reach(audited.given.file_alone), request, file_word(alike.first()))
     return {read_name(name) for name in audited.world.session.ask_accepted(line).lines()}
 
 

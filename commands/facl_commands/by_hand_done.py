@@ -2,7 +2,7 @@
 from __future__ import annotations
 
 import re
-from typing import Dict, List
+from typing import Dict
 
 from .plan_folder import Folder
 
@@ -24,9 +24,7 @@ def read(folder: Folder, name: bytes) -> bytes:
 def is_left(folder: Folder) -> bool:
     """Whether by_hand has something that is not done yet."""
     states = states_of(read(folder, b"by_hand_done"))
-    script = read(folder, b"by_hand")
-    things: List[bytes] = THING.findall(script)
-    return any(states.get(it) not in (FINISHED, FOUND) for it in things) if things else bool(script)
+    return any(states.get(it) not in (FINISHED, FOUND) for it in THING.findall(read(folder, b"by_hand")))
 
 
 def is_to_take_back(folder: Folder) -> bool:

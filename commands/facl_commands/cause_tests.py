@@ -4,6 +4,7 @@ from __future__ import annotations
 import re
 from typing import Callable, NamedTuple, Union
 
+from .names import number_of
 from .protocol import (
     ANY_TOOL, BAD_PATH, BAD_PERMISSIONS, BAD_TAG, NO_FILE, NO_GROUP, NO_PERMISSIONS, NO_USER, PROGRAM, TEXT_WITHOUT_END,
     UNKNOWN_GROUP, UNKNOWN_TOOL, UNKNOWN_USER, USAGE, by, of_entry, of_name,
@@ -85,7 +86,7 @@ def is_about(pattern: bytes) -> Fits:
 
 def is_above_all_ids(line: Line) -> bool:
     """Whether the name that the message is of is a number above all ids."""
-    return line.about().isdigit() and int(line.about()) > HIGHEST_ID
+    return line.about().isdigit() and number_of(line.about()) > HIGHEST_ID
 
 
 def operands(tool: bytes, *tests: Test) -> Fits:

@@ -81,12 +81,13 @@ def write_rules(command: Command, world: World, given: argparse.Namespace, sourc
 
 def report_of(world: World, given: argparse.Namespace, source: Source) -> Report:
     chosen = chosen_users(world, given)
-    rules = Reader(world, set(chosen), given.with_root).read(given.rules)
+    reader = Reader(world, set(chosen), given.with_root)
+    rules = reader.read(given.rules)
     rights = Rights(world, given, listing_of(world).files, chosen)
     outcomes = [outcome(rights, rule) for rule in rules]
     left_out = choice.in_order(map(write_user, rights.left_out), world.texts.passwd)
     name = b"standard input" if given.rules == INPUT else os.fsencode(given.rules)
-    return Report(source.shown, meta_of(source.folder), name, outcomes, left_out)
+    return Report(source.shown, meta_of(source.folder), name, outcomes, left_out, reader.notes)
 
 
 def write(command: Command, given: argparse.Namespace, report: Report) -> None:
@@ -117,6 +118,8 @@ def body(command: Command, words: List[str]) -> int:
                 for text in faults.texts:
                     command.say(text)
                 return UNUSABLE
+            for note in report.notes:
+                command.say(b"warning: " + note)
             for note in () if given.json or given.quiet else choice.notes(report.left_out, world.texts.passwd):
                 command.say(note)
     with paged(command, not given.no_pager):

@@ -22,6 +22,7 @@ class Report(NamedTuple):
     rules: bytes  # The name of the file.
     outcomes: List[Outcome]
     left_out: List[bytes]  # Users who are no people, and may what rules give to others only; as printed.
+    notes: List[bytes]  # On groups of whom nobody is checked.
 
     def broken(self) -> List[Outcome]:
         """The rules that do not hold."""

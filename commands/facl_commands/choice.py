@@ -103,7 +103,7 @@ def is_recorded(session: Session, path: bytes) -> bool:
 def folders_made_of(session: Session) -> List[bytes]:
     """The folders that a snapshot was made of, without the directories above them; its tops where that is not known."""
     words = meta.meta_of(session.folder).folders
-    found = [path for word in words for path in paths_of(word)[:1] if is_recorded(session, path)]
+    found = [path for path in map(read_path, words) if is_recorded(session, path)]  # As in the dump, with escapes.
     return found if len(found) == len(words) and found else texts.find_tops(session, session.folder)
 
 

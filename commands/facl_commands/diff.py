@@ -63,7 +63,7 @@ def parse(words: List[str]) -> argparse.Namespace:
     choice.add_choice(parser)
     tables.add_output(parser)
     given = parser.parse_args(words)
-    if given.page and given.folders:
+    if given.page is not None and given.folders:
         parser.error("--page shows all files: leave out the FOLDERs")
     return given
 
@@ -109,7 +109,7 @@ class Comparison:
         try:
             return self.by_edits(pairs)
         except CannotLead as error:
-            if self.given.page:
+            if self.given.page is not None:
                 raise Failure(b"no page is made, as no edits lead from one snapshot to the other: "
                               + error.text) from error
             return self.by_labels(pairs)
@@ -129,7 +129,7 @@ class Comparison:
         return Answered(BY_INDEX, labels.gains(), pairs, [], [])
 
     def page(self, answered: Answered) -> Optional[bytes]:
-        if not self.given.page:
+        if self.given.page is None:
             return None
         from .diff_page import page_of  # Few runs need it.
 
@@ -198,7 +198,7 @@ def write(command: Command, given: argparse.Namespace, compared: Compared) -> No
 
 def body(command: Command, words: List[str]) -> int:
     given = parse(words)
-    target = NewFile(os.fsencode(given.page)) if given.page else None
+    target = NewFile(os.fsencode(given.page)) if given.page is not None else None
     compared, page = compare(command, given)
     write(command, given, compared)
     if target is not None and page is not None:

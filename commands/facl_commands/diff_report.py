@@ -144,7 +144,7 @@ def object_of(compared: Compared) -> Dict[str, object]:
 MAY = b", so what is there may be new or gone for that alone: "
 SCOPES: List[Tuple[bytes, Callable[[Meta], List[bytes]]]] = [
     (b"recorded in %s alone" + MAY, lambda about: about.folders),
-    (b"left out of %s alone by --exclude" + MAY, lambda about: about.excludes if about.numbers.get(EXCLUDED) != b"0" else []),
+    (b"left out of %s alone by --exclude" + MAY, lambda about: about.excludes),
     (b"left out of %s alone as another file system" + MAY, lambda about: about.mounts),
 ]
 NOT_READ = b"warning: %s lacks what could not be read (unread %s in its meta)" + MAY[:-2]
@@ -156,8 +156,10 @@ def is_within(folder: bytes, others: Iterable[bytes]) -> bool:
 
 
 def scope_warnings(text: bytes, states: Tuple[State, State], names: Callable[[Meta], List[bytes]]) -> Iterator[bytes]:
-    """The names that one of two snapshots has alone, in its meta."""
+    """The names that one of two snapshots has alone, in its meta; of globs where they left something out."""
     for state, other in (states, states[::-1]):
+        if names(state.about) == state.about.excludes and state.about.numbers.get(EXCLUDED) == b"0":
+            continue
         only = sorted(name for name in set(names(state.about)) if not is_within(name, names(other.about)))
         if only:
             shown = b", ".join(only[:MOST_FOLDERS]) + b" .." * (len(only) > MOST_FOLDERS)

@@ -6,7 +6,7 @@ from functools import lru_cache
 from typing import Dict, Iterable, List, NamedTuple, Tuple
 
 from .names import write_user
-from .people import rows_of
+from .people import plain_id, rows_of
 from .protocol import EFFECTIVE, FLAGS_LINE, OWNER_LINES
 
 LINE = re.compile(rb"^(default:)?(user|group|mask|other):([0-9]*):(...)(?:\t+%s(...))?$" % EFFECTIVE, re.MULTILINE)
@@ -66,7 +66,7 @@ class Ids:
         for tag, text in ((USER, passwd), (GROUP, group)):
             for row in rows_of(text):
                 if len(row) > 2:
-                    self.names.setdefault((tag, row[2]), row[0])
+                    self.names.setdefault((tag, plain_id(row[2])), row[0])
 
     def has(self, key: Key) -> bool:
         return key in self.names

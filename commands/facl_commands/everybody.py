@@ -8,8 +8,9 @@ import re
 import tempfile
 from typing import Dict, Iterator, NamedTuple, Set
 
-from .names import read_path, script_word, write_name
-from .people import rows_of
+from .messages import Failure
+from .names import read_path, script_word, write_user
+from .people import plain_id, rows_of, user_word
 from .program import OutputSlice, Session
 from .protocol import FREE_FILE_LINE, GROUP_ID_LINE, LIST, LIST_EFFECTIVE, USER_ID_LINE
 from .records import Listing, list_files, path_of
@@ -43,8 +44,16 @@ class World(NamedTuple):
 
     def may(self, user: bytes, request: bytes, is_alone: bool) -> Set[bytes]:
         """The paths of the files on which a user is granted a request."""
-        line = b"may %s%s %s" % (self.reach(is_alone), script_word(write_name(user)), request)
+        line = b"may %s-- %s %s" % (self.reach(is_alone), self.word_of(user), request)
         return set(paths_in(self.session.ask_accepted(line)))
+
+    def word_of(self, user: bytes) -> bytes:
+        """The word of a question that names a user: of a name of digits the id, since digits alone are one."""
+        word = user_word(self.texts.passwd, user)
+        if word is None:
+            raise Failure(write_user(user) + b": no question can name this user: digits alone are an id, and an earlier row has "
+                          b"this one's id")
+        return script_word(write_user(word))
 
 
 def paths_in(output: OutputSlice) -> Iterator[bytes]:
@@ -54,7 +63,7 @@ def paths_in(output: OutputSlice) -> Iterator[bytes]:
 
 def free_id(rows: bytes, used: Set[bytes]) -> int:
     """The greatest id that neither a row nor a file has."""
-    known = used | {row[2] for row in rows_of(rows) if len(row) > 2}
+    known = used | {plain_id(row[2]) for row in rows_of(rows) if len(row) > 2}
     found = LAST_ID
     while b"%d" % found in known:
         found -= 1

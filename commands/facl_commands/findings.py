@@ -55,8 +55,9 @@ Findings = Dict[str, List[Found]]  # By the names of kinds.
 
 
 def file_word(path: bytes) -> bytes:
-    """A file as a word of a script."""
-    return plain_word(shown_path(path))
+    """A file as a word of a script, which is no option."""
+    name = shown_path(path)
+    return plain_word(b"./" + name if name.startswith(b"-") else name)
 
 
 def plain_word(text: bytes) -> bytes:

@@ -16,6 +16,7 @@ CONTROL_CODES = (*range(9), *range(10, 32), *range(127, 160), 0x61C, 0x200E, 0x2
                  *range(0x2066, 0x206A))
 CONTROLS = {code: "".join("\\%03o" % byte for byte in chr(code).encode()) for code in CONTROL_CODES}
 ESCAPED_IN_NAMES = re.compile(rb"[\\\n\r\t :,#]")  # As the program prints names of users and groups.
+LONGEST_ID, ABOVE_ALL_IDS = 10, 1 << 40  # Digits, and a number.
 PLAIN_SHELL_WORD = re.compile(rb"[A-Za-z0-9_./:=@%+,-]+\Z")
 
 
@@ -37,6 +38,11 @@ def write_user(name: bytes) -> bytes:
 def read_path(text: bytes) -> bytes:
     """The path that a text is."""
     return b"/".join(part for part in read_name(text).split(b"/") if part not in (b"", b"."))
+
+
+def number_of(digits: bytes) -> int:
+    """The number of decimal digits; of so many that it is above all ids, one that is."""
+    return int(digits) if len(digits.lstrip(b"0")) <= LONGEST_ID else ABOVE_ALL_IDS
 
 
 def path_order(path: bytes) -> List[bytes]:

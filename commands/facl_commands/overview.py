@@ -12,14 +12,14 @@ from . import meta
 from . import texts as source_texts
 from .messages import Command, counted
 from .names import live_name
-from .people import rows_of
-from .protocol import EMPTY_MASK, FILE_HEAD, FILE_LINE, GROUP_ID_LINE, USER_ID_LINE
+from .people import plain_id, rows_of
+from .protocol import EMPTY_MASK, FILE_HEAD, FREE_FILE_LINE, GROUP_ID_LINE, USER_ID_LINE
 from .records import EMPTY_MASKS_OF_LISTS, OTHERS_WITH_SOMETHING
 from .snapshot import NEEDED, read_links
 from .texts import Source
 from .trusted import read_trusted
 
-FILE_NAME = re.compile(FILE_LINE, re.MULTILINE)
+FILE_NAME = re.compile(b"^" + FREE_FILE_LINE, re.MULTILINE)
 GROUP_IDS = re.compile(GROUP_ID_LINE, re.MULTILINE)
 USER_IDS = re.compile(USER_ID_LINE, re.MULTILINE)
 EMPTY_MASKS = (b"lists with an empty mask whose others have something, which Linux grants to named users and groups "
@@ -62,7 +62,7 @@ def open_empty_masks(dump: bytes) -> Iterator[bytes]:
 def ids_without_row(texts: Texts) -> List[bytes]:
     found: List[bytes] = []
     for kind, pattern, rows in ((b"user", USER_IDS, texts.passwd), (b"group", GROUP_IDS, texts.group)):
-        known = {row[2] for row in rows_of(rows) if len(row) > 2}
+        known = {plain_id(row[2]) for row in rows_of(rows) if len(row) > 2}
         ids: Set[bytes] = {match[1] for match in pattern.finditer(texts.dump)}
         found += [kind + b" " + it for it in sorted(ids - known, key=int)]
     return found
@@ -118,19 +118,21 @@ def names_without_row(folder: bytes, dump: bytes) -> Iterator[bytes]:
 
 
 def torn(texts: Texts) -> Iterator[bytes]:
-    """What is said of each text that is empty and should not be, or has another number of rows, files or names than
-    facl-snapshot counted; it starts with the name in the folder."""
+    """What is said of each text that has no users or files, or another number of rows, files or names than facl-snapshot
+    counted; it starts with the name in the folder."""
     recorded = meta.meta_of(texts.folder).numbers
-    for name, key, noun, number in (
-        (b"dump", meta.FILES, "file", sum(1 for _ in FILE_NAME.finditer(texts.dump))),
-        (b"passwd", meta.USERS, "row", texts.passwd.count(b"\n")),
-        (b"group", meta.GROUPS, "row", texts.group.count(b"\n")),
-        (b"links", meta.LINKED, "name", sum(map(len, read_links(texts.links)))),
+    for name, key, number, noun in (
+        (b"dump", meta.FILES, sum(1 for _ in FILE_NAME.finditer(texts.dump)), "file"),
+        (b"passwd", meta.USERS, texts.passwd.count(b"\n"), "row"),
+        (b"group", meta.GROUPS, texts.group.count(b"\n"), "row"),
+        (b"links", meta.LINKED, sum(map(len, read_links(texts.links))), "name"),
     ):
         if recorded.get(key, b"%d" % number) != b"%d" % number:
             yield name + b": has " + counted(number, noun) + b", and facl-snapshot recorded " + recorded[key]
-        elif number == 0 and key in (meta.FILES, meta.USERS):
-            yield name + b": is empty, so " + (b"nobody is named" if key == meta.USERS else b"there are no files")
+        elif key == meta.FILES and number == 0:
+            yield name + b": has no files"
+        elif key == meta.USERS and not rows_of(texts.passwd):
+            yield name + b": has no users, so nobody is named"
 
 
 def torn_warnings(texts: Texts, source: Source) -> Iterator[bytes]:

@@ -7,7 +7,7 @@ from typing import Dict, Iterable, List, NamedTuple, Optional, Tuple, Union
 
 from .messages import counted
 from .names import (
-    SAFE, live_name, live_path, read_name, script_word, shell_word, shown, shown_path, sorting_key, write_user,
+    SAFE, live_name, live_path, number_of, read_name, script_word, shell_word, shown, shown_path, sorting_key, write_user,
 )
 from .people import People
 from .planned import HEAD_OF_RECORD
@@ -122,7 +122,7 @@ def read_ids(line: Line, people: People) -> Ids:
 def read_id(word: bytes, rows: Iterable[Tuple[bytes, int]], fault: bytes) -> int:
     """The id of a USER or a GROUP; digits alone are an id, also one without a row."""
     name = read_name(word.strip(b" \t"))
-    found = int(name) if name.isdigit() else dict(reversed(list(rows))).get(name, NO_ID)
+    found = number_of(name) if name.isdigit() else dict(reversed(list(rows))).get(name, NO_ID)
     if found >= NO_ID:
         raise Refused(write_user(name) + b": " + fault)
     return found

@@ -3,7 +3,7 @@ from __future__ import annotations
 
 from typing import Callable, Dict, List, NamedTuple, Optional
 
-from .names import read_name, shell_word
+from .names import number_of, read_name, shell_word
 from .tools import Split, split
 
 ADD_MEMBER, REMOVE_MEMBER, CHANGE_GROUP = b"gpasswd -a", b"gpasswd -d", b"usermod -g"
@@ -62,14 +62,19 @@ def rows_of(text: bytes) -> List[List[bytes]]:
     return list(found.values())
 
 
+def plain_id(field: bytes) -> bytes:
+    """An id of a row without the zeros before it, as listings have it."""
+    return field.lstrip(b"0") or b"0"
+
+
 def user_word(passwd: bytes, name: bytes) -> Optional[bytes]:
     """What names a user in a line: the name, or in the place of digits alone the id, which means the first user who has
     it; None where that is another one."""
     if not name.isdigit():
         return name
     rows = rows_of(passwd)
-    uid = int(next((fields[2] for fields in rows if fields[0] == name), name))
-    first = next(fields[0] for fields in rows if int(fields[2]) == uid)
+    uid = number_of(next((fields[2] for fields in rows if fields[0] == name), name))
+    first = next((fields[0] for fields in rows if number_of(fields[2]) == uid), None)
     return b"%d" % uid if first == name else None
 
 
@@ -82,11 +87,11 @@ class People:
 
     def user(self, word: bytes) -> User:
         name = read_name(word.strip(b" \t"))
-        return next(it for it in self.users if (it.uid == int(name) if name.isdigit() else it.name == name))
+        return next(it for it in self.users if (it.uid == number_of(name) if name.isdigit() else it.name == name))
 
     def group(self, word: bytes) -> Group:
         name = read_name(word.strip(b" \t"))
-        return next(it for it in self.groups if (it.gid == int(name) if name.isdigit() else it.name == name))
+        return next(it for it in self.groups if (it.gid == number_of(name) if name.isdigit() else it.name == name))
 
     def change(self, words: List[bytes]) -> Optional[PeopleChange]:
         """Does what an accepted line does, and returns it; None where nothing changes."""

@@ -11,7 +11,7 @@ from . import label_answers, meta, no_gain, overview, owners, people, plan_folde
 from .answering import answer_unit
 from .links import Links
 from .messages import Command, Failure, counted, parser_of
-from .names import live_path, write_user
+from .names import live_path, number_of, write_user
 from .plan_report import Asked, Message, answers_text, json_report, text_report
 from .plan_report import Outcome as Outcome
 from .program import Session, find_program
@@ -180,9 +180,12 @@ def warn_of_empty_masks(command: Command, changes: Changes, outcome: Outcome) ->
 def group_of(word: str) -> int:
     """The id of a group; digits are an id."""
     try:
-        return int(word) if word.isdigit() else grp.getgrnam(word).gr_gid
+        found = number_of(word.encode()) if re.fullmatch("[0-9]+", word) else grp.getgrnam(word).gr_gid
     except KeyError as error:
         raise Failure(os.fsencode(word) + b": no such group") from error
+    if found >= owners.NO_ID:
+        raise Failure(os.fsencode(word) + b": no such group")
+    return found
 
 
 def say_refused(command: Command, outcome: Outcome, keep_going: bool) -> bool:
@@ -249,8 +252,10 @@ def plan_files(
 
 
 def check_inodes(snapshot: Snapshot, changes: Changes) -> None:
-    """Fails where a snapshot has the inodes of other files, and not of each one that changes."""
-    lacking = [path for path in changes.changed if path not in snapshot.inodes] if snapshot.inodes else []
+    """Fails where a snapshot has the inodes of other files, and not of each one that changes; or of none, though facl-snapshot
+    made it."""
+    is_made = meta.FILES in meta.meta_of(snapshot.folder).numbers
+    lacking = [path for path in changes.changed if path not in snapshot.inodes] if snapshot.inodes or is_made else []
     if lacking:
         raise Failure(snapshot.folder + b"/inodes: has no " + live_path(lacking[0])
                       + b", so it is not as facl-snapshot wrote it: make the snapshot again")
@@ -264,10 +269,10 @@ def body(command: Command, words: List[str]) -> int:
 
 def plan_over(command: Command, given: argparse.Namespace, source: texts.Source) -> int:
     snapshot = read_snapshot(source.folder, needs_links=False)
-    name = os.fsencode(given.plan) if given.plan else beside(source.shown)
+    name = beside(source.shown) if given.plan is None else os.fsencode(given.plan)
     group = None if given.readers is None else group_of(given.readers)
-    target = plan_folder.open_target(name)
     scripts = list(map(read_text, given.scripts))
+    target = plan_folder.open_target(name)
     units = [unit for script in scripts for unit in script.units()]
     is_whole = say_unknown(command, source)
     outcome = answer_scripts(given, snapshot, units, is_whole, given.full)

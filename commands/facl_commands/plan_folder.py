@@ -129,7 +129,7 @@ class Place(NamedTuple):
 def place_of(name: bytes) -> Place:
     """The place of a name; the folder that it is in has to be there, and to be trusted."""
     above, last = os.path.split(os.path.abspath(name))
-    if not last:
+    if not last or not name:
         raise Failure(name + b": is no name of a plan")
     if not os.path.isdir(above):
         raise Failure(name + b": the folder that it is to be in is not there")

@@ -15,7 +15,7 @@ from .new_file import NewFile
 from .page_columns import Builder, State, Tables, View, Who, shown
 from .page_html import page_of
 from .page_tree import Labels, Listing, Record, Tree, records_of
-from .people import rows_of
+from .people import plain_id, rows_of
 from .program import Session, find_program
 from .protocol import ACCESS_GROUP_LINE, ADD_USER_WITH
 from .records import File, Files
@@ -73,8 +73,8 @@ class Probes:
     def __init__(self, snapshot: Snapshot, bodies: List[bytes], changes: bytes) -> None:
         named = {it for body in bodies for it in re.findall(ACCESS_GROUP_LINE, body, re.MULTILINE)}
         groups = rows_of(snapshot.group)
-        unnamed = next((row for row in groups if row[2] not in named), None)
-        wanted = [("group", row[0], row) for row in groups if row[2] in named]
+        unnamed = next((row for row in groups if plain_id(row[2]) not in named), None)
+        wanted = [("group", row[0], row) for row in groups if plain_id(row[2]) in named]
         wanted += [("everybody", b"everybody", unnamed)] if unnamed else []
         ids = unused_ids(snapshot.passwd, [*bodies, changes])
         token = os.urandom(8).hex().encode()

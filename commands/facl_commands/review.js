@@ -172,7 +172,7 @@ function otherRow(who) {
 function drawPeople() {
   const box = element("section", {id: "people"}, element("h2", {textContent: "People"}));
   const named = new Set(data.lists.flatMap(list => list.entries.filter(it => it.key).map(it => it.who)));
-  const hasRow = it => it.by.length > 0 || named.has("user " + it.name);
+  const hasRow = it => it.by.length > 0 || it.reads + it.changes + it.enters > 0 || named.has("user " + it.name);
   const table = element("table", {className: "counts"}, headRow("Person", "Entries", "Reads", "Changes", "Enters", "By"),
     element("tbody", {}, ...data.people.filter(hasRow).map(personRow)));
   const nobody = data.people.filter(it => !hasRow(it)).map(it => it.name);

@@ -7,7 +7,7 @@ from typing import Dict, Iterable, List, NamedTuple, Set, Tuple
 from .alike import at_or_below
 from .choice import is_recorded
 from .everybody import World
-from .findings import file_word, name_word
+from .findings import file_word
 from .names import read_name, read_path
 from .protocol import FILE_HEAD
 from .records import Files
@@ -73,7 +73,7 @@ class Rights:
 
     def some(self, right: bytes, top: bytes) -> Set[bytes]:
         """The users who may at least ask for a right on some file at or below a path."""
-        line = b"below %s%s %s" % (self.reach, REQUESTS[right], self.operands(top))
+        line = b"below %s-- %s %s" % (self.reach, REQUESTS[right], self.operands(top))
         return {read_name(line.split(b" ", 2)[1]) for line in self.world.session.ask_accepted(line).lines()}
 
     def granted(self, user: bytes, right: bytes, top: bytes) -> List[bytes]:
@@ -91,13 +91,13 @@ class Rights:
 
     def who(self, right: bytes, path: bytes) -> List[bytes]:
         """Those of the chosen users who have a right on a file."""
-        line = b"who %s%s %s" % (self.reach, self.request_on(path, right), file_word(path))
+        line = b"who %s-- %s %s" % (self.reach, self.request_on(path, right), file_word(path))
         found = {read_name(name) for name in self.world.session.ask_accepted(line).lines()}
         return [name for name in self.chosen if name in found]
 
     def why(self, user: bytes, path: bytes) -> List[Block]:
         """The entries that decide on a user, of the directories above a file and of the file."""
-        line = b"why %s%s %s" % (self.reach, name_word(user), file_word(path))
+        line = b"why %s-- %s %s" % (self.reach, self.world.word_of(user), file_word(path))
         found = []
         for record in self.world.session.ask_accepted(line).records():
             first, *entries = record.rstrip(b"\n").split(b"\n")

@@ -2,13 +2,14 @@
 from __future__ import annotations
 
 import os
+import re
 from typing import List, NamedTuple, Optional, Set, Tuple
 
 from .choice import is_recorded
 from .everybody import World
 from .findings import plain_word
 from .messages import Failure
-from .names import read_name, read_path, shown_path, write_name
+from .names import number_of, read_name, read_path, shown_path, write_name
 from .people import Group, People, User
 from .scripts import WORD, is_empty, read_text, words_of
 from .superuser import ids_in
@@ -19,6 +20,7 @@ READ, WRITE, ENTER = b"read", b"write", b"enter"
 OTHERS, PEOPLE = b"others", b"people"  # A user without entries; all users whom the check is about.
 IN_GROUP = b"@"
 KINDS, RIGHTS = (NEVER, ONLY, ALWAYS), (READ, WRITE, ENTER)
+COMMENT = re.compile(rb"(?:^|(?<=[ \t]))#")
 FORM = b"a rule is never|only|always WHO.. read|write|enter PATH"
 LEAST = 4  # Words of a rule.
 IS_ROOT = (b": has the uid 0, to which the kernel grants nearly everything: leave it out, or give --with-root to judge it "
@@ -60,8 +62,9 @@ class BadRule(Exception):
 def raw_words(line: bytes) -> List[bytes]:
     """The words of a line with their quotes, up to a comment."""
     if words_of(line) is None:
-        before = line.partition(b"#")[0]  # A quote in a comment is no quote.
-        if before == line or words_of(before) is None:
+        starts = (match.start() for match in COMMENT.finditer(line))  # A quote in a comment is no quote.
+        before = next((line[:start] for start in starts if words_of(line[:start]) is not None), None)
+        if before is None:
             raise BadRule(b"a single quote is open: in a name write it as \\047")
         line = before
     found: List[bytes] = []
@@ -78,6 +81,7 @@ class Reader:
     def __init__(self, world: World, chosen: Set[bytes], with_root: bool) -> None:
         self.world, self.chosen, self.with_root = world, chosen, with_root
         self.people = People(world.texts.passwd, world.texts.group)
+        self.notes: List[bytes] = []  # On groups of whom nobody is checked.
         self.roots = {name for name, uid in ids_in(world.texts.passwd).items() if uid == 0} if not with_root else set()
 
     def members(self, group: Group) -> Set[bytes]:
@@ -85,6 +89,16 @@ class Reader:
         rows = {user.name for user in self.people.users}
         primary = {user.name for user in self.people.users if user.gid == group.gid}
         return (primary | set(group.members) & rows) - self.roots
+
+    def members_asked(self, raw: bytes, group: Group) -> Set[bytes]:
+        """The users of a group that a rule names, with a note where there are none."""
+        found = self.members(group)
+        if not found:
+            self.notes.append(raw + b": has no members in the snapshot" + b" but users of the uid 0" * self.has_roots(group))
+        return found
+
+    def has_roots(self, group: Group) -> bool:
+        return any(it.name in self.roots and (it.gid == group.gid or it.name in group.members) for it in self.people.users)
 
     def who(self, raw: bytes) -> Tuple[Set[bytes], bool]:
         """The users that a word means, and whether it is the word for others."""
@@ -94,12 +108,12 @@ class Reader:
             return set(self.chosen), False
         word = raw.replace(b"'", b"")
         if raw.startswith(IN_GROUP):
-            return self.members(self.group(word[1:])), False
+            return self.members_asked(raw, self.group(word[1:], b"'" in raw)), False
         return {self.user(word, b"'" in raw)}, False
 
-    def group(self, word: bytes) -> Group:
+    def group(self, word: bytes, is_quoted: bool) -> Group:
         name = read_name(word)
-        found = next((it for it in self.people.groups if is_named(it.name, it.gid, name, False)), None)
+        found = next((it for it in self.people.groups if is_named(it.name, it.gid, name, is_quoted)), None)
         if found is None:
             raise BadRule(b"@" + word + b": no such group in the snapshot")
         return found
@@ -147,7 +161,9 @@ class Reader:
         for number, line in enumerate(text.split(b"\n"), 1):
             try:
                 words = [] if is_empty(line) else raw_words(line)
+                known = len(self.notes)
                 found += [self.rule(number, words)] if words else []
+                self.notes[known:] = [b"%s, line %d: %s" % (shown, number, it) for it in self.notes[known:]]
             except BadRule as error:
                 faults.append(b"%s, line %d: %s" % (shown, number, error.text))
         if faults:
@@ -159,7 +175,7 @@ class Reader:
 
 def is_named(name: bytes, number: int, word: bytes, is_quoted: bool) -> bool:
     """Whether a row is meant by a word; digits alone are an id, unless they are quoted."""
-    return number == int(word) if word.isdigit() and not is_quoted else name == word
+    return number == number_of(word) if word.isdigit() and not is_quoted else name == word
 
 
 # --- words that mean a user, a group or a path

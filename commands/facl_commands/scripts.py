@@ -3,12 +3,14 @@ from __future__ import annotations
 
 import os
 import re
+import stat
 from typing import Iterable, Iterator, List, NamedTuple, Optional
 
 from .messages import Failure, reason
 from .tools import LOADERS, TEXT_WORDS
 
 LINE_LIMIT = 65536
+DESCRIPTOR = re.compile(r"/dev/(?:stdin|fd/\d+)\Z|/proc/self/fd/\d+\Z")
 WORD = re.compile(rb"(?:[^ \t']|'[^']*')+")
 
 
@@ -90,7 +92,19 @@ def read_text(name: str) -> Script:
     """What is in a script; the name - is standard input."""
     shown = b"standard input" if name == "-" else os.fsencode(name)
     try:
-        with open(0 if name == "-" else name, "rb", closefd=name != "-") as file:
+        with open(0 if name == "-" else open_script(name), "rb", closefd=name != "-") as file:
             return Script(shown, file.read())
     except OSError as error:
         raise Failure(shown + b": " + reason(error)) from error
+
+
+def open_script(name: str) -> int:
+    """Opens a script, which may be anybody's; but nobody waits for what another user may write to a pipe by its name."""
+    waiting = os.open(name, os.O_PATH | os.O_CLOEXEC)
+    try:
+        look = os.fstat(waiting)
+        if stat.S_ISFIFO(look.st_mode) and look.st_uid not in (0, os.geteuid()) and not DESCRIPTOR.match(name):
+            raise Failure(os.fsencode(name) + b": is a pipe of another user")
+        return os.open("/proc/self/fd/%d" % waiting, os.O_RDONLY | os.O_CLOEXEC)
+    finally:
+        os.close(waiting)

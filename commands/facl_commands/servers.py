@@ -11,7 +11,7 @@ import tempfile
 from typing import Dict, Iterator, List, NamedTuple
 
 from . import overview
-from .answering import heading, lines_to_show, write_messages
+from .answering import heading, lines_for_terminal, lines_to_show, write_messages
 from .messages import UNUSABLE, Command, Failure
 from .names import shown
 from .protocol import ANSWERED, REFUSED
@@ -57,7 +57,7 @@ def answer_lines(unit: Unit, server: Server, answered: Answered, superusers: Sup
                  has_headings: bool) -> Iterator[bytes]:
     """The lines of a server's answer, each of which begins with its name."""
     lines = superusers.rest(unit, answered.output.lines())
-    for line in lines_to_show(unit, lines, answered.header.messages) if has_headings else lines:
+    for line in lines_to_show(unit, lines, answered.header.messages) if has_headings else lines_for_terminal(lines):
         yield server.name + b": " + line + b"\n"
 
 
@@ -86,6 +86,16 @@ class Printer:
         self.command.write(b"\n" if self.has_headings and has_heading else b"")
 
 
+def notes_on(superusers: Dict[Server, Superusers]) -> List[bytes]:
+    """Who is left out: one note where it is the same users of all servers, else one for each of several names of users, with
+    its servers."""
+    servers: Dict[bytes, List[bytes]] = {}
+    for server, its in superusers.items():
+        if its.has_left_out:
+            servers.setdefault(its.note(), []).append(server.name)
+    return list(servers) if len(servers) == 1 else [b", ".join(names) + b": " + note for note, names in servers.items()]
+
+
 def body(command: Command, words: List[str], given: argparse.Namespace) -> int:
     """Answers standard input over all servers. One that does not answer leaves the answers of the others as they
     are."""
@@ -102,8 +112,8 @@ def body(command: Command, words: List[str], given: argparse.Namespace) -> int:
         printer = Printer(command, parts, given)
         for unit in script.units():
             printer.write_line(unit)
-        for left_out in [it for it in printer.superusers.values() if it.has_left_out][:1]:
-            command.say(left_out.note())
+        for text in notes_on(printer.superusers):
+            command.say(text)
     command.flush()
     for server, failure in failures.items():
         say(command, server, [failure.text])

@@ -14,7 +14,7 @@ import tempfile
 from typing import Dict, Iterator, List, NamedTuple, Optional, Set, Tuple
 
 from . import agreement, counts, overview
-from .answering import below_heading, write_messages
+from .answering import below_heading, lines_for_terminal, write_messages
 from .messages import Command, Failure
 from .names import path_order, read_path, sorting_key, write_name
 from .program import OutputSlice, lines_of
@@ -242,8 +242,8 @@ def pieces_of(unit: Unit, answer: Joined, superusers: Superusers, has_headings: 
     """What is printed of an answer."""
     if has_headings:
         return below_heading(unit, superusers.rest(unit, lines_of(answer.output)), answer.messages)
-    if superusers.is_about_people(unit):
-        return (line + b"\n" for line in superusers.rest(unit, lines_of(answer.output)))
+    if superusers.is_about_people(unit) or os.isatty(1):
+        return (line + b"\n" for line in lines_for_terminal(superusers.rest(unit, lines_of(answer.output))))
     return answer.output
 
 

@@ -48,7 +48,8 @@ def check_links(folder: bytes, links: List[List[bytes]], inodes: Dict[bytes, Ide
     names = [name for its in links for name in its]
     files = [{inodes[name][:2] if name in inodes else None for name in its} for its in links]
     more = len(inodes) - len({it[:2] for it in inodes.values()})  # Names beside the first one of each file.
-    if len(names) - len(links) != more or any(len(its) > 1 or None in its for its in files):
+    is_same = all(len(its) == 1 and None not in its for its in files) and len(set(names)) == len(names)
+    if not is_same or len(names) - len(links) != more:
         raise Failure(folder + b"/links: has other names of files than inodes, so it is not as facl-snapshot wrote it: make the "
                       b"snapshot again")
 

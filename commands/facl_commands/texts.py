@@ -54,6 +54,13 @@ def add_source(parser: argparse.ArgumentParser, words: List[str]) -> None:
         parser.add_argument("snapshot", metavar="SNAPSHOT")
 
 
+def source_words(given: argparse.Namespace) -> List[str]:
+    """The words that gave it, for another command over the same."""
+    options = (("--program", given.program), ("--dump", given.dump), ("--passwd", given.passwd), ("--group", given.group_file))
+    words = [word for option, value in options if value is not None for word in (option, value)]
+    return words if given.dump is not None else [*words, given.snapshot]
+
+
 @contextlib.contextmanager
 def opened(given: argparse.Namespace) -> Iterator[Source]:
     """A folder with the texts that are given; where they are files, one with links to them, which is removed at the

@@ -28,12 +28,14 @@ def owner_name(uid: int) -> bytes:
 
 
 def is_own_group(gid: int, uid: int) -> bool:
-    """Whether a group has one member, the user of this id, whose name it has."""
+    """Whether a group has one member, the user of this id, whose name it has, and is nobody else's first group."""
     try:
         user, group = pwd.getpwuid(uid), grp.getgrgid(gid)
     except KeyError:
         return False
-    return user.pw_gid == gid and user.pw_name == group.gr_name and set(group.gr_mem) <= {user.pw_name}
+    if user.pw_gid != gid or user.pw_name != group.gr_name or not set(group.gr_mem) <= {user.pw_name}:
+        return False
+    return all(it.pw_name == user.pw_name for it in pwd.getpwall() if it.pw_gid == gid)
 
 
 def has_list(descriptor: int) -> bool:
@@ -145,15 +147,20 @@ def read_trusted(name: bytes) -> bytes:
 
 def read_given(name: bytes) -> bytes:
     """The same of a word of the caller, which may be a descriptor that came with the command, as `<(COMMAND)` of a shell:
-    that is trusted as standard input is."""
-    number = DESCRIPTOR.fullmatch(name)
-    if number is None:
+    that is trusted as standard input is. The command's own descriptors are none of these."""
+    match = DESCRIPTOR.fullmatch(name)
+    if match is None:
         return read_trusted(name)
     try:
-        with open(int(number[1]), "rb", closefd=False) as file:
-            return file.read()
+        if not os.get_inheritable(int(match[1])):
+            raise OSError(errno.EBADF, os.strerror(errno.EBADF))
+        with open(int(match[1]), "rb", closefd=False) as file:
+            text: Optional[bytes] = file.read()
     except OSError as error:
         raise Failure(name + b": " + reason(error)) from error
+    if text is None:
+        raise Failure(name + b": has nothing to read yet: give a descriptor that waits")
+    return text
 
 
 def read_in(folder: int, shown: bytes, name: bytes) -> bytes:

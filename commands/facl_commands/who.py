@@ -9,7 +9,7 @@ from typing import Dict, List, Optional, Tuple
 from . import choice, meta, overview, tables, texts, who_files, who_folder, who_rights, who_user
 from .asking import Asker, read_rights
 from .messages import Command, Failure, parser_of
-from .names import json_text, read_name
+from .names import number_of, json_text, read_name
 from .program import Session, find_program
 from .snapshot import NEEDED, check_texts, is_hidden
 from .superuser import ids_in
@@ -146,7 +146,7 @@ def write_answer(command: Command, asker: Asker, answer: Answer) -> None:
 def is_superuser(word: bytes, passwd: bytes) -> bool:
     """Whether a word names a user of the uid 0, or is this id."""
     ids = ids_in(passwd)
-    return ids.get(read_name(word), int(word) if word.isdigit() else None) == 0
+    return ids.get(read_name(word), number_of(word) if word.isdigit() else None) == 0
 
 
 def body(command: Command, words: List[str]) -> int:

@@ -6,7 +6,7 @@ from typing import Dict, List, NamedTuple, Tuple
 
 from .asking import Asker
 from .messages import Failure
-from .names import read_name, write_user
+from .names import number_of, read_name, write_user
 from .people import rows_of
 from .tables import Table
 
@@ -30,14 +30,15 @@ class User(NamedTuple):
 
     shown: bytes  # As the program prints the name; the id where there is no row.
     uid: int
+    has_row: bool = True
 
 
 def user_of(asker: Asker, word: bytes) -> User:
     """As the program reads USER: digits alone are an id, which is that of the first user who has it."""
     rows = rows_of(asker.passwd)
     if word.isdigit():
-        names = [write_user(row[0]) for row in rows if int(row[2]) == int(word)]
-        return User(names[0] if names else word, int(word))
+        names = [write_user(row[0]) for row in rows if number_of(row[2]) == number_of(word)]
+        return User(names[0] if names else word, number_of(word), bool(names))
     for name in (word, read_name(word)):
         for row in rows:
             if row[0] == name:
@@ -55,6 +56,8 @@ def like(word: bytes, names: List[bytes]) -> bytes:
 def user_with_row(asker: Asker, word: bytes) -> User:
     """A user whom the program can be asked of."""
     found = user_of(asker, word)
-    if found.shown == word and word.isdigit() or asker.word_of(found.shown) is None:
+    if not found.has_row:
         raise Failure(word + b": is the id of no user of the snapshot")
+    if asker.word_of(found.shown) is None:
+        raise Failure(word + b": no question can name this user: digits alone are an id, and an earlier row has this one's id")
     return found

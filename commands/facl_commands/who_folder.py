@@ -94,6 +94,7 @@ class Made(NamedTuple):
     lines: List[bytes]
     readers: List[bytes]
     writers: List[bytes]
+    left_out: List[bytes]  # Others who may.
 
     def value(self, head: bytes) -> bytes:
         """What its record has after a head; nothing where it is not there."""
@@ -117,8 +118,10 @@ def make(asker: Asker, folder: bytes, user: bytes, kind: str) -> Made:
     word = word_of_path(path)
     asker.session.ask_accepted(line % (user, mode, asker.given.umask.encode()) + b" " + word)
     record = asker.records([LIST_NAMED + b" " + word])[0]
-    who = [choice.kept(asker.lines_of(WHO, letter, word), asker.given, asker.passwd) for letter in (b"r", b"w")]
-    return Made(kind, record.splitlines(), *who)
+    who = [list(asker.lines_of(WHO, letter, word)) for letter in (b"r", b"w")]
+    readers, writers = (choice.kept(users, asker.given, asker.passwd) for users in who)
+    left_out = [user for user in who[0] + who[1] if user not in readers + writers]
+    return Made(kind, record.splitlines(), readers, writers, left_out)
 
 
 def has_default_list(asker: Asker, folder: bytes) -> bool:
@@ -143,7 +146,8 @@ def answer_new_file(asker: Asker, folder: bytes, user: User) -> Answer:
     origin = (b"by the default list of " + name if has_default_list(asker, folder)
               else name + b" has no default list, so the umask counts, taken as " + umask)
     rows = [[it.kind.encode(), plain_entry(line)] for it in made for line in it.lines]
+    left_out = list(dict.fromkeys(user for it in made for user in it.left_out))
     return Answer(
         "new-file", Table([Column("NEW"), Column("LIST")], rows),
         {"folder": json_text(name), "user": json_text(user.shown), "new": [it.as_object() for it in made]},
-        user.shown + b" may make no file in " + name, [], (origin, *(it.summary() for it in made)))
+        user.shown + b" may make no file in " + name, left_out, (origin, *(it.summary() for it in made)))

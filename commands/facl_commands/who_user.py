@@ -2,6 +2,7 @@
 from __future__ import annotations
 
 import os
+import re
 from collections import Counter
 from typing import Dict, Iterator, List, NamedTuple, Set
 
@@ -9,7 +10,8 @@ from . import texts
 from .asking import WORDS, Asker, Right, highest, word_of_path
 from .names import json_text, path_order, read_path, script_word, sorting_key
 from .program import parts_of
-from .protocol import CAN, MAY
+from .protocol import CAN, DEFAULT_ENTRY, MAY
+from .records import list_files
 from .rights import GRANTED, REQUESTS
 from .tables import Column, Table
 from .trusted import read_trusted
@@ -19,6 +21,7 @@ RIGHTS = [Right(word, request) for word, request in WORDS.items()]
 HIGHEST_FIRST = ["write", "read", "enter"]
 COLUMNS = [Column("FOLDER"), Column("HERE"), Column("HIGHEST"),
            *(Column(right.word.upper(), True) for right in RIGHTS), Column("FILES", True)]
+DEFAULT_LINE = re.compile(rb"^[ \t]*d(?:efault)?:", re.MULTILINE)
 ROOM = 1 << 20  # Bytes of questions at once.
 
 
@@ -43,13 +46,14 @@ class Row(NamedTuple):
 
 
 class Folders:
-    """The folders from some tops down to a depth, with the numbers of files at or below each."""
+    """The folders from some tops down to a depth, with the numbers of files at or below each. A folder has a name with a slash
+    at its end, a file below it, or is one of those that have default entries."""
 
-    def __init__(self, tops: List[bytes], depth: int, dump: bytes) -> None:
+    def __init__(self, tops: List[bytes], depth: int, dump: bytes, directories: Set[bytes]) -> None:
         self.tops, self.depth = set(tops), depth
         self.files: Counter[bytes] = Counter()
         recorded: Set[bytes] = set()
-        folders: Set[bytes] = set(tops)
+        folders = set(tops) | directories
         for name in texts.names_of(dump):
             path = read_path(name)
             levels = list(self.levels(path))
@@ -81,9 +85,18 @@ def ask_here(asker: Asker, word: bytes, paths: List[bytes]) -> Iterator[str]:
         yield from map(greatest, asker.session.ask_accepted(b"\n".join(part)).lines())
 
 
+def with_default_entries(asker: Asker, dump: bytes) -> Set[bytes]:
+    """The paths of the files with default entries, which are folders; none where all folders of a dump have a slash at the end
+    of their names, as facl-snapshot writes them."""
+    if texts.LIVE_ROOT in dump or DEFAULT_LINE.search(dump) is None:
+        return set()
+    listing = list_files(b"".join(it.read() for it in texts.list_below(asker.session, texts.find_tops(asker.session, asker.session.folder))))
+    return {path for path, file in listing.files.items() if DEFAULT_ENTRY in file.body}
+
+
 def answer(asker: Asker, user: User, folders: List[bytes]) -> Answer:
     dump = read_trusted(os.path.join(asker.session.folder, texts.DUMP))
-    found = Folders(highest(folders), asker.given.depth, dump)
+    found = Folders(highest(folders), asker.given.depth, dump, with_default_entries(asker, dump))
     word = script_word(asker.word_of(user.shown) or user.shown)
     counts = [found.count(map(read_path, asker.lines_of(MAY, word, right.letters()))) for right in RIGHTS]
     paths = [path for path in found.paths if any(its[path] for its in counts)]

@@ -356,7 +356,12 @@ class Overview(Case):
         for name, text in (("passwd", b""), ("group", b""), ("dump", b"# file: a\nuser::rwx\ngroup::r-x\nother::r-x\n\n"), ("links", b"")):
             self.write("before/" + name, text)
         texts = overview.read_texts(os.fsencode(self.path("before")))
-        self.assertEqual([*overview.warnings(texts), *overview.torn(texts)], [b"passwd: is empty, so nobody is named"])
+        self.assertEqual([*overview.warnings(texts), *overview.torn(texts)], [b"passwd: has no users, so nobody is named"])
+        self.write("before/dump", b"#file: a\n")
+        self.write("before/passwd", b"root:x:0:0::/:/bin/sh")
+        self.assertEqual(list(overview.torn(overview.read_texts(os.fsencode(self.path("before"))))), [])
+        self.write("before/dump", b"# none\n")
+        self.assertEqual(list(overview.torn(overview.read_texts(os.fsencode(self.path("before"))))), [b"dump: has no files"])
 
     def test_texts_with_other_numbers_than_recorded(self) -> None:
         self.write("before/meta", b"host srva\ndate 2026-11-27T03:10:00Z\nfiles 14\nusers 5\ngroups 5\nlinked-names 2\n")

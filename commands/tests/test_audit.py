@@ -169,6 +169,8 @@ class EachFinding(Audits):
         self.take({b"/srv/hr/a/": FOLDER, b"/srv/hr/a/f": PLAIN, b"/srv/hr/b/": FOLDER, b"/srv/hr/b/f": PLAIN},
                   b"/srv/hr/a/\n/srv/hr/b/\n\n/srv/hr/a/f\n/srv/hr/b/f\n")
         self.assertEqual(self.rows(), [])
+        self.take({b"/srv/hr/a/": FOLDER, b"/srv/hr/a/d/": FOLDER}, b"/mnt/d/\n/srv/hr/a/d/\n")
+        self.assertEqual(self.rows(), [])
 
     def test_entries_that_only_one_of_can_go(self) -> None:
         """Both groups have the same member: each entry can go, and not both."""
@@ -210,6 +212,26 @@ all files of one: facl-audit --list set-user-id small
 all lines of one: facl-audit --edits set-user-id small >edits; facl-plan small edits
 """
         self.expect(self.audit(), 1, wanted)
+
+    def test_the_words_of_another_run(self) -> None:
+        self.write("accepted", b"set-group-id srv/hr/new needed\n")
+        os.chmod(self.path("accepted"), 0o600)
+        os.rename(self.path("small"), self.path("a b"))
+        done = self.run_command("facl-audit", ["--fail-on", "none", "--accepted", "accepted", "--file-alone", "a b", "/srv/hr"])
+        words = b"--file-alone --accepted accepted 'a b' /srv/hr"
+        self.assertTrue(done.out.endswith(b"all files of one: facl-audit --list set-user-id %s\n"
+                                          b"all lines of one: facl-audit --edits set-user-id %s >edits; facl-plan 'a b' edits\n" % (words, words)), done)
+        done = self.run_command("facl-audit", ["--dump", "a b/dump", "--passwd", "a b/passwd", "--group", "a b/group"])
+        self.assertTrue(done.out.endswith(b"facl-plan --dump 'a b/dump' --passwd 'a b/passwd' --group 'a b/group' edits\n"), done)
+
+    def test_a_relative_dump(self) -> None:
+        self.write("small/dump", self.read("small/dump").replace(b"# file: /\n", b"# file: x\n").replace(b"# file: /", b"# file: "))
+        self.write("small/meta", b"")
+        self.assertTrue(self.audit().out.startswith(b"small: 7 files at or below srv, x\n"), self.audit().out)
+        self.assertEqual(json.loads(self.audit("--json").out)["folders"], ["srv", "x"])
+
+    def test_a_page_without_a_name(self) -> None:
+        self.expect(self.audit("--page", ""), 2, b"", b"facl-audit: : is no name of a file\n")
 
     def test_at_a_terminal(self) -> None:
         done = self.at_terminal("facl-audit", ["small"], {"COLUMNS": "44", "LINES": "90"})

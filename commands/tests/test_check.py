@@ -147,6 +147,55 @@ small (of srva, 2026-11-27T03:10:00Z): 2 of 3 rules do not hold
             "entries": [{"path": "srv/hr/cases/two", "entries": ["group::rw- (effective r--)"]}], "who_else": ["anna"]}])
 
 
+class Digits(Checks):
+    """Names that are digits alone, which in a question are ids."""
+
+    def setUp(self) -> None:
+        super().setUp()
+        self.take({**TREE, b"/srv/hr/cases/one": FILE.replace(b"user:1009", b"user:3000") % b"rw-",
+                   b"/srv/hr/": FOLDER.replace(b"user:1009", b"user:3000") % b"r-x",
+                   b"/srv/hr/cases/": FOLDER.replace(b"user:1009", b"user:3000") % b"--x"},
+                  passwd=PASSWD + b"2024:x:3000:3000::/:\nmara:x:2024:2024::/:\n",
+                  group=GROUP + b"staff:x:2003:anna\n2003:x:500:carl\nnone:x:2004:\n")
+
+    def test_users(self) -> None:
+        self.assertEqual(self.broken(b"never '2024' read srv/hr/cases/one"), [b"2024 1 srv/hr/cases/one"])
+        self.assertEqual(self.broken(b"never 2024 mara read srv/hr/cases/one"), [])
+        self.assertEqual(self.broken(b"only anna bert mara read srv/hr/cases/one"), [b"2024 1 srv/hr/cases/one"])
+        self.assertIn(b"by  .: other::r-x", self.check(b"never '2024' read srv/hr/cases/one\n").out)
+
+    def test_a_user_whom_no_question_names(self) -> None:
+        self.take(TREE, passwd=PASSWD + b"2024:x:1009:1009::/:\n")
+        self.expect(self.check(b"never '2024' read srv/hr/\n"), 2, b"", b"facl-check: 2024: no question can name this user: digits alone "
+                    b"are an id, and an earlier row has this one's id\n")
+
+    def test_groups(self) -> None:
+        self.assertEqual(self.broken(b"never @2003 read srv/hr/cases/two"), [b"anna 1 srv/hr/cases/two"])
+        self.assertEqual(self.broken(b"never @'2003' read srv/hr/cases/two"), [])
+        self.expect(self.check(b"never @none read srv/hr/\n", "--quiet"), 0, b"",
+                    b"facl-check: warning: rules, line 1: @none: has no members in the snapshot\n")
+        self.expect(self.check(b"# one\nnever @root read srv/hr/\n", "--quiet"), 0, b"",
+                    b"facl-check: warning: rules, line 2: @root: has no members in the snapshot but users of the uid 0\n")
+
+    def test_more_digits_than_a_number_may_have(self) -> None:
+        self.expect(self.check(b"never %s read srv/hr/\n" % (b"9" * 5000)), 2, b"",
+                    b"facl-check: rules, line 1: %s: no such user in the snapshot\n" % (b"9" * 5000))
+
+
+class Comments(Checks):
+    def test_a_hash_in_a_name(self) -> None:
+        self.take({**TREE, b"/srv/hr/C#": FILE % b"rw-", b"/srv/hr/C": FILE % b"---"})
+        for rule in (b"never anna read srv/hr/C# # it's", b"never anna read 'srv/hr/C#' # it's", b"never anna read srv/hr/C# # it's # so"):
+            self.assertEqual(self.broken(rule), [b"anna 1 srv/hr/C#"], rule)
+        self.assertIn(b"a single quote is open", self.check(b"never anna read srv/hr/C#it's\n").messages)
+
+    def test_a_file_that_begins_with_a_hyphen(self) -> None:
+        dump = b"# file: -x\n# owner: 1001\n# group: 2001\nuser::rw-\ngroup::rw-\nother::---\n\n"
+        self.write("small/dump", dump)
+        self.assertEqual([row[2:5] for row in (line.split(b"\t") for line in self.check(b"never anna write -x\n", "--tsv").out.splitlines()[1:])],
+                         [[b"anna", b"1", b"-x"]])
+
+
 class WrongRules(Checks):
     def test_each_fault_is_said(self) -> None:
         done = self.check(b"never anna read srv/hr/\nnever nobody read srv/hr/\nonly @nix read srv/hr/\nalways anna read srv/nix\n"

@@ -356,6 +356,8 @@ facl-diff: warning: left out of before alone as another file system, so what is 
 
     def test_parts_and_globs_that_match_nothing(self) -> None:
         self.write("before/meta", META % (b"srva", 26, b"/srv/share") + b"exclude *.bak\nexcluded 0\n")
+        self.write("after/meta", META % (b"srva", 27, b"/srv/share") + b"exclude *.bak\nexcluded 3\n")
+        self.expect(self.diff(), 0, NOTHING)
         self.write("after/meta", META % (b"srva", 27, b"/srv/share") + b"excluded 0\npart 001 of 002\n")
         self.expect(self.diff(), 0, NOTHING, b"facl-diff: warning: after: is part 001 of 002, so files of the other parts are not looked at\n")
 

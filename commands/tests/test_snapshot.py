@@ -168,6 +168,23 @@ class Written(SnapshotCase):
             number = [b"part", b"%s of %03d" % (part.encode(), len(parts))]
             self.assertEqual(meta[4:], [[b"excluded", b"0"], *self.numbers(0, 0, files), number])
 
+    def test_a_file_that_is_exchanged(self) -> None:
+        """A symbolic link in the place of a file that was looked at gives getfacl the list of another file."""
+        tree = os.fsencode(os.path.realpath(self.path("tree")))
+        names = [b"b", b"back\\s", b"l\nf"]
+        for name in names:
+            with open(tree + b"/" + name, "wb"):
+                pass
+        exchange = b"".join(b"rm -f '%s/%s'; ln -s /etc/passwd '%s/%s'\n" % (tree, name, tree, name) for name in names)
+        self.tool("getfacl", self.read("bin/getfacl").replace(b"#!/bin/sh\n", b"#!/bin/sh\n" + exchange))
+        self.expect_status(self.snapshot("new", "tree"), 1, b"the dump lacks them or what is in them: 3, first: %s/b: was exchanged for another "
+                           b"file meanwhile\n" % tree)
+        found = names_of(self.read("new/dump"))
+        self.assertEqual([name for name in found if name.startswith(tree + b"/")],
+                         [tree + b"/", *(tree + b"/" + name for name in (b"a/", b"a/1", b"a/2"))])
+        self.assertIn([b"files", b"%d" % len(found)], self.meta("new/meta"))
+        self.assertIn([b"unread", b"3"], self.meta("new/meta"))
+
     def recorded(self, *words: str) -> List[bytes]:
         """The names below tree of a snapshot by these words."""
         self.expect_status(self.snapshot(*words, "new", "tree"), 0)

@@ -170,6 +170,22 @@ class OneUser(WhoCase):
         self.assertEqual(self.rows("--user", "guest", "--file-alone", "project"), [
             ["/srv/project", "none", "read", "3", "0", "1", "9"], ["/srv/project/drafts", "r-x", "read", "2", "0", "1", "4"]])
 
+    def test_an_empty_folder_without_a_slash(self) -> None:
+        """A file is a folder by its default entries too."""
+        head, entries = b"# owner: 1001\n# group: 100\n", b"user::rwx\ngroup::r-x\nother::r-x\n"
+        self.write("dump", b"# file: p\n" + head + entries + b"\n# file: p/empty\n" + head + entries
+                   + b"default:user::rwx\ndefault:group::r-x\ndefault:other::r-x\n\n# file: p/f\n" + head + entries + b"\n")
+        os.chmod(self.path("dump"), 0o600)
+        done = self.who("--tsv", "--user", "mara", "--dump", "dump", "--passwd", "project/passwd", "--group", "project/group")
+        self.assertEqual([line.split(b"\t")[0] for line in done.out.splitlines()[1:]], [b"p", b"p/empty"])
+
+    def test_a_name_that_is_its_id(self) -> None:
+        passwd = self.read("project/passwd")
+        self.write("project/passwd", passwd + b"4711:x:4711:100::/:\n4712:x:4711:100::/:\n")
+        self.write("project/meta", b"")
+        self.assertEqual(self.who("--user", "4711", "project").status, 0)
+        self.assertIn(b"4711: is the id of no user", self.who("--user", "4" * 5000, "project").messages.replace(b"4" * 4996 + b"4444", b"4711"))
+
     def test_requests_that_no_entry_grants_at_once(self) -> None:
         # acl(5): of the group class one entry has to have all of a request.
         self.write("project/dump", b"# file: /\n# owner: 0\n# group: 0\nuser::rwx\ngroup::--x\nother::--x\n\n# file: /d/\n# owner: 0\n# group: 100\nuser::rwx\ngroup::r-x\ngroup:300:-w-\nmask::rwx\nother::---\n\n"
@@ -282,6 +298,15 @@ class NewFile(WhoCase):
         self.expect(self.who("--new-file", "/srv/project", "guest", "project"), 1, b"guest may make no file in /srv/project\n")
         self.assertEqual(self.read_json("--new-file", "/srv/project", "ben", "project", status=1)["new"], [])
         self.expect(self.who("--new-file", "/srv/project/README", "ines", "project"), 2, b"", b"facl-who: /srv/project/README: is no folder\n")
+
+    def test_others_who_may(self) -> None:
+        self.write("project/passwd", self.read("project/passwd") + b"www-data:x:33:100::/:\n")
+        self.write("project/meta", b"")
+        words = ["--new-file", "/srv/project", "mara", "project"]
+        self.assertIn(b"left out: ", self.who(*words).messages)
+        left_out = json.loads(self.who("--json", *words).out)["left_out"]
+        self.assertIn("www-data", left_out)
+        self.assertNotIn("www-data", json.loads(self.who("--json", "--all-users", *words).out)["left_out"])
 
     def test_nothing_is_written(self) -> None:
         before = {name: self.read("project/" + name) for name in os.listdir(self.path("project"))}
