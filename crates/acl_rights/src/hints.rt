@@ -11,8 +11,8 @@ pub(crate) struct Hint {
     pub number: usize,
 }
 
-/// For each hash the number that a label of this hash was given last. Nothing rests on it: whoever is given a number compares
-/// what has it. So labels whose hashes are the same cost time and memory alone.
+/// For hashes a number that a label of this hash has or had. Nothing rests on it: whoever is given a number compares what has
+/// it. So labels whose hashes are the same cost time and memory alone.
 ///
 /// Copies share what they have in common: hints are in a few blocks, each in the order of its hashes, and each more than
 /// twice as long as the next.
@@ -24,7 +24,7 @@ pub(crate) struct Hints {
 /// Where there are more hints than these, all are dropped before others are added.
 const MAX_HINTS: usize = 1 << 20;
 
-/// So many numbers of a tree are hinted at from the start: with more of them it would take long.
+/// So many numbers of a tree are hinted at, after its load and after a line on many files.
 pub(crate) const FIRST_HINTS: usize = 1 << 16;
 
 /// The number of a hash in a block.
@@ -97,7 +97,7 @@ impl Hints {
         Ok(Hints { blocks })
     }
 
-    /// The number that a hash was given last. Allocates nothing.
+    /// A number of a hash, of the last block that has one. Allocates nothing.
     pub fn get(&self, hash: u64) -> Option<usize> {
         let mut rest: &[Rc<Vec<Hint>>] = &self.blocks;
         while let Some((block, before)) = rest.split_last() {

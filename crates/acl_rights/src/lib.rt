@@ -12,8 +12,8 @@
 //!
 //! Nothing is kept along paths, and no list of the files of a group.
 //!
-//! - A line that changes files: each label of a changed file is judged once, for all users, and the changed files get the
-//!   number of their new row. All other files keep theirs.
+//! - A line that changes files: each different label of a changed file that hints do not find is judged once, for all users
+//!   (more often where hashes collide), and the changed files get the number of their new row. All other files keep theirs.
 //! - A membership: for each row whose label mentions one of the groups, the verdict of the one user is asked for again.
 //! - A user more: each row is one verdict longer. A user fewer: one shorter.
 //! - A question on a file is a look-up of its row; one on all files is a walk over them in path order.

@@ -17,7 +17,8 @@ use std::alloc::Global;
 
 /// [`run`] with a judge of who may do what in the place of acl(5)'s check. The judge is asked for at most one verdict for
 /// each user and file at the start, and for each accepted line at most one more for each verdict that it can have
-/// changed. Questions, `--test` and refused lines add nothing to this bound, which is a sum over the script.
+/// changed. Questions, `--test` and lines refused for a fault add nothing to this bound, which is a sum over the script; a
+/// line for which memory ran out adds what it would add if it were accepted.
 ///
 /// # Errors
 ///
@@ -64,9 +65,9 @@ pub fn run_judged<J: Judge, R: Feed, O: Sink, E: Sink>(
 ///
 /// What is written are the bytes of the session made from scratch: the definition of each accepted line replayed on the
 /// loaded texts, every question judged by acl(5)'s check, and `changes` comparing with the state after the setup or
-/// after the last accepted load. A refused line changes nothing, and its message names its first fault. This is proved
-/// for a reader and writers whose bytes contracts can name, as of those over memory; of the streams of a system no
-/// contract can state what they give or take.
+/// after the last accepted load. A refused line changes nothing, and its message names its first fault, or says `no memory`,
+/// which no contract rules out of any line that is answered. This is proved for a reader and writers whose bytes contracts
+/// can name, as of those over memory; of the streams of a system no contract can state what they give or take.
 ///
 /// # Errors
 ///

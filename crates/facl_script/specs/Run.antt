@@ -76,7 +76,7 @@ StopsWith asks Read answered script remaining old new =
 StopsWith asks TooLong answered script remaining old new =
     (more : List ℕ) × (length more ≡ 1) × Consumes (Some script) remaining (take script_limit script ++ more) × (script_limit < length script)
     × IsAnswered answered (full_units (units_of asks (take script_limit script))) old new
--- the units whose last LF came before the line that found no room; past what was looked at then, at most a chunk was read
+-- the units whose last LF is in some beginning of what was read, past which at most a chunk was read
 StopsWith asks NoMemory answered script remaining old new =
     (read : List ℕ) × (pending : List ℕ) × Consumes (Some script) remaining (read ++ pending) × (length pending ≤ chunk_limit) × IsAnswered answered (full_units (units_of asks read)) old new
 StopsWith asks Write answered script remaining old new = FailsAt asks answered script remaining old new

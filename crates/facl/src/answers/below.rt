@@ -81,7 +81,8 @@ fn look_up(alloc: Global, tree: &Tree, paths: &Paths) -> Result<(), TreeFault>
     Ok(())
 }
 
-/// The nearest path at or below which some paths are; the root where there are none.
+/// The nearest path at or below which some paths are; the root where there are none. That it is the nearest is in no
+/// clause, since a higher one costs time alone.
 fn top_of(alloc: Global, paths: &[Path]) -> Result<Path, AllocError>
     ensures { IfOk result (λ top. (q : PathOf) → is_file true paths.now q ≡ true → encloses top q ≡ true) }
 {
@@ -95,8 +96,8 @@ fn top_of(alloc: Global, paths: &[Path]) -> Result<Path, AllocError>
     Ok(top)
 }
 
-/// For each user on how many files at or below some paths a request is granted, and the first of these files. No file is
-/// looked at outside the folder that they have in common.
+/// For each user on how many files at or below some paths a request is granted, and the first of these files. Outside the
+/// folder that they have in common the directories above it alone are looked at, along paths.
 fn sums_below<'a, J: Judge>(
     alloc: Global,
     verdicts: &Verdicts<'a, J>,
