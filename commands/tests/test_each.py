@@ -123,7 +123,8 @@ class Split(Case):
     def test_too_few(self) -> None:
         done = self.snapshot("--split", "3", "parts", "tree")
         self.assertEqual((done.status, done.out), (2, b""))
-        self.assertIn(b"facl-snapshot: --split 3: is too few for the directories above ", done.messages)
+        third = os.fsencode("/".join(os.path.realpath(self.path("tree")).split("/")[:4]))
+        self.assertIn(b"facl-snapshot: --split 3: is too few for the directories above %s/\n" % third, done.messages)
         for count in ("0", "x", "", "-1", "12345678"):
             self.assertEqual(self.snapshot("--split", count, "parts", "tree").status, 2)
         self.assertFalse(os.path.exists(self.path("parts")))
