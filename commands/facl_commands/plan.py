@@ -252,10 +252,8 @@ def plan_files(
 
 
 def check_inodes(snapshot: Snapshot, changes: Changes) -> None:
-    """Fails where a snapshot has the inodes of other files, and not of each one that changes; or of none, though facl-snapshot
-    made it."""
-    is_made = meta.FILES in meta.meta_of(snapshot.folder).numbers
-    lacking = [path for path in changes.changed if path not in snapshot.inodes] if snapshot.inodes or is_made else []
+    """Fails where a snapshot has the inodes of other files, and not of each one that changes."""
+    lacking = [path for path in changes.changed if path not in snapshot.inodes] if snapshot.inodes else []
     if lacking:
         raise Failure(snapshot.folder + b"/inodes: has no " + live_path(lacking[0])
                       + b", so it is not as facl-snapshot wrote it: make the snapshot again")

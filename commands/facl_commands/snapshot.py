@@ -4,9 +4,9 @@ from __future__ import annotations
 import os
 from typing import Dict, List, NamedTuple
 
-from . import trusted
+from . import meta, trusted
 from .messages import Failure
-from .names import read_path
+from .names import number_of, read_path
 
 NEEDED = (b"passwd", b"group", b"dump")
 
@@ -41,6 +41,13 @@ def read_inodes(text: bytes) -> Dict[bytes, Identity]:
         device, inode, birth, name = record.split(b" ", 3)
         found[name.strip(b"/")] = Identity(int(device), int(inode), nanoseconds(birth))
     return found
+
+
+def check_inodes(folder: bytes, text: bytes, inodes: Dict[bytes, Identity]) -> None:
+    """Fails where the file inodes is cut: it has fewer names than facl-snapshot recorded, or not even its first record."""
+    recorded = meta.meta_of(folder).numbers.get(meta.FILES, b"0")
+    if not text.startswith(b"boot ") or not recorded.isdigit() or number_of(recorded) > len(inodes):
+        raise Failure(folder + b"/inodes: has fewer names than facl-snapshot recorded: make the snapshot again")
 
 
 def check_links(folder: bytes, links: List[List[bytes]], inodes: Dict[bytes, Identity]) -> None:
@@ -111,5 +118,6 @@ def read_snapshot(folder: bytes, needs_links: bool = True) -> Snapshot:
     except ValueError as error:
         raise Failure(folder + b"/inodes: is not as facl-snapshot wrote it: make the snapshot again") from error
     if has_inodes:
+        check_inodes(folder, text, inodes)
         check_links(folder, links, inodes)
     return Snapshot(folder, passwd, group, links, boot, inodes)

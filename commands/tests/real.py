@@ -4,7 +4,7 @@ from __future__ import annotations
 import os
 import stat
 import sys
-from typing import List
+from typing import Dict, List, Tuple
 
 from common import COMMANDS, Case, Done
 
@@ -53,6 +53,7 @@ class RealCase(Case):
             found += [place, *(os.path.join(place, name) for name in files)]
         found = sorted(set(found), key=lambda name: name.strip(b"/").split(b"/"))
         dump, inodes = b"", [b"boot " + system.boot().encode()]
+        by_file: Dict[Tuple[int, int], List[bytes]] = {}
         for name in found:
             descriptor = os.open(name, os.O_PATH)
             status = os.fstat(descriptor)
@@ -60,10 +61,12 @@ class RealCase(Case):
             os.close(descriptor)
             path = name.strip(b"/")
             dump += record(path, status)
+            by_file.setdefault((status.st_dev, status.st_ino), []).append(b"/" + names.write_name(path))
             end = b"/" if stat.S_ISDIR(status.st_mode) and path else b""
             inodes.append(b"%d %d %d.%09d /%s%s" % (status.st_dev, status.st_ino, *divmod(birth, 10**9), path, end))
         os.makedirs(self.path(folder), 0o700, exist_ok=True)
-        texts = {"dump": dump, "inodes": b"\0".join(inodes) + b"\0", "links": b"", "passwd": b"ann:x:70001:70001::/:\n",
+        links = b"\n".join(b"".join(name + b"\n" for name in its) for its in by_file.values() if len(its) > 1)
+        texts = {"dump": dump, "inodes": b"\0".join(inodes) + b"\0", "links": links, "passwd": b"ann:x:70001:70001::/:\n",
                  "group": b"ann:x:70001:\n"}
         for text, content in texts.items():
             self.write(os.path.join(folder, text), content)

@@ -320,7 +320,7 @@ class Snapshots(DiffCase):
         self.assertIn(b"facl-diff: after: the program does not load it: facl: setup: dump: ", done.messages)
 
     def test_an_empty_folder(self) -> None:
-        self.expect(self.diff(""), 2, b"", b"facl-diff: an empty word is no FILE or FOLDER; all files are those of /\n")
+        self.expect(self.below(""), 2, b"", b"facl-diff: an empty word is no FILE or FOLDER; all files are those of /\n")
 
     def test_servers(self) -> None:
         self.write("before/meta", META % (b"srva", 26, b"/srv/share"))

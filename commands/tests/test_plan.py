@@ -64,16 +64,20 @@ class Reports(Case):
         self.expect(done, 0, out[:at] + ben + out[at:] + b"3 files change owner, group, flags or lists\n" + WRITTEN)
 
     def test_torn_texts(self) -> None:
+        self.write("before/links", b"")
         self.write("before/inodes", b"boot b\0001 2 0.000000000 /srv\0")
         done = self.plan(b"chmod 600 srv/share/one\n")
         self.assertEqual((done.status, done.out), (2, b""))
         self.assertIn(b"before/inodes: has no /srv/share/one, so it is not as facl-snapshot wrote it: make the snapshot again\n", done.messages)
         self.write("before/inodes", b"boot b\0001 2 0.000000000 /srv")
         self.assertIn(b"before/inodes: is not as facl-snapshot wrote it", self.plan(b"chmod 600 srv/share/one\n").messages)
-        os.unlink(self.path("before/inodes"))
-        self.write("before/links", b"")
-        self.assertEqual(self.plan(b"chmod 600 srv/share/one\n").status, 0)
         self.write("before/meta", b"host srva\ndate 2026-11-26T03:10:00Z\nfolder /srv\nfiles 99\n")
+        for torn in (b"", b"boot b\0", b"boot b\0001 2 0.000000000 /srv\0"):
+            self.write("before/inodes", torn)
+            self.assertIn(b"before/inodes: has fewer names than facl-snapshot recorded: make the snapshot again\n",
+                          self.plan(b"chmod 600 srv/share/one\n").messages)
+        os.unlink(self.path("before/inodes"))
+        self.assertEqual(self.plan(b"chmod 600 srv/share/one\n").status, 0)
         self.assertIn(b"warning: before/dump: has 14 files, and facl-snapshot recorded 99\n", self.plan(b"chmod 600 srv/share/one\n").messages)
 
     def test_links_that_are_not_those_of_inodes(self) -> None:

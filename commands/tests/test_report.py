@@ -119,7 +119,9 @@ class Report(Case):
         _, data = self.report(b"rm -r .\n")
         self.assertEqual(len(nodes_of(data)), 14)
         self.write("before/passwd", b"")
-        _, data = self.report()
+        done = self.run_command("facl-report", ["before"])
+        self.assertEqual((done.status, done.messages), (0, b"facl-report: warning: before/passwd: has no users, so nobody is named\n"))
+        data = read_data(done.out)
         self.assertEqual({kind for kind, _ in places_of(data)}, {"group", "everybody"})
 
     def test_any_dump(self) -> None:

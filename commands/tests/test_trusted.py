@@ -76,6 +76,9 @@ class Folders(Case):
         reader, writer = os.pipe()
         os.write(writer, b"text")
         os.close(writer)
+        with self.assertRaises(Failure):  # One of the command's own.
+            trusted.read_given(b"/dev/fd/%d" % reader)
+        os.set_inheritable(reader, True)
         for name in (b"/dev/fd/%d", b"/proc/self/fd/%d"):
             self.assertEqual(trusted.read_given(name % reader), b"text" if name.startswith(b"/dev") else b"")
         os.close(reader)

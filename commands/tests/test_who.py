@@ -211,6 +211,9 @@ class Files(WhoCase):
 
     def test_an_id_without_a_row(self) -> None:
         self.write("project/passwd", self.read("project/passwd").replace(b"mara:x:1003:100:Mara Voss:/home/mara:/bin/sh\n", b""))
+        self.assertEqual(self.who("--owner", "1003", "project").messages,
+                         b"facl-who: warning: project/passwd: has 4 rows, and facl-snapshot recorded 5\n")
+        self.write("project/meta", self.read("project/meta").replace(b"users 5\n", b""))
         self.assertEqual(len(self.rows("--owner", "1003", "project")), 4)
         self.assertEqual(self.rows("--names", "1003", "project", "/srv/project/notes.txt"), [
             ["/srv/project/notes.txt", "user:1003:rw- #effective:r--"]])
@@ -383,6 +386,7 @@ class Words(WhoCase):
         self.assertIn(b"the words here are: facl-who --new-file FOLDER USER [--umask MASK] SNAPSHOT\n",
                       self.message("--new-file", "project", "/srv/project", "mara"))
         self.write("project/group", b"staff\n")
+        self.write("project/meta", b"")
         self.assertEqual(self.message("read", "project"), b"facl-who: project: the program does not load it: facl: setup: group: text line 1: bad row\n")
 
     @unittest.skipUnless(os.geteuid() == 0 and shutil.which("setpriv"), "it takes root and setpriv")
