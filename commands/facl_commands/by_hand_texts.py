@@ -59,6 +59,7 @@ cd -P -- "$plan"
 plan=$(env pwd -P && echo .)
 plan=${plan%%??}
 exec 9>>"$plan/by_hand_done"
+[ -z "$(tail -c 1 "$plan/by_hand_done")" ] || echo >&9
 flock -n 9 || stop 'by_hand or by_hand_undo of this plan is at work already'
 
 # note NUMBER WORD..: a line of by_hand_done: that a thing is begun, finished, found done or undone, with the identity of what

@@ -75,7 +75,7 @@ def check_texts(folder: bytes) -> int:
     for name in NEEDED:
         if not has(descriptor, name):
             raise Failure(folder + b": is no snapshot: " + name + b" is not in it")
-        os.close(trusted.open_trusted(os.path.join(folder, name), os.O_RDONLY))
+        os.close(trusted.open_file(os.path.join(folder, name)))
     return descriptor
 
 

@@ -19,7 +19,7 @@ from .names import directories_above, path_order, read_name, read_path, script_w
 from .people import rows_of
 from .program import OutputSlice, Session, environment_of_called, parts_of
 from .protocol import FILE_HEAD, FREE_FILE_LINE, LIST, LIST_ALL, lacks_file
-from .trusted import open_trusted, read_trusted
+from .trusted import open_file, read_trusted
 
 DUMP = b"dump"
 KINDS = ("user", "group")
@@ -74,7 +74,7 @@ def opened(given: argparse.Namespace) -> Iterator[Source]:
         for name, file in (("dump", given.dump), ("passwd", given.passwd), ("group", given.group_file)):
             target = os.path.join(work, name)
             if file is not None:
-                os.close(open_trusted(os.fsencode(file), os.O_RDONLY))
+                os.close(open_file(os.fsencode(file)))
                 os.symlink(os.path.join(os.getcwdb(), os.fsencode(file)), os.fsencode(target))
             else:
                 with open(target, "wb") as made:

@@ -124,7 +124,7 @@ def open_trusted(name: bytes, flags: int) -> int:
         if not name.startswith(b"/"):
             way.go(os.getcwdb())
         way.go(name)
-        return os.open(b"/proc/self/fd/%d" % way.open[-1], flags | os.O_CLOEXEC)
+        return os.open(b"/proc/self/fd/%d" % way.open[-1], flags | os.O_CLOEXEC | os.O_NONBLOCK)
     except OSError as error:
         raise Failure(name + b": " + reason(error)) from error
     finally:
@@ -136,10 +136,20 @@ def open_folder(name: bytes) -> int:
     return open_trusted(name, os.O_RDONLY | os.O_DIRECTORY)
 
 
+def open_file(name: bytes) -> int:
+    """Opens a file that nobody else can have written, which is no pipe or device; a folder cannot be read."""
+    descriptor = open_trusted(name, os.O_RDONLY)
+    mode = os.fstat(descriptor).st_mode
+    if stat.S_ISREG(mode) or stat.S_ISDIR(mode):
+        return descriptor
+    os.close(descriptor)
+    raise Failure(name + b": is no plain file")
+
+
 def read_trusted(name: bytes) -> bytes:
     """What is in a file that nobody else can have written."""
     try:
-        with open(open_trusted(name, os.O_RDONLY), "rb") as file:
+        with open(open_file(name), "rb") as file:
             return file.read()
     except OSError as error:  # Of a folder, or of a disk: it has no name.
         raise Failure(name + b": " + reason(error)) from error

@@ -38,7 +38,7 @@ for word in sys.argv[1:]:
     name = os.fsencode(word)
     look = os.stat(name)
     mode = filemode(look.st_mode).replace("s", "x").replace("t", "x").encode()
-    shown = name.replace(b"\\\\", b"\\\\134").replace(b"\\n", b"\\\\012")
+    shown = name.replace(b"\\\\", b"\\\\134").replace(b"\\n", b"\\\\012").replace(b"\\r", b"\\\\015")
     out.write(b"# file: %s\\n# owner: %d\\n# group: %d\\nuser::%s\\ngroup::%s\\nother::%s\\n\\n"
               % (shown, look.st_uid, look.st_gid, mode[1:4], mode[4:7], mode[7:10]))
 """

@@ -12,6 +12,7 @@ import stat
 import subprocess
 import sys
 import time
+import unittest
 from typing import Dict, List, Optional, Tuple
 
 from common import COMMANDS, Case, Done, restore_signals
@@ -178,12 +179,32 @@ class Written(SnapshotCase):
         exchange = b"".join(b"rm -f '%s/%s'; ln -s /etc/passwd '%s/%s'\n" % (tree, name, tree, name) for name in names)
         self.tool("getfacl", self.read("bin/getfacl").replace(b"#!/bin/sh\n", b"#!/bin/sh\n" + exchange))
         self.expect_status(self.snapshot("new", "tree"), 1, b"the dump lacks them or what is in them: 3, first: %s/b: was exchanged for another "
-                           b"file meanwhile\n" % tree)
+                           b"file, or removed, meanwhile\n" % tree)
         found = names_of(self.read("new/dump"))
         self.assertEqual([name for name in found if name.startswith(tree + b"/")],
                          [tree + b"/", *(tree + b"/" + name for name in (b"a/", b"a/1", b"a/2"))])
         self.assertIn([b"files", b"%d" % len(found)], self.meta("new/meta"))
         self.assertIn([b"unread", b"3"], self.meta("new/meta"))
+
+    @unittest.skipUnless(os.geteuid() == 0, "only root can give files away")
+    def test_a_file_that_is_exchanged_and_put_back(self) -> None:
+        """The owner of a record tells it, also of what is in a directory that is exchanged."""
+        tree, other = os.fsencode(os.path.realpath(self.path("tree"))), os.fsencode(self.path("other"))
+        os.mkdir(other)
+        for name in (b"/1", b"/2"):
+            with open(other + name, "wb"):
+                pass
+        for name in (b"", b"/1", b"/2"):
+            os.chown(other + name, 54321, -1)
+        before = b"mv '%s/a' '%s/kept'; ln -s '%s' '%s/a'; mv '%s/b' '%s/too'; ln -s '%s/1' '%s/b'\n" % (
+            tree, other, other, tree, tree, other, other, tree)
+        after = b"\nrm '%s/a' '%s/b'; mv '%s/kept' '%s/a'; mv '%s/too' '%s/b'\n" % (tree, tree, other, tree, other, tree)
+        plain = self.read("bin/getfacl").replace(b"exec ", b"")
+        self.tool("getfacl", plain.replace(b"#!/bin/sh\n", b"#!/bin/sh\n" + before) + after)
+        self.expect_status(self.snapshot("new", "tree"), 1, b"was exchanged for another file, or removed, meanwhile\n")
+        found = [name for name in names_of(self.read("new/dump")) if name.startswith(tree + b"/")]
+        self.assertEqual(found, [tree + b"/"])
+        self.assertNotIn(b"54321", self.read("new/dump"))
 
     def recorded(self, *words: str) -> List[bytes]:
         """The names below tree of a snapshot by these words."""
