@@ -266,7 +266,7 @@ class Snapshots(Check):
         """Nothing but sh, getent and the programs of three packages is called."""
         if shutil.which("dpkg") is None:
             return
-        files = must(run([b"dpkg", b"-L", b"acl", b"findutils", b"coreutils", b"grep"]), 0).split(b"\n")
+        files = must(run([b"dpkg", b"-L", b"acl", b"findutils", b"coreutils", b"grep", b"sed"]), 0).split(b"\n")
         self.make("only/")
         for file in [*files, self.name("bin/getent"), b"/bin/sh"]:
             if os.path.dirname(file).endswith(b"/bin"):
