@@ -169,6 +169,8 @@ files: 1 new, 1 gone
         self.edit("after/dump", (b"# file: /srv/share/it's\n", b"# file: /srv/share/its\n"),
                   (b"# file: /srv/share/one\n", b"# file: /srv/share/uno\n"))
         row = b"5 %d 1700000000.000000001 /srv/share/%s\0"
+        for name, day in (("before", 26), ("after", 27)):
+            self.write(name + "/meta", META % (b"srva", day, b"/srv/share") + b"files 14\n")
         self.write("before/inodes", b"boot 1\0" + row % (7, b"it's") + row % (8, b"one"))
         self.write("after/inodes", b"boot 1\0" + row % (7, b"its") + row % (8, b"uno"))
         rows = self.rows()
