@@ -174,11 +174,14 @@ def give_all(command: Command, way: Way, carrier: Carrier, is_whole: bool) -> in
 def by_hand(way: Way) -> List[bytes]:
     """The line that names what is to be done by hand, where there is something. It is made before anything is touched:
     a script that cannot be read has no part in what is said of the files."""
-    if way.is_undo and by_hand_done.is_to_take_back(way.folder):
-        return [b"to take back what by_hand did: sh " + shell_word(way.file(b"by_hand_undo"))]
-    if not way.is_undo and by_hand_done.is_left(way.folder):
-        return [b"still to be done by hand: sh " + shell_word(way.file(b"by_hand"))]
-    return []
+    if not way.is_undo:
+        is_left = by_hand_done.is_left(way.folder)
+        return [b"still to be done by hand: sh " + shell_word(way.file(b"by_hand"))] if is_left else []
+    try:
+        is_left = by_hand_done.is_to_take_back(way.folder)
+    except Failure as failure:  # The way back of files does not depend on it.
+        return [failure.text]
+    return [b"to take back what by_hand did: sh " + shell_word(way.file(b"by_hand_undo"))] if is_left else []
 
 
 def body(command: Command, words: List[str]) -> int:

@@ -111,6 +111,12 @@ class Plans(Case):
             self.assertEqual((by_hand_done.is_left(folder), by_hand_done.is_to_take_back(folder)), (is_left, is_to_take_back), notes)
         os.close(folder.descriptor)
 
+    def test_by_hand_undo_does_not_hinder_the_way_back(self) -> None:
+        os.unlink(self.path("before.plan/by_hand_undo"))
+        os.mkdir(self.path("before.plan/by_hand_undo"), 0o700)
+        done = self.apply("--undo", "before.plan")
+        self.assertEqual((done.status, done.out), (3, self.whole("before.plan/by_hand_undo") + b": is no plain file, so it is not trusted\n"))
+
     def test_files_that_are_not_there(self) -> None:
         done = self.apply("before.plan")
         folder = b"facl-apply: 2 files are not as in the snapshot, so nothing is touched: make a new snapshot and a new plan\n"
