@@ -91,10 +91,6 @@ def warnings(texts: Texts) -> Iterator[bytes]:
         (EMPTY_MASKS, list(open_empty_masks(texts.dump))),
         (b"ids in the dump without a row in passwd or group", ids_without_row(texts)),
         (b"members of groups without a row in passwd", members_without_row(texts)),
-        (b"rows of passwd with a carriage return, which facl takes for a part of a name",
-         rows_with_returns(texts.passwd)),
-        (b"rows of group with a carriage return, which facl takes for a part of a name",
-         rows_with_returns(texts.group)),
     ]
     for text, names in found:
         if names:
@@ -136,6 +132,13 @@ def torn(texts: Texts) -> Iterator[bytes]:
             yield name + b": has no files"
         elif key == meta.USERS and not rows_of(texts.passwd):
             yield name + b": has no users, so nobody is named"
+
+
+    for name, text in ((b"passwd", texts.passwd), (b"group", texts.group)):
+        rows = rows_with_returns(text)
+        if rows:
+            yield (name + b": " + counted(len(rows), "row has", "rows have") + b" a carriage return, which is taken for a part of "
+                   b"the last name, first: " + rows[0])
 
 
 def torn_warnings(texts: Texts, source: Source) -> Iterator[bytes]:

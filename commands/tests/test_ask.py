@@ -349,8 +349,9 @@ class Overview(Case):
             b"facl does not: 1, first: /srv/share/one",
             b"warning: ids in the dump without a row in passwd or group: 2, first: user 77",
             b"warning: members of groups without a row in passwd: 1, first: nell\r",
-            b"warning: rows of group with a carriage return, which facl takes for a part of a name: 1, first: audit",
         ])
+        self.assertEqual(list(overview.torn(texts)), [
+            b"group: 1 row has a carriage return, which is taken for a part of the last name, first: audit"])
 
     def test_other_texts(self) -> None:
         for name, text in (("passwd", b""), ("group", b""), ("dump", b"# file: a\nuser::rwx\ngroup::r-x\nother::r-x\n\n"), ("links", b"")):
