@@ -114,8 +114,8 @@ def names_without_row(folder: bytes, dump: bytes) -> Iterator[bytes]:
 
 
 def torn(texts: Texts) -> Iterator[bytes]:
-    """What is said of each text that has no users or files, or another number of rows, files or names than facl-snapshot
-    counted; it starts with the name in the folder."""
+    """What is said of each text that has no users or files, another number of rows, files or names than facl-snapshot counted,
+    or carriage returns; and of meta where that is cut. It starts with the name in the folder."""
     about = meta.meta_of(texts.folder)
     recorded = about.numbers
     if os.path.exists(os.path.join(texts.folder, b"inodes")) and (about is meta.UNKNOWN or meta.FILES not in recorded):
@@ -132,8 +132,6 @@ def torn(texts: Texts) -> Iterator[bytes]:
             yield name + b": has no files"
         elif key == meta.USERS and not rows_of(texts.passwd):
             yield name + b": has no users, so nobody is named"
-
-
     for name, text in ((b"passwd", texts.passwd), (b"group", texts.group)):
         rows = rows_with_returns(text)
         if rows:
