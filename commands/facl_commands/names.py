@@ -7,14 +7,16 @@ from __future__ import annotations
 
 import codecs
 import re
-from typing import List, Tuple
+from typing import List, Match, Tuple
 
 ESCAPE = re.compile(rb"\\([0-3][0-7][0-7]|\\)")
 SAFE = re.compile(rb"[\x20-\x7e\t]*\Z")
-# Characters that a terminal obeys, and those that change the direction of a text; a tab is between the fields of a row.
-CONTROL_CODES = (*range(9), *range(10, 32), *range(127, 160), 0x61C, 0x200E, 0x200F, *range(0x2028, 0x202F),
-                 *range(0x2066, 0x206A))
-CONTROLS = {code: "".join("\\%03o" % byte for byte in chr(code).encode()) for code in CONTROL_CODES}
+# Letters that a terminal obeys, that change the direction of a text, and that nobody sees: Unicode's categories Cc, Zl and Zp
+# without the tab, which is between the fields of a row; all with the property Default_Ignorable_Code_Point of its file
+# DerivedCoreProperties.txt; the marks of annotations between lines, and the blank of Braille.
+UNSEEN = re.compile(
+    "[\x00-\x08\x0a-\x1f\x7f-\x9f\xad\u034f\u061c\u115f\u1160\u17b4\u17b5\u180b-\u180f\u200b-\u200f\u2028-\u202e\u2060-\u206f"
+    "\u2800\u3164\ufe00-\ufe0f\ufeff\uffa0\ufff0-\ufffb\U0001bca0-\U0001bca3\U0001d173-\U0001d17a\U000e0000-\U000e0fff]")
 ESCAPED_IN_NAMES = re.compile(rb"[\\\n\r\t :,#]")  # As the program prints names of users and groups.
 LONGEST_ID, ABOVE_ALL_IDS = 10, 1 << 40  # Digits, and a number.
 PLAIN_SHELL_WORD = re.compile(rb"[A-Za-z0-9_./:=@%+,-]+\Z")
@@ -107,7 +109,12 @@ def json_text(text: bytes) -> str:
     return text.decode("utf-8", "facl-escapes")
 
 
+def escaped_letter(found: Match[str]) -> str:
+    """The bytes of a letter, as escapes."""
+    return "".join("\\%03o" % byte for byte in found[0].encode())
+
+
 def shown(text: bytes) -> bytes:
-    """What a person reads of a text: bytes that are no UTF-8, and characters that control a terminal or change the
-    direction of a text, are escapes."""
-    return text if SAFE.match(text) else json_text(text).translate(CONTROLS).encode()
+    """What a person reads of a text: bytes that are no UTF-8, and letters that cannot be seen, control a terminal or change
+    the direction of a text, are escapes."""
+    return text if SAFE.match(text) else UNSEEN.sub(escaped_letter, json_text(text)).encode()

@@ -117,8 +117,8 @@ function readAddress() {
   if (view.file >= 0) shown.byKey.get("file-" + view.file)?.made.scrollIntoView({block: "center"});
 }
 
-// A field of a row: a name may have a tab; one that a table would take for a formula begins with an apostrophe.
-function field(text) { return String(text).replaceAll("\t", "\\011").replace(/^(?=[=+@]|-[^rwx-])/, "'"); }
+// A field of a row: a name may have a tab; an apostrophe is before what a spreadsheet would compute, as in tables.py.
+function field(text) { return String(text).replaceAll("\t", "\\011").replace(/^(?=[=+@'"\r]|-(?![w-][x-](?: [r-][w-][x-])*$))/, "'"); }
 
 function save(name, rows) {
   const text = rows.map(row => row.map(field).join("\t") + "\n").join("");

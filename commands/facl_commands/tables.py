@@ -7,6 +7,7 @@ import contextlib
 import io
 import json
 import os
+import re
 import shutil
 import signal
 import subprocess
@@ -23,6 +24,9 @@ MIDDLE = ".."  # In the place of what is cut out.
 NARROWEST = 6  # Columns of a terminal that a cut column keeps.
 NOT_FOUND = 127  # The status of a shell that does not find what it is to run.
 LESS = "-FRX"
+# The start of what a spreadsheet computes, or takes for the quote of a field; letters of rights, as -w- r-x, are none. The
+# page of facl-report has the same in `field` of report.js.
+COMPUTED = re.compile(rb"""[=+@'"\r]|-(?![w-][x-](?: [r-][w-][x-])*\Z)""")
 
 
 class Column(NamedTuple):
@@ -160,11 +164,16 @@ def write_rows(command: Command, table: Table) -> None:
         command.write(row.encode() + b"\n")
 
 
+def field_of(text: bytes) -> bytes:
+    """A field for a script: a tab is an escape, and an apostrophe is before what a spreadsheet would compute."""
+    return b"'" * bool(COMPUTED.match(text)) + text.replace(b"\t", b"\\011")
+
+
 def write_fields(command: Command, table: Table) -> None:
-    """Rows for a script: a tab in a name is an escape, as a line feed is; at a terminal also what this obeys."""
+    """Rows for a script; at a terminal with escapes of what this obeys."""
     command.write("\t".join(column.title for column in table.columns).encode() + b"\n")
     for row in table.rows:
-        fields = [field.replace(b"\t", b"\\011") for field in row]
+        fields = list(map(field_of, row))
         command.write(b"\t".join(map(shown, fields) if is_terminal() else fields) + b"\n")
 
 

@@ -2,8 +2,12 @@
 from __future__ import annotations
 
 import argparse
+import json
 import os
+import shutil
+import subprocess
 import sys
+import unicodedata
 import unittest
 from typing import List
 from unittest import mock
@@ -12,7 +16,7 @@ from common import COMMANDS, HERE, Case
 
 sys.path.insert(0, COMMANDS)
 
-from facl_commands import choice, tables  # noqa: E402
+from facl_commands import choice, names, tables  # noqa: E402
 from facl_commands.messages import Failure  # noqa: E402
 from facl_commands.program import Session, find_program  # noqa: E402
 from facl_commands.tables import Column  # noqa: E402
@@ -44,6 +48,52 @@ class Tables(unittest.TestCase):
 
     def test_lines_of_a_screen(self) -> None:
         self.assertEqual([tables.lines_at_terminal(text, 4) for text in (b"", b"\n", b"abcd\n", b"abcde\nx\n")], [0, 1, 1, 3])
+
+
+class Names(unittest.TestCase):
+    # Each has a form of its own in a font, though its category is Cf: signs of numbers and abbreviations, and the joiners of hieroglyphs.
+    SEEN = {*range(0x600, 0x606), 0x6DD, 0x70F, 0x890, 0x891, 0x8E2, 0x110BD, 0x110CD, *range(0x13430, 0x13440)}
+
+    def test_letters_that_cannot_be_seen(self) -> None:
+        for code in filter(lambda code: not 0xD800 <= code < 0xE000, range(sys.maxunicode + 1)):
+            is_unseen = unicodedata.category(chr(code)) in ("Cc", "Cf", "Zl", "Zp") and code not in self.SEEN | {9}
+            if is_unseen or names.UNSEEN.match(chr(code)):
+                text = chr(code).encode()
+                self.assertEqual(names.shown(b"a" + text), b"a" + b"".join(b"\\%03o" % byte for byte in text))
+                self.assertEqual(names.read_name(names.shown(b"a" + text)), b"a" + text)
+
+    def test_letters_without_a_category(self) -> None:
+        """Those that Unicode calls ignorable by default, and others that are blank."""
+        for first, last in ((0x34F, 0x34F), (0x115F, 0x1160), (0x17B4, 0x17B5), (0x180B, 0x180F), (0x2065, 0x2065), (0x2800, 0x2800),
+                            (0x3164, 0x3164), (0xFE00, 0xFE0F), (0xFFA0, 0xFFA0), (0xFFF0, 0xFFFB), (0xE0000, 0xE0FFF)):
+            for code in range(first, last + 1):
+                self.assertRegex(names.shown(chr(code).encode()), rb"\A(\\[0-7]{3}){2,4}\Z")
+        for text in ("m\u00fcller", "\u6f22", "e\u0301", "\u0627\u0644", "\U0001f600", "a\tb", "\u115e", "\u2801", "\ufffd"):
+            self.assertEqual(names.shown(text.encode()), text.encode())
+
+
+class Fields(unittest.TestCase):
+    def test_what_a_spreadsheet_would_compute(self) -> None:
+        marked = (b"=1+1", b"+1", b"-1", b"-x", b"-x1+cmd|' /C calc'!A0", b"-rand()", b"-w-1", b"-w- =1", b"@sum(1)", b"'=1", b"\"=1\"", b"\r=1", b"-", b"--", b"'")
+        plain = (b"", b"---", b"--x", b"-w-", b"-w- r-x", b"-wx", b"r--", b"rwx", b"12", b"srv/-x", b"/srv/=x", b"user:mara:rwx", b"a=b")
+        for text in marked:
+            self.assertEqual(tables.field_of(text), b"'" + text)
+        for text in plain:
+            self.assertEqual(tables.field_of(text), text)
+
+    def test_a_script_can_take_the_mark_off(self) -> None:
+        rows = [[b"=a", b"'b", b"-w-"], [b"c", b"-d", b"+e"], [b"''=f", b"", b"@g"]]
+        text = b"".join(b"\t".join(map(tables.field_of, row)) + b"\n" for row in rows)
+        done = subprocess.run(["sed", "s/\\(^\\|\\t\\)'/\\1/g"], input=text, capture_output=True, check=True)
+        self.assertEqual(done.stdout, b"".join(b"\t".join(row) + b"\n" for row in rows))
+
+    @unittest.skipIf(shutil.which("node") is None, "it takes node")
+    def test_the_page_has_the_same_marks(self) -> None:
+        with open(os.path.join(COMMANDS, "facl_commands", "report.js"), encoding="utf-8") as file:
+            function = next(line for line in file if line.startswith("function field("))
+        texts = [start + end for start in ("", "-", "--", "-w", "-x", "r", "=", "+", "@", "'", '"', "\r", "a", "-\t") for end in ("", "x", "-", "1", "xx", "w-x", "w- r-x", "w- =1")]
+        done = subprocess.run(["node", "-e", function + "console.log(JSON.stringify(%s.map(field)))" % json.dumps(texts)], capture_output=True, check=True)
+        self.assertEqual(json.loads(done.stdout), [tables.field_of(text.encode()).decode() for text in texts])
 
 
 class Users(unittest.TestCase):
