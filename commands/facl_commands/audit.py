@@ -167,10 +167,10 @@ def write(command: Command, given: argparse.Namespace, report: Report) -> None:
     if given.json:
         write_json(command, SCHEMA, json_of(report, only))
     elif given.edits:
-        for line in edits_of(report.findings[given.edits]):
+        for line in edits_of(report.findings[given.edits], report.is_whole):
             command.write(line + b"\n")
     elif given.list:
-        write_table(command, given, table_of_files(report.findings[given.list]))
+        write_table(command, given, table_of_files(report.findings[given.list], report.is_whole))
     elif given.tsv:
         write_table(command, given, table_of(report))
     else:

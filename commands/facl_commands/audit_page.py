@@ -26,8 +26,8 @@ def path_on_page(path: bytes) -> str:
     return "/" + text_of(shown_path(path)) if path else "/"
 
 
-def fields_of(kind: Kind, found: List[Found]) -> Dict[str, object]:
-    files = [[path_on_page(it.path), text_of(it.detail), text_of(it.edit)] for it in found[:MOST]]
+def fields_of(kind: Kind, found: List[Found], is_whole: bool) -> Dict[str, object]:
+    files = [[path_on_page(it.path), text_of(it.detail), text_of(it.line(is_whole))] for it in found[:MOST]]
     return {"name": kind.name, "weight": kind.weight, "meaning": kind.meaning, "count": len(found), "files": files}
 
 
@@ -37,4 +37,4 @@ def page_with(found: Report, source: Source, program: str, given: argparse.Names
     with Session(program, snapshot.folder) as session:
         listing = tree.add(report.list_files(session, texts.find_tops(session, snapshot.folder)), labels)
     data = report.data_of(program, snapshot._replace(folder=source.shown), tree, [(listing, labels)], [], given)
-    return page_of({**data, "findings": [fields_of(kind, found.findings[kind.name]) for kind in found.kinds()]})
+    return page_of({**data, "findings": [fields_of(kind, found.findings[kind.name], found.is_whole) for kind in found.kinds()]})

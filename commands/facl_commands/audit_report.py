@@ -54,7 +54,7 @@ def painter_of(paint: Paint, weight: str) -> Callable[[bytes], bytes]:
     return {HIGH: paint.red, MIDDLE: paint.yellow, LOW: paint.dim}[weight]
 
 
-def lines_of_kind(kind: Kind, found: List[Found], paint: Paint) -> Iterator[bytes]:
+def lines_of_kind(kind: Kind, found: List[Found], is_whole: bool, paint: Paint) -> Iterator[bytes]:
     """A finding: its number of files, what it is, the first names and the line that mends the first one."""
     head = "%-7s %-*s  " % (kind.weight, NAME_WIDTH, kind.name)
     yield painter_of(paint, kind.weight)(head.encode()) + paint.bold(counted(len(found), "file"))
@@ -63,7 +63,7 @@ def lines_of_kind(kind: Kind, found: List[Found], paint: Paint) -> Iterator[byte
     yield fitting(b"first: " + first_names(found[:1]) + detail, INDENT)
     if len(found) > 1:
         yield fitting(b"then:  " + first_names(found[1:]), INDENT)
-    yield b" " * INDENT + b"mend:  " + shown(found[0].line())  # Whole, to be copied.
+    yield b" " * INDENT + b"for facl-plan: " + shown(found[0].line(is_whole))  # Whole, to be copied.
 
 
 def summary(report: Report) -> bytes:
@@ -79,7 +79,7 @@ def lines_of(report: Report) -> Iterator[bytes]:
     yield fitting(head)
     paint = Paint()
     for kind in report.kinds():
-        yield from lines_of_kind(kind, report.findings[kind.name], paint)
+        yield from lines_of_kind(kind, report.findings[kind.name], report.is_whole, paint)
     yield summary(report)
     if report.kinds():
         name = report.kinds()[0].name.encode()
@@ -90,26 +90,26 @@ def lines_of(report: Report) -> Iterator[bytes]:
 def table_of(report: Report) -> Table:
     """A row for each finding."""
     rows = [[kind.weight.encode(), kind.name.encode(), b"%d" % len(found), shown_path(found[0].path), found[0].detail,
-             found[0].line()] for kind in report.kinds() for found in [report.findings[kind.name]]]
+             found[0].line(report.is_whole)] for kind in report.kinds() for found in [report.findings[kind.name]]]
     columns = [Column("WEIGHT"), Column("FINDING"), Column("FILES", True), Column("FIRST"), Column("WHAT"),
-               Column("MEND")]
+               Column("FOR FACL-PLAN")]
     return Table(columns, rows)
 
 
-def table_of_files(found: List[Found]) -> Table:
+def table_of_files(found: List[Found], is_whole: bool) -> Table:
     """A row for each file of a finding."""
-    rows = [[shown_path(it.path), it.detail, it.line()] for it in found]
-    return Table([Column("FILE"), Column("WHAT"), Column("MEND")], rows)
+    rows = [[shown_path(it.path), it.detail, it.line(is_whole)] for it in found]
+    return Table([Column("FILE"), Column("WHAT"), Column("FOR FACL-PLAN")], rows)
 
 
-def json_of_file(found: Found) -> Dict[str, str]:
+def json_of_file(found: Found, is_whole: bool) -> Dict[str, str]:
     return {"path": json_text(shown_path(found.path)), "what": json_text(found.detail),
-            "mend": json_text(found.line())}
+            "mend": json_text(found.line(is_whole))}
 
 
-def json_of_kind(kind: Kind, found: List[Found], has_all: bool) -> Dict[str, object]:
+def json_of_kind(kind: Kind, found: List[Found], has_all: bool, is_whole: bool) -> Dict[str, object]:
     return {"finding": kind.name, "weight": kind.weight, "meaning": kind.meaning, "count": len(found),
-            "files": [json_of_file(it) for it in (found if has_all else found[:FIRST])]}
+            "files": [json_of_file(it, is_whole) for it in (found if has_all else found[:FIRST])]}
 
 
 def json_of(report: Report, only: Optional[str]) -> Dict[str, object]:
@@ -120,7 +120,7 @@ def json_of(report: Report, only: Optional[str]) -> Dict[str, object]:
         "snapshot": snapshot,
         "folders": [json_text(report.name_of(path)) for path in report.folders],
         "files": report.files,
-        "findings": [json_of_kind(kind, report.findings[kind.name], only is not None) for kind in kinds],
+        "findings": [json_of_kind(kind, report.findings[kind.name], only is not None, report.is_whole) for kind in kinds],
         "accepted": report.accepted,
         "unused": [{"line": it.number, "finding": it.kind, "path": json_text(it.word)} for it in report.unused],
     }

@@ -3,12 +3,14 @@ from __future__ import annotations
 
 from typing import Dict, Iterator, List, NamedTuple
 
-from .names import PLAIN_SHELL_WORD, script_word, shown_path, write_name
+from .names import PLAIN_SHELL_WORD, live_name, script_word, shown_path, write_name
 from .program import parts_of
 
 HIGH, MIDDLE, LOW = "high", "middle", "low"
 WEIGHTS = (HIGH, MIDDLE, LOW)
 ROOM = 60_000  # Bytes of names in a line, which may have 65,536.
+# A comment of a script. In a shell, chmod and setfacl follow the links that somebody puts in the place of a file.
+FOR_PLAN = b"# for facl-plan, not for a shell"
 
 
 class Kind(NamedTuple):
@@ -46,17 +48,17 @@ class Found(NamedTuple):
     detail: bytes  # What is found of it, in words; may be empty.
     edit: bytes  # The line of a script that mends it, without the file.
 
-    def line(self) -> bytes:
-        """The whole line."""
-        return self.edit + b" " + file_word(self.path)
+    def line(self, is_whole: bool) -> bytes:
+        """The whole line; of a snapshot that is whole, paths start at the root of the file system."""
+        return self.edit + b" " + file_word(self.path, is_whole)
 
 
 Findings = Dict[str, List[Found]]  # By the names of kinds.
 
 
-def file_word(path: bytes) -> bytes:
+def file_word(path: bytes, is_whole: bool = False) -> bytes:
     """A file as a word of a script, which is no option."""
-    name = shown_path(path)
+    name = live_name(path) if is_whole else shown_path(path)
     return plain_word(b"./" + name if name.startswith(b"-") else name)
 
 
@@ -70,11 +72,14 @@ def name_word(name: bytes) -> bytes:
     return plain_word(write_name(name))
 
 
-def edits_of(found: List[Found]) -> Iterator[bytes]:
-    """The lines of a script that mend all of these, files with one edit in one line where it has room."""
+def edits_of(found: List[Found], is_whole: bool) -> Iterator[bytes]:
+    """The lines of a script that mend all of these, below one that says so: files with one edit are in one line where it has
+    room."""
     files: Dict[bytes, List[bytes]] = {}
     for it in found:
-        files.setdefault(it.edit, []).append(file_word(it.path))
+        files.setdefault(it.edit, []).append(file_word(it.path, is_whole))
+    if files:
+        yield FOR_PLAN
     for edit, words in files.items():
         for part in parts_of(words, ROOM):
             yield b" ".join([edit, *part])

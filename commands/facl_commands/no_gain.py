@@ -6,7 +6,7 @@ from collections import Counter
 from typing import Dict, FrozenSet, Iterator, List, NamedTuple, Optional, Set, Tuple
 
 from .messages import counted
-from .names import PLAIN_SHELL_WORD, script_word, sorting_key, write_user
+from .names import PLAIN_SHELL_WORD, live_name, script_word, sorting_key, write_user
 from .owners import MASK, OWNER, OWNING_GROUP
 from .people import Group, People, User
 from .program import Session
@@ -49,7 +49,7 @@ class NoGain(NamedTuple):
         rest = b", and " + below(self.closed) + (b" grants none" if self.closed == 1
                                                  else b" grant none") if self.closed else b""
         return which + verb + b" no search (" + b", ".join(map(shown_entry,
-                                                               self.entries)) + b")" + rest + b"; add: " + self.edit
+                                                               self.entries)) + b")" + rest + b"; add for facl-plan: " + self.edit
 
 
 def below(number: int) -> bytes:
@@ -344,17 +344,19 @@ class Behind(NamedTuple):
     shown: List[bytes]
 
 
-def no_gain(new: Side, group: Optional[Group], it: Behind, entries: List[List[bytes]]) -> NoGain:
+def no_gain(new: Side, group: Optional[Group], it: Behind, entries: List[List[bytes]], is_whole: bool) -> NoGain:
     names = [new.answers.names[path] for path in it.shown]
     edits = [opening(found, new.files[path].body, it.row, group) for path, found in zip(it.shown, entries)]
     if len(set(edits)) > 1:
         names = names[:1]
-    edit = b"setfacl -n -m " + word(edits[0]) + b"".join(b" " + operand(name) for name in names)
+    paths = map(live_name, it.shown) if is_whole else names
+    edit = b"setfacl -n -m " + word(edits[0]) + b"".join(b" " + operand(path) for path, _ in zip(paths, names))
     return NoGain(it.user, it.files, names[0], entries[0], edit, len(names), len(it.closed) - len(names))
 
 
-def find(session: Session, old: Side, new: Side, left_out: Set[bytes]) -> List[NoGain]:
-    """By users in their order, and by closed directories in path order; the session is as it is after the edits."""
+def find(session: Session, old: Side, new: Side, left_out: Set[bytes], is_whole: bool) -> List[NoGain]:
+    """By users in their order, and by closed directories in path order; the session is as it is after the edits. Where it
+    is whole, the lines have paths from the root of the file system."""
     finder = Finder(old, new, left_out)
     closed: Dict[int, Closed] = {}
     totals: Dict[Tuple[int, bytes], int] = Counter()
@@ -374,5 +376,5 @@ def find(session: Session, old: Side, new: Side, left_out: Set[bytes]) -> List[N
     behind = [it for it in behind if it.shown]
     groups = {group.gid: group for group in reversed(new.people.groups)}
     answers = ask_entries(session, [(it.row, [new.answers.names[path] for path in it.shown]) for it in behind])
-    return [no_gain(new, None if it.gid is None else groups.get(it.gid), it, entries) for it,
+    return [no_gain(new, None if it.gid is None else groups.get(it.gid), it, entries, is_whole) for it,
             entries in zip(behind, answers)]

@@ -126,14 +126,14 @@ def users_of_id_0(*sides: people.People) -> Set[bytes]:
 
 
 def find_no_gain(session: Session, program: str, snapshot: Snapshot, old: Listing, new: Listing,
-                 people_before: people.People, run: Run, left_out: Set[bytes]) -> List[no_gain.NoGain]:
+                 people_before: people.People, run: Run, left_out: Set[bytes], is_whole: bool) -> List[no_gain.NoGain]:
     """Asks what is granted by the records that come into it, by files of their own."""
     bodies = no_gain.bodies_to_judge(old.files, new.files, no_gain.has_joined(people_before, run.people))
     lines = label_answers.People(snapshot.passwd, snapshot.group, run.changes_of_people)
     before, after = label_answers.ask_vectors(program, lines, bodies)
     sides = [no_gain.Side(listing.files, rights.answers_of(listing, *its), who) for listing, its, who in
              ((old, before, people_before), (new, after, run.people))]
-    return no_gain.find(session, sides[0], sides[1], left_out)
+    return no_gain.find(session, sides[0], sides[1], left_out, is_whole)
 
 
 def answer_scripts(given: argparse.Namespace, snapshot: Snapshot, units: List[Unit], is_whole: bool = True,
@@ -154,8 +154,8 @@ def answer_scripts(given: argparse.Namespace, snapshot: Snapshot, units: List[Un
         kinds = rights.ask_kinds(session, along_paths, users, left_out)
         if before is not None:
             changes = rights.changes(before, rights.ask_rights(session, new), along_paths, left_out)
-        closed = find_no_gain(session, program, snapshot, old, new, people_before, run,
-                              left_out) if along_paths else []
+        closed = find_no_gain(session, program, snapshot, old, new, people_before, run, left_out,
+                              is_whole) if along_paths else []
     left = owners.left_behind(people_before, run.people, new.files)
     return Outcome(old.files, new.files, kinds, changes, closed, users, run.asked, run.messages, run.commands, left,
                    is_whole, meta.meta_of(snapshot.folder))

@@ -9,6 +9,7 @@ const LISTS = 200; // and lists, until more are asked for.
 const ROOM = 60000; // Bytes of entries and names in a line of a script, which may have 65,536;
 const KEYS_ROOM = 20000; // and of entries alone.
 const LONGEST = 240; // Letters of a name or path; a longer one is shown without its middle.
+const FOR_PLAN = "# for facl-plan, not for a shell"; // As in findings.py.
 const WORDS = [[4, "r", "reads"], [2, "w", "changes"], [1, "x", "enters"]];
 const filesOf = data.lists.map(() => []);
 const ticked = new Set(); // Boxes, as LIST.ENTRY.
@@ -54,6 +55,7 @@ function wordOf(text) {
 
 function fileWord(file) {
   const path = pathOf(file);
+  if (data.prefix) return wordOf(path === "." ? data.prefix : data.prefix + path);
   return wordOf(path[0] === "-" ? "./" + path : path);
 }
 
@@ -95,7 +97,7 @@ function linesOf(edited) {
 function drawLines() {
   const edited = editedFiles(), lines = linesOf(edited);
   const files = [...edited.values()].reduce((sum, it) => sum + it.length, 0);
-  byId("lines").textContent = lines.join("\n");
+  byId("lines").textContent = lines.length ? [FOR_PLAN, ...lines].join("\n") : "";
   byId("count").textContent = !ticked.size ? "Nothing is ticked." : counted(ticked.size, "entry", "entries") + " of "
     + counted(edited.size && new Set([...ticked].map(it => it.split(".")[0])).size, "list") + ", in " + counted(files, "file") + ": "
     + counted(lines.length, "line");

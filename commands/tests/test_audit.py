@@ -49,63 +49,63 @@ FILE = b"/srv/hr/new"
 MADE: Dict[str, Made] = {
     "writable-by-everybody": Made(
         {b"/srv/hr/": OPEN, FILE: PLAIN.replace(b"other::---", b"other::-w-")}, b"srv/hr/new", b"",
-        b"setfacl -n -m o::--- srv/hr/new"),
+        b"setfacl -n -m o::--- /srv/hr/new"),
     "readable-by-everybody": Made(
         {b"/srv/hr/": OPEN, FILE: PLAIN.replace(b"other::---", b"other::r--")}, b"srv/hr/new", b"",
-        b"setfacl -n -m o::--- srv/hr/new"),
+        b"setfacl -n -m o::--- /srv/hr/new"),
     "execute-for-everybody": Made(
         {b"/srv/hr/": OPEN, FILE: PLAIN.replace(b"other::---", b"other::--x")}, b"srv/hr/new", b"",
-        b"setfacl -n -m o::--- srv/hr/new"),
+        b"setfacl -n -m o::--- /srv/hr/new"),
     "writable-behind-closed": Made(
         {FILE: PLAIN.replace(b"other::---", b"other::-w-")}, b"srv/hr/new", b"closed by srv/hr",
-        b"setfacl -n -m o::--- srv/hr/new"),
+        b"setfacl -n -m o::--- /srv/hr/new"),
     "readable-behind-closed": Made(
         {FILE: PLAIN.replace(b"other::---", b"other::r--")}, b"srv/hr/new", b"closed by srv/hr",
-        b"setfacl -n -m o::--- srv/hr/new"),
+        b"setfacl -n -m o::--- /srv/hr/new"),
     "set-user-id": Made(
         {FILE: b"# owner: 1001\n# group: 2001\n# flags: ss-\nuser::rwx\ngroup::r-x\nother::---\n"}, b"srv/hr/new", b"",
-        b"chmod 2750 srv/hr/new", beside="set-group-id"),
+        b"chmod 2750 /srv/hr/new", beside="set-group-id"),
     "set-group-id": Made(
         {FILE: b"# owner: 1001\n# group: 2001\n# flags: -s-\nuser::rwx\ngroup::r-x\nother::---\n"}, b"srv/hr/new", b"",
-        b"chmod 0750 srv/hr/new"),
+        b"chmod 0750 /srv/hr/new"),
     "writable-by-teams": Made(
         {b"/srv/hr/both/": with_entries(FOLDER, b"group:2002:rwx"), b"/srv/hr/": with_entries(FOLDER, b"group:2002:--x")},
-        b"srv/hr/both", b"group hr, group law", b"chmod 1770 srv/hr/both"),
+        b"srv/hr/both", b"group hr, group law", b"chmod 1770 /srv/hr/both"),
     "writer-outside-groups": Made(
         {FILE: with_entries(PLAIN, b"user:1009:rw-"), b"/srv/hr/": with_entries(FOLDER, b"user:1009:--x")},
-        b"srv/hr/new", b"user xaver", b"setfacl -n -x u:xaver srv/hr/new"),
+        b"srv/hr/new", b"user xaver", b"setfacl -n -x u:xaver /srv/hr/new"),
     "mask-cuts-entry": Made(
         {FILE: with_entries(PLAIN, b"user:1009:rwx").replace(b"mask::rwx", b"mask::r--"),
          b"/srv/hr/": with_entries(FOLDER, b"user:1009:--x")},
-        b"srv/hr/new", b"user xaver: rwx is r--", b"setfacl -n -m u:xaver:r-- srv/hr/new"),
+        b"srv/hr/new", b"user xaver: rwx is r--", b"setfacl -n -m u:xaver:r-- /srv/hr/new"),
     "empty-mask": Made(
         {FILE: with_entries(PLAIN, b"user:1003:---").replace(b"mask::rwx", b"mask::---").replace(b"other::---", b"other::--x"),
          b"/srv/hr/": with_entries(OPEN, b"user:1003:--x")},
-        b"srv/hr/new", b"others have --x", b"setfacl -n -m o::--- srv/hr/new",
+        b"srv/hr/new", b"others have --x", b"setfacl -n -m o::--- /srv/hr/new",
         beside="execute-for-everybody entry-without-effect"),
     "owner-without-row": Made(
         {FILE: PLAIN.replace(b"owner: 1001", b"owner: 4711").replace(b"group: 2001", b"group: 4712")}, b"srv/hr/new",
-        b"user 4711, group 4712", b"chown 0:0 srv/hr/new"),
+        b"user 4711, group 4712", b"chown 0:0 /srv/hr/new"),
     "entry-without-row": Made(
         {b"/srv/hr/sub/": with_entries(FOLDER, b"user:4711:r--") + b"default:user::rwx\ndefault:user:4711:r--\n"
          b"default:group::rwx\ndefault:group:4712:r--\ndefault:mask::rwx\ndefault:other::---\n"},
         b"srv/hr/sub", b"user 4711, default user 4711, default group 4712",
-        b"setfacl -n -x u:4711,d:u:4711,d:g:4712 srv/hr/sub", beside="default-differs"),
+        b"setfacl -n -x u:4711,d:u:4711,d:g:4712 /srv/hr/sub", beside="default-differs"),
     "links-across-folders": Made(
         {b"/srv/hr/sub/": FOLDER, b"/srv/hr/sub/pay": CLEAN[b"/srv/hr/pay"]}, b"srv/hr/sub/pay",
-        b"is one file with srv/hr/pay", b"rm srv/hr/sub/pay", links=b"/srv/hr/pay\n/srv/hr/sub/pay\n"),
+        b"is one file with srv/hr/pay", b"rm /srv/hr/sub/pay", links=b"/srv/hr/pay\n/srv/hr/sub/pay\n"),
     "entry-without-effect": Made(
         {FILE: with_entries(PLAIN, b"user:1001:r--", b"group:2002:---")}, b"srv/hr/new", b"user anna, group law",
-        b"setfacl -n -x u:anna,g:law srv/hr/new"),
+        b"setfacl -n -x u:anna,g:law /srv/hr/new"),
     "default-not-inherited": Made(
         {b"/srv/hr/sub/": FOLDER + b"default:user::rwx\ndefault:group::rwx\ndefault:other::---\n",
          b"/srv/hr/sub/deep/": FOLDER}, b"srv/hr/sub/deep", b"lacks the default list of srv/hr/sub",
-        b"setfacl -n -m d:u::rwx,d:g::rwx,d:o::--- srv/hr/sub/deep"),
+        b"setfacl -n -m d:u::rwx,d:g::rwx,d:o::--- /srv/hr/sub/deep"),
     "default-differs": Made(
         {b"/srv/hr/sub/": with_entries(FOLDER, b"user:1009:--x") + b"default:user::rwx\ndefault:group::rwx\n"
          b"default:group:2002:r-x\ndefault:mask::rwx\ndefault:other::---\n"}, b"srv/hr/sub",
         b"new files get no entry of user xaver; new files alone get one of group law",
-        b"setfacl -n -m d:u:xaver:--x -x d:g:law srv/hr/sub"),
+        b"setfacl -n -m d:u:xaver:--x -x d:g:law /srv/hr/sub"),
 }
 
 
@@ -162,7 +162,7 @@ class EachFinding(Audits):
                    b"/srv/hr/no/": b"# owner: 0\n# group: 0\nuser::rwx\ngroup::rwx\nother::-w-\n"})
         rows = self.rows()
         self.assertEqual(rows, [[b"high", b"writable-by-everybody", b"1", b"srv/hr/drop", b"sticky",
-                                 b"setfacl -n -m o::--x srv/hr/drop"]])
+                                 b"setfacl -n -m o::--x /srv/hr/drop"]])
 
     def test_one_folder_at_two_places(self) -> None:
         """A folder that is mounted twice has no hard links across folders."""
@@ -177,7 +177,7 @@ class EachFinding(Audits):
         group = GROUP + b"more:x:2003:carl\n"
         self.take({FILE: with_entries(PLAIN, b"group:2002:rw-", b"group:2003:rw-")}, group=group)
         found = [row for row in self.rows() if row[1] == b"entry-without-effect"]
-        self.assertEqual([row[4:] for row in found], [[b"group law", b"setfacl -n -x g:law srv/hr/new"]])
+        self.assertEqual([row[4:] for row in found], [[b"group law", b"setfacl -n -x g:law /srv/hr/new"]])
 
 
 class TwoKinds(Audits):
@@ -201,12 +201,12 @@ small (of srva, 2026-11-27T03:10:00Z): 5 files at or below /srv/hr
 high    set-user-id             1 file
         a plain file that is run with the rights of its owner
         first: srv/hr/new
-        mend:  chmod 2750 srv/hr/new
+        for facl-plan: chmod 2750 /srv/hr/new
 middle  set-group-id            2 files
         a plain file that is run with the rights of its group
         first: srv/hr/new
         then:  srv/hr/sub/x
-        mend:  chmod 4750 srv/hr/new
+        for facl-plan: chmod 4750 /srv/hr/new
 findings: 1 high, 1 middle
 all files of one: facl-audit --list set-user-id small
 all lines of one: facl-audit --edits set-user-id small >edits; facl-plan small edits
@@ -236,7 +236,7 @@ all lines of one: facl-audit --edits set-user-id small >edits; facl-plan small e
     def test_at_a_terminal(self) -> None:
         done = self.at_terminal("facl-audit", ["small"], {"COLUMNS": "44", "LINES": "90"})
         plain = re.sub(rb"\x1b\[\d*m", b"", done.out)
-        lines = [line for line in plain.splitlines() if not line.startswith((b"        mend:", b"all "))]
+        lines = [line for line in plain.splitlines() if not line.startswith((b"        for facl-plan:", b"all "))]
         self.assertEqual((done.status, max(map(len, lines))), (1, 44))
         self.assertIn(b"\x1b[31mhigh ", done.out)
         done = self.at_terminal("facl-audit", ["small"], {"COLUMNS": "44", "LINES": "90", "NO_COLOR": "yes"})
@@ -244,12 +244,13 @@ all lines of one: facl-audit --edits set-user-id small >edits; facl-plan small e
         done = self.at_terminal("facl-audit", ["small"], {"COLUMNS": "44", "LINES": "5", "PAGER": "echo paged"})
         self.assertEqual((done.status, done.out), (1, b"paged\n"))
         done = self.at_terminal("facl-audit", ["--edits", "set-user-id", "small"], {"COLUMNS": "10", "LINES": "90"})
-        self.assertEqual(done.out, b"chmod 2750 srv/hr/new\n")
+        self.assertEqual(done.out, b"# for facl-plan, not for a shell\nchmod 2750 /srv/hr/new\n")
 
     def test_list_and_edits(self) -> None:
-        self.expect(self.audit("--list", "set-group-id", "--tsv"), 1, b"FILE\tWHAT\tMEND\n"
-                    b"srv/hr/new\t\tchmod 4750 srv/hr/new\nsrv/hr/sub/x\t\tchmod 0750 srv/hr/sub/x\n")
-        self.expect(self.audit("--edits", "set-group-id"), 1, b"chmod 4750 srv/hr/new\nchmod 0750 srv/hr/sub/x\n")
+        self.expect(self.audit("--list", "set-group-id", "--tsv"), 1, b"FILE\tWHAT\tFOR FACL-PLAN\n"
+                    b"srv/hr/new\t\tchmod 4750 /srv/hr/new\nsrv/hr/sub/x\t\tchmod 0750 /srv/hr/sub/x\n")
+        self.expect(self.audit("--edits", "set-group-id"), 1, b"# for facl-plan, not for a shell\n"
+                    b"chmod 4750 /srv/hr/new\nchmod 0750 /srv/hr/sub/x\n")
 
     def test_folders(self) -> None:
         done = self.run_command("facl-audit", ["--tsv", "small", "/srv/hr/sub"])
@@ -262,7 +263,7 @@ all lines of one: facl-audit --edits set-user-id small >edits; facl-plan small e
         self.assertEqual(found["schema"], "facl-audit/1")
         self.assertEqual([(it["finding"], it["weight"], it["count"]) for it in found["findings"]],
                          [("set-user-id", "high", 1), ("set-group-id", "middle", 2)])
-        self.assertEqual(found["findings"][0]["files"], [{"path": "srv/hr/new", "what": "", "mend": "chmod 2750 srv/hr/new"}])
+        self.assertEqual(found["findings"][0]["files"], [{"path": "srv/hr/new", "what": "", "mend": "chmod 2750 /srv/hr/new"}])
         one = json.loads(self.audit("--json", "--list", "set-group-id").out)
         self.assertEqual([len(it["files"]) for it in one["findings"]], [2])
 
@@ -335,7 +336,7 @@ class Hostile(Audits):
         passwd = PASSWD.replace(b"xaver:", b"o'x \x1b[1m,y:")
         self.take(MADE["writer-outside-groups"].records, passwd=passwd)
         row = self.rows()[0]
-        self.assertEqual(row[5], b"setfacl -n -x u:1009 srv/hr/new")
+        self.assertEqual(row[5], b"setfacl -n -x u:1009 /srv/hr/new")
         self.assertNotIn(b"\x1b", self.audit().out)
 
 

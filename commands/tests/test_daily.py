@@ -42,12 +42,12 @@ TOP/kept/DAY.2 (of HOST, TIME): 2 files at or below TOP/tree
 high    writable-by-everybody   1 file
         any user can write it, along its path
         first: PATH/tree/file
-        mend:  setfacl -n -m o::r-- PATH/tree/file
+        for facl-plan: setfacl -n -m o::r-- TOP/tree/file
 middle  readable-by-everybody   2 files
         any user can read it, along its path
         first: PATH/tree
         then:  PATH/tree/file
-        mend:  setfacl -n -m o::--x PATH/tree
+        for facl-plan: setfacl -n -m o::--x TOP/tree
 findings: 1 high, 1 middle
 all files of one: facl-audit --list writable-by-everybody TOP/kept/DAY.2
 all lines of one: facl-audit --edits writable-by-everybody TOP/kept/DAY.2 >edits; facl-plan TOP/kept/DAY.2 edits

@@ -33,7 +33,7 @@ class Lines(Case):
 
     def test_a_named_user(self) -> None:
         done = self.plan(b"setfacl -n -m u:guest:r srv/share/notes srv/share/one\n")
-        line = b"guest  no gain        3 files   srv/share grants no search (other::---); add: setfacl -n -m u:guest:x srv/share\n"
+        line = b"guest  no gain        3 files   srv/share grants no search (other::---); add for facl-plan: setfacl -n -m u:guest:x /srv/share\n"
         self.expect(done, 0, line + b"3 files change owner, group, flags or lists" + NOBODY + WRITTEN)
 
     def test_lines_of_a_user_are_together(self) -> None:
@@ -45,11 +45,11 @@ class Lines(Case):
                     b"ben    r-- -> none    9 files   first: srv/share/-x\n"
                     b"ben    r-x -> none    2 files   first: srv\n"
                     b"ben    no gain        1 file    srv and 1 directory below it grant no search (other::---); "
-                    b"add: setfacl -n -m u:ben:x srv srv/share/drafts\n"
+                    b"add for facl-plan: setfacl -n -m u:ben:x /srv /srv/share/drafts\n"
                     b"mara   r-x -> --x     1 file    first: srv\n"
                     b"guest  r-x -> none    1 file    first: srv\n"
                     b"guest  no gain        1 file    srv and 2 directories below it grant no search (other::---); "
-                    b"add: setfacl -n -m u:guest:x srv srv/share srv/share/drafts\n"
+                    b"add for facl-plan: setfacl -n -m u:guest:x /srv /srv/share /srv/share/drafts\n"
                     b"2 files change owner, group, flags or lists\n" + WRITTEN)
 
     def test_a_mask_that_cuts(self) -> None:
@@ -57,13 +57,13 @@ class Lines(Case):
         self.dump_with(b"# file: /srv/share/\n# owner: 1001\n# group: 100\nuser::rwx\n",
                        b"# file: /srv/share/\n# owner: 1001\n# group: 100\nuser::rwx\nuser:1009:rwx\nmask::r--\n")
         done = self.plan(b"setfacl -m u:guest:r srv/share/one\n")
-        self.assertIn(b"srv/share grants no search (user:guest:rwx, effective r--); add: setfacl -n -m m::rx srv/share\n", done.out)
+        self.assertIn(b"srv/share grants no search (user:guest:rwx, effective r--); add for facl-plan: setfacl -n -m m::rx /srv/share\n", done.out)
 
     def test_a_group(self) -> None:
         # The entry of the group, for each of its users; ben is of the owning group too, which has search.
         self.write("before/group", self.read("before/group").replace(b"audit:x:400:ben", b"audit:x:400:ben,guest,mara"))
         done = self.plan(b"setfacl -n -m g:audit:rw srv/share/one\n")
-        rest = b"  no gain        2 files   srv/share grants no search (other::---); add: setfacl -n -m g:audit:x srv/share\n"
+        rest = b"  no gain        2 files   srv/share grants no search (other::---); add for facl-plan: setfacl -n -m g:audit:x /srv/share\n"
         self.assertEqual(done.out.splitlines(True)[:-2], [b"mara " + rest, b"guest" + rest])
 
     def test_rights_that_the_user_has_stay(self) -> None:
@@ -72,14 +72,14 @@ class Lines(Case):
         done = self.plan(b"setfacl -n -m u:guest:r srv/share/-x\nsetfacl -n -m u:ines:r srv/share/drafts/logo.svg\n")
         self.assertEqual(done.out.splitlines(True)[:-2], [
             b"ines   no gain        1 file    srv/share grants no search (user::rw-), and 1 directory below it grants none; "
-            b"add: setfacl -n -m u::rwx srv/share\n",
-            b"guest  no gain        1 file    srv/share grants no search (other::r--); add: setfacl -n -m u:guest:rx,m::rx srv/share\n",
+            b"add for facl-plan: setfacl -n -m u::rwx /srv/share\n",
+            b"guest  no gain        1 file    srv/share grants no search (other::r--); add for facl-plan: setfacl -n -m u:guest:rx,m::rx /srv/share\n",
         ])
 
     def test_a_membership(self) -> None:
         self.dump_with(b"user:1003:rw-\t\t\t#effective:r--\n", b"user:1003:rw-\t\t\t#effective:r--\ngroup:400:r--\n")
         done = self.plan(b"gpasswd -a guest audit\n")
-        self.assertIn(b"guest  no gain        1 file    srv/share grants no search (other::---); add: setfacl -n -m u:guest:x srv/share\n",
+        self.assertIn(b"guest  no gain        1 file    srv/share grants no search (other::---); add for facl-plan: setfacl -n -m u:guest:x /srv/share\n",
                       done.out)
 
     def test_json_and_other_views(self) -> None:
@@ -87,7 +87,7 @@ class Lines(Case):
         report = json.loads(self.plan(script, "--json").out)
         self.assertEqual(report["no_gain"], [{
             "user": "guest", "files": 1, "directory": "srv/share", "entries": ["other::---"],
-            "edit": "setfacl -n -m u:guest:x srv/share", "closed_below": 0,
+            "edit": "setfacl -n -m u:guest:x /srv/share", "closed_below": 0,
         }])
         self.assertIn(b"guest  no gain  ", self.plan(script, "--full").out)
         self.assertEqual(self.plan(script, "--reach").out, self.plan(script).out)
@@ -100,9 +100,9 @@ class Lines(Case):
         self.write("before/passwd", self.read("before/passwd") + b"a, b:x:1010:300::/:/bin/sh\n")
         self.write("before/dump", self.read("before/dump") + b"# file: /it's \\303\\251/\n" + body + b"# file: /it's \\303\\251/f\n" + body)
         done = self.plan(b"setfacl -m u:1010:r 'it\\047s \\303\\251/f'\n")
-        edit = b"add: setfacl -n -m u:1010:x,m::x 'it\\047s \\303\\251'\n"
+        edit = b"add for facl-plan: setfacl -n -m u:1010:x,m::x '/it\\047s \\303\\251'\n"
         self.assertIn(edit, done.out)
-        self.assertIn(b"a\\054\\040b  none -> r--", self.plan(b"setfacl -m u:1010:r 'it\\047s \\303\\251/f'\n" + edit[5:]).out)
+        self.assertIn(b"a\\054\\040b  none -> r--", self.plan(b"setfacl -m u:1010:r 'it\\047s \\303\\251/f'\n" + edit[len(b"add for facl-plan: ") :]).out)
 
 
     def test_deep_directories(self) -> None:
@@ -112,7 +112,7 @@ class Lines(Case):
         self.write("before/dump", self.read("before/dump") + b"".join(b"# file: /" + path + b"/\n" + body for path in chain))
         done = self.plan(b"setfacl -n -m u:guest:r " + chain[-1] + b"\n")
         self.assertTrue(done.out.startswith(b"guest  no gain        1 file    srv/share grants no search (other::---), and 98 directories "
-                                            b"below it grant none; add: setfacl -n -m u:guest:x srv/share\n"), done.out)
+                                            b"below it grant none; add for facl-plan: setfacl -n -m u:guest:x /srv/share\n"), done.out)
 
 
 class Random(Case):

@@ -105,7 +105,7 @@ class Reports(Case):
     def test_along_paths(self) -> None:
         # Neither may search srv/share; mara is not named by the line.
         done = self.plan(b"setfacl -m u:guest:r srv/share/notes\n")
-        self.expect(done, 0, b"guest  no gain        1 file    srv/share grants no search (other::---); add: setfacl -n -m u:guest:x srv/share\n"
+        self.expect(done, 0, b"guest  no gain        1 file    srv/share grants no search (other::---); add for facl-plan: setfacl -n -m u:guest:x /srv/share\n"
                     + ONE_FILE + b"; nobody may do anything else than before\n" + WRITTEN)
         done = self.plan(b"setfacl -m u:guest:r srv/share/notes\nsetfacl -m u:guest:x srv/share\n")
         self.expect(done, 0, b"guest  none -> --x    1 file    first: srv/share\n"
@@ -518,7 +518,7 @@ class Owners(Case):
 
     def test_along_paths(self) -> None:
         done = self.plan(b"chown -R guest srv/share/drafts\n")
-        self.assertIn(b"guest  no gain        2 files   srv/share grants no search (other::---); add: setfacl -n -m u:guest:x srv/share\n",
+        self.assertIn(b"guest  no gain        2 files   srv/share grants no search (other::---); add for facl-plan: setfacl -n -m u:guest:x /srv/share\n",
                       done.out)
 
     def test_refused(self) -> None:
@@ -566,7 +566,7 @@ class AnyDump(Case):
         done = self.plan_of(b"", b"setfacl -m u:guest:r notes drafts/logo\n")
         self.expect(done, 0, b"mara   r-- -> rw-     1 file    first: notes\n"
                              b"guest  none -> r--    1 file    first: notes\n"
-                             b"guest  no gain        1 file    drafts grants no search (other::---); add: setfacl -n -m u:guest:x drafts\n"
+                             b"guest  no gain        1 file    drafts grants no search (other::---); add for facl-plan: setfacl -n -m u:guest:x drafts\n"
                              b"2 files change owner, group, flags or lists\n", self.RELATIVE)
         self.assertEqual(sorted(os.listdir(self.folder)), ["before", "edits", "old"])
 
@@ -585,7 +585,7 @@ class AnyDump(Case):
         self.RECORDS = b"# file: .\n# owner: root\n# group: root\nuser::rwx\ngroup::---\nother::---\n\n" + AnyDump.RECORDS
         done = self.plan_of(b"", b"setfacl -n -m u:guest:r notes\n")
         self.assertEqual((done.status, done.messages), (0, self.RELATIVE))
-        self.assertIn(b"guest  no gain        1 file    . grants no search (other::---); add: setfacl -n -m u:guest:x,m::x .\n", done.out)
+        self.assertIn(b"guest  no gain        1 file    . grants no search (other::---); add for facl-plan: setfacl -n -m u:guest:x,m::x .\n", done.out)
 
     def test_whole_names(self) -> None:
         done = self.plan_of(b"/srv/", b"setfacl -n -m u:guest:r srv/notes\n")

@@ -112,7 +112,9 @@ class InBrowser(FirmCase):
         return data_of(done.out)
 
     def lines(self) -> List[bytes]:
-        return [it.encode() for it in self.sheet.evaluate("document.getElementById('lines').textContent").split("\n") if it]
+        first, *lines = self.sheet.evaluate("document.getElementById('lines').textContent").split("\n")
+        self.assertEqual(first, "# for facl-plan, not for a shell" if lines else "")
+        return [it.encode() for it in lines]
 
     def changed(self, snapshot: str, lines: List[bytes]) -> Set[Tuple[str, str]]:
         """What the program changes by lines: file and entry of each that is gone; nothing else may differ."""
@@ -183,7 +185,7 @@ class InBrowser(FirmCase):
             if self.sheet.evaluate("document.activeElement.type") == "checkbox":
                 break
         self.sheet.press("Space")
-        self.assertEqual(self.lines(), [b"setfacl -n -x u:xaver srv/finance"])
+        self.assertEqual(self.lines(), [b"setfacl -n -x u:xaver /srv/finance"])
         self.sheet.press("Space")
         self.assertEqual((self.lines(), self.sheet.texts("#count")), ([], ["Nothing is ticked."]))
         unnamed = [node for node in self.sheet.nodes() if node.role in ("button", "checkbox", "DisclosureTriangle") and not node.name.strip()]
@@ -199,7 +201,7 @@ class InBrowser(FirmCase):
                 wide, low = self.sheet.evaluate("[document.documentElement.scrollWidth - innerWidth, %s]" % LOW_CONTRAST)
                 self.assertEqual((wide, low), (0, []))
         text = "".join(pages_of(self.sheet.pdf())).replace(" ", "")
-        for part in ("/srv/finance", "srva", "2026-11-27", "xaver", "setfacl-n-xu:xaversrv/finance"):
+        for part in ("/srv/finance", "srva", "2026-11-27", "xaver", "setfacl-n-xu:xaver/srv/finance"):
             self.assertIn(part, text)
 
     def test_hostile_names(self) -> None:
