@@ -141,6 +141,60 @@ class Folders(Case):
                 self.assertEqual(choice.folders_made_of(session), wanted)
 
 
+class Unseen(Case):
+    """Each command over names that have letters nobody sees."""
+
+    UNSEEN = "\u200b\u00ad\u3164\u2028\U000e0041\u202e\ufe0f\u2800"
+    FOLDER = "/srv/fo" + UNSEEN + "lder"
+    USER = "us" + UNSEEN + "er"
+    COMMANDS = (  # Each with its status.
+        ("facl-who read before FOLDER", 0), ("facl-who --user USER before", 0), ("facl-who --names USER before", 0),
+        ("facl-who --new-file FOLDER USER before", 0), ("facl-who read FOLDER", 2), ("facl-who read before FOLDER/nix", 2), ("facl-diff before after", 1),
+        ("facl-audit before", 1), ("facl-audit --edits set-user-id before", 1), ("facl-audit --list mask-cuts-entry before", 1),
+        ("facl-check before rules", 1), ("facl-check --write before", 0), ("facl-plan before edits", 0), ("facl-plan before bad", 1),
+        ("facl-report --output FOLDER/x before", 2), ("facl-apply --dry-run before.plan", 1))
+    PAGES = (("facl-audit --page page.html before", 1), ("facl-report --output edits.html before edits", 0),
+             ("facl-report --for-review --folder FOLDER --output review.html before", 0))
+
+    def setUp(self) -> None:
+        super().setUp()
+        folder, user = self.FOLDER.encode(), self.USER.encode()
+        body = b"# owner: 1500\n# group: 1600\nuser::rwx\nuser:1500:rwx\nuser:1502:rw-\ngroup::r-x\nmask::r--\nother::r-x\n\n"
+        self.write("before/passwd", user + b":x:1500:1600:::\nanna:x:1501:1600:::\ncarl:x:1502:1602:::\n")
+        self.write("before/group", b"gr" + user + b":x:1600:anna\nthird:x:1602:\n")
+        self.write("before/dump", b"".join(b"# file: %s\n%s" % (name, text) for name, text in (
+            (b"/", body.replace(b"mask::r--", b"mask::rwx")), (b"/srv/", body.replace(b"mask::r--", b"mask::rwx")), (folder + b"/", body),
+            (folder + b"/" + user, body.replace(b"user::rwx", b"# flags: s--\nuser::rwx", 1)))))
+        self.write("before/links", b"")
+        for name in {"inodes", "meta"} & set(os.listdir(self.path("before"))):
+            os.remove(self.path("before/" + name))
+        shutil.copytree(self.path("before"), self.path("after"))
+        self.write("after/dump", self.read("before/dump").replace(b"user:1502:rw-", b"user:1502:---"))
+        self.write("rules", b"never anna read '%s/'\n" % folder)
+        os.chmod(self.path("rules"), 0o600)
+        self.write("edits", b"setfacl -m 'u:%s:---',u:anna:rwx '%s'\n" % (user, folder))
+        self.write("bad", b"setfacl -m 'u:x%s:---' '%s'\nwho r '%s/nix'\n" % (user, folder, folder))
+
+    def words(self, line: str) -> List[str]:
+        return [word.replace("FOLDER", self.FOLDER).replace("USER", self.USER) for word in line.split(" ")]
+
+    def test_no_command_prints_one(self) -> None:
+        for line, status in self.COMMANDS:
+            name, *words = self.words(line)
+            for done in (self.run_command(name, words), self.at_terminal(name, words, {"PAGER": "", "NO_COLOR": "1"})):
+                self.assertEqual((line, done.status), (line, status), done)
+                for text in (done.out, done.messages):
+                    self.assertIsNone(names.UNSEEN.search(text.decode().replace("\n", "")), (line, text))
+
+    def test_no_page_has_one(self) -> None:
+        for line, status in self.PAGES:
+            name, *words = self.words(line)
+            self.assertEqual(self.run_command(name, words).status, status)
+            page = self.read(next(word for word in words if word.endswith(".html"))).decode()
+            self.assertIsNone(names.UNSEEN.search(page.replace("\n", "")))
+            self.assertIn(names.shown(self.FOLDER.encode()).decode().replace("\\", "\\\\").rpartition("/")[2], page)
+
+
 class Terminals(Case):
     """By facl-who, whose table is short."""
 
