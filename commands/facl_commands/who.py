@@ -9,7 +9,7 @@ from typing import Dict, List, Optional, Tuple
 from . import choice, meta, overview, tables, texts, who_files, who_folder, who_rights, who_user
 from .asking import Asker, read_rights
 from .messages import Command, Failure, parser_of
-from .names import number_of, json_text, read_name
+from .names import json_text, number_of, read_name, shell_word
 from .program import Session, find_program
 from .snapshot import NEEDED, check_texts, is_hidden
 from .superuser import ids_in
@@ -104,10 +104,13 @@ def parse(words: List[str]) -> argparse.Namespace:
 
 def check_source(source: Source, given: argparse.Namespace) -> None:
     """Fails where there is no snapshot, with the order of the words, which are easily exchanged."""
+    words = b"; the words here are: facl-who " + QUESTIONS[given.question].encode()
+    if os.path.isfile(source.folder):
+        raise Failure(source.shown + b": is a file, and no snapshot; a file of getfacl -R comes by --dump "
+                      + shell_word(source.shown) + words)
     names = [os.path.join(source.folder, name) for name in NEEDED]
     if not all(os.path.exists(name) or is_hidden(name) for name in names):
-        raise Failure(source.shown + b": is no snapshot, which is made as root by facl-snapshot DIR FOLDER; the words here "
-                      b"are: facl-who " + QUESTIONS[given.question].encode())
+        raise Failure(source.shown + b": is no snapshot, which is made as root by facl-snapshot DIR FOLDER" + words)
     os.close(check_texts(source.folder))
 
 

@@ -383,6 +383,8 @@ class Words(WhoCase):
         for name in ("nowhere", "empty"):
             self.assertEqual(self.message("read", name), b"facl-who: " + name.encode() + b": is no snapshot, which is made as root by facl-snapshot "
                              b"DIR FOLDER; the words here are: facl-who PERMS[,PERMS..] SNAPSHOT [FOLDER..]\n")
+        self.assertEqual(self.message("read", "project/dump"), b"facl-who: project/dump: is a file, and no snapshot; a file of getfacl -R comes "
+                         b"by --dump project/dump; the words here are: facl-who PERMS[,PERMS..] SNAPSHOT [FOLDER..]\n")
         self.assertIn(b"the words here are: facl-who --new-file FOLDER USER [--umask MASK] SNAPSHOT\n",
                       self.message("--new-file", "project", "/srv/project", "mara"))
         self.write("project/group", b"staff\n")
