@@ -195,6 +195,28 @@ class Unseen(Case):
             self.assertIn(names.shown(self.FOLDER.encode()).decode().replace("\\", "\\\\").rpartition("/")[2], page)
 
 
+class Computed(Case):
+    """Names that a spreadsheet would compute, in each command that has --tsv."""
+
+    def test_each_command(self) -> None:
+        body = b"# owner: 1500\n# group: 1600\nuser::rwx\nuser:1501:r--\ngroup::r--\nmask::r--\nother::---\n\n"
+        self.write("before/passwd", b"=cmd|calc:x:1500:1600:::\n+1:x:1501:1601:::\n")
+        self.write("before/group", b"@sum:x:1600:\nother:x:1601:\n")
+        self.write("before/dump", b"# file: =1+1/\n" + body.replace(b"user:1501:r--", b"user:1501:rwx") + b"# file: =1+1/-x\n" + body)
+        shutil.copytree(self.path("before"), self.path("after"))
+        self.write("after/dump", self.read("before/dump").replace(b"user:1501:rwx", b"user:1501:---").replace(b"user:1501:r--", b"user:1501:---"))
+        self.write("rules", b"never '=cmd|calc' read '=1+1'\n")
+        os.chmod(self.path("rules"), 0o600)
+        for line, wanted in (("facl-who --tsv read before", (b"'=cmd|calc", b"'=1+1")), ("facl-who --tsv --owner =cmd|calc before", (b"'=1+1",)),
+                             ("facl-diff --tsv before after", (b"'+1", b"'=1+1")), ("facl-audit --tsv before", (b"'=1+1",)),
+                             ("facl-audit --tsv --list mask-cuts-entry before", (b"'=1+1",)), ("facl-check --tsv before rules", (b"'=cmd|calc", b"'=1+1"))):
+            name, *words = line.split(" ")
+            done = self.run_command(name, words)
+            fields = [field for row in done.out.splitlines()[1:] for field in row.split(b"\t")]
+            self.assertLessEqual(set(wanted), set(fields), (line, done))
+            self.assertEqual([it for it in fields if it[:1] in (b"=", b"+", b"@", b'"')], [], line)
+
+
 class Terminals(Case):
     """By facl-who, whose table is short."""
 
