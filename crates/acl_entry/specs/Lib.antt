@@ -5,3 +5,4 @@ pub mod Lists
 pub mod Person
 pub mod Check
 pub mod Mentions
+pub mod GroupsOfOne

@@ -94,7 +94,7 @@ impl Subject {
 }
 
 /// Ids in rising order, each once. Fails only if memory runs out.
-pub fn rising_ids(ids: Vec<Id>) -> Result<Vec<Id>, AllocError>
+pub(crate) fn rising_ids(ids: Vec<Id>) -> Result<Vec<Id>, AllocError>
     ensures rising { IfOk result (λ rising. IsStrictlyIncreasing rising.items) }
     ensures set { IfOk result (λ rising. sets.from_list {R = nat_cmp} rising.items ≡ sets.from_list ids.items) }
     ensures same { IfOk result (λ rising. (id : ℕ) → is_one_of id rising.items ≡ is_one_of id ids.items) }

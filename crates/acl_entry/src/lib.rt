@@ -10,12 +10,14 @@ mod check;
 mod draft;
 mod entry;
 mod label;
+mod subject_groups;
 
 pub use acl::{Acl, INLINE_ENTRIES, MAX_ENTRIES, limits_are_as_defined};
 pub use check::{Requests, granted};
 pub use draft::Draft;
 pub use entry::{Entry, Id, Key, ListFault, NOBODY, Perm};
-pub use label::{Label, Subject, rising_ids};
+pub use label::{Label, Subject};
+pub use subject_groups::groups_of_one;
 
 /// What is returned where memory runs out: std's error under the name that the crates above use for it.
 pub type NoMemory = std::alloc::AllocError;

@@ -1,6 +1,7 @@
 //! The public surface as a user sees it, with its types written out: permission sets, lists, and the check.
 use acl_entry::{
     Acl, Entry, Id, Key, Label, ListFault, NoMemory, Perm, Requests, Subject, granted,
+    groups_of_one,
 };
 use std::alloc::Global;
 use std::process::Abort;
@@ -122,4 +123,22 @@ fn a_subject_without_groups(rt: HostRuntime) {
     let joe: Id = Id::new(1000).expect(&rt, "an id");
     let alone: Subject = Subject::new(joe, Vec::new(rt.alloc()));
     assert!(rt; alone.uid().number() == 1000 && alone.groups().is_empty());
+}
+
+/// A user of two groups.
+fn of_two(rt: &impl Abort, alloc: Global, groups: [u32; 2]) -> Subject {
+    let joe: Id = Id::new(1000).expect(rt, "an id");
+    let one: Id = Id::new(groups[0]).expect(rt, "an id");
+    let other: Id = Id::new(groups[1]).expect(rt, "an id");
+    Subject::from_groups(alloc, joe, &[one, other]).expect(rt, "memory")
+}
+
+#[test]
+fn groups_that_a_user_joined_or_left(rt: HostRuntime) {
+    let before: Subject = of_two(&rt, rt.alloc(), [70, 50]);
+    let after: Subject = of_two(&rt, rt.alloc(), [50, 60]);
+    let moved: Result<Vec<Id>, NoMemory> = groups_of_one(rt.alloc(), &before, &after);
+    let moved: Vec<Id> = moved.expect(&rt, "memory");
+    assert!(rt; moved.len() == 2);
+    assert!(rt; (moved[0].number(), moved[1].number()) == (60, 70));
 }

@@ -6,7 +6,7 @@ use Rattle.std.proofs.lemmas.Cmp.{nat_cmp_total}
 use Rattle.std.proofs.lemmas.List.{set-get_or, length-map}
 use Rattle.std.proofs.lemmas.Option.{get_or_from_slice_get, slice_get_within}
 use Rattle.acl_entry.specs.Person.{Person}
-use Rattle.acl_people.specs.GroupsOfOne.{AreMoved, in_just_one}
+use Rattle.acl_entry.specs.GroupsOfOne.{AreMoved, in_just_one}
 use Rattle.acl_people.specs.Moves.{ChangesUser}
 use Rattle.acl_people.proofs.Pointers.{value_at}
 

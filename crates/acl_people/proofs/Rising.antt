@@ -21,7 +21,7 @@ use Rattle.acl_entry.specs.Mentions.{is_one_of}
 use Rattle.acl_entry.specs.Person.{Person}
 use Rattle.acl_text.specs.declared.rows.PasswdRow.{PasswdRow}
 use Rattle.acl_people.specs.KnownPeople.{KnownPeople, gids_of, person, persons}
-use Rattle.acl_people.specs.GroupsOfOne.{AreMoved, in_just_one}
+use Rattle.acl_entry.specs.GroupsOfOne.{AreMoved, in_just_one}
 use Rattle.acl_people.specs.Moves.{rising, ids_of_one, user_gids}
 
 -- ---- entries of a set

@@ -9,4 +9,3 @@ pub mod Moves
 pub mod Laws
 pub mod Places
 pub mod Cases
-pub mod GroupsOfOne

@@ -6,7 +6,7 @@ use Rattle.std.specs.Ordering.{nat_cmp}
 use Rattle.std.specs.FinMap.{keys, from_entries}
 use Rattle.acl_entry.specs.Mentions.{is_one_of}
 use Rattle.acl_entry.specs.Person.{Person}
-use Rattle.acl_people.specs.GroupsOfOne.{AreMoved, in_just_one}
+use Rattle.acl_entry.specs.GroupsOfOne.{AreMoved, in_just_one}
 use Rattle.acl_people.specs.KnownPeople.{KnownPeople, gids_of, persons}
 
 -- one user may have other groups; the user's id and all other users are as they were

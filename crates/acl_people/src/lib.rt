@@ -13,7 +13,6 @@ mod name_table;
 mod people;
 mod persons;
 mod places_by_id;
-mod subject_groups;
 mod subjects;
 mod user_name;
 mod users;

@@ -8,8 +8,7 @@ ghost use Rattle.acl_names.specs.Made.{values, Makes};
 
 use crate::groups::Group;
 use crate::people::People;
-use crate::subject_groups::groups_of_one;
-use acl_entry::Id;
+use acl_entry::{Id, groups_of_one};
 use std::alloc::{AllocError, Global};
 use std::collections::BTreeMap;
 use std::rc::Rc;

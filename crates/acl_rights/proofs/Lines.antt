@@ -13,7 +13,7 @@ use Rattle.acl_edit.specs.declared.node.Node.{Node}
 use Rattle.acl_names.specs.Paths.{PathOf}
 use Rattle.acl_names.proofs.Basics.{both_false}
 use Rattle.acl_tree.specs.Files.{Files}
-use Rattle.acl_people.specs.GroupsOfOne.{in_just_one}
+use Rattle.acl_entry.specs.GroupsOfOne.{in_just_one}
 use Rattle.acl_people.specs.Moves.{MovesUser}
 use Rattle.acl_rights.specs.Rows.{Verdict, cells_of, rows_of}
 

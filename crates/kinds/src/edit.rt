@@ -1,12 +1,12 @@
 //! Edits of entries by their numbers: what an edit makes of a number is computed once.
 
-ghost use Rattle.std.specs.Prelude.{◌≡◌, ◌+◌, ◌++◌, ◌∷◌, [], map, IfOk, OnOk, length};
+ghost use Rattle.std.specs.Prelude.{◌≡◌, ◌<◌, ◌++◌, ◌∷◌, [], map, IfOk, OnOk, length};
 ghost use Rattle.std.specs.List.{AllByRecursion};
 ghost use Rattle.path_map.specs.Entries.{IsInOrder, seen};
 ghost use Rattle.kinds.specs.Kinds.{IsNode};
 ghost use Rattle.kinds.specs.Numbered.{AreUsed, entries_by};
 ghost use Rattle.kinds.specs.Inner.{AreAmong};
-ghost use Rattle.kinds.specs.Memo.{NodeEdit, edit_each, EditsOneMore, AreEdited, ArePut};
+ghost use Rattle.kinds.specs.Memo.{NodeEdit, edit_each, EditsOneMore, AreEdited, ArePut, CountsAgain};
 ghost use Rattle.kinds.specs.Stops.{GivesOr, StopsAt, EditsEntry};
 ghost use Rattle.kinds.specs.declared.edit.Stop.{Stop};
 
@@ -71,15 +71,36 @@ fn edit_one<N: Drop, E: KindEdit<N>>(
     }
 }
 
-/// Keeps what an edit made of a number that was not seen before, which a path has.
-fn note_edited<N>(
+/// Counts one path more for the number at a place of those that were seen, and puts its entry. Returns the new number.
+fn put_again<'a>(
+    memo: &mut Memo,
+    puts: &mut Vec<(&'a Path, usize)>,
+    path: &'a Path,
+    at: usize,
+) -> Result<usize, AllocError>
+    requires { at < length memo.old.met.items }
+    ensures counted { IfOk result (λ new. CountsAgain at memo.old.met.items memo.new.met.items new) }
+    ensures put { IfOk result (λ new. puts.new.items ≡ puts.old.items ++ (path.entry, new) ∷ []) }
+{
+    memo.last = at;
+    let new = count_again(&mut memo.met, at)?;
+    puts.push((path, new))?;
+    Ok(new)
+}
+
+/// Keeps what an edit made of a number that was not seen before, and puts the entry of the path that has it.
+fn put_first<'a, N>(
     kinds: &Kinds<N>,
     memo: &mut Memo,
+    puts: &mut Vec<(&'a Path, usize)>,
+    path: &'a Path,
     old: usize,
     new: usize,
 ) -> Result<(), AllocError>
-    ensures { OnOk result (memo.new.met.items ≡ memo.old.met.items ++ record { old = old; new = new; count = 1 } ∷ []) }
+    ensures kept { OnOk result (memo.new.met.items ≡ memo.old.met.items ++ record { old = old; new = new; count = 1 } ∷ []) }
+    ensures put { OnOk result (puts.new.items ≡ puts.old.items ++ (path.entry, new) ∷ []) }
 {
+    puts.push((path, new))?;
     if kinds.count(old) == 1 {
         return memo.note_alone(old, new);
     }
@@ -101,15 +122,12 @@ fn edit_entry<'a, N: Drop, E: KindEdit<N>>(
     ensures reported { StopsAt result (edit_each (E.edited edit.now) (entries_by kinds ((path.now, number) ∷ []))) }
 {
     if let Some(at) = memo.place(number) {
-        memo.last = at;
-        let new = count_again(&mut memo.met, at)?;
-        puts.push((path, new))?;
+        let _new = put_again(memo, puts, path, at)?;
         return Ok(kinds);
     }
     let node = edit_one(alloc, &kinds, path, number, edit)?;
     let (kinds, new) = kinds.add(alloc, node)?;
-    note_edited(&kinds, memo, number, new)?;
-    puts.push((path, new))?;
+    put_first(&kinds, memo, puts, path, number, new)?;
     Ok(kinds)
 }
 
@@ -164,8 +182,9 @@ impl<N: Drop> KindMap<N> {
     {
         let edited = edit_entries(alloc, self.kinds().share()?, entries, edit)?;
         let EditedNumbers { kinds, memo, puts } = edited;
-        let numbers = self.numbers().with_values(alloc, &puts)?;
         let kinds = settle(kinds, &memo.met)?;
+        drop(memo);
+        let numbers = self.numbers().with_values(alloc, &puts)?;
         let map = KindMap::of(alloc, kinds, numbers)?;
         Ok(EditedMap { map, entries: puts })
     }

@@ -25,10 +25,6 @@ module _ {V : Type 0} (g : PathOf → V → V) where
   each-append [] r = refl
   each-append (e ∷ l) r = ap (λ es. (e.0, g e.0 e.1) ∷ es) (each-append l r)
 
-  pub length-each : (es : List (PathOf × V)) → length (each g es) ≡ length es
-  length-each [] = refl
-  length-each (e ∷ es) = ap suc (length-each es)
-
   below-each : (p : PathOf) (es : List (PathOf × V)) → below_all path_cmp p (each g es) ≡ below_all path_cmp p es
   below-each p [] = refl
   below-each p (e ∷ es) = ap (λ b. is_lt (path_cmp p e.0) && b) (below-each p es)
@@ -44,11 +40,6 @@ module _ {V : Type 0} (g : PathOf → V → V) where
   pub each_zip : (es : List (PathOf × V)) → zip (map (λ e. e.0) es) (map (λ e. e.1) (each g es)) ≡ each g es
   each_zip [] = refl
   each_zip (e ∷ es) = ap (λ l. (e.0, g e.0 e.1) ∷ l) (each_zip es)
-
--- values that do not depend on the path
-pub each_alone : {V : Type 0} (f : V → V) (es : List (PathOf × V)) → map (λ e. e.1) (each (λ p v. f v) es) ≡ map f (map (λ e. e.1) es)
-each_alone f [] = refl
-each_alone f (e ∷ es) = ap (λ l. f e.1 ∷ l) (each_alone f es)
 
 -- ---- values by their paths
 

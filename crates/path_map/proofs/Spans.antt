@@ -5,14 +5,13 @@ use Rattle.std.proofs.Common.{length-drop, take-append-drop}
 use Rattle.std.specs.List.{zip, flat_map}
 use Rattle.std.specs.List.Sorted.{IsPartitionPoint, IsPartitionedBy}
 use Rattle.std.specs.Ordering.{is_gt}
-use Rattle.std.proofs.lemmas.List.{get_or_append_left, get_or-map, length-map, get_or-drop, drop-drop, map-append}
+use Rattle.std.proofs.lemmas.List.{get_or_append_left, get_or-map, length-map, get_or-drop, drop-drop}
 use Rattle.acl_names.specs.Paths.{path_cmp, PathOf}
 use Rattle.acl_names.specs.Below.{encloses}
 use Rattle.acl_names.proofs.Below.{convex, not_before}
 use Rattle.acl_names.proofs.Basics.{not_gt}
 use Rattle.path_map.specs.Entries.{IsInOrder}
 use Rattle.path_map.specs.Below.{within}
-use Rattle.path_map.specs.Changed.{each, changed_within}
 use Rattle.path_map.specs.Inner.{IsStart, IsCountUpTo, AreFirstWithin, IsWithinFirst, BeginsBy, BeginsIn, Before, From, After, Are}
 use Rattle.path_map.proofs.Places.{above, rises}
 use Rattle.path_map.proofs.Chunks.{around, rest_after, in_order-right, flat_map-append}
@@ -21,7 +20,7 @@ use Rattle.path_map.proofs.Merges.{before_start, from_start, later_after, before
 use Rattle.path_map.proofs.Ranges.{from_each, before_left}
 use Rattle.path_map.proofs.Rows.{in_order-rows}
 use Rattle.path_map.proofs.Zipped.{keyed, keyed_of, keys_zip, drop_zip, length_of}
-use Rattle.path_map.proofs.Each.{each-append, in_order-drop}
+use Rattle.path_map.proofs.Each.{in_order-drop}
 
 module _ {V : Type 0} where
   from_at : (p : PathOf) (es : List (PathOf × V)) → From p es → (j : ℕ) (d : PathOf × V) → j < length es → path_cmp p (get_or es j d).0 ≢ Greater
@@ -82,34 +81,6 @@ module _ {V : Type 0} where
     | true ↦ ap (λ es. e ∷ es) (within-append p l r)
     | false ↦ within-append p l r
   ]
-
-  pub changed_none : (p : PathOf) (f : V → V) (es : List (PathOf × V)) → Are false p es → changed_within p f es ≡ es
-  changed_none p f [] h = refl
-  changed_none p f (e ∷ es) h = λ i. (e.0, cond (h.0 i) (f e.1) e.1) ∷ changed_none p f es h.1 i
-
-  changed_all : (p : PathOf) (f : V → V) (es : List (PathOf × V)) → Are true p es → map (λ e. e.1) (changed_within p f es) ≡ map f (map (λ e. e.1) es)
-  changed_all p f [] h = refl
-  changed_all p f (e ∷ es) h = λ i. cond (h.0 i) (f e.1) e.1 ∷ changed_all p f es h.1 i
-
-  pub changed_each : (p : PathOf) (f : V → V) (es : List (PathOf × V)) → Are true p es → each (λ q v. f v) es ≡ changed_within p f es
-  changed_each p f [] h = refl
-  changed_each p f (e ∷ es) h = λ i. (e.0, cond (sym h.0 i) (f e.1) e.1) ∷ changed_each p f es h.1 i
-
-  -- the values, in the three parts
-  pub changed_values : (p : PathOf) (f : V → V) (es : List (PathOf × V)) (b k : ℕ) → IsStart es p b → IsWithinFirst es p b k
-      → (map (λ e. e.1) (take b es) ++ map f (map (λ e. e.1) (take k (drop b es)))) ++ map (λ e. e.1) (drop k (drop b es)) ≡ map (λ e. e.1) (changed_within p f es)
-  changed_values p f es b k start span =
-      let l = take b es in
-      let m = take k (drop b es) in
-      let r = drop k (drop b es) in
-      let whole : l ++ (m ++ r) ≡ es = ap (λ x. l ++ x) (take-append-drop k (drop b es)) ∙ take-append-drop b es in
-      append_assoc (map (λ e. e.1) l) (map f (map (λ e. e.1) m)) (map (λ e. e.1) r)
-      ∙ (λ i. map (λ e. e.1) (sym (changed_none p f l (before_are p l (before_start es p b start))) i)
-      ++ (sym (changed_all p f m span.inside) i ++ map (λ e. e.1) (sym (changed_none p f r span.after) i)))
-      ∙ ap (λ x. map (λ e. e.1) (changed_within p f l) ++ x) (sym (map-append (λ e. e.1) (changed_within p f m) (changed_within p f r)) ∙ ap (λ x. map (λ e. e.1) x) (sym (each-append _ m r)))
-      ∙ sym (map-append (λ e. e.1) (changed_within p f l) (changed_within p f (m ++ r)))
-      ∙ ap (λ x. map (λ e. e.1) x) (sym (each-append _ l (m ++ r)))
-      ∙ ap (λ x. map (λ e. e.1) (changed_within p f x)) whole
 
 -- ---- the paths of entries
 
@@ -217,37 +188,6 @@ module _ {A V : Type 0} (f : A → List (PathOf × V)) where
       in_order-right (flat_map f (take n parts)) (flat_map f (drop n parts)) (subst IsInOrder (sym (halves f n parts (take n parts) (drop n parts) refl refl)) h) in
       subst (λ l. IsInOrder (flat_map f l) × From p (flat_map f l)) (sym is) (order, from_each f p (flat_map f (drop n parts)) order (rest_after f parts p n counted))
 
-  pub changed_joined : (change : V → V) (p : PathOf) (parts front rest first more within after : List A) (n b m : ℕ) (old new_1 new_2 new_3 new_4 : List (PathOf × V))
-      → IsInOrder (flat_map f parts) → IsCountUpTo f parts p n → b ≡ n - 1
-      → front ≡ take b parts → rest ≡ drop b parts → first ≡ take (n - b) rest → more ≡ drop (n - b) rest
-      → AreFirstWithin f more p m → within ≡ take m more → after ≡ drop m more
-      → new_1 ≡ old ++ flat_map f front → new_2 ≡ new_1 ++ changed_within p change (flat_map f first)
-      → new_3 ≡ new_2 ++ changed_within p change (flat_map f within) → new_4 ≡ new_3 ++ flat_map f after
-      → new_4 ≡ old ++ changed_within p change (flat_map f parts)
-  changed_joined change p parts front rest first more within after n b m old new_1 new_2 new_3 new_4 h counted is_b is_front is_rest is_first is_more started is_within is_after e_1 e_2 e_3 e_4 =
-      let g = changed_within p change in
-      let is : more ≡ drop n parts = is_more ∙ ap (drop (n - b)) is_rest ∙ drop-drop (n - b) b parts ∙ ap (λ k. drop k parts) {x = b + (n - b)} {y = n} (omega (arith, is_b)) in
-      let ordered = more_from parts more p n h counted is in
-      let none : Are false p (flat_map f after) = subst (λ l. Are false p (flat_map f l)) (sym is_after) (after_none more p m ordered.0 ordered.1 started) in
-      let none_front : Are false p (flat_map f front) = subst (λ l. Are false p (flat_map f l)) (sym is_front) (before_are p (flat_map f (take b parts)) (front_before parts p n b h counted is_b)) in
-      let whole : flat_map f front ++ (flat_map f first ++ (flat_map f within ++ flat_map f after)) ≡ flat_map f parts =
-      ap (λ l. flat_map f front ++ (flat_map f first ++ l)) (halves f m more within after is_within is_after)
-      ∙ ap (λ l. flat_map f front ++ l) (halves f (n - b) rest first more is_first is_more)
-      ∙ halves f b parts front rest is_front is_rest
-      in
-      e_4
-      ∙ ap (λ l. l ++ flat_map f after) (e_3 ∙ ap (λ l. l ++ g (flat_map f within)) (e_2 ∙ ap (λ l. l ++ g (flat_map f first)) e_1))
-      ∙ append_assoc ((old ++ flat_map f front) ++ g (flat_map f first)) (g (flat_map f within)) (flat_map f after)
-      ∙ append_assoc (old ++ flat_map f front) (g (flat_map f first)) (g (flat_map f within) ++ flat_map f after)
-      ∙ append_assoc old (flat_map f front) (g (flat_map f first) ++ (g (flat_map f within) ++ flat_map f after))
-      ∙ ap (λ l. old ++ l) (
-      (λ i. sym (changed_none p change (flat_map f front) none_front) i ++ (g (flat_map f first) ++ (g (flat_map f within) ++ sym (changed_none p change (flat_map f after) none) i)))
-      ∙ ap (λ l. g (flat_map f front) ++ (g (flat_map f first) ++ l)) (sym (each-append _ (flat_map f within) (flat_map f after)))
-      ∙ ap (λ l. g (flat_map f front) ++ l) (sym (each-append _ (flat_map f first) (flat_map f within ++ flat_map f after)))
-      ∙ sym (each-append _ (flat_map f front) (flat_map f first ++ (flat_map f within ++ flat_map f after)))
-      ∙ ap g whole
-      )
-
   -- the parts that lie between two that begin within the path have no others
   pub all_are : (more some all last : List A) (p : PathOf) (m j : ℕ) → IsInOrder (flat_map f more) → From p (flat_map f more) → AreFirstWithin f more p m
       → some ≡ take m more → j ≡ length some - 1 → all ≡ take j some → last ≡ drop j some → Are true p (flat_map f all)
@@ -294,29 +234,6 @@ module _ {A V : Type 0} (f : A → List (PathOf × V)) where
           entries (f c) (flat_map f cs ++ flat_map f (drop m more)) (flat_map f all) (subst (λ x. BeginsIn true (f x) p) here (started.last c some_m))
           (subst IsInOrder (sym split) h)
           (from-left p (flat_map f all) (f c ++ (flat_map f cs ++ flat_map f (drop m more))) (subst (λ l. From p l) (sym split) from))
-
-  -- with the parts between them changed whole
-  pub changed_whole_joined : (change : V → V) (p : PathOf) (parts front rest first more some after all last : List A) (n b m j : ℕ) (old new_1 new_2 new_3 new_4 new_5 : List (PathOf × V))
-      → IsInOrder (flat_map f parts) → IsCountUpTo f parts p n → b ≡ n - 1
-      → front ≡ take b parts → rest ≡ drop b parts → first ≡ take (n - b) rest → more ≡ drop (n - b) rest
-      → AreFirstWithin f more p m → some ≡ take m more → after ≡ drop m more → j ≡ length some - 1 → all ≡ take j some → last ≡ drop j some
-      → new_1 ≡ old ++ flat_map f front → new_2 ≡ new_1 ++ changed_within p change (flat_map f first)
-      → new_3 ≡ new_2 ++ each (λ q v. change v) (flat_map f all) → new_4 ≡ new_3 ++ changed_within p change (flat_map f last)
-      → new_5 ≡ new_4 ++ flat_map f after
-      → new_5 ≡ old ++ changed_within p change (flat_map f parts)
-  changed_whole_joined change p parts front rest first more some after all last n b m j old new_1 new_2 new_3 new_4 new_5 h counted is_b is_front is_rest
-      is_first is_more started is_some is_after is_j is_all is_last e_1 e_2 e_3 e_4 e_5 =
-      let g = changed_within p change in
-      let is : more ≡ drop n parts = is_more ∙ ap (drop (n - b)) is_rest ∙ drop-drop (n - b) b parts ∙ ap (λ k. drop k parts) {x = b + (n - b)} {y = n} (omega (arith, is_b)) in
-      let ordered = more_from parts more p n h counted is in
-      let every : Are true p (flat_map f all) = all_are more some all last p m j ordered.0 ordered.1 started is_some is_j is_all is_last in
-      let both : new_4 ≡ new_2 ++ g (flat_map f some) =
-      e_4
-      ∙ ap (λ l. l ++ g (flat_map f last)) (e_3 ∙ ap (λ l. new_2 ++ l) (changed_each p change (flat_map f all) every))
-      ∙ append_assoc new_2 (g (flat_map f all)) (g (flat_map f last))
-      ∙ ap (λ l. new_2 ++ l) (sym (each-append _ (flat_map f all) (flat_map f last)) ∙ ap g (halves f j some all last is_all is_last))
-      in
-      changed_joined change p parts front rest first more some after n b m old new_1 new_2 new_4 new_5 h counted is_b is_front is_rest is_first is_more started is_some is_after e_1 e_2 both e_5
 
   pub count_joined : (p : PathOf) (parts front rest first more some after all last : List A) (n b m j : ℕ)
       → IsInOrder (flat_map f parts) → IsCountUpTo f parts p n → b ≡ n - 1

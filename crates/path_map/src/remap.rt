@@ -1,66 +1,21 @@
 //! Maps of the same paths with other values: they share all paths.
 
-ghost use Rattle.std.specs.Prelude.{◌≡◌, ◌++◌, ◌+◌, ◌<◌, ◌≤◌, [], ◌∷◌, length, IfOk, OnOk, List, ℕ, map, take, drop, slice_index_or};
-ghost use Rattle.std.specs.List.{zip};
+ghost use Rattle.std.specs.Prelude.{◌≡◌, ◌++◌, ◌+◌, ◌<◌, [], ◌∷◌, length, IfOk, OnOk, map, take};
 ghost use Rattle.std.specs.FinMap.{find};
-ghost use Rattle.acl_names.specs.Paths.{path_cmp, PathOf};
+ghost use Rattle.acl_names.specs.Paths.{path_cmp};
 ghost use Rattle.path_map.specs.Entries.{IsInOrder, entries_of_parts, found, seen};
-ghost use Rattle.path_map.specs.Below.{within};
-ghost use Rattle.path_map.specs.Changed.{each, with_values, changed_within};
+ghost use Rattle.path_map.specs.Changed.{with_values};
 ghost use Rattle.path_map.specs.Inner.{IsPassed};
 
 use crate::branch::Branch;
 use crate::chunk::Chunk;
 use crate::map::PathMap;
 use crate::merge::share_all;
-use crate::part::{Part, count_parts_within, count_up_to, push_none, start};
+use crate::part::{Part, push_none, start};
 use crate::run::Run;
 use acl_names::Path;
 use std::alloc::{AllocError, Global};
-use std::marker::Model;
 use std::rc::Rc;
-
-/// What values become.
-pub trait Change<V> {
-    /// What a value becomes.
-    ghost changed: { Self → V → V };
-
-    /// What a value becomes. Allocates nothing.
-    fn change(&self, value: V) -> V
-        ensures { result ≡ changed self.now value };
-}
-
-/// New numbers, each at the place of the number that becomes it: a number that is no place stays.
-#[derive(Drop)]
-pub struct Renumbered<'a> {
-    new: &'a [usize],
-}
-
-impl<'a> Model for Renumbered<'a> {
-    ghost Value = { List ℕ };
-
-    ghost view = { λ r. r.new.now };
-}
-
-impl<'a> Renumbered<'a> {
-    /// The change to these numbers.
-    pub fn new(new: &'a [usize]) -> Renumbered<'a>
-        ensures { result ≡ new.now }
-    {
-        Renumbered { new }
-    }
-}
-
-impl<'a> Change<usize> for Renumbered<'a> {
-    ghost changed = { λ new n. slice_index_or new n n };
-
-    fn change(&self, value: usize) -> usize {
-        match self.new.get(value) {
-            Some(new) => *new,
-            None => value,
-        }
-    }
-}
 
 /// A part whose values can be changed, while its paths stay.
 pub(crate) trait Remap<V: Copy>: Part<V> + Sized + Drop {
@@ -74,22 +29,7 @@ pub(crate) trait Remap<V: Copy>: Part<V> + Sized + Drop {
         requires { IsInOrder (map seen puts.now) }
         ensures part { IfOk result (λ new. Self.entries_of new ≡ with_values (map seen puts.now) (Self.entries_of self.now)) }
         ensures was { IfOk result (λ _. was.new.items ≡ was.old.items ++ found (map seen puts.now) (Self.entries_of self.now)) };
-
-    /// The part with all values changed.
-    fn changed_whole<C: Change<V>>(&self, alloc: Global, change: &C) -> Result<Self, AllocError>
-        ensures { IfOk result (λ new. Self.entries_of new ≡ each (λ p v. C.changed change.now v) (Self.entries_of self.now)) };
-
-    /// The part with the values at or below a path changed.
-    fn changed_within<C: Change<V>>(
-        &self,
-        alloc: Global,
-        top: &Path,
-        change: &C,
-    ) -> Result<Self, AllocError>
-        ensures { IfOk result (λ new. Self.entries_of new ≡ changed_within top.now (C.changed change.now) (Self.entries_of self.now)) };
 }
-
-// ---- values by their paths
 
 /// Adds the values up to the path of an entry, with its value in the place of one at that path, which is added to those
 /// that were there.
@@ -173,117 +113,7 @@ fn push_replaced<V: Copy, P: Remap<V>>(
     }
 }
 
-// ---- values at or below a path
-
-/// Adds what values become.
-fn push_changed_values<V: Copy, C: Change<V>>(
-    new: &mut Vec<V>,
-    old: &[V],
-    change: &C,
-) -> Result<(), AllocError>
-    ensures { OnOk result (new.new.items ≡ new.old.items ++ map (C.changed change.now) old.now) }
-{
-    for value in old {
-        new.push(change.change(*value))?;
-    }
-    Ok(())
-}
-
-/// The values of entries, those at or below a path changed.
-fn values_changed_within<V: Copy, C: Change<V>>(
-    alloc: Global,
-    run: &Run<'_, V>,
-    top: &Path,
-    change: &C,
-) -> Result<Vec<V>, AllocError>
-    requires { IsInOrder run.now }
-    ensures { IfOk result (λ new. new.items ≡ map (λ e. e.1) (changed_within top.now (C.changed change.now) run.now)) }
-{
-    let before = run.start(top);
-    let rest = run.back(before);
-    let count = run.count_within_first(before, top);
-    let mut new = Vec::with_capacity(alloc, run.len())?;
-    new.extend_from_slice(run.front(before).values())?;
-    push_changed_values(&mut new, rest.front(count).values(), change)?;
-    new.extend_from_slice(rest.back(count).values())?;
-    Ok(new)
-}
-
-/// Adds parts, all their values changed.
-fn push_changed_whole<V: Copy, P: Remap<V>, C: Change<V>>(
-    alloc: Global,
-    new: &mut Vec<Rc<P>>,
-    parts: &[Rc<P>],
-    change: &C,
-) -> Result<(), AllocError>
-    ensures entries { OnOk result (entries_of_parts P.entries_of new.new.items
-        ≡ entries_of_parts P.entries_of new.old.items ++ each (λ p v. C.changed change.now v) (entries_of_parts P.entries_of parts.now)) }
-    ensures count { OnOk result (length new.new.items ≡ length new.old.items + length parts.now) }
-{
-    for part in parts {
-        new.push(Rc::new(alloc, part.changed_whole(alloc, change)?)?)?;
-    }
-    Ok(())
-}
-
-/// Adds parts, their values at or below a path changed.
-fn push_changed<V: Copy, P: Remap<V>, C: Change<V>>(
-    alloc: Global,
-    new: &mut Vec<Rc<P>>,
-    parts: &[Rc<P>],
-    top: &Path,
-    change: &C,
-) -> Result<(), AllocError>
-    ensures entries { OnOk result (entries_of_parts P.entries_of new.new.items
-        ≡ entries_of_parts P.entries_of new.old.items ++ changed_within top.now (C.changed change.now) (entries_of_parts P.entries_of parts.now)) }
-    ensures count { OnOk result (length new.new.items ≡ length new.old.items + length parts.now) }
-{
-    for part in parts {
-        new.push(Rc::new(alloc, part.changed_within(alloc, top, change)?)?)?;
-    }
-    Ok(())
-}
-
-/// Adds parts, their values at or below a path changed: parts that have none are shared. Only the first part and the
-/// last one that may have some look for them; those between them have no others.
-fn push_changed_within<V: Copy, P: Remap<V>, C: Change<V>>(
-    alloc: Global,
-    new: &mut Vec<Rc<P>>,
-    parts: &[Rc<P>],
-    top: &Path,
-    change: &C,
-) -> Result<(), AllocError>
-    requires { IsInOrder (entries_of_parts P.entries_of parts.now) }
-    ensures entries { OnOk result (entries_of_parts P.entries_of new.new.items
-        ≡ entries_of_parts P.entries_of new.old.items ++ changed_within top.now (C.changed change.now) (entries_of_parts P.entries_of parts.now)) }
-    ensures count { OnOk result (length new.new.items ≡ length new.old.items + length parts.now) }
-{
-    let started = count_up_to(parts, top);
-    let before = started.saturating_sub(1);
-    let (front, rest) = parts.split_at(before);
-    let (first, more) = rest.split_at(started - before);
-    let (some, after) = more.split_at(count_parts_within(more, top));
-    let (all, last) = some.split_at(some.len().saturating_sub(1));
-    share_all(new, front)?;
-    push_changed(alloc, new, first, top, change)?;
-    push_changed_whole(alloc, new, all, change)?;
-    push_changed(alloc, new, last, top, change)?;
-    share_all(new, after)?;
-    Ok(())
-}
-
 impl<V: Copy> Remap<V> for Chunk<V> {
-    fn changed_whole<C: Change<V>>(
-        &self,
-        alloc: Global,
-        change: &C,
-    ) -> Result<Chunk<V>, AllocError> {
-        let run = self.run();
-        let mut values = Vec::with_capacity(alloc, run.len())?;
-        push_changed_values(&mut values, run.values(), change)?;
-        Ok(self.with(values)?)
-    }
-
     fn replaced(
         &self,
         alloc: Global,
@@ -293,29 +123,9 @@ impl<V: Copy> Remap<V> for Chunk<V> {
         let values = values_replaced(alloc, was, &self.run(), puts)?;
         Ok(self.with(values)?)
     }
-
-    fn changed_within<C: Change<V>>(
-        &self,
-        alloc: Global,
-        top: &Path,
-        change: &C,
-    ) -> Result<Chunk<V>, AllocError> {
-        let values = values_changed_within(alloc, &self.run(), top, change)?;
-        self.with(values)
-    }
 }
 
 impl<V: Copy, P: Remap<V>> Remap<V> for Branch<V, P> {
-    fn changed_whole<C: Change<V>>(
-        &self,
-        alloc: Global,
-        change: &C,
-    ) -> Result<Branch<V, P>, AllocError> {
-        let mut parts = Vec::with_capacity(alloc, self.parts().len())?;
-        push_changed_whole(alloc, &mut parts, self.parts(), change)?;
-        Ok(self.with(parts))
-    }
-
     fn replaced(
         &self,
         alloc: Global,
@@ -324,17 +134,6 @@ impl<V: Copy, P: Remap<V>> Remap<V> for Branch<V, P> {
     ) -> Result<Branch<V, P>, AllocError> {
         let mut parts = Vec::with_capacity(alloc, self.parts().len())?;
         push_replaced(alloc, &mut parts, was, self.parts(), puts)?;
-        Ok(self.with(parts))
-    }
-
-    fn changed_within<C: Change<V>>(
-        &self,
-        alloc: Global,
-        top: &Path,
-        change: &C,
-    ) -> Result<Branch<V, P>, AllocError> {
-        let mut parts = Vec::with_capacity(alloc, self.parts().len())?;
-        push_changed_within(alloc, &mut parts, self.parts(), top, change)?;
         Ok(self.with(parts))
     }
 }
@@ -365,20 +164,5 @@ impl<V: Copy> PathMap<V> {
     {
         let (new, _was) = self.replaced(alloc, puts)?;
         Ok(new)
-    }
-
-    /// The map with the values at or below a path changed. This map stays as it is, and both share all paths. Fails
-    /// only if memory runs out.
-    pub fn changed_within<C: Change<V>>(
-        &self,
-        alloc: Global,
-        top: &Path,
-        change: &C,
-    ) -> Result<PathMap<V>, AllocError>
-        ensures { IfOk result (λ new. new ≡ changed_within top.now (C.changed change.now) self.now) }
-    {
-        let mut new = Vec::with_capacity(alloc, self.tops().len())?;
-        push_changed_within(alloc, &mut new, self.tops(), top, change)?;
-        Ok(PathMap::of(new))
     }
 }

@@ -1,6 +1,6 @@
 //! A map of several branches: the even numbers below 70,000 as names, each with itself as value.
 use crate::made::{Row, built, digit, map_of, merged, path, value_up_to};
-use path_map::{Entries, PathMap, Renumbered};
+use path_map::{Entries, PathMap};
 use std::alloc::Global;
 use std::process::Abort;
 
@@ -78,18 +78,6 @@ fn the_first_and_the_last_branch_are_changed(rt: HostRuntime) {
     let changed = merged(&rt, rt.alloc(), &map, &puts, &gone);
     assert!(rt; are_changed(changed.iter()));
     assert!(rt; are_evens(map.iter(), 0, 70_000));
-}
-
-#[test]
-fn a_number_of_all_is_renumbered(rt: HostRuntime) {
-    let map = evens(&rt, rt.alloc());
-    let root = path(&rt, rt.alloc(), b".");
-    let new = map
-        .changed_within(rt.alloc(), &root, &Renumbered::new(&[4]))
-        .expect(&rt, "memory");
-    let mut entries = new.iter();
-    assert!(rt; next_value(&mut entries) == Some(4));
-    assert!(rt; are_evens(entries, 2, 70_000));
 }
 
 /// Whether a look-up finds each even number from one to before another, in turn, and no odd one.

@@ -1,7 +1,7 @@
 //! A map of four paths. What is found is printed, each path with its value.
 use crate::made::{built, digit, entries, map_of, merged, path, rows, value_up_to};
 use acl_names::{Path, append_path};
-use path_map::{Entries, PathMap, PathMapBuilder, Renumbered, Within, is_in_order};
+use path_map::{Entries, PathMap, PathMapBuilder, Within, is_in_order};
 use std::alloc::Global;
 use std::process::Abort;
 
@@ -203,17 +203,6 @@ fn replaced_values_are_returned(rt: HostRuntime) {
 }
 
 #[test]
-fn values_within_a_path_are_renumbered(rt: HostRuntime) {
-    let map = four(&rt, rt.alloc());
-    let top = path(&rt, rt.alloc(), b"a");
-    let new = map
-        .changed_within(rt.alloc(), &top, &Renumbered::new(&[0, 0, 6]))
-        .expect(&rt, "memory");
-    // 3 is no place of the table: it stays.
-    expect_printed(&rt, rt.alloc(), &new, b".=1 a=6 a/b=3 ab=4 ");
-}
-
-#[test]
 fn many_paths_are_looked_up(rt: HostRuntime) {
     let map = four(&rt, rt.alloc());
     let rows = rows(&rt, rt.alloc(), &VALUES);
@@ -221,17 +210,4 @@ fn many_paths_are_looked_up(rt: HostRuntime) {
     assert!(rt; is_in_order(&asked));
     let found = map.get_all(rt.alloc(), &asked).expect(&rt, "memory");
     assert!(rt; found.as_slice() == [Some(2), None, Some(4)].as_slice());
-}
-
-#[test]
-fn a_map_takes_values_of_another_type(rt: HostRuntime) {
-    let mut builder = PathMapBuilder::new(rt.alloc());
-    let first = path(&rt, rt.alloc(), b"a");
-    assert!(rt; builder.takes(&first));
-    builder
-        .push(rt.alloc(), first, 1usize)
-        .expect(&rt, "memory");
-    let map = builder.finish(rt.alloc()).expect(&rt, "memory");
-    let new = map.valued(rt.alloc(), &[true]).expect(&rt, "memory");
-    assert!(rt; new.get(&path(&rt, rt.alloc(), b"a")) == Some(true));
 }

@@ -3,7 +3,7 @@ use Rattle.std.proofs.lemmas.Option.{slice_get_within}
 use Rattle.std.proofs.lemmas.List.{length-map}
 use Rattle.acl_entry.specs.Person.{Person}
 use Rattle.acl_people.specs.KnownPeople.{persons}
-use Rattle.acl_people.specs.GroupsOfOne.{AreMoved}
+use Rattle.acl_entry.specs.GroupsOfOne.{AreMoved}
 use Rattle.acl_people.proofs.Moving.{slice_get-set_same}
 use Rattle.acl_people.proofs.Rising.{moved_ids}
 use Rattle.acl_people.proofs.Moved.{subject_is, none_moved}

@@ -19,13 +19,13 @@ edit_entries-requires g c =
 
 pub with_values-requires : goal.with_values-requires
 with_values-requires g c =
-    subst (λ (l : Numbers). IsInOrder l) (sym (ap (map seen) c.deref.ensures.value))
+    subst (λ (l : Numbers). IsInOrder l) (sym (ap (map seen) c.deref-2.ensures.value))
     (sorted_paths (map seen c.in_ok-edited.edited.puts.items) (map seen c.args.entries.now) c.in_ok-edited.ensures.made.paths ∙ c.requires.order)
 
 pub settle-requires : goal.settle-requires
 settle-requires g c =
     let e = c.in_ok-edited.edited in
-    subst (λ (ms : List Met). AllByRecursion (λ m. IsNode e.kinds m.new) ms) (sym c.deref-2.ensures.value)
+    subst (λ (ms : List Met). AllByRecursion (λ m. IsNode e.kinds m.new) ms) (sym c.deref.ensures.value)
     (met_used (g.E.KindEdit.edited c.args.edit.now) c.in_ok-share.field-0 e.kinds e.memo.met.items c.in_ok-edited.ensures.made.known)
 
 pub of-requires : goal.of-requires
@@ -38,9 +38,9 @@ of-requires g c =
     let edit = g.E.KindEdit.edited c.args.edit.now in
     let made : AreEdited edit k0 done e.kinds e.memo.met.items puts =
     subst (λ (k : KindsOf g.row.N.Denot). AreEdited edit k done e.kinds e.memo.met.items puts) (c.in_ok-share.ensures ∙ c.kinds.ensures.all) c.in_ok-edited.ensures.made in
-    let moves : Moves e.kinds e.memo.met.items c.in_ok-kinds.kinds = subst (λ (ms : List Met). Moves e.kinds ms c.in_ok-kinds.kinds) c.deref-2.ensures.value c.in_ok-kinds.ensures in
+    let moves : Moves e.kinds e.memo.met.items c.in_ok-kinds.kinds = subst (λ (ms : List Met). Moves e.kinds ms c.in_ok-kinds.kinds) c.deref.ensures.value c.in_ok-kinds.ensures in
     let numbers : c.in_ok-numbers.numbers ≡ put_all puts ns =
-    c.in_ok-numbers.ensures ∙ (λ i. with_values (map seen (c.deref.ensures.value i)) (c.numbers.ensures.all i))
+    c.in_ok-numbers.ensures ∙ (λ i. with_values (map seen (c.deref-2.ensures.value i)) (c.numbers.ensures.all i))
     ∙ numbers_after edit k0 e.kinds c.in_ok-kinds.kinds ns done puts e.memo.met.items c.kinds.ensures.sound c.requires.order c.requires.among made moves
     in
     subst (λ (l : Numbers). AreSound c.in_ok-kinds.kinds l) (sym numbers)
@@ -56,7 +56,7 @@ returns-clause-made g c =
     let edit = g.E.KindEdit.edited c.args.edit.now in
     let made : AreEdited edit k0 done e.kinds e.memo.met.items puts =
     subst (λ (k : KindsOf g.row.N.Denot). AreEdited edit k done e.kinds e.memo.met.items puts) (c.in_ok-share.ensures ∙ c.kinds.ensures.all) c.in_ok-edited.ensures.made in
-    let moves : Moves e.kinds e.memo.met.items c.in_ok-kinds.kinds = subst (λ (ms : List Met). Moves e.kinds ms c.in_ok-kinds.kinds) c.deref-2.ensures.value c.in_ok-kinds.ensures in
+    let moves : Moves e.kinds e.memo.met.items c.in_ok-kinds.kinds = subst (λ (ms : List Met). Moves e.kinds ms c.in_ok-kinds.kinds) c.deref.ensures.value c.in_ok-kinds.ensures in
     edits_are edit k0 e.kinds c.in_ok-kinds.kinds ns done puts e.memo.met.items c.kinds.ensures.sound c.requires.order c.requires.among made moves
     ∙ ap (λ (m : Kept g.row.N.Denot). Ok (entries_by m.0 puts)) (sym c.in_ok-map.ensures)
 
@@ -70,9 +70,9 @@ returns-clause-put g c =
     let edit = g.E.KindEdit.edited c.args.edit.now in
     let made : AreEdited edit k0 done e.kinds e.memo.met.items puts =
     subst (λ (k : KindsOf g.row.N.Denot). AreEdited edit k done e.kinds e.memo.met.items puts) (c.in_ok-share.ensures ∙ c.kinds.ensures.all) c.in_ok-edited.ensures.made in
-    let moves : Moves e.kinds e.memo.met.items c.in_ok-kinds.kinds = subst (λ (ms : List Met). Moves e.kinds ms c.in_ok-kinds.kinds) c.deref-2.ensures.value c.in_ok-kinds.ensures in
+    let moves : Moves e.kinds e.memo.met.items c.in_ok-kinds.kinds = subst (λ (ms : List Met). Moves e.kinds ms c.in_ok-kinds.kinds) c.deref.ensures.value c.in_ok-kinds.ensures in
     let numbers : c.in_ok-numbers.numbers ≡ put_all puts ns =
-    c.in_ok-numbers.ensures ∙ (λ i. with_values (map seen (c.deref.ensures.value i)) (c.numbers.ensures.all i))
+    c.in_ok-numbers.ensures ∙ (λ i. with_values (map seen (c.deref-2.ensures.value i)) (c.numbers.ensures.all i))
     ∙ numbers_after edit k0 e.kinds c.in_ok-kinds.kinds ns done puts e.memo.met.items c.kinds.ensures.sound c.requires.order c.requires.among made moves
     in
     subst (λ (m : Kept g.row.N.Denot). ArePut c.args.self.now m puts) (sym (c.in_ok-map.ensures ∙ ap (λ (l : Numbers). let m : Kept g.row.N.Denot = (c.in_ok-kinds.kinds, l) in m) numbers))

@@ -2,7 +2,7 @@ use Rattle.std.proofs.Common.{◌≡◌, ◌||◌, ◌&&◌, ℕ, List, not, tak
 use Rattle.std.specs.FinSet as sets
 use Rattle.std.specs.FinSet.{FinSet, contains-from_list_nat}
 use Rattle.acl_entry.specs.Mentions.{is_one_of}
-use Rattle.acl_people.proofs.subject_groups.add_others.Goals as goal
+use Rattle.acl_entry.proofs.subject_groups.add_others.Goals as goal
 
 pub returns : goal.returns
 returns c = λ gid.

@@ -1,9 +1,10 @@
 //! The groups that just one of two users has: those that a user joined or left, where the two are that user before and after.
 
 ghost use Rattle.std.specs.Prelude.{IfOk, OnOk};
-ghost use Rattle.acl_people.specs.GroupsOfOne.{AddsOthers, AreMoved};
+ghost use Rattle.acl_entry.specs.GroupsOfOne.{AddsOthers, AreMoved};
 
-use acl_entry::{Id, Subject, rising_ids};
+use crate::label::rising_ids;
+use crate::{Id, Subject};
 use std::alloc::{AllocError, Global};
 
 /// Adds the groups of one user that another is not of.

@@ -1,8 +1,8 @@
 use Rattle.std.proofs.Common.{◌≡◌, ℕ, Bool, true, false, List, ◌||◌, ◌&&◌, not, refl, ap, ◌∙◌}
 use Rattle.std.specs.FinSet as sets
 use Rattle.acl_entry.specs.Mentions.{is_one_of}
-use Rattle.acl_people.specs.GroupsOfOne.{in_just_one}
-use Rattle.acl_people.proofs.subject_groups.groups_of_one.Goals as goal
+use Rattle.acl_entry.specs.GroupsOfOne.{in_just_one}
+use Rattle.acl_entry.proofs.subject_groups.groups_of_one.Goals as goal
 
 in_one : (a b : Bool) → ((false || (a && not b)) || (b && not a)) ≡ in_just_one a b
 in_one true true = refl
