@@ -2,22 +2,35 @@
 # Tests of the commands: what needs only the program, over stored snapshots, in a folder of its own. It takes
 # three to six minutes, and ends with the line `N passed, M failed`; the exit status is 0 where none failed.
 #
-# usage: tools/check_commands.sh [--all] [PROGRAM]      PROGRAM: one that is built (crates/facl_cli/out/facl_cli)
+# usage: tools/check_commands.sh [--all | --no-lint] [PROGRAM]      PROGRAM: one that is built (crates/facl_cli/out/facl_cli)
+#        tools/check_commands.sh --lint
 #
 # With --all it also tests facl-ask at a terminal, and several snapshots by GNU parallel, which takes a minute more.
-# Each of these counts as a failed test where it finds something: shellcheck and mypy where they are installed,
-# tools/check/documents.py, tools/check/memory_faults.py, tools/check/line_lengths.py and, where there is a C compiler,
-# tools/check/growth.py --quick. Pages are tested in Chromium where it is installed. What needs a real file system and root
-# is in tools/check/live.py and tools/check/snapshot.py.
+# Each of these counts as a failed test where it finds something: shellcheck, mypy and pyflakes3 where they are installed,
+# tools/check/documents.py, tools/check/memory_faults.py, tools/check/line_lengths.py. They come first; with --lint they are
+# all that is done, which takes no program and half a minute, and with --no-lint they are left out. Where there is a C
+# compiler, tools/check/growth.py --quick is a test too. Pages are tested in Chromium where it is installed. What needs a real
+# file system and root is in tools/check/live.py and tools/check/snapshot.py.
 set -eu
 top=$(cd "$(dirname "$0")/.." && pwd)
-if [ "${1:-}" = --all ]; then
-    export ALL_TESTS=yes
+case ${1:-} in
+--*)
+    option=$1
     shift
-fi
+    ;;
+*) option= ;;
+esac
+case $option in
+--all) export ALL_TESTS=yes ;;
+'' | --lint | --no-lint) ;;
+*)
+    echo "usage: tools/check_commands.sh [--all | --lint | --no-lint] [PROGRAM]" >&2
+    exit 2
+    ;;
+esac
 FACL=$(realpath -m -- "${1:-$top/crates/facl_cli/out/facl_cli}")
 export FACL
-if [ ! -x "$FACL" ]; then
+if [ "$option" != --lint ] && [ ! -x "$FACL" ]; then
     echo "tools/check_commands.sh: $FACL: no such program: give one that is built" >&2
     echo "0 passed, 1 failed"
     exit 2
@@ -34,11 +47,21 @@ lint() {
     fi
 }
 
-lint shellcheck -x commands/facl-snapshot commands/facl-daily commands/completion/facl.bash .ci/run tools/*.sh tools/*/*.sh
-lint mypy
-for check in tools/check/documents.py tools/check/memory_faults.py tools/check/line_lengths.py; do
-    "$check" >&2 || lint_faults=$((lint_faults + 1))
-done
+# run_linters: all of them, each with what it found
+run_linters() {
+    lint shellcheck -x .ci/run commands/facl-snapshot commands/facl-daily commands/completion/facl.bash tools/*.sh tools/*/*.sh
+    lint mypy
+    lint pyflakes3 commands tools
+    for check in tools/check/documents.py tools/check/memory_faults.py tools/check/line_lengths.py; do
+        "$check" >&2 || lint_faults=$((lint_faults + 1))
+    done
+}
+
+[ "$option" = --no-lint ] || run_linters
+if [ "$option" = --lint ]; then
+    [ "$lint_faults" -eq 0 ] || echo "tools/check_commands.sh: $lint_faults of the linters found something" >&2
+    exit $((lint_faults > 0))
+fi
 lint cc --version >/dev/null
 if command -v cc >/dev/null; then
     tools/check/growth.py --quick "$FACL" >&2 || lint_faults=$((lint_faults + 1))

@@ -36,7 +36,9 @@ from typing import Dict, List, Set
 
 sys.dont_write_bytecode = True
 sys.path.insert(0, os.path.join(os.path.dirname(os.path.realpath(__file__)), "lib"))
+import lanes  # noqa: E402
 import script  # noqa: E402
+from kit import Kit, rt  # noqa: E402
 from script import TOP  # noqa: E402
 from side_by_side import OUT, Run, SideBySide, files_of, folder_of, lock  # noqa: E402
 from ways import PROGRAM, Crates  # noqa: E402
@@ -44,28 +46,9 @@ from ways import PROGRAM, Crates  # noqa: E402
 BUILT = os.path.join(TOP, "crates", PROGRAM, "out", PROGRAM)
 TARGET = "x86_64-unknown-linux-gnu"
 KEPT = os.path.join(OUT, "proved")
-GIGABYTES_A_CRATE = 4
-
-
-def rt() -> str:
-    path = shutil.which("rt")
-    if not path:
-        raise script.Failed("rt is not installed: README names the kit")
-    return path
 
 
 # --- the program
-
-
-class Kit:
-    """The kit whose rt is installed."""
-
-    def __init__(self) -> None:
-        self.folder = os.path.dirname(os.path.dirname(os.path.realpath(rt())))
-        self.version = subprocess.run([rt(), "version"], check=True, capture_output=True).stdout
-
-    def __call__(self, *inner: str) -> str:
-        return os.path.join(self.folder, *inner)
 
 
 class Kept:
@@ -136,23 +119,10 @@ class Build(Run):
         super().__init__(crate, nice, self.words(crate, checks), folder_of(crate))
 
     def words(self, crate: str, checks: int) -> List[str]:
-        kit, is_program = self.kept.kit, crate == PROGRAM
+        kit = self.kept.kit
         made = ["--toolchain", kit("toolchain"), "-o", BUILT + ".o"]
-        return [
-            *[kit("bin", "rattle"), "build", "--crate-name", crate, "src/main.rt" if is_program else "src/lib.rt"],
-            *self.libraries(crate),
-            *["--antt-project", kit("rattle", "logic", "antt-project.json"), "--logic-built", kit("logic_built")],
-            *["--jobs", str(checks), *(made if is_program else ["--statements", "-o", self.kept.library(crate)])],
-        ]
-
-    def libraries(self, crate: str) -> List[str]:
-        """The words that name what a crate uses."""
-        kit, crates = self.kept.kit, self.kept.crates
-        words = ["-L", f"dependency={kit('rlibs')}", "-L", f"dependency={KEPT}"]
-        for used in sorted(crates.listed[crate] | {"std"}):
-            library = self.kept.library(used) if used in crates.uses else kit("rlibs", used + ".rlib")
-            words += ["--extern", f"{used}={library}"]
-        return words
+        return [*kit.words("build", self.kept.crates, crate, KEPT), "--jobs", str(checks),
+                *(made if crate == PROGRAM else ["--statements", "-o", self.kept.library(crate)])]
 
     def end(self) -> None:
         super().end()
@@ -234,16 +204,14 @@ def build_libraries(crates: Crates, jobs: int, crate: str) -> int:
     wanted = crates.needed(crate)
     lock(map(folder_of, wanted))
     os.makedirs(OUT, exist_ok=True)
-    with tempfile.TemporaryDirectory(prefix="lanes-", dir=OUT) as lanes:
-        return 0 if SideBySide(crates, wanted, jobs, 2, functools.partial(Lane, crates, lanes)).all_proved() else 1
+    with tempfile.TemporaryDirectory(prefix="lanes-", dir=OUT) as folder:
+        return 0 if SideBySide(crates, wanted, jobs, 2, functools.partial(Lane, crates, folder)).all_proved() else 1
 
 
 def main() -> int:
     crates = Crates()
     options = argparse.ArgumentParser(description=__doc__, formatter_class=argparse.RawDescriptionHelpFormatter)
-    gigabytes = os.sysconf("SC_PAGE_SIZE") * os.sysconf("SC_PHYS_PAGES") >> 30
-    room = max(1, min(len(os.sched_getaffinity(0)), gigabytes // GIGABYTES_A_CRATE))
-    options.add_argument("--jobs", type=int, default=room, metavar="N")
+    options.add_argument("--jobs", type=int, default=lanes.lanes(lanes.room()), metavar="N")
     options.add_argument("--libraries", nargs="?", const=PROGRAM, choices=crates.uses, metavar="CRATE")
     given = options.parse_args()
     if given.jobs < 1:

@@ -52,6 +52,8 @@ PIECE = re.compile(r"`([^`]*)`|(\w+|[();])")
 BLOCK = re.compile(r"^<!-- (graph|index) -->\n(.*?)^<!-- end -->$", re.M | re.S)
 LAW = re.compile(r"^ */// Proof only.*\n(?: *(?:///|#\[).*\n)* *(?:pub )?fn ", re.M)
 SOURCES = ("crates/*/src/**/*.rt", "crates/*/specs/*.antt")
+# The folders of edits that must be refused: by rt ci, which checks the whole crate, and by tools/edits.py, one function.
+EDITS = {"must-fail": "Wrong bodies", "wrong": "Wrong bodies, each tried by its function alone"}
 SCRIPTS = ("commands/facl-*", "commands/facl_commands/*.py",
            *(f"tools/{file}" for file in ("*.py", "*.sh", "*/*.py", "*/*.sh", "*/*.c")))
 Fault = Tuple[str, int, str]
@@ -123,7 +125,7 @@ class Checks:
     def all_words(self) -> Set[str]:
         """The words of sources, definitions, scripts and commands, with the names of crates and edits."""
         paths = found_in(self.top, *SOURCES, *SCRIPTS, "commands/tests/*.py", "tools/*/*.txt")
-        names = found_in(self.top, "crates/*/must-fail/*.edit")
+        names = found_in(self.top, *(f"crates/*/{folder}/*.edit" for folder in EDITS))
         words = {os.path.splitext(os.path.basename(path))[0] for path in (*paths, *names)} | set(self.listed)
         return words.union(*(re.findall(r"\w+", text_of(self.top, path)) for path in paths))
 
@@ -266,7 +268,7 @@ class Checks:
         yield "```"
 
     def index(self) -> Iterator[str]:
-        """The crates of the program, each with the calls whose clauses have names, the laws, the must-fail edits."""
+        """The crates of the program, each with the calls whose clauses have names, the laws, the edits of each folder."""
         for crate in self.program:
             shown: Dict[str, List[str]] = {}
             for function in (function for function, is_law in self.exported(crate) if not is_law):
@@ -275,7 +277,8 @@ class Checks:
                 shown.setdefault(owner, []).extend([f"`{function.name}` ({clauses})"] if clauses else [])
             calls = "; ".join(owner + ", ".join(each) for owner, each in sorted(shown.items()) if each)
             laws = ", ".join(f"`{function.label}`" for function, is_law in self.exported(crate) if is_law)
-            parts = (("Clauses", calls), ("Laws", laws), ("Wrong bodies", ", ".join(self.edits(crate))))
+            edits = ((head, ", ".join(self.edits(crate, folder))) for folder, head in EDITS.items())
+            parts = (("Clauses", calls), ("Laws", laws), *edits)
             found = [f"  - {head}: {text}" for head, text in parts if text]
             yield from [f"- **{crate}**", *found] if found else []
 
@@ -292,9 +295,9 @@ class Checks:
                 if function.is_public and (not texts or file in modules or name in texts):
                     yield function, function.line in laws
 
-    def edits(self, crate: str) -> Iterator[str]:
-        """The must-fail edits of a crate, each with the function that it changes, or the file where it is in none."""
-        for path in found_in(self.top, f"crates/{crate}/must-fail/*.edit"):
+    def edits(self, crate: str, folder: str) -> Iterator[str]:
+        """The edits of a crate's folder, each with the function that it changes, or the file where it is in none."""
+        for path in found_in(self.top, f"crates/{crate}/{folder}/*.edit"):
             pairs = [line.partition(": ")[::2] for line in text_of(self.top, path).split("\n")]
             file, old = dict(pairs)["file"], [text for key, text in pairs if key == "old"]
             source = self.library.sources[f"crates/{crate}/{file}"]

@@ -394,8 +394,8 @@ class Others(Check):
         if chance.random() < 0.4:
             must(run([shell, os.path.join(self.plan, b"by_hand")]), 0)
             del scripts[0]
-        for script in scripts:
-            self.race_script(before, what, [shell, os.path.join(self.plan, script.encode())], chance)
+        for name in scripts:
+            self.race_script(before, what, [shell, os.path.join(self.plan, name.encode())], chance)
 
     def plan_by_hand(self, folder: bytes, with_identities: bool) -> None:
         """Plans to remove bait and empty, and to make new, new/f and newfile. Without identities in the snapshot a file

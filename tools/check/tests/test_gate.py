@@ -1,0 +1,256 @@
+"""Tests of the gate: how many lanes there are, wrong bodies by a prover of its own in the place of the real one, and
+tools/gate.py with stages of its own."""
+from __future__ import annotations
+
+import os
+import shutil
+import subprocess
+import sys
+import tempfile
+import unittest
+from typing import Dict, List, Tuple
+
+HERE = os.path.dirname(os.path.realpath(__file__))
+TOP = os.path.realpath(os.path.join(HERE, "..", "..", ".."))
+sys.path[:0] = [os.path.join(TOP, "tools"), os.path.join(TOP, "tools", "lib")]
+
+import lanes  # noqa: E402
+from lanes import Room  # noqa: E402
+
+LIMITED = 8_000_000_000
+V2 = {
+    "proc/self/cgroup": "0::/a/b\n",
+    "sys/fs/cgroup/a/memory.max": f"{LIMITED}\n",
+    "sys/fs/cgroup/a/memory.stat": "anon 1000000000\nfile 5\n",
+    "sys/fs/cgroup/a/b/memory.max": "max\n",
+    "sys/fs/cgroup/a/b/memory.stat": "anon 7\n",
+    "sys/fs/cgroup/a/cpu.max": "250000 100000\n",
+    "sys/fs/cgroup/a/b/cpu.max": "max 100000\n",
+}
+IN_CONTAINER = {
+    "proc/self/cgroup": "0::/not/to/be/seen\n",
+    "sys/fs/cgroup/memory.max": f"{LIMITED}\n",
+    "sys/fs/cgroup/memory.stat": "anon 0\n",
+}
+V1 = {
+    "proc/self/cgroup": "9:name=systemd:/\n4:memory:/x\n1:cpu,cpuacct:/\n0::/\n",
+    "sys/fs/cgroup/memory/x/memory.limit_in_bytes": f"{LIMITED}\n",
+    "sys/fs/cgroup/memory/x/memory.stat": "cache 3\ntotal_rss 2000000000\n",
+    "sys/fs/cgroup/cpu/cpu.cfs_quota_us": "-1\n",
+    "sys/fs/cgroup/cpu/cpu.cfs_period_us": "100000\n",
+}
+
+
+class Case(unittest.TestCase):
+    """A test with a folder of its own, which has files."""
+
+    def setUp(self) -> None:
+        folder = tempfile.TemporaryDirectory(prefix="facl-gate-test.")
+        self.addCleanup(folder.cleanup)
+        self.top = folder.name
+
+    def write(self, files: Dict[str, str], mode: int = 0o644) -> None:
+        for name, text in files.items():
+            path = os.path.join(self.top, name)
+            os.makedirs(os.path.dirname(path), exist_ok=True)
+            with open(path, "w", encoding="utf-8") as file:
+                file.write(text)
+            os.chmod(path, mode)
+
+    def copy(self, *names: str) -> None:
+        for name in names:
+            os.makedirs(os.path.join(self.top, os.path.dirname(name)), exist_ok=True)
+            shutil.copy(os.path.join(TOP, name), os.path.join(self.top, name))
+
+    def run_script(self, *words: str, **more: str) -> Tuple[int, List[str], str]:
+        """The status, the lines and the messages of a script of this folder, which finds its programs in bin/ first."""
+        environment = {**os.environ, "PATH": os.path.join(self.top, "bin") + ":" + os.environ["PATH"], **more}
+        ran = subprocess.run(words, cwd=self.top, env=environment, capture_output=True, text=True, check=False)
+        return ran.returncode, ran.stdout.splitlines(), ran.stderr
+
+
+class Lanes(Case):
+    def room(self, files: Dict[str, str], kilobytes: int, allowed: int) -> Room:
+        shutil.rmtree(self.top)
+        self.write({"proc/meminfo": f"MemTotal: 99 kB\nMemAvailable:   {kilobytes} kB\n", **files})
+        return lanes.room(self.top, allowed)
+
+    def test_the_lesser_of_both(self) -> None:
+        def lanes_of(processors: int, gigabytes: float) -> int:
+            return lanes.lanes(Room(processors, int(gigabytes * 1e9), "", ""))
+
+        self.assertEqual([lanes_of(4, each) for each in (0, 4.4, 8.9, 9, 13.4, 13.5, 18, 99)], [1, 1, 1, 2, 2, 3, 4, 4])
+        self.assertEqual([lanes_of(each, 24) for each in (1, 2, 3, 5, 64)], [1, 2, 3, 5, 5])
+
+    def test_what_a_machine_has(self) -> None:
+        self.assertEqual(self.room({}, 20_000_000, 4), (4, 20_480_000_000, "this process may run on", "MemAvailable"))
+
+    def test_what_a_control_group_leaves(self) -> None:
+        self.assertEqual(self.room(V2, 64_000_000, 16), (2, 7_000_000_000, "cpu.max", "memory.max"))
+        self.assertEqual(self.room(IN_CONTAINER, 64_000_000, 16)[:2], (16, LIMITED))
+        self.assertEqual(self.room(V1, 64_000_000, 16)[:2], (16, 6_000_000_000))
+
+    def test_the_machine_has_less_than_its_group(self) -> None:
+        self.assertEqual(self.room(V2, 1_000_000, 1)[:2], (1, 1_024_000_000))
+
+    def test_reason(self) -> None:
+        self.assertEqual(lanes.reason(Room(2, LIMITED, "cpu.max", "memory.max")),
+                         "1 lane: 2 processors (cpu.max) and 8.0 GB of free memory (memory.max), 4.5 a lane")
+
+
+# A prover: a function is proved unless its line in src/lib.rt has another word than `right`.
+RATTLE = f"#!{sys.executable}\n" + r'''
+import os, signal, sys
+words = sys.argv[1:]
+crate = words[words.index("--crate-name") + 1]
+bodies = dict(line.split(" is ") for line in open("src/lib.rt").read().splitlines())
+asked = [word for before, word in zip(words, words[1:]) if before == "--only"]
+for function in asked:
+    if function not in bodies:
+        print(f"error: no function {function}")
+        sys.exit(2)
+answers = {"right": "proved", "same": "proved", "bad": "not proved", "open": "no proof: x"}
+for function in asked:
+    if bodies[function] == "killed":
+        os.kill(os.getpid(), signal.SIGKILL)
+    if bodies[function] == "vague":
+        print(f"fn {crate}::{function}: could not tell\nrattle: no verdict: memory ran out")
+        sys.exit(3)
+    if bodies[function] == "unread":
+        print("error: src/lib.rt:1:1: not read")
+        sys.exit(1)
+    if bodies[function] == "other":
+        print(f"fn {crate}::helper: not proved")
+    print(f"fn {crate}::{function}: {answers.get(bodies[function], 'proved')}")
+proved = sum(bodies[function] in ("right", "same") for function in asked)
+print("./proofs/a/Proof.antt:1:2: error: expected a number")
+print(f"only={len(asked)} proved={proved}")
+sys.exit(0 if proved == len(asked) else 1)
+'''
+RT = "#!/bin/sh\necho kit\n"
+EDIT = "function: {0}\nfile: src/lib.rt\nold: {0} is right\nnew: {0} is {1}\n"
+OF_EDITS = ("tools/edits.py", "tools/prove.py", "tools/ways.py",
+            *(f"tools/lib/{name}.py" for name in ("kit", "lanes", "script", "side_by_side", "wrong_bodies")))
+
+
+class Edits(Case):
+    def setUp(self) -> None:
+        super().setUp()
+        self.copy(*OF_EDITS)
+        self.write({"crates.txt": "low:\nhigh: low\n", "crates/low/src/lib.rt": "one is right\ntwo is right\n",
+                    "crates/high/src/lib.rt": "top is right\n", "crates/low/out/rlib/low.rlib/format": "",
+                    "log": "rt: low: its tests are proved\n"})
+        self.write({"bin/rt": RT, "bin/rattle": RATTLE}, 0o755)
+
+    def edits(self, **wrong: str) -> None:
+        self.write({f"crates/low/wrong/{name}.edit": text for name, text in wrong.items()})
+
+    def run_edits(self, log: str = "rt: low proved\n") -> Tuple[int, List[str]]:
+        """The status and the lines of the script, beside a process that has ended."""
+        self.write({"log": log})
+        ended = subprocess.Popen(["true"])
+        ended.wait()
+        return self.run_script(sys.executable, "tools/edits.py", "--beside", str(ended.pid), "--log", "log")[:2]
+
+    def faulty(self, text: str, *more: str) -> None:
+        """An edit that fails, with these words, beside one that is refused."""
+        self.edits(good=EDIT.format("two", "bad"), it=text)
+        status, lines = self.run_edits()
+        said = next(line for line in lines if line.startswith("wrong body low/it: "))
+        for words in more:
+            self.assertIn(words, said)
+        self.assertEqual((status, lines[-1]), (1, "1 passed, 1 failed"))
+
+    def test_refused(self) -> None:
+        self.edits(a=EDIT.format("one", "bad"), b=EDIT.format("two", "open"))
+        self.assertEqual(self.run_edits(), (0, [
+            "wrong body low/a: refused: ./proofs/a/Proof.antt:1:2: error: expected a number",
+            "wrong body low/b: refused: no proof: x", "2 passed, 0 failed"]))
+        self.assertEqual(os.listdir(os.path.join(self.top, "crates", "low", "out")), ["rlib"])
+
+    def test_proved(self) -> None:
+        self.faulty(EDIT.format("one", "same"), "NOT REFUSED: one is proved with this edit")
+
+    def test_another_function_is_refused(self) -> None:
+        self.faulty(EDIT.format("one", "other"), "NOT REFUSED: one is proved with this edit")
+
+    def test_does_not_apply(self) -> None:
+        self.faulty(EDIT.format("one", "bad").replace("old: one is", "old: one was"), "BAD EDIT", "0 times")
+        self.faulty(EDIT.format("one", "bad").replace("old: one is right", "old: is right"), "BAD EDIT", "2 times")
+        self.faulty(EDIT.format("one", "bad").replace("lib.rt", "gone.rt"), "BAD EDIT", "cannot be read")
+        self.faulty("function: one\nfile: src/lib.rt\n", "BAD EDIT", "changes nothing")
+        self.faulty(EDIT.format("one", "bad").replace("function: one\n", ""), "BAD EDIT", "names no function")
+
+    def test_no_verdict(self) -> None:
+        self.faulty(EDIT.format("one", "killed"), "ended by signal 9")
+        self.faulty(EDIT.format("one", "vague"), "no verdict, status 3")
+        self.faulty(EDIT.format("one", "unread"), "no verdict, status 1")
+
+    def test_control(self) -> None:
+        self.edits(it=EDIT.format("one", "bad").replace("function: one", "function: gone"))
+        self.assertEqual(self.run_edits(), (1, [
+            "wrong body low/it: control: the check has no verdict, status 2: error: no function gone", "0 passed, 1 failed"]))
+        self.write({"crates/low/src/lib.rt": "one is right\ntwo is bad\n"})
+        self.edits(it=EDIT.format("one", "bad").replace("function: one", "function: two"))
+        status, lines = self.run_edits()
+        self.assertEqual((status, lines[-1]), (1, "0 passed, 1 failed"))
+        self.assertIn("control: unchanged, not all is proved", lines[0])
+
+    def test_libraries(self) -> None:
+        self.write({"crates/high/wrong/it.edit": EDIT.format("top", "bad")})
+        self.assertEqual(self.run_edits()[0], 0)
+        self.assertEqual(self.run_edits("rt: low NOT PROVED\n"),
+                         (1, ["wrong body high/it: not tried: low not proved", "0 passed, 1 failed"]))
+
+    def test_no_edits(self) -> None:
+        self.assertEqual(self.run_edits(), (1, ["0 passed, 0 failed"]))
+
+
+LINT = "#!/bin/sh\necho \"linted $*\"\nexit ${LINT:-0}\n"
+STAGE = "#!/bin/sh\necho \"$(basename \"$0\") $1 begins\"\necho \"${NUMBERS:-2 passed, 0 failed}\"\n"
+RT_CI = """#!/bin/sh
+echo "lanes ${RT_JOBS:-none}"
+echo 'rt: low proved'
+[ -n "${BREAKS:-}" ] || echo 'rt: facl_cli proved'
+sleep 1
+[ -z "${BREAKS:-}" ] || { echo '1 passed, 3 failed'; exit 1; }
+echo '10 passed, 0 failed'
+"""
+
+
+class Stages(Case):
+    def setUp(self) -> None:
+        super().setUp()
+        self.copy(".ci/run", "tools/gate.py", "tools/lib/lanes.py", "tools/lib/script.py")
+        checks = LINT.replace("exit", "[ \"$1\" = --lint ] && exit") + STAGE
+        self.write({"tools/ways.py": "#!/bin/sh\n", "tools/edits.py": STAGE, "tools/check_commands.sh": checks,
+                    "bin/rt": RT_CI}, 0o755)
+
+    def test_all_pass(self) -> None:
+        status, lines, messages = self.run_script(".ci/run", RT_JOBS="3")
+        self.assertEqual((status, lines), (0, [
+            "linted --lint", "lanes 3", "rt: low proved", "rt: facl_cli proved", "10 passed, 0 failed",
+            "edits.py --jobs begins", "2 passed, 0 failed", "linted --no-lint crates/facl_cli/out/facl_cli",
+            "check_commands.sh --no-lint begins", "2 passed, 0 failed", "14 passed, 0 failed"]))
+        self.assertEqual(messages, "tools/gate.py: RT_JOBS is 3 already\n")
+
+    def test_lanes_are_said(self) -> None:
+        number, environment = lanes.lanes(lanes.room()), {"RT_JOBS": ""}
+        _, lines, messages = self.run_script(".ci/run", **environment)
+        self.assertIn(f"lanes {number if number > 1 else 'none'}", lines)
+        self.assertIn("GB of free memory", messages)
+
+    def test_a_linter_ends_it(self) -> None:
+        self.assertEqual(self.run_script(".ci/run", LINT="1"), (1, ["linted --lint", "0 passed, 1 failed"], ""))
+
+    def test_rt_ci_fails(self) -> None:
+        status, lines, _ = self.run_script(".ci/run", BREAKS="1", NUMBERS="0 passed, 1 failed")
+        self.assertEqual((status, lines[-1]), (1, "1 passed, 5 failed"))
+
+    def test_a_stage_without_numbers(self) -> None:
+        status, lines, _ = self.run_script(".ci/run", NUMBERS="broken")
+        self.assertEqual((status, lines[-1]), (1, "10 passed, 2 failed"))
+
+
+if __name__ == "__main__":
+    unittest.main()

@@ -1,0 +1,259 @@
+#!/usr/bin/env python3
+"""Has the prover refuse the edits of crates/NAME/wrong/, each by a check of the function that it names alone.
+
+usage: tools/edits.py [--jobs N] [CRATE | CRATE/EDIT]..
+       tools/edits.py [--jobs N] --beside PID --log FILE
+
+The first form tries them over the libraries that tools/prove.py proved. The second form is the gate's: it runs beside
+`rt ci`, the process PID, whose output goes to FILE. A library is taken once FILE says that its crate is proved, and a check
+starts only on a lane that no check below PID uses, N in all, with memory for it.
+
+For each crate the functions of its edits are checked unchanged first, the control, over an empty folder of kept work. Then
+each edit is made in a copy of the crate and its function is checked over that folder. At most one check of a crate runs at a
+time. An edit fails where it does not apply, where the control does not prove its function or does not find it, where the
+edited function is proved, and where a check has no verdict: killed, out of memory, or not readable. A check that was killed
+by signal 9, as where memory runs out, is started once more.
+
+Prints a line for each edit; the last one is `N passed, M failed`. What each check printed is in out/logs/. The exit status is
+0 where none failed, 1 where one did, 2 where the words are others, and 128 and the signal's number where it is interrupted.
+"""
+from __future__ import annotations
+
+import argparse
+import os
+import re
+import shutil
+import signal
+import sys
+import tempfile
+import time
+from pathlib import Path
+from typing import Callable, Iterator, List, Optional, Set, Tuple, Union
+
+sys.dont_write_bytecode = True
+sys.path.insert(0, os.path.join(os.path.dirname(os.path.realpath(__file__)), "lib"))
+import lanes  # noqa: E402
+import script  # noqa: E402
+import wrong_bodies  # noqa: E402
+from kit import Kit  # noqa: E402
+from prove import KEPT, Kept  # noqa: E402
+from side_by_side import LOGS, Run, folder_of, is_running, log_of, programs_below  # noqa: E402
+from ways import Crates  # noqa: E402
+from wrong_bodies import Fault, WrongBody  # noqa: E402
+
+PROVED = re.compile(r"^rt: (\w+) proved$", re.MULTILINE)
+NICE = 10
+
+
+class Proved:
+    """The libraries that tools/prove.py proved, which are all there from the start."""
+
+    def __init__(self, crates: Crates, kit: Kit) -> None:
+        self.folder, self.crates = KEPT, Kept(crates, kit).all_of(set(crates.uses))
+
+    def update(self) -> bool:
+        """Takes what is new. Returns whether more may come."""
+        return False
+
+    def has_lane(self, _running: int) -> bool:
+        return True
+
+
+class Beside:
+    """The libraries of an `rt ci` that runs, as copies: what it leaves in out/ at its end may be older ones."""
+
+    def __init__(self, work: str, process: int, log: str, jobs: int) -> None:
+        self.folder, self.process, self.log, self.jobs = os.path.join(work, "libraries"), process, log, jobs
+        self.crates: Set[str] = set()
+        os.mkdir(self.folder)
+
+    def update(self) -> bool:
+        comes = is_running(self.process)
+        for crate in {*PROVED.findall(Path(self.log).read_text(encoding="utf-8", errors="replace"))} - self.crates:
+            made = folder_of(crate, "out", "rlib", crate + ".rlib")
+            if os.path.isdir(made):
+                shutil.copytree(made, os.path.join(self.folder, crate + ".rlib"), copy_function=link_or_copy)
+            self.crates.add(crate)
+        return comes
+
+    def has_lane(self, running: int) -> bool:
+        """Whether a lane is idle, once the first crate is proved: until then all have work."""
+        if not is_running(self.process):
+            return True
+        busy = programs_below(self.process, "rattle") + running
+        return bool(self.crates) and busy < self.jobs and lanes.room().free > lanes.GIGABYTES_A_LANE * 1e9
+
+
+Libraries = Union[Proved, Beside]
+
+
+def link_or_copy(path: str, to: str) -> None:
+    try:
+        os.link(path, to)
+    except OSError:
+        shutil.copy2(path, to)
+
+
+class Check(Run):
+    """A check of some functions of a crate, with the texts of an edit in place of its own."""
+
+    def __init__(self, trial: Trial, functions: List[str], body: Optional[WrongBody]) -> None:
+        self.body, self.functions = body, functions
+        self.room = tempfile.mkdtemp(prefix=trial.crate + ".", dir=trial.work)
+        for part in wrong_bodies.PARTS:
+            if os.path.isdir(folder_of(trial.crate, part)):
+                shutil.copytree(folder_of(trial.crate, part), os.path.join(self.room, part))
+        for path, text in (body.texts if body else {}).items():
+            Path(self.room, path).write_text(text, encoding="utf-8")
+        only = [word for function in functions for word in ("--only", function)]
+        self.label = f"{trial.crate}.{body.name if body else 'control'}"
+        super().__init__(self.label, NICE, [*trial.words, *only], self.room)
+
+    def result(self) -> Tuple[int, str]:
+        """The status of a check that ended, and what it printed. Its copy of the crate is removed."""
+        self.end()
+        with open(log_of(self.label), encoding="utf-8", errors="replace") as said:
+            return self.program.returncode, said.read()
+
+    def end(self) -> None:
+        super().end()
+        shutil.rmtree(self.room, ignore_errors=True)
+
+
+class Trial:
+    """The edits of one crate, and how far they are: the check that runs, and those still to be made."""
+
+    def __init__(self, crate: str, needs: Set[str], bodies: List[WrongBody]) -> None:
+        self.crate, self.needs, self.bodies = crate, needs, bodies
+        self.functions = sorted({body.function for body in bodies})
+        self.check: Optional[Check] = None
+        self.todo: List[Optional[WrongBody]] = [None, *bodies]
+        self.again = False
+        self.work, self.words = "", [""]
+
+    def prepare(self, work: str, words: List[str]) -> None:
+        kept = os.path.join(work, "kept", self.crate)
+        os.makedirs(kept, exist_ok=True)
+        self.work, self.words = work, [*words, "--jobs", "1", "--incremental", kept]
+
+    def start(self) -> None:
+        body = self.todo[0]
+        self.check = Check(self, [body.function] if body else self.functions, body)
+
+    def take(self) -> Iterator[Tuple[WrongBody, bool, str]]:
+        """Each edit that is decided by the check that ended, whether it was refused, and what to say."""
+        assert self.check
+        (status, said), body = self.check.result(), self.check.body
+        self.check = None
+        if status == -signal.SIGKILL and not self.again:
+            self.again = True
+            return
+        self.again = False
+        self.todo.pop(0)
+        try:
+            if body:
+                yield body, True, wrong_bodies.refusal(body, status, said)
+            else:
+                wrong_bodies.hold_control(self.crate, self.functions, status, said)
+        except Fault as fault:
+            if body:
+                yield body, False, str(fault)
+            else:
+                yield from self.fail(f"control: {fault}")
+
+    def fail(self, why: str) -> Iterator[Tuple[WrongBody, bool, str]]:
+        for body in filter(None, self.todo):
+            yield body, False, why
+        self.todo = []
+
+
+class Gate:
+    """All trials, and how many edits passed and failed."""
+
+    def __init__(self, crates: Crates) -> None:
+        self.crates = crates
+        self.trials: List[Trial] = []
+        self.passed = self.failed = 0
+
+    def say(self, label: str, is_refused: bool, text: str) -> None:
+        print(f"wrong body {label}: {text}", flush=True)
+        self.passed, self.failed = self.passed + is_refused, self.failed + (not is_refused)
+
+    def read(self, wanted: Callable[[str], bool]) -> None:
+        """Reads the edits whose labels are wanted. Those that cannot be tried have failed."""
+        for crate in self.crates.rows:
+            bodies = []
+            for path in wrong_bodies.in_folder(crate):
+                label = f"{crate}/{os.path.basename(path)[:-len('.edit')]}"
+                try:
+                    bodies += [wrong_bodies.read(path)] if wanted(label) else []
+                except Fault as fault:
+                    self.say(label, False, f"BAD EDIT: {fault}")
+            if bodies:
+                self.trials.append(Trial(crate, self.crates.needed(crate) - {crate}, bodies))
+
+    def take_ended(self) -> None:
+        for trial in self.trials:
+            if trial.check and trial.check.program.poll() is not None:
+                for body, is_refused, text in trial.take():
+                    self.say(body.label, is_refused, text)
+
+    def step(self, libraries: Libraries, jobs: int, prepare: Callable[[Trial], None]) -> bool:
+        """Takes what ended, and starts what there is room for. Returns whether something is left."""
+        self.take_ended()
+        comes = libraries.update()
+        for trial in self.trials:
+            running = sum(each.check is not None for each in self.trials)
+            lacking = trial.needs - libraries.crates
+            if not trial.todo or trial.check or running >= jobs:
+                continue
+            if not lacking and libraries.has_lane(running):
+                prepare(trial)
+                trial.start()
+            elif lacking and not comes:
+                for body, is_refused, text in trial.fail(f"not tried: {', '.join(sorted(lacking))} not proved"):
+                    self.say(body.label, is_refused, text)
+        return any(trial.todo for trial in self.trials)
+
+    def run(self, libraries: Libraries, jobs: int, work: str) -> int:
+        kit = Kit()
+        os.makedirs(LOGS, exist_ok=True)
+        try:
+            while self.step(libraries, jobs, lambda trial: trial.prepare(
+                    work, kit.words("check", self.crates, trial.crate, libraries.folder))):
+                time.sleep(0.5)
+        finally:
+            for trial in self.trials:
+                if trial.check:
+                    trial.check.end()
+        print(f"{self.passed} passed, {self.failed} failed", flush=True)
+        return 1 if self.failed or not self.passed else 0
+
+
+def chosen(names: List[str]) -> Callable[[str], bool]:
+    return lambda label: not names or label in names or label.split("/")[0] in names
+
+
+def main() -> int:
+    options = argparse.ArgumentParser(description=__doc__, formatter_class=argparse.RawDescriptionHelpFormatter)
+    options.add_argument("--jobs", type=int, default=lanes.lanes(lanes.room()), metavar="N")
+    options.add_argument("--beside", type=int, metavar="PID")
+    options.add_argument("--log", metavar="FILE")
+    options.add_argument("names", nargs="*", metavar="CRATE | CRATE/EDIT")
+    given = options.parse_args()
+    if given.jobs < 1 or bool(given.beside) != bool(given.log):
+        options.error("--jobs takes a number from 1 on, and --beside needs --log")
+    crates = Crates()
+    gate = Gate(crates)
+    gate.read(chosen(given.names))
+    with tempfile.TemporaryDirectory(prefix="facl-edits.") as work:
+        libraries: Libraries
+        if given.beside:
+            libraries = Beside(work, given.beside, given.log, given.jobs)
+        else:
+            libraries = Proved(crates, Kit())
+        return gate.run(libraries, given.jobs, work)
+
+
+if __name__ == "__main__":
+    script.run(main)

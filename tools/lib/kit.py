@@ -1,0 +1,38 @@
+"""The kit whose rt is installed, and what its prover is told of a crate."""
+from __future__ import annotations
+
+import os
+import shutil
+import subprocess
+from typing import List
+
+import script
+from ways import PROGRAM, Crates
+
+
+def rt() -> str:
+    path = shutil.which("rt")
+    if not path:
+        raise script.Failed("rt is not installed: README names the kit")
+    return path
+
+
+class Kit:
+    """The kit whose rt is installed."""
+
+    def __init__(self) -> None:
+        self.folder = os.path.dirname(os.path.dirname(os.path.realpath(rt())))
+        self.version = subprocess.run([rt(), "version"], check=True, capture_output=True).stdout
+
+    def __call__(self, *inner: str) -> str:
+        return os.path.join(self.folder, *inner)
+
+    def words(self, command: str, crates: Crates, crate: str, libraries: str) -> List[str]:
+        """The words that have the prover do `command` with a crate, in the crate's folder, over what stands in the folder
+        `libraries` of those crates that it uses."""
+        words = [self("bin", "rattle"), command, "--crate-name", crate, f"src/{'main' if crate == PROGRAM else 'lib'}.rt",
+                 "-L", f"dependency={self('rlibs')}", "-L", f"dependency={libraries}"]
+        for used in sorted(crates.listed[crate] | {"std"}):
+            library = os.path.join(libraries, used + ".rlib") if used in crates.uses else self("rlibs", used + ".rlib")
+            words += ["--extern", f"{used}={library}"]
+        return [*words, "--antt-project", self("rattle", "logic", "antt-project.json"), "--logic-built", self("logic_built")]

@@ -1,0 +1,121 @@
+"""Edits of crates/NAME/wrong/, and what a check says of one.
+
+An edit is as those of must-fail/: a line `file: src/lib.rt`, and pairs of lines `old: TEXT` and `new: TEXT`, of which each
+old TEXT is in that file once. Before them a line `function: NAME` has the function whose check must refuse it, by its path
+in the crate, as `draft::Draft::insert`.
+"""
+from __future__ import annotations
+
+import os
+import re
+from typing import Dict, List, NamedTuple, Tuple
+
+import script
+from script import TOP
+
+PARTS = ("src", "specs", "proofs")
+ONLY = re.compile(r"only=(\d+) proved=(\d+)")
+# Lines that say where something is refused; and those of a proof that names what the edit took away.
+TOLD = re.compile(r"(note: )?\S+:\d+:\d+:")
+NAMES = re.compile(r"(\./)?proofs/.*(has no field|is not in scope|has no `|was not admitted)")
+
+
+class Fault(Exception):
+    """Why an edit cannot be tried, or what a check says but that it refuses it."""
+
+
+class WrongBody(NamedTuple):
+    crate: str
+    name: str
+    function: str
+    texts: Dict[str, str]
+
+    @property
+    def label(self) -> str:
+        return f"{self.crate}/{self.name}"
+
+
+def read_text(path: str) -> str:
+    try:
+        with open(path, encoding="utf-8") as file:
+            return file.read()
+    except (OSError, UnicodeDecodeError) as fault:
+        raise Fault(f"{os.path.basename(path)} cannot be read: {fault}") from fault
+
+
+def edited(lines: List[Tuple[str, str]], folder: str) -> Dict[str, str]:
+    """The texts of the files of the crate in this folder that the lines of an edit change, by their paths in it."""
+    texts: Dict[str, str] = {}
+    path = old = ""
+    for word, text in lines:
+        if word == "file":
+            path = text
+            if os.path.normpath(path) != path or path.split("/")[0] not in PARTS:
+                raise Fault(f"{path} is no file of {', '.join(PARTS)}")
+            texts.setdefault(path, read_text(os.path.join(folder, path)))
+        elif word == "old":
+            old = text
+        elif word == "new":
+            found = texts[path].count(old) if path and old else 0
+            if found != 1:
+                raise Fault(f"it does not apply: {path} has `{old}` {found} times, and not once")
+            texts[path], old = texts[path].replace(old, text), ""
+    if not any(word == "new" for word, _ in lines):
+        raise Fault("it changes nothing: there is no line `new:`")
+    return texts
+
+
+def read(path: str, top: str = TOP) -> WrongBody:
+    """The edit of a file crates/NAME/wrong/EDIT.edit."""
+    lines = [line.partition(":")[::2] for line in read_text(path).split("\n") if line]
+    pairs = [(word, text[1:] if text.startswith(" ") else text) for word, text in lines]
+    functions = [text for word, text in pairs if word == "function"]
+    if len(functions) != 1 or not functions[0]:
+        raise Fault("it names no function, or several: one line `function: NAME` says which must be refused")
+    crate = os.path.basename(os.path.dirname(os.path.dirname(path)))
+    name = os.path.basename(path)[:-len(".edit")]
+    return WrongBody(crate, name, functions[0], edited(pairs, os.path.join(top, "crates", crate)))
+
+
+def answers_of(crate: str, functions: List[str], status: int, said: str) -> List[str]:
+    """What a check that ended says of each of these functions, where antt reached a verdict on all that it was asked for."""
+    lines = said.rstrip("\n").split("\n")
+    if status < 0:
+        raise Fault(f"the check was ended by signal {-status}, and says nothing")
+    if status not in (0, 1) or not ONLY.fullmatch(lines[-1]):
+        raise Fault(f"the check has no verdict, status {status}: {' | '.join(lines[-3:])[:300]}")
+    answers = dict(line[len("fn "):].partition(": ")[::2] for line in lines if line.startswith("fn "))
+    missing = [function for function in functions if f"{crate}::{function}" not in answers]
+    if missing:
+        raise Fault(f"the check does not name {', '.join(missing)}")
+    return [answers[f"{crate}::{function}"] for function in functions]
+
+
+def hold_control(crate: str, functions: List[str], status: int, said: str) -> None:
+    """Fails unless the unchanged functions are proved."""
+    answers = answers_of(crate, functions, status, said)
+    found = ONLY.fullmatch(said.rstrip("\n").split("\n")[-1])
+    if status or {*answers} != {"proved"} or not found or found[1] != found[2]:
+        raise Fault(f"unchanged, not all is proved: {found[0] if found else ''} {dict(zip(functions, answers))}")
+
+
+def refusal(body: WrongBody, status: int, said: str) -> str:
+    """What refuses the edit. Fails unless the check refuses the function that the edit names."""
+    answer = answers_of(body.crate, [body.function], status, said)[0]
+    if not status or not answer.startswith(("not proved", "no proof")):
+        raise Fault(f"NOT REFUSED: {body.function} is {answer} with this edit")
+    told = [line for line in said.split("\n") if TOLD.match(line) and (": error" in line or line.startswith("note: "))]
+    first = next((line for line in told if not NAMES.match(line)), "")
+    if told and not first:
+        return f"refused, only since a proof names what the edit took away: {told[0][:160]}"
+    return f"refused: {(first if answer == 'not proved' else answer)[:160]}"
+
+
+def in_folder(crate: str, top: str = TOP) -> List[str]:
+    """The files of a crate's wrong/, in order. Fails where one is no edit."""
+    folder = os.path.join(top, "crates", crate, "wrong")
+    names = sorted(os.listdir(folder)) if os.path.isdir(folder) else []
+    for name in names:
+        if not name.endswith(".edit") or not os.path.isfile(os.path.join(folder, name)):
+            raise script.Failed(f"crates/{crate}/wrong/{name} is no edit: its name ends in .edit")
+    return [os.path.join(folder, name) for name in names]

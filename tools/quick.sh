@@ -1,0 +1,11 @@
+#!/bin/sh
+# Runs the tests of all crates without a proof, and those of the commands and scripts that need no program, side by side: at
+# most five minutes on four processors. Each crate of tests is compiled with run-time checks by `rt try --test`.
+#
+# usage: tools/quick.sh
+#
+# It prints a line for each part as it ends, and what a part that failed printed. The last line says how many tests passed and
+# failed, and that nothing was proved. The exit status is 0 where none failed, 1 where one did or rt is not installed, and 128
+# and the signal's number where it is interrupted.
+set -eu
+exec python3 "$(dirname "$0")/lib/quick.py"
