@@ -16,7 +16,7 @@ import time
 import unittest
 from typing import Dict, List, Tuple, Union
 
-from common import COMMANDS, HERE, Case, Done, outside_the_gate, restore_signals, take_terminal
+from common import COMMANDS, HERE, Case, Done, outside_the_gate, take_terminal
 
 sys.path.insert(0, COMMANDS)
 

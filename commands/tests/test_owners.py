@@ -12,7 +12,7 @@ import unittest
 from typing import List, Tuple
 from unittest import mock
 
-from common import COMMANDS, HERE, Case, outside_the_gate
+from common import COMMANDS, Case, outside_the_gate
 
 sys.path.insert(0, COMMANDS)
 
