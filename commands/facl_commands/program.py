@@ -40,12 +40,15 @@ def find_program(given: Optional[str]) -> str:
     return os.path.abspath(found)
 
 
-def lines_of(pieces: Iterable[bytes], end: bytes = b"\n") -> Iterator[bytes]:
-    """The lines of a text that comes in pieces, without their ends."""
+def lines_of(pieces: Iterable[bytes], end: bytes = b"\n", longest: Optional[int] = None) -> Iterator[bytes]:
+    """The lines of a text that comes in pieces, without their ends; ValueError where more than `longest` bytes have
+    none."""
     rest = b""
     for piece in pieces:
         *whole, rest = (rest + piece).split(end)
         yield from whole
+        if longest is not None and len(rest) > longest:
+            raise ValueError
 
 
 class OutputSlice(NamedTuple):
