@@ -23,6 +23,7 @@ MIDDLE = ".."  # In the place of what is cut out.
 NARROWEST = 6  # Columns of a terminal that a cut column keeps.
 NOT_FOUND = 127  # The status of a shell that does not find what it is to run.
 LESS = "-FRX"
+LENT_BY = ("SUDO_UID", "DOAS_USER", "PKEXEC_UID")  # Set by what lends a command the rights of another user.
 
 
 class Column(NamedTuple):
@@ -199,14 +200,23 @@ def pager_words() -> Optional[List[str]]:
     return [less, LESS] if less else None
 
 
+def is_lent() -> bool:
+    """Whether the caller has the rights of another user for this command alone."""
+    return os.getuid() != os.geteuid() or os.getgid() != os.getegid() or any(name in os.environ for name in LENT_BY)
+
+
+def environment_of_pager() -> Dict[str, str]:
+    """A pager from which a caller with lent rights cannot run or read anything else with them."""
+    return {"LESS": LESS[1:], **environment_of_called(), **({"LESSSECURE": "1"} if is_lent() else {})}
+
+
 def is_shown_by_pager(text: bytes) -> bool:
     """Shows a text by the pager, until its reader ends it; false where it cannot be run."""
     words = pager_words()
     if words is None or os.environ.get("TERM", "dumb") == "dumb":
         return False
-    environment = {"LESS": LESS[1:], **environment_of_called()}
     try:
-        run = subprocess.Popen(words, stdin=subprocess.PIPE, env=environment)
+        run = subprocess.Popen(words, stdin=subprocess.PIPE, env=environment_of_pager())
     except OSError:
         return False
     kept = {number: signal.signal(number, signal.SIG_IGN) for number in (signal.SIGINT, signal.SIGQUIT)}
