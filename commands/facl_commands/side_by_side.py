@@ -60,7 +60,8 @@ class Run(NamedTuple):
     room: Optional[int]  # Bytes that each of them may have.
 
     def is_full(self) -> bool:
-        return self.room is not None and any(os.fstat(it.fileno()).st_size >= self.room for it in (self.out, self.messages))
+        sizes = [os.fstat(it.fileno()).st_size for it in (self.out, self.messages)]
+        return self.room is not None and max(sizes) >= self.room
 
 
 def hosts_of(folders: List[bytes]) -> Dict[bytes, List[bytes]]:
@@ -135,10 +136,10 @@ def outcome_of(run: Run, host: bytes, wanted: int, numbers: Sequence[int]) -> Ou
 
 
 def room_for_answers(hosts: Dict[bytes, List[bytes]], work: str) -> int:
-    """How many bytes another machine may write into one file in `work`. parallel keeps what each snapshot writes in two
-    files, and then copies it to ours; so all machines together leave some room."""
+    """How many bytes another machine may write into one file in `work`. parallel keeps what each snapshot prints in a
+    file, and then copies it to ours; so one machine leaves the others room for as much."""
     look = os.statvfs(work)
-    files = sum(2 * len(names) + 2 for names in hosts.values())
+    files = sum(len(names) + 1 for names in hosts.values())
     return min(MOST_WRITTEN, look.f_bavail * look.f_frsize // (files + 1))
 
 
