@@ -176,7 +176,7 @@ def end(status: int) -> NoReturn:
 def run(name: str, body: Callable[[Command, List[str]], int], goes_on: bool = False) -> NoReturn:
     """Runs the command of this name, and ends with its status."""
     open_streams()
-    gc.disable()  # What a command keeps it needs to its end, which is soon.
+    gc.disable()  # What a command keeps it needs to its end, which is soon; a prompt switches it on again.
     for number in SIGNALS:
         if signal.getsignal(number) != signal.SIG_IGN:
             signal.signal(number, interrupt)

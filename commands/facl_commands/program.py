@@ -3,12 +3,14 @@ from __future__ import annotations
 
 import contextlib
 import os
+import re
 import shutil
 import subprocess
 import tempfile
 from types import TracebackType
 from typing import IO, Callable, Dict, Iterable, Iterator, List, NamedTuple, Optional, Type
 
+from .exchange import end_program, exchange, how_it_ended, pipes_of
 from .messages import Failure
 from .protocol import DUMP_NOT_READ, IN_LINE, PROBE, PROBE_REFUSED, SETUP, UNKNOWN_TOOL, has_text
 
@@ -16,6 +18,8 @@ from .protocol import DUMP_NOT_READ, IN_LINE, PROBE, PROBE_REFUSED, SETUP, UNKNO
 LEFT_OUT = ("POSIXLY_CORRECT", "PYTHONPATH", "PYTHONHOME", "PERL5LIB", "PERL5OPT", "PARALLEL")
 OLDER = b": it is older than this command, so install both anew"
 FILE_LIMIT = 268_435_456  # Bytes of a text that the program loads.
+LONGEST_CAUSE = 1_000  # Bytes of the last message that are quoted.
+NUMBER = re.compile(rb"\Aline [0-9]+: ")  # The beginning of a message.
 HOME = os.path.dirname(os.path.dirname(os.path.realpath(__file__)))  # commands/, or PREFIX/lib/facl.
 INSTALLED = os.path.join(HOME, "..", "..", "bin", "facl")
 BUILT = os.path.join(HOME, "..", "crates", "facl_cli", "out", "facl_cli")
@@ -36,12 +40,15 @@ def find_program(given: Optional[str]) -> str:
     return os.path.abspath(found)
 
 
-def lines_of(pieces: Iterable[bytes], end: bytes = b"\n") -> Iterator[bytes]:
-    """The lines of a text that comes in pieces, without their ends."""
+def lines_of(pieces: Iterable[bytes], end: bytes = b"\n", longest: Optional[int] = None) -> Iterator[bytes]:
+    """The lines of a text that comes in pieces, without their ends; ValueError where more than `longest` bytes have
+    none."""
     rest = b""
     for piece in pieces:
         *whole, rest = (rest + piece).split(end)
         yield from whole
+        if longest is not None and len(rest) > longest:
+            raise ValueError
 
 
 class OutputSlice(NamedTuple):
@@ -93,10 +100,10 @@ class Session:
         self.folder = folder
         self.number = 0
         self.output = tempfile.TemporaryFile(prefix="facl-session.")
-        self.run = subprocess.Popen(
-            words, cwd=folder, env={"LC_ALL": "C", "PATH": os.environ.get("PATH", os.defpath)}, stdin=subprocess.PIPE,
-            stdout=self.output, stderr=subprocess.PIPE, start_new_session=True,
-        )
+        self.pipes = pipes_of(subprocess.Popen(
+            words, bufsize=0, cwd=folder, env={"LC_ALL": "C", "PATH": os.environ.get("PATH", os.defpath)},
+            stdin=subprocess.PIPE, stdout=self.output, stderr=subprocess.PIPE, start_new_session=True,
+        ))
 
     def __enter__(self) -> Session:
         return self
@@ -104,30 +111,21 @@ class Session:
     def __exit__(
         self, kind: Optional[Type[BaseException]], error: Optional[BaseException], trace: Optional[TracebackType]
     ) -> None:
-        self.run.kill()
-        self.run.communicate()
+        end_program(self.pipes)
         self.output.close()
 
     def ask(self, lines: bytes) -> Answer:
-        """Answers whole lines with their texts: one line that is a unit, or lines without messages."""
-        assert self.run.stderr is not None
+        """Answers whole lines with their texts."""
         token = os.urandom(16).hex().encode()
         start = os.fstat(self.output.fileno()).st_size
-        first = self.number + 1
         self.number += lines.count(b"\n") + 1
-        self.send(lines + PROBE % token + b"\n")
         end = IN_LINE % self.number + PROBE_REFUSED % token + b"\n"
-        messages: List[bytes] = []
-        while True:
-            message = self.run.stderr.readline()
-            if message == end:
-                break
-            if not message:
-                raise self.early_end(messages)
-            messages.append(message.rstrip(b"\n"))
+        messages = exchange(self.pipes, lines + PROBE % token + b"\n", end)
+        if not messages.endswith(end):
+            raise self.early_end(messages)
         output = OutputSlice(self.output, start, os.fstat(self.output.fileno()).st_size)
-        begin = IN_LINE % first  # The number is that of our own stream of lines.
-        return Answer(output, [it[len(begin) :] if it.startswith(begin) else it for it in messages])
+        # The numbers are those of our own stream of lines.
+        return Answer(output, [NUMBER.sub(b"", it) for it in messages.split(b"\n")[:-2]])
 
     def ask_accepted(self, line: bytes) -> OutputSlice:
         """Answers a line of our own, which cannot be refused."""
@@ -137,18 +135,9 @@ class Session:
             raise Failure(b"the program refused `%s`: %s" % (line.split(b"\n")[0], answer.messages[0]) + OLDER * is_old)
         return answer.output
 
-    def send(self, lines: bytes) -> None:
-        assert self.run.stdin is not None
-        try:
-            self.run.stdin.write(lines)
-            self.run.stdin.flush()
-        except BrokenPipeError:
-            pass  # The program has ended; what it wrote as its last message is read next.
-
-    def early_end(self, messages: List[bytes]) -> Failure:
+    def early_end(self, messages: bytes) -> Failure:
         """Why the program ended before it was asked to."""
-        status = self.run.wait()
-        last = messages[-1] if messages else b"status %d" % status
+        last = (messages.rstrip(b"\n").rpartition(b"\n")[2] or how_it_ended(self.pipes))[:LONGEST_CAUSE]
         if last.startswith(SETUP):
             return Failure(b"%s: the program does not load it: %s" % (self.folder, last))
         if last == DUMP_NOT_READ and os.path.getsize(os.path.join(self.folder, b"dump")) > FILE_LIMIT:

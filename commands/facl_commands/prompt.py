@@ -1,6 +1,7 @@
 """The prompt of facl-ask, apart from how a line is read: what is done with the lines that a person writes."""
 from __future__ import annotations
 
+import gc
 from typing import Callable, Iterator, List, Optional, Set
 
 from . import causes
@@ -45,7 +46,8 @@ class Prompt:
         self.waiting: List[str] = []  # Lines that were pasted at once.
 
     def run(self, read: Read) -> None:
-        """Answers lines until there are no more."""
+        """Answers lines until there are no more, which may be a day later."""
+        gc.enable()
         try:
             while True:
                 try:

@@ -14,12 +14,14 @@ from . import overview
 from .answering import heading, lines_for_terminal, lines_to_show, write_messages
 from .messages import UNUSABLE, Command, Failure
 from .names import shown
+from .program import lines_of
 from .protocol import ANSWERED, REFUSED
 from .scripts import Unit, read_text
 from .shards import superusers_of
-from .side_by_side import HERE, HOST, Answered, Part, checked_operand, program_option, run_hosts
+from .side_by_side import HERE, HOST, NOT_READABLE, Answered, Part, checked_operand, program_option, run_hosts
 from .superuser import Superusers
 
+LONGEST_LINE = 1 << 20  # Bytes; of a server's answer.
 THIS = b"localhost"  # The name of this machine, which needs no ssh.
 
 
@@ -56,34 +58,46 @@ def say(command: Command, server: Server, texts: List[bytes]) -> None:
 def answer_lines(unit: Unit, server: Server, answered: Answered, superusers: Superusers,
                  has_headings: bool) -> Iterator[bytes]:
     """The lines of a server's answer, each of which begins with its name."""
-    lines = superusers.rest(unit, answered.output.lines())
+    lines = superusers.rest(unit, lines_of(answered.output.pieces(), longest=LONGEST_LINE))
     for line in lines_to_show(unit, lines, answered.header.messages) if has_headings else lines_for_terminal(lines):
         yield server.name + b": " + line + b"\n"
 
 
 class Printer:
-    """What the servers answered, line by line of the script, and of each line server by server."""
+    """What the servers answered, line by line of the script, and of each line server by server.
+
+    Of a server whose answer is none of facl-ask's, what comes after its fault is left out.
+    """
 
     def __init__(self, command: Command, parts: Dict[Server, Part], given: argparse.Namespace) -> None:
         self.command, self.parts, self.has_headings = command, parts, given.headings
         self.superusers = {server: superusers_of([part], given.with_root) for server, part in parts.items()}
+        self.failures: Dict[Server, Failure] = {}
+        self.is_headed = False  # Whether the line that is answered has its heading, or needs none.
         self.status = ANSWERED
 
     def write_line(self, unit: Unit) -> None:
         """What all servers say to a line, below its heading where somebody answers it."""
-        has_heading = not self.has_headings
-        for server, part in self.parts.items():
-            answered, superusers = part.answers[unit.number], self.superusers[server]
-            text = b"".join(answer_lines(unit, server, answered, superusers, self.has_headings))
-            self.command.write(text if has_heading or not text else heading(unit) + text)
-            has_heading = has_heading or text != b""
-            place = server.name + b": line %d" % unit.number
-            write_messages(self.command, place, unit, answered.header.messages, server.name + b": ")
-            if answered.is_refused():
-                self.status = REFUSED
-            else:
-                superusers.follow(unit)
-        self.command.write(b"\n" if self.has_headings and has_heading else b"")
+        self.is_headed = not self.has_headings
+        for server in self.parts:
+            if server not in self.failures:
+                try:
+                    self.write_answer(unit, server)
+                except (LookupError, ValueError):
+                    self.failures[server] = Failure(NOT_READABLE)
+        self.command.write(b"\n" if self.has_headings and self.is_headed else b"")
+
+    def write_answer(self, unit: Unit, server: Server) -> None:
+        answered, superusers = self.parts[server].answers[unit.number], self.superusers[server]
+        for line in answer_lines(unit, server, answered, superusers, self.has_headings):
+            self.command.write(line if self.is_headed else heading(unit) + line)
+            self.is_headed = True
+        place = server.name + b": line %d" % unit.number
+        write_messages(self.command, place, unit, answered.header.messages, server.name + b": ")
+        if answered.is_refused():
+            self.status = REFUSED
+        else:
+            superusers.follow(unit)
 
 
 def notes_on(superusers: Dict[Server, Superusers]) -> List[bytes]:
@@ -112,6 +126,7 @@ def body(command: Command, words: List[str], given: argparse.Namespace) -> int:
         printer = Printer(command, parts, given)
         for unit in script.units():
             printer.write_line(unit)
+        failures.update(printer.failures)
         for text in notes_on(printer.superusers):
             command.say(text)
     command.flush()

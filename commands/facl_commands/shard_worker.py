@@ -7,9 +7,8 @@ feed. Names in JSON are bytes, a letter for each.
 from __future__ import annotations
 
 import json
-import os
 import re
-from typing import Dict, List, NamedTuple, Optional
+from typing import Dict, List, NamedTuple, Optional, Sequence
 
 from . import agreement, overview, texts
 from .answering import answer_unit
@@ -24,6 +23,7 @@ from .tools import COUNTING, EDITS, FILE, MAKERS, OF_RECORDS, RESTORING, WITH_FI
 
 COUNTING_SOME = tuple(tool for tool in COUNTING if tool in WITH_FILES)
 OF_FILES = (*EDITS, *OF_RECORDS, *COUNTING_SOME)  # Tools that take several FILEs, or edit one.
+LONGEST_NUMBER = 20  # Digits.
 RECORD = re.compile(b"^" + FREE_FILE_LINE + b"$", re.MULTILINE)
 
 
@@ -51,22 +51,63 @@ def line_of(value: NamedTuple) -> bytes:
     return json.dumps(value._asdict(), default=lambda it: it.decode("latin-1")).encode() + b"\n"
 
 
+# --- what is read here was perhaps written by another machine
+
+
+def short_number(text: str) -> int:
+    """A number of JSON; the digits of one that is longer than any of ours are not read."""
+    if len(text) > LONGEST_NUMBER:
+        raise ValueError
+    return int(text)
+
+
+def number_in(value: object) -> int:
+    if not isinstance(value, int) or isinstance(value, bool) or value < 0:
+        raise ValueError
+    return value
+
+
+def name_in(value: object) -> bytes:
+    if not isinstance(value, str):
+        raise ValueError
+    return value.encode("latin-1")
+
+
 def names_in(value: object) -> List[bytes]:
     if not isinstance(value, list):
         raise ValueError
-    return [str(it).encode("latin-1") for it in value]
+    return list(map(name_in, value))
+
+
+def ids_in(value: object) -> Dict[str, int]:
+    if not isinstance(value, dict):
+        raise ValueError
+    return {name_in(name).decode("latin-1"): number_in(number) for name, number in value.items()}
+
+
+def read_fields(line: bytes, names: Sequence[str]) -> List[object]:
+    """The fields of these names of an object in JSON; ValueError where it is none, or lacks one."""
+    try:
+        fields = json.loads(line.decode("ascii"), parse_int=short_number)
+        return [fields[name] for name in names]
+    except (LookupError, TypeError, RecursionError) as error:
+        raise ValueError from error
 
 
 def read_head(line: bytes) -> Head:
-    fields = json.loads(line)
-    part, users, groups, unknown, masks, size = (fields[name] for name in Head._fields)
-    return Head(part.encode("latin-1"), users, groups, names_in(unknown), names_in(masks), size)
+    part, users, groups, unknown, masks, size = read_fields(line, Head._fields)
+    return Head(name_in(part), ids_in(users), ids_in(groups), names_in(unknown), names_in(masks), number_in(size))
 
 
 def read_header(text: bytes) -> Header:
-    fields = json.loads(text)
-    line, size, *lists = (fields[name] for name in Header._fields)
-    return Header(line, size, *map(names_in, lists))
+    line, size, *lists = read_fields(text, Header._fields)
+    header = Header(number_in(line), number_in(size), *map(names_in, lists))
+    if any(b"\n" in message for message in header.messages):
+        raise ValueError
+    return header
+
+
+# --- the answers of this snapshot
 
 
 def files_of(unit: Unit) -> List[bytes]:

@@ -20,8 +20,8 @@ from .names import path_order, read_path, sorting_key, write_name
 from .program import OutputSlice, lines_of
 from .protocol import ANSWERED, FILE_HEAD, PROGRAM, REFUSED, is_refused, lacking_file, lacks_file, message_of
 from .records import path_of
-from .scripts import Unit, read_text
-from .side_by_side import HERE, Answered, Part, program_option, run_hosts
+from .scripts import Script, Unit, read_text
+from .side_by_side import HERE, NOT_READABLE, Answered, Part, program_option, run_hosts
 from .side_by_side import hosts_of as hosts_of
 from .superuser import Superusers
 from .tools import (
@@ -212,30 +212,40 @@ def run_parts(hosts: Dict[bytes, List[bytes]], options: List[bytes], script: byt
     return parts
 
 
+def answer_script(command: Command, script: Script, hosts: Dict[bytes, List[bytes]], given: argparse.Namespace,
+                  work: str) -> int:
+    """Answers a script over all snapshots, again where it has lines that count, and for each line that is dropped."""
+    units = script.units()
+    dropped: Dict[int, Joined] = {}
+    program = program_option(given.program)
+    is_one = sum(map(len, hosts.values())) == 1
+    parts = run_parts(hosts, [*[b"--records"] * (not is_one), *program], script.text, work)
+    check_agreement(parts)
+    say_notices(command, parts)
+    is_counting = any(unit.is_of(*COUNTING) for unit in units)
+    shared = agreement.files_of_several(recorded_in(parts)) if is_counting else []
+    options = counts.shared_options(shared)
+    fault = counts.too_many(shared) if options is None else b""
+    is_answered = not options  # Else they answer again, and say what they count of the files that several have.
+    while True:
+        if not is_answered:
+            parts = run_parts(hosts, [*(options or []), *program], without(script.text, units, set(dropped)), work)
+        joined = join_all(units, parts, dropped, fault)
+        new = next((number for number, it in joined.items() if it.is_dropped and number not in dropped), None)
+        if new is None:
+            return write(command, units, joined, superusers_of(parts, given.with_root), given.headings)
+        dropped[new], is_answered = joined[new], False
+
+
 def body(command: Command, folders: List[str], given: argparse.Namespace) -> int:
     """Answers standard input over all snapshots."""
     hosts = hosts_of([os.fsencode(it) for it in folders])
     script = read_text("-")
-    units = script.units()
-    dropped: Dict[int, Joined] = {}
-    program = program_option(given.program)
     with tempfile.TemporaryDirectory(prefix="facl-ask.") as work:
-        parts = run_parts(hosts, [*[b"--records"] * (len(folders) > 1), *program], script.text, work)
-        check_agreement(parts)
-        say_notices(command, parts)
-        is_counting = any(unit.is_of(*COUNTING) for unit in units)
-        shared = agreement.files_of_several(recorded_in(parts)) if is_counting else []
-        options = counts.shared_options(shared)
-        fault = counts.too_many(shared) if options is None else b""
-        is_answered = not options  # Else they answer again, and say what they count of the files that several have.
-        while True:
-            if not is_answered:
-                parts = run_parts(hosts, [*(options or []), *program], without(script.text, units, set(dropped)), work)
-            joined = join_all(units, parts, dropped, fault)
-            new = next((number for number, it in joined.items() if it.is_dropped and number not in dropped), None)
-            if new is None:
-                return write(command, units, joined, superusers_of(parts, given.with_root), given.headings)
-            dropped[new], is_answered = joined[new], False
+        try:
+            return answer_script(command, script, hosts, given, work)
+        except (LookupError, ValueError) as error:
+            raise Failure(NOT_READABLE) from error
 
 
 def pieces_of(unit: Unit, answer: Joined, superusers: Superusers, has_headings: bool) -> Iterator[bytes]:

@@ -3,17 +3,19 @@ from __future__ import annotations
 
 import os
 import re
+import resource
 import shlex
 import shutil
 import signal
 import subprocess
 import sys
 import tempfile
-from typing import IO, Dict, List, NamedTuple, Optional, Union
+from typing import IO, Dict, List, NamedTuple, Optional, Sequence, Union
 
 from .messages import Failure
 from .program import HOME, OutputSlice, environment_of_called
 from .protocol import is_refused
+from .scripts import read_script
 from .shard_worker import Head, Header, read_head, read_header
 
 NAME_OF_HOST = rb"[A-Za-z0-9_][A-Za-z0-9._-]*"
@@ -21,6 +23,10 @@ HOST = re.compile(rb"((?:" + NAME_OF_HOST + rb"@)?" + NAME_OF_HOST + rb"):(.*)\Z
 LIKE_HOST = re.compile(rb"[A-Za-z0-9@._-]+:|-[^/]*:")  # What somebody may have meant for one.
 NO_OPERAND = re.compile(rb".*\n|::::?\+?\Z|\Z", re.DOTALL)  # What parallel does not take as it is.
 HERE = b":"  # What parallel calls this machine.
+MOST_READ = 16_777_216  # Bytes of another machine's answers that are read into memory.
+MOST_WRITTEN = 1 << 32  # Bytes that it may write into one file, where there is room.
+MOST_SAID = 10_000  # Bytes of its messages in which the first one is looked for.
+NOT_READABLE = b"an answer cannot be read; facl-ask may be of another version there"
 
 
 class Answered(NamedTuple):
@@ -51,6 +57,11 @@ class Run(NamedTuple):
     process: "subprocess.Popen[bytes]"
     out: IO[bytes]
     messages: IO[bytes]
+    room: Optional[int]  # Bytes that each of them may have.
+
+    def is_full(self) -> bool:
+        sizes = [os.fstat(it.fileno()).st_size for it in (self.out, self.messages)]
+        return self.room is not None and max(sizes) >= self.room
 
 
 def hosts_of(folders: List[bytes]) -> Dict[bytes, List[bytes]]:
@@ -88,47 +99,57 @@ def program_option(program: Optional[str]) -> List[bytes]:
     return [] if program is None else [b"--program", os.fsencode(program)]
 
 
-def start(words: List[bytes], work: str) -> Run:
-    """Starts parallel with the script as its standard input."""
+def start(words: List[bytes], work: str, room: Optional[int]) -> Run:
+    """Starts parallel with the script as its standard input, and with `room` for what it writes."""
     called = {**environment_of_called(), "LC_ALL": "C", "PARALLEL_SHELL": "/bin/sh", "PARALLEL_HOME": work,
               "TMPDIR": work}
     out, messages = tempfile.TemporaryFile(dir=work), tempfile.TemporaryFile(dir=work)
     with open(os.path.join(work, "script"), "rb") as given:
         process = subprocess.Popen(words, stdin=given, stdout=out, stderr=messages, env=called,
-                                   preexec_fn=leave_quit_to_us)
-    return Run(process, out, messages)
+                                   preexec_fn=lambda: prepare_parallel(room))
+    return Run(process, out, messages, room)
 
 
 def run_hosts(hosts: Dict[bytes, List[bytes]], options: List[bytes], script: bytes, work: str) -> Dict[bytes, Outcome]:
     """Runs all snapshots side by side, and reads what they wrote; by machine."""
     with open(os.path.join(work, "script"), "wb") as file:
         file.write(script + b"\n")
+    numbers = [unit.number for unit in read_script(b"", script)]
+    room = room_for_answers(hosts, work)
     runs: Dict[bytes, Run] = {}
     try:
         for host, names in hosts.items():
-            runs[host] = start(parallel_words(host, names, options), work)
-        return {host: outcome_of(run, host, len(hosts[host])) for host, run in runs.items()}
+            runs[host] = start(parallel_words(host, names, options), work, None if host == HERE else room)
+        return {host: outcome_of(run, host, len(hosts[host]), numbers) for host, run in runs.items()}
     finally:
         for run in runs.values():
             end(run.process)
 
 
-def outcome_of(run: Run, host: bytes, wanted: int) -> Outcome:
+def outcome_of(run: Run, host: bytes, wanted: int, numbers: Sequence[int]) -> Outcome:
     """Waits for a run, and reads what it wrote."""
     run.process.wait()
     try:
-        parts = read_parts(run, host)
-        if len(parts) != wanted:
-            raise Failure(b"%d of %d snapshots did not answer" % (wanted - len(parts), wanted))
-        return parts
+        return read_parts(run, host, wanted, numbers)
     except Failure as failure:
         return failure
 
 
-def leave_quit_to_us() -> None:
+def room_for_answers(hosts: Dict[bytes, List[bytes]], work: str) -> int:
+    """How many bytes another machine may write into one file in `work`. parallel keeps what each snapshot prints in a
+    file, and then copies it to ours; so one machine leaves the others room for as much."""
+    look = os.statvfs(work)
+    files = sum(len(names) + 1 for names in hosts.values())
+    return min(MOST_WRITTEN, look.f_bavail * look.f_frsize // (files + 1))
+
+
+def prepare_parallel(room: Optional[int]) -> None:
     """In parallel, which would end at SIGQUIT and leave its jobs behind: the signal is left to the command, which ends
-    it."""
+    it. What writes more than `room` into one file is ended."""
     signal.signal(signal.SIGQUIT, signal.SIG_IGN)
+    if room is not None:
+        resource.setrlimit(resource.RLIMIT_FSIZE, (room, room))
+        resource.setrlimit(resource.RLIMIT_CORE, (0, 0))
 
 
 def end(run: "subprocess.Popen[bytes]") -> None:
@@ -141,39 +162,68 @@ def end(run: "subprocess.Popen[bytes]") -> None:
             pass
 
 
-def read_parts(run: Run, host: bytes) -> List[Part]:
-    """The places of the answers in what one run of parallel wrote."""
-    out, status = run.out, run.process.returncode
-    run.messages.seek(0)
-    said = [line for line in run.messages.read().splitlines() if line]
-    if status != 0:
-        raise Failure(said[0].replace(b"facl-ask: ", b"", 1) if said else b"parallel ended with status %d" % status)
-    out.seek(0)
+class Reader:
+    """Reads what one run of parallel wrote: each step ends at the next byte that is not read, or fails."""
+
+    def __init__(self, out: IO[bytes], host: bytes) -> None:
+        self.out = out
+        self.host = host
+        self.size = os.fstat(out.fileno()).st_size
+        self.room = self.size if host == HERE else MOST_READ  # For what is kept in memory.
+        out.seek(0)
+
+    def is_at_end(self) -> bool:
+        return self.out.tell() == self.size
+
+    def line(self) -> bytes:
+        line = self.out.readline(self.room + 1)
+        self.room -= len(line)
+        if self.room < 0:
+            raise Failure(b"its answer has more than 16,777,216 bytes beside what the program printed")
+        if not line.endswith(b"\n"):
+            raise Failure(b"a snapshot did not answer to the end")
+        return line
+
+    def piece(self, size: int) -> OutputSlice:
+        """The next `size` bytes, which are read later."""
+        start = self.out.tell()
+        if size > self.size - start:
+            raise Failure(b"a snapshot did not answer to the end")
+        self.out.seek(size, os.SEEK_CUR)
+        return OutputSlice(self.out, start, start + size)
+
+    def part(self, numbers: Sequence[int]) -> Part:
+        """What one snapshot wrote: its head, its answers to the lines of these numbers, and its last line."""
+        head = read_head(self.line())
+        files = self.piece(head.size)
+        answers: Dict[int, Answered] = {}
+        for number in numbers:
+            header = read_header(self.line())
+            answers[header.line] = Answered(header, self.piece(header.size))
+            if header.line != number or self.line() != b"\n":
+                raise ValueError
+        if self.line() != b"end\n":
+            raise ValueError
+        return Part(head.part if self.host == HERE else self.host + b":" + head.part, head, files, answers)
+
+
+def read_parts(run: Run, host: bytes, wanted: int, numbers: Sequence[int]) -> List[Part]:
+    """The places of the answers of `wanted` snapshots in what one run of parallel wrote."""
+    if run.is_full():
+        raise Failure(b"what it wrote takes more than the %d bytes that there is room for" % (run.room or 0))
+    if run.process.returncode != 0:
+        run.messages.seek(0)
+        said = next((line for line in run.messages.read(MOST_SAID).splitlines() if line), b"")
+        raise Failure(said.replace(b"facl-ask: ", b"", 1) or b"parallel ended with status %d" % run.process.returncode)
+    reader = Reader(run.out, host)
     parts: List[Part] = []
-    is_open = False
-    for line in iter(out.readline, b""):
-        if line.startswith(b'{"part": '):
-            parts.append(open_part(out, line, host))
-            is_open = True
-        elif line == b"end\n":
-            is_open = False
-        else:
-            header = read_header(line)
-            place = out.tell()
-            out.seek(header.size + 1, os.SEEK_CUR)
-            parts[-1].answers[header.line] = Answered(header, OutputSlice(out, place, place + header.size))
-    if is_open:
-        raise Failure(b"a snapshot did not answer to the end")
-    return parts
-
-
-def open_part(out: IO[bytes], line: bytes, host: bytes) -> Part:
-    """A part, of which the first line is read."""
     try:
-        head = read_head(line)
-    except (KeyError, ValueError) as error:
-        raise Failure(b"the facl-ask there is of another version than the one here") from error
-    place = out.tell()
-    out.seek(head.size, os.SEEK_CUR)
-    label = head.part if host == HERE else host + b":" + head.part
-    return Part(label, head, OutputSlice(out, place, place + head.size), {})
+        while len(parts) < wanted and not reader.is_at_end():
+            parts.append(reader.part(numbers))
+        if not reader.is_at_end():
+            raise ValueError
+    except ValueError as error:
+        raise Failure(NOT_READABLE) from error
+    if len(parts) < wanted:
+        raise Failure(b"%d of %d snapshots did not answer" % (wanted - len(parts), wanted))
+    return parts

@@ -27,6 +27,7 @@ LESS = "-FRX"
 # The start of what a spreadsheet computes, or takes for the quote of a field; letters of rights, as -w- r-x, are none. The
 # page of facl-report has the same in `field` of report.js.
 COMPUTED = re.compile(rb"""[=+@'"\r]|-(?![w-][x-](?: [r-][w-][x-])*\Z)""")
+LENT_BY = ("SUDO_UID", "DOAS_USER", "PKEXEC_UID")  # Set by what lends a command the rights of another user.
 
 
 class Column(NamedTuple):
@@ -208,14 +209,23 @@ def pager_words() -> Optional[List[str]]:
     return [less, LESS] if less else None
 
 
+def is_lent() -> bool:
+    """Whether the caller has the rights of another user for this command alone."""
+    return os.getuid() != os.geteuid() or os.getgid() != os.getegid() or any(name in os.environ for name in LENT_BY)
+
+
+def environment_of_pager() -> Dict[str, str]:
+    """A pager from which a caller with lent rights cannot run or read anything else with them."""
+    return {"LESS": LESS[1:], **environment_of_called(), **({"LESSSECURE": "1"} if is_lent() else {})}
+
+
 def is_shown_by_pager(text: bytes) -> bool:
     """Shows a text by the pager, until its reader ends it; false where it cannot be run."""
     words = pager_words()
     if words is None or os.environ.get("TERM", "dumb") == "dumb":
         return False
-    environment = {"LESS": LESS[1:], **environment_of_called()}
     try:
-        run = subprocess.Popen(words, stdin=subprocess.PIPE, env=environment)
+        run = subprocess.Popen(words, stdin=subprocess.PIPE, env=environment_of_pager())
     except OSError:
         return False
     kept = {number: signal.signal(number, signal.SIG_IGN) for number in (signal.SIGINT, signal.SIGQUIT)}

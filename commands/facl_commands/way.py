@@ -9,7 +9,6 @@ from typing import Dict, Iterable, List, NamedTuple, Optional, Tuple
 from . import differences, live, looking, plan_folder, planned, system
 from .lists import Record, is_minimal, owner_permissions
 from .live import NotFound, OpenFile, Opener, Seen
-from .messages import reason
 from .plan_folder import Folder
 from .planned import Devices, Journal, Work
 from .snapshot import Identity

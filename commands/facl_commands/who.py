@@ -4,7 +4,7 @@ from __future__ import annotations
 
 import argparse
 import os
-from typing import Dict, List, Optional, Tuple
+from typing import Dict, List
 
 from . import choice, meta, overview, tables, texts, who_files, who_folder, who_rights, who_user
 from .asking import Asker, read_rights

@@ -1,6 +1,7 @@
 """facl-ask: as the program, with several scripts, and its prompt, line by line and at a terminal."""
 from __future__ import annotations
 
+import gc
 import importlib.util
 import json
 import os
@@ -410,6 +411,13 @@ class Prompts(unittest.TestCase):
         prompt = self.prompt()
         prompt.run(read)
         return b"".join(self.printed)
+
+    def test_garbage_is_collected(self) -> None:
+        """As a prompt may be open all day, and commands that end soon switch that off."""
+        gc.disable()
+        self.addCleanup(gc.enable)
+        self.ask("quit")
+        self.assertTrue(gc.isenabled())
 
     def test_answers(self) -> None:
         self.assertEqual(self.ask("can ines srv/share/one", "who w srv/share/one", "who x srv/share/one", "may guest w", "", "# a comment",

@@ -248,6 +248,16 @@ class Terminals(Case):
     def test_a_pager_that_ends_early(self) -> None:
         self.assertEqual(self.rows(PAGER="true", LINES="3"), [])
 
+    def test_lent_rights(self) -> None:
+        """The pager runs nothing for a caller who may run this command alone."""
+        environment = {"PAGER": "echo secure:$LESSSECURE", "LINES": "4"}
+        self.assertEqual(self.rows(**environment), [b"secure:"])
+        for name in ("SUDO_UID", "DOAS_USER", "PKEXEC_UID"):
+            self.assertEqual(self.rows(**{name: "1000", "LESSSECURE": "0"}, **environment), [b"secure:1"])
+        for call in ("os.geteuid", "os.getegid"):
+            with mock.patch(call, return_value=4711):
+                self.assertEqual(tables.environment_of_pager()["LESSSECURE"], "1")
+
     def test_no_pager_is_installed(self) -> None:
         with mock.patch.dict(os.environ, {"TERM": "xterm"}), mock.patch("shutil.which", return_value=None):
             os.environ.pop("PAGER", None)
