@@ -16,6 +16,7 @@ from __future__ import annotations
 
 import os
 import re
+import shutil
 import subprocess
 import sys
 import tempfile
@@ -124,6 +125,8 @@ def chosen_lanes() -> Tuple[int, Dict[str, str]]:
 
 
 def run(gate: Gate) -> int:
+    if not shutil.which("rt"):
+        raise script.Failed("rt is not installed: README names the kit")
     if not lint():
         print("0 passed, 1 failed", flush=True)
         return 1
