@@ -8,7 +8,7 @@
 # Each of these counts as a failed test where it finds something: shellcheck and mypy where they are installed,
 # tools/check/documents.py, tools/check/memory_faults.py, tools/check/line_lengths.py and, where there is a C compiler,
 # tools/check/growth.py --quick. Pages are tested in Chromium where it is installed. What needs a real file system and root
-# is in tools/check/live.py and tools/check/snapshot.py.
+# is in tools/check/live.py, tools/check/snapshot.py and tools/check/daily.py.
 set -eu
 top=$(cd "$(dirname "$0")/.." && pwd)
 if [ "${1:-}" = --all ]; then
@@ -34,7 +34,7 @@ lint() {
     fi
 }
 
-lint shellcheck -x commands/facl-snapshot commands/facl-daily commands/completion/facl.bash .ci/run tools/*.sh tools/*/*.sh
+lint shellcheck -x commands/facl-snapshot commands/completion/facl.bash .ci/run tools/*.sh tools/*/*.sh
 lint mypy
 for check in tools/check/documents.py tools/check/memory_faults.py tools/check/line_lengths.py; do
     "$check" >&2 || lint_faults=$((lint_faults + 1))
