@@ -38,7 +38,7 @@ STUBS = {  # The mode of the file is the snapshot.
 SIZES = (16, 32, 48, 64, 96, 128, 192, 256, 384, 512)  # KiB of a disk.
 
 
-KILLER = '{ sleep "$1"; kill "-$2" -- "$3$$"; } 2>/dev/null & shift 3; exec "$@"'
+KILLER = '{ sleep "$1"; kill "-$2" "$3$$"; } 2>/dev/null & shift 3; exec "$@"'
 
 
 def default_signals() -> None:
