@@ -10,7 +10,7 @@
 # tools/check/documents.py, tools/check/memory_faults.py, tools/check/line_lengths.py. They come first; with --lint they are
 # all that is done, which takes no program and half a minute, and with --no-lint they are left out. Where there is a C
 # compiler, tools/check/growth.py --quick is a test too. Pages are tested in Chromium where it is installed. What needs a real
-# file system and root is in tools/check/live.py and tools/check/snapshot.py.
+# file system and root is in tools/check/live.py, tools/check/snapshot.py and tools/check/daily.py.
 set -eu
 top=$(cd "$(dirname "$0")/.." && pwd)
 case ${1:-} in
@@ -49,7 +49,7 @@ lint() {
 
 # run_linters: all of them, each with what it found
 run_linters() {
-    lint shellcheck -x .ci/run commands/facl-snapshot commands/facl-daily commands/completion/facl.bash tools/*.sh tools/*/*.sh
+    lint shellcheck -x .ci/run commands/facl-snapshot commands/completion/facl.bash tools/*.sh tools/*/*.sh
     lint mypy
     lint pyflakes3 commands tools
     for check in tools/check/documents.py tools/check/memory_faults.py tools/check/line_lengths.py; do

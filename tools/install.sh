@@ -35,8 +35,8 @@ case $version in *[!0-9a-z.]*) fail "$version: is no version" ;; esac
 prefix=${1:-/usr/local}
 case $prefix in /*) ;; *) fail "$prefix: PREFIX has to begin with a slash" ;; esac
 to=${DESTDIR:-}${prefix%/}
-python_commands='facl-ask facl-plan facl-apply facl-report facl-who facl-diff facl-audit facl-check'
-shell_commands='facl-snapshot facl-daily'
+python_commands='facl-ask facl-plan facl-apply facl-report facl-who facl-diff facl-audit facl-check facl-daily'
+shell_commands='facl-snapshot'
 pages="facl facl-commands $shell_commands $python_commands"
 completions=share/bash-completion/completions
 

@@ -14,7 +14,8 @@ from typing import List, Optional
 
 from common import COMMANDS, Case, Done, restore_signals
 
-NEEDED = ("getfacl", "setfacl", "getent", "flock")
+NEEDED = ("getfacl", "setfacl", "getent")
+LOCK = "lock.of-facl-daily"
 USERS = "root:x:0:0::/:/bin/sh\nanna:x:71001:71001::/:/bin/sh\n"
 GROUPS = "root:x:0:\nanna:x:71001:\n"
 STUBS = {
@@ -94,9 +95,9 @@ class Daily(Case):
         return Done(done.returncode, done.stdout, done.stderr)
 
     def kept(self) -> List[str]:
-        """The names in its folder, without the day."""
+        """The names in its folder, without the day and the lock."""
         day = time.strftime("%Y-%m-%d")
-        return [name.replace(day, "DAY") for name in sorted(os.listdir(self.path("kept")))]
+        return [name.replace(day, "DAY") for name in sorted(os.listdir(self.path("kept"))) if name != LOCK]
 
     def plain(self, text: bytes) -> str:
         """A text with its parts that are others each day."""
@@ -154,12 +155,12 @@ class Week(Daily):
         words = ["--folder", self.path("kept"), self.tree]
         reader, writer = os.pipe()
         os.close(reader)
-        for number, output in enumerate((os.open("/dev/full", os.O_WRONLY), writer), 1):
+        for output in (os.open("/dev/full", os.O_WRONLY), writer):
             done = subprocess.run([os.path.join(COMMANDS, "facl-daily"), *words], env=self.environment(), stdin=subprocess.DEVNULL,
                                   stdout=output, stderr=subprocess.PIPE, check=False)
             os.close(output)
             self.assertEqual((done.returncode, done.stderr), (2, b"facl-daily: standard output cannot be written\n"))
-            self.assertEqual(len(self.kept()), 1 + number)
+            self.assertEqual(self.kept(), [])
 
 
 class Units(Daily):
@@ -212,11 +213,12 @@ class Faults(Daily):
 
     def test_two_at_once(self) -> None:
         os.mkdir(self.path("kept"), 0o700)
-        folder = os.open(self.path("kept"), os.O_RDONLY)
-        self.addCleanup(os.close, folder)
-        fcntl.flock(folder, fcntl.LOCK_EX)
+        descriptor = os.open(self.path("kept/" + LOCK), os.O_CREAT | os.O_RDONLY, 0o600)
+        self.addCleanup(os.close, descriptor)
+        fcntl.flock(descriptor, fcntl.LOCK_EX)
         done = self.daily()
-        self.assertEqual((done.status, os.listdir(self.path("kept"))), (2, []))
+        self.assertEqual((done.status, self.kept()), (2, []))
+        self.assertIn(b"another facl-daily is at work there", done.messages)
 
     def test_no_snapshot(self) -> None:
         done = self.daily(folders=[self.path("nix")])
@@ -233,7 +235,7 @@ class Faults(Daily):
         self.write("stubs/broken", b"")
         os.chmod(os.path.join(self.tree, "file"), 0o646)
         done = self.daily("--mail", "root")
-        self.assertEqual((done.status, self.kept()), (2, ["DAY", "made.by-facl-daily"]))
+        self.assertEqual((done.status, self.kept()), (2, []))
         self.assertIn(b"sendmail: status 75; this was to be sent:\nTo: root\n", done.messages)
 
     def test_an_interrupted_run_leaves_nothing(self) -> None:

@@ -1,0 +1,272 @@
+"""The folder of facl-daily: its lock, its list of the snapshots that were kept, and what a killed run left.
+
+The way to it is looked at from the root on; all that follows goes by its descriptor. A run changes it in these steps, and
+may be killed between any two of them:
+
+    done so far                                the next run finds, and does
+    1 a work folder is there                   no `made` in it: removes it, and says that a run was killed
+    2 the snapshot is in it, as `new`          the same: what changed was not said, and is said now
+    3 the text was given                       the same: what changed is said again
+    4 `made`, the next list, is beside `new`   the same; it has that name only when it is complete
+    5 `new` has its name in DIR                `made` without `new`: makes it the list; nothing is said twice
+    6 `made` is the list                       an empty work folder: removes it
+    7 some older snapshots are removed         names in the list that are not there, or a part of a snapshot: removes these
+    8 the list has only what is there          as 6
+"""
+from __future__ import annotations
+
+import fcntl
+import os
+import re
+import secrets
+import shutil
+import stat
+from typing import List, Optional
+
+from . import trusted
+from .messages import Failure, reason
+
+LOCK, MADE = b"lock.of-facl-daily", b"made.by-facl-daily"
+NEW, NEXT, BEGUN = b"new", b"made", b"begun"  # In the work folder.
+WORK = re.compile(rb"\.work\.[0-9A-Za-z]{10}")
+NAME = re.compile(rb"[0-9]{4,}-[0-9]{2}-[0-9]{2}(?:\.([0-9]{1,9}))?")
+TEXTS = (b"passwd", b"group", b"dump", b"links", b"inodes", b"meta")
+LISTS = ("system.posix_acl_access", "system.posix_acl_default")
+LIST_LIMIT = 1 << 20  # Bytes of the list.
+DIRECTORY = os.O_RDONLY | os.O_DIRECTORY | os.O_NOFOLLOW | os.O_CLOEXEC
+CREATE = os.O_RDWR | os.O_CREAT | os.O_EXCL | os.O_NOFOLLOW | os.O_CLOEXEC
+
+
+def make_private(descriptor: int, mode: int) -> None:
+    """Takes the lists that a new file got by the default list of its directory, and sets its mode."""
+    for name in LISTS:
+        try:
+            os.removexattr(descriptor, name)
+        except OSError:
+            pass  # It has none; what is left is found below.
+    os.fchmod(descriptor, mode)
+    if trusted.has_list(descriptor):
+        raise Failure(b"a new file keeps its access list")
+
+
+def make_directory(name: bytes, above: int) -> int:
+    """Makes a directory of the caller alone, and opens it."""
+    os.mkdir(name, 0o700, dir_fd=above)
+    descriptor = os.open(name, DIRECTORY, dir_fd=above)
+    make_private(descriptor, 0o700)
+    return descriptor
+
+
+def open_folder(name: bytes) -> int:
+    """Opens DIR, which is made where it is not there; fails where somebody else could write there or exchange it."""
+    if not os.path.lexists(name):
+        above, _, last = name.rstrip(b"/").rpartition(b"/")
+        parent = trusted.open_folder(above or b"/")
+        os.close(make_directory(last, parent))
+        os.close(parent)
+    descriptor = trusted.open_folder(name)
+    look = os.fstat(descriptor)
+    if look.st_uid != os.geteuid() or look.st_mode & 0o022:
+        raise Failure(name + b": has to belong to the caller, and nobody else may write there: chmod 700 it, or give another "
+                      b"--folder")
+    return descriptor
+
+
+def fault_of(descriptor: int) -> Optional[bytes]:
+    """Why a file is none that facl-daily made, or why others can open it."""
+    look = os.fstat(descriptor)
+    if not stat.S_ISREG(look.st_mode):
+        return b"is no plain file"
+    if look.st_uid != os.geteuid():
+        return b"belongs to " + trusted.owner_name(look.st_uid)
+    if look.st_nlink != 1:
+        return b"has another name too"
+    if stat.S_IMODE(look.st_mode) != 0o600:
+        return b"has the mode %04o in place of 0600" % stat.S_IMODE(look.st_mode)
+    return None
+
+
+class Folder:
+    """DIR by its descriptor; the process works in it."""
+
+    def __init__(self, name: bytes) -> None:
+        self.descriptor = open_folder(name)
+        os.fchdir(self.descriptor)
+        self.name = os.getcwdb()
+        self.work = b""
+        self.inside = -1  # The work folder.
+        self.lock_file = self.lock()
+
+    def open_own(self, name: bytes, above: Optional[int] = None) -> int:
+        """Opens a file that facl-daily made, and fails where it is another one; a pipe or device is not opened."""
+        above = self.descriptor if above is None else above
+        plain = stat.S_ISREG(os.stat(name, dir_fd=above, follow_symlinks=False).st_mode)
+        flags = os.O_RDONLY if plain else os.O_PATH
+        descriptor = os.open(name, flags | os.O_NOFOLLOW | os.O_NONBLOCK | os.O_CLOEXEC, dir_fd=above)
+        fault = fault_of(descriptor) if plain else b"is no plain file"
+        if fault is not None:
+            os.close(descriptor)
+            raise self.fault(name, fault)
+        return descriptor
+
+    def fault(self, name: bytes, text: bytes) -> Failure:
+        return Failure(self.name + b"/" + name + b": " + text + b", so it is not trusted: look at it, and mend or remove it")
+
+    def lock(self) -> int:
+        """Takes the lock, which nobody else can open, until the descriptor is closed here and in all commands that have it."""
+        try:
+            descriptor = os.open(LOCK, CREATE, 0o600, dir_fd=self.descriptor)
+        except FileExistsError:
+            descriptor = self.open_own(LOCK)
+        make_private(descriptor, 0o600)  # A run may have been killed before this.
+        try:
+            fcntl.flock(descriptor, fcntl.LOCK_EX | fcntl.LOCK_NB)
+        except BlockingIOError as error:
+            raise Failure(self.name + b": another facl-daily is at work there, or a command of one that was killed") from error
+        return descriptor
+
+    def is_snapshot(self, name: bytes) -> bool:
+        """Whether a name of the list is that of a folder of the caller."""
+        try:
+            look = os.stat(name, dir_fd=self.descriptor, follow_symlinks=False)
+        except FileNotFoundError:
+            return False
+        return stat.S_ISDIR(look.st_mode) and look.st_uid == os.geteuid()
+
+    def made(self) -> List[bytes]:
+        """The snapshots that were kept and are there, the oldest first."""
+        if not has(self.descriptor, MADE):
+            return []
+        with open(self.open_own(MADE), "rb") as file:
+            if trusted.has_list(file.fileno()):
+                raise self.fault(MADE, b"has an access list")
+            text = file.read(LIST_LIMIT + 1)
+        if len(text) > LIST_LIMIT:
+            raise self.fault(MADE, b"is too large")
+        lines = text.split(b"\n")
+        for number, line in enumerate(lines[:-1], 1):
+            if not NAME.fullmatch(line):
+                raise self.fault(MADE, b"line %d is no name of a snapshot" % number)
+        if lines[-1]:
+            raise self.fault(MADE, b"its last line has no end")
+        return [it for it in dict.fromkeys(lines[:-1]) if self.is_snapshot(it)]
+
+    def new_name(self, day: bytes, names: List[bytes]) -> bytes:
+        """The day, with a number from its second snapshot on."""
+        last = NAME.fullmatch(names[-1]) if names and names[-1].partition(b".")[0] == day else None
+        number = 1 if last is None else int(last[1] or 1) + 1
+        while has(self.descriptor, day if number == 1 else day + b".%d" % number):
+            number += 1
+        return day if number == 1 else day + b".%d" % number
+
+    def remains(self) -> List[bytes]:
+        """The work folders of runs that were killed."""
+        found = []
+        for name in sorted(it for it in os.listdir(b".") if WORK.fullmatch(it)):
+            look = os.stat(name, follow_symlinks=False)
+            if stat.S_ISDIR(look.st_mode) and look.st_uid == os.geteuid() and stat.S_IMODE(look.st_mode) == 0o700:
+                found.append(name)
+        return found
+
+    def remove_remains(self) -> bool:
+        """Removes the work folders of runs that were killed; whether there was one."""
+        found = self.remains()
+        for name in found:
+            inside = os.open(name, DIRECTORY)
+            self.settle(inside)
+            os.close(inside)
+            shutil.rmtree(name)
+        return bool(found)
+
+    def settle(self, inside: int) -> None:
+        """Puts the next list of a work folder in place where its snapshot has its name already; else drops it, before the
+        snapshot goes."""
+        if has(inside, NEXT) and not has(inside, NEW):
+            os.close(self.open_own(NEXT, inside))
+            os.rename(NEXT, MADE, src_dir_fd=inside, dst_dir_fd=self.descriptor)
+        elif has(inside, NEXT):
+            os.unlink(NEXT, dir_fd=inside)
+
+    def begin(self) -> None:
+        """Makes the work folder."""
+        work = b".work." + secrets.token_hex(5).encode()
+        try:
+            self.inside = make_directory(work, self.descriptor)
+        except OSError as error:
+            raise Failure(self.name + b": cannot be written: " + reason(error)) from error
+        self.work = work
+
+    def keep(self, name: bytes, names: List[bytes]) -> None:
+        """Gives the new snapshot its name, and adds it to the list; on the disk each step comes after the one before."""
+        new = os.open(NEW, DIRECTORY, dir_fd=self.inside)
+        for text in os.listdir(new):
+            sync(text, new)
+        os.fsync(new)
+        os.close(new)
+        self.write_next([*names, name])
+        os.rename(NEW, name, src_dir_fd=self.inside, dst_dir_fd=self.descriptor)
+        os.fsync(self.descriptor)
+        self.put_list()
+
+    def write_next(self, names: List[bytes]) -> None:
+        """Writes the next list beside the snapshot."""
+        descriptor = os.open(BEGUN, CREATE, 0o600, dir_fd=self.inside)
+        with open(descriptor, "wb") as file:
+            make_private(descriptor, 0o600)
+            file.write(b"".join(it + b"\n" for it in names))
+            file.flush()
+            os.fsync(descriptor)
+        os.rename(BEGUN, NEXT, src_dir_fd=self.inside, dst_dir_fd=self.inside)  # Never a part of it.
+        os.fsync(self.inside)
+
+    def put_list(self) -> None:
+        """Makes the next list the list."""
+        os.rename(NEXT, MADE, src_dir_fd=self.inside, dst_dir_fd=self.descriptor)
+        os.fsync(self.descriptor)
+
+    def keep_last(self, count: int) -> List[bytes]:
+        """Removes the older snapshots of those that were kept; returns those that stay, since other files are in them."""
+        names = self.made()
+        old = names[:-count]
+        left = [it for it in old if not self.remove_snapshot(it)]
+        if old:
+            self.write_next(names[-count:])
+            self.put_list()
+        return left
+
+    def remove_snapshot(self, name: bytes) -> bool:
+        """Removes the known files of a snapshot, and its folder where nothing else is in it."""
+        descriptor = os.open(name, DIRECTORY, dir_fd=self.descriptor)
+        for text in TEXTS:
+            try:
+                os.unlink(text, dir_fd=descriptor)
+            except (FileNotFoundError, IsADirectoryError):
+                pass
+        os.close(descriptor)
+        try:
+            os.rmdir(name, dir_fd=self.descriptor)
+        except OSError:
+            return False
+        return True
+
+    def end(self) -> None:
+        """Removes the work folder."""
+        if self.work:
+            self.settle(self.inside)
+            shutil.rmtree(self.work)
+            self.work = b""
+
+
+def has(folder: int, name: bytes) -> bool:
+    try:
+        os.stat(name, dir_fd=folder, follow_symlinks=False)
+    except FileNotFoundError:
+        return False
+    return True
+
+
+def sync(name: str, folder: int) -> None:
+    """Waits until a file is on the disk."""
+    descriptor = os.open(name, os.O_RDONLY | os.O_NOFOLLOW | os.O_NONBLOCK | os.O_CLOEXEC, dir_fd=folder)
+    os.fsync(descriptor)
+    os.close(descriptor)
