@@ -11,11 +11,10 @@ import os
 import secrets
 import signal
 import stat
-from contextlib import contextmanager
 from typing import Dict, Iterator, NamedTuple, Optional, Tuple
 
 from . import lists, system, trusted
-from .messages import SIGNALS, Failure, reason
+from .messages import SIGNALS, Failure, reason, signals_wait
 
 VERSION = b"facl-plan 2\n"
 LOCK = b"lock"  # Nobody but the owner can open it, also where a group reads the plan.
@@ -188,18 +187,6 @@ def new_folder(place: Place) -> Tuple[bytes, Folder]:
     os.mkdir(name, 0o700, dir_fd=place.above)
     descriptor = os.open(name, os.O_RDONLY | os.O_DIRECTORY | os.O_NOFOLLOW | os.O_CLOEXEC, dir_fd=place.above)
     return name, Folder(descriptor, place.shown)
-
-
-@contextmanager
-def signals_wait() -> Iterator[None]:
-    """No signal comes between the calls within. One that is ignored is not blocked: it would be kept, and look like one
-    that waits."""
-    heeded = {number for number in SIGNALS if signal.getsignal(number) != signal.SIG_IGN}
-    before = signal.pthread_sigmask(signal.SIG_BLOCK, heeded)
-    try:
-        yield
-    finally:
-        signal.pthread_sigmask(signal.SIG_SETMASK, before)
 
 
 def ignore_signals() -> None:
