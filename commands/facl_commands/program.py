@@ -5,10 +5,10 @@ import contextlib
 import os
 import shutil
 import subprocess
-import tempfile
 from types import TracebackType
 from typing import IO, Callable, Dict, Iterable, Iterator, List, NamedTuple, Optional, Type
 
+from . import scratch
 from .messages import Failure
 from .protocol import DUMP_NOT_READ, IN_LINE, PROBE, PROBE_REFUSED, SETUP, UNKNOWN_TOOL, has_text
 
@@ -92,7 +92,7 @@ class Session:
         words = [program, "--passwd", "passwd", "--group", "group", "--dump", "dump"]
         self.folder = folder
         self.number = 0
-        self.output = tempfile.TemporaryFile(prefix="facl-session.")
+        self.output = scratch.new_file("facl-session.")
         self.run = subprocess.Popen(
             words, cwd=folder, env={"LC_ALL": "C", "PATH": os.environ.get("PATH", os.defpath)}, stdin=subprocess.PIPE,
             stdout=self.output, stderr=subprocess.PIPE, start_new_session=True,
@@ -161,7 +161,7 @@ class Session:
 @contextlib.contextmanager
 def session_over(program: str, passwd: bytes, group: bytes, dump: bytes) -> Iterator[Session]:
     """A session over texts, which are in a folder of their own as long as it goes on."""
-    with tempfile.TemporaryDirectory(prefix="facl-texts.") as folder:
+    with scratch.folder("facl-texts.") as folder:
         for name, text in (("passwd", passwd), ("group", group), ("dump", dump)):
             with open(os.path.join(folder, name), "wb") as file:
                 file.write(text)
