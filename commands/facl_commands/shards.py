@@ -10,10 +10,9 @@ from __future__ import annotations
 import argparse
 import heapq
 import os
-import tempfile
 from typing import Dict, Iterator, List, NamedTuple, Optional, Set, Tuple
 
-from . import agreement, counts, overview
+from . import agreement, counts, overview, scratch
 from .answering import below_heading, lines_for_terminal, write_messages
 from .messages import Command, Failure
 from .names import path_order, read_path, sorting_key, write_name
@@ -219,7 +218,7 @@ def body(command: Command, folders: List[str], given: argparse.Namespace) -> int
     units = script.units()
     dropped: Dict[int, Joined] = {}
     program = program_option(given.program)
-    with tempfile.TemporaryDirectory(prefix="facl-ask.") as work:
+    with scratch.folder("facl-ask.") as work:
         parts = run_parts(hosts, [*[b"--records"] * (len(folders) > 1), *program], script.text, work)
         check_agreement(parts)
         say_notices(command, parts)
