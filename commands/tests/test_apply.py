@@ -12,7 +12,7 @@ from typing import Any, Callable, Dict, Set
 from common import Case, Done
 from real import RealCase
 
-from facl_commands import apply, by_hand_done, carrying, differences, lists, live, plan_folder, way  # noqa: E402
+from facl_commands import apply, by_hand_done, carrying, changing, differences, lists, live, plan_folder, way  # noqa: E402
 from facl_commands.messages import SIGNALS  # noqa: E402
 from facl_commands.plan_folder import Folder  # noqa: E402
 
@@ -354,7 +354,7 @@ class SideBySide(Meanwhile):
 
     def test_a_process_that_is_killed(self) -> None:
         carrier = self.carrier_of_many()
-        change = live.change
+        change = changing.change
 
         def change_and_end(file: live.OpenFile, *words: Any) -> None:
             change(file, *words)
@@ -362,7 +362,7 @@ class SideBySide(Meanwhile):
                 os.kill(os.getpid(), signal.SIGKILL)
 
         first = os.getpid()
-        with unittest.mock.patch.object(live, "change", change_and_end):
+        with unittest.mock.patch.object(changing, "change", change_and_end):
             left = carrier.run()
         self.assertTrue(left)  # The first that is killed stops the others.
         self.assertEqual({text.endswith(b" has ended") for text in left.values()}, {True})
