@@ -9,7 +9,7 @@ from typing import Dict, List, Mapping
 from . import by_hand_done, differences, live, meta, plan_folder, planned
 from .carrying import Carrier
 from .live import Seen
-from .messages import Command, Failure, counted, parser_of, reason
+from .messages import Command, Failure, counted, parser_of, reason, signals_wait
 from .names import live_name, path_order, shell_word
 from .way import Look, Obstacles, Way, look_at, read_way, unexpected
 
@@ -145,7 +145,7 @@ def say_in_part(command: Command, way: Way, left: Dict[bytes, bytes]) -> int:
 def carry_out(command: Command, way: Way, carrier: Carrier, is_whole: bool) -> int:
     """Gives the files their new records, or the old ones back. A signal waits until one of these is done; it is the
     status only where the files are as they were, since else 0 or 4 says more."""
-    with plan_folder.signals_wait():
+    with signals_wait():
         try:
             carrier.begin()
         except OSError as error:

@@ -6,7 +6,7 @@ import signal
 from functools import partial
 from typing import Callable, Dict, Iterable, List, Optional, Set, Tuple
 
-from . import differences, live, plan_folder, planned, sharing, system
+from . import changing, differences, plan_folder, planned, sharing, system
 from .lists import Record
 from .live import NotFound, OpenFile, Opener, Seen
 from .messages import SIGNALS, reason
@@ -268,7 +268,7 @@ def fault_of(step: Callable[[Opener, bytes], None], opener: Opener, path: bytes)
 
 def change(file: OpenFile, now: Record, end: Record, is_directory: bool) -> None:
     """Gives a file its new record, and compares."""
-    live.change(file, now, end, is_directory)
+    changing.change(file, now, end, is_directory)
     record = file.record()
     if record != end:
         raise Mismatch(b"is not as it should be: " + differences.parts(record, end))

@@ -3,10 +3,9 @@ from __future__ import annotations
 
 import argparse
 import os
-import tempfile
 from typing import Iterable, List, NamedTuple, Optional, Tuple
 
-from . import choice, diff_report, overview, tables, texts
+from . import choice, diff_report, overview, scratch, tables, texts
 from .diff_edits import CannotLead, Edits, group_text
 from .diff_gains import Gain, ask_gains, rows_of
 from .diff_labels import Labels, Shapes, is_in, records_of_folders
@@ -174,7 +173,7 @@ def compare(command: Command, given: argparse.Namespace) -> Tuple[Compared, Opti
         command.say(text)
     for state in (old, new):
         overview.say_notices(command, texts.Source(state.folder, state.folder, False), has_masks=state is new)
-    with tempfile.TemporaryDirectory(prefix="facl-diff.") as work:
+    with scratch.folder("facl-diff.") as work:
         with session_of(program, old, work, group_text(old, new)) as before, session_of(program, new, work) as after:
             comparison = Comparison(program, (old, new), (before, after), given)
             answered = comparison.answer()

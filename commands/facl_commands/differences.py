@@ -56,6 +56,13 @@ def key_text(key: Key) -> bytes:
     return TAGS[tag] + b":" + (b"" if name is None else name(number)) + b":"
 
 
+def entry_lines(data: bytes, head: bytes = b"") -> List[bytes]:
+    """The entries of a list as getfacl(1) prints them with ids; none where there is no list."""
+    entries = sorted(lists.entries_of(data).items()) if data else []
+    return [head + TAGS[tag] + (b":%d:" % number if tag in lists.NAMED else b"::") + permissions_text(permissions)
+            for (tag, number), permissions in entries]
+
+
 def lines(expected: Record, now: Record, when: bytes) -> Iterator[bytes]:
     """What was expected and what is, a line each; when says of which time the first is."""
     form = b"%s %s " + when + b", %s now"

@@ -5,9 +5,9 @@ from __future__ import annotations
 import contextlib
 import os
 import re
-import tempfile
 from typing import Dict, Iterator, NamedTuple, Set
 
+from . import scratch
 from .messages import Failure
 from .names import read_path, script_word, write_user
 from .people import plain_id, rows_of, user_word
@@ -96,7 +96,7 @@ def world_of(program: str, source: Source) -> Iterator[World]:
     """The session; the folder of its texts goes with it."""
     texts = Texts(*(read_trusted(os.path.join(source.folder, name)) for name in NEEDED))
     everybody = free_name(texts)
-    with tempfile.TemporaryDirectory(prefix="facl-texts.") as work:
+    with scratch.folder("facl-texts.") as work:
         folder = os.fsencode(work)
         os.symlink(os.path.join(os.path.abspath(source.folder), b"dump"), os.path.join(folder, b"dump"))
         for name, text in texts_with(texts, everybody).items():

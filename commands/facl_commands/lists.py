@@ -79,6 +79,13 @@ def mode_of(data: bytes) -> int:
     return sum(entries[tag, NO_ID] << shift for tag, shift in ((USER_OBJ, 6), (GROUP_OBJ, 3), (OTHER, 0)))
 
 
+def permissions_of(data: bytes) -> int:
+    """The permissions of the mode of a file with this list: those of the group are the mask's where there is one."""
+    entries = entries_of(data)
+    middle = entries[(MASK if (MASK, NO_ID) in entries else GROUP_OBJ), NO_ID]
+    return entries[USER_OBJ, NO_ID] << 6 | middle << 3 | entries[OTHER, NO_ID]
+
+
 def is_minimal(data: bytes) -> bool:
     return len(data) == len(HEAD) + 3 * ENTRY.size
 

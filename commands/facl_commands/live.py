@@ -137,52 +137,9 @@ class OpenFile:
     def set_owner(self, owner: int, group: int) -> None:
         os.chown(self.name, owner, group)
 
-    def set_flags(self, flags: int) -> None:
-        """The mode has the permissions of the list, and keeps them."""
-        os.chmod(self.name, self.mode() & 0o777 | flags)
-
-
-def flags_meanwhile(now: int, end: int, is_directory: bool) -> int:
-    """The flags while owner and list change: a plain file runs as nobody else, and names in a directory stay
-    protected."""
-    if is_directory:
-        return now | end & stat.S_ISVTX
-    return now & ~(stat.S_ISUID | stat.S_ISGID) if (now | end) & (stat.S_ISUID | stat.S_ISGID) else now
-
-
-def change(file: OpenFile, now: Record, end: Record, is_directory: bool) -> None:
-    """Gives a file its new record; at no moment is anybody granted by it what neither the present nor the new record
-    grants.
-
-    One call changes a list, and one owner and group. Between two of them there is a list that grants no more than both.
-    """
-    is_moved = now.owner != end.owner or now.group != end.group
-    if is_moved or now.access != end.access or now.default != end.default:
-        meanwhile = flags_meanwhile(now.flags, end.flags, is_directory)
-        if meanwhile != now.flags and (is_moved or now.flags != end.flags):
-            file.set_flags(meanwhile)
-    access = now.access
-    if is_moved:
-        access = lists.common(now.access, end.access)
-        if access != now.access:
-            file.set_access(access)
-        file.set_owner(end.owner, end.group)
-    if access != end.access:
-        file.set_access(end.access)
-    if now.default != end.default:
-        file.set_default(end.default)
-    if now.flags | end.flags and file.mode() & FLAGS != end.flags:
-        file.set_flags(end.flags)
-
-
-def is_between(now: Record, old: Record, new: Record) -> bool:
-    """Whether a change that was cut off can have left this: each part is of one of the two, or what it is meanwhile."""
-    return (
-        now.ids() in (old.ids(), new.ids())
-        and now.access in (old.access, new.access, lists.common(old.access, new.access))
-        and now.default in (old.default, new.default)
-        and now.flags & ~(old.flags | new.flags) == 0
-    )
+    def set_flags(self, flags: int, permissions: Optional[int] = None) -> None:
+        """Gives the file flags; with permissions those of its mode too, by the same call, else it keeps them."""
+        os.chmod(self.name, (self.mode() & 0o777 if permissions is None else permissions) | flags)
 
 
 class Opener:

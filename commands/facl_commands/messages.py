@@ -2,13 +2,14 @@
 from __future__ import annotations
 
 import argparse
+import contextlib
 import errno
 import gc
 import os
 import signal
 import sys
 from types import FrameType
-from typing import IO, Callable, Iterable, List, NoReturn, Optional
+from typing import IO, Callable, Iterable, Iterator, List, NoReturn, Optional
 
 from . import VERSION
 from .names import shown
@@ -148,6 +149,18 @@ def drop(stream: IO[bytes]) -> None:
 
 def interrupt(number: int, _frame: Optional[FrameType]) -> None:
     raise Interrupted(number)
+
+
+@contextlib.contextmanager
+def signals_wait() -> Iterator[None]:
+    """No signal comes between the calls within. One that is ignored is not blocked: it would be kept, and look like one
+    that waits."""
+    heeded = {number for number in SIGNALS if signal.getsignal(number) != signal.SIG_IGN}
+    before = signal.pthread_sigmask(signal.SIG_BLOCK, heeded)
+    try:
+        yield
+    finally:
+        signal.pthread_sigmask(signal.SIG_SETMASK, before)
 
 
 def open_streams() -> None:

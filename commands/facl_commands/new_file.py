@@ -6,10 +6,21 @@ import errno
 import os
 import signal
 
-from . import system, trusted
+from . import lists, system, trusted
 from .messages import SIGNALS, Failure, reason
 
 PRIVATE = 0o600
+
+
+def give_mode(descriptor: int, mode: int) -> None:
+    """Gives a new file or folder this mode, without the lists that it has by the default list of the folder above."""
+    for name in (lists.ACCESS, lists.DEFAULT):
+        try:
+            os.removexattr(descriptor, name)
+        except OSError as error:
+            if error.errno not in (errno.ENODATA, errno.ENOTSUP):
+                raise
+    os.fchmod(descriptor, mode)
 
 
 class NewFile:
@@ -37,6 +48,7 @@ class NewFile:
             descriptor = os.open(made, os.O_WRONLY | os.O_CREAT | os.O_EXCL | os.O_NOFOLLOW | os.O_CLOEXEC, PRIVATE,
                                  dir_fd=self.folder)
             with open(descriptor, "wb") as file:
+                give_mode(descriptor, PRIVATE)
                 file.write(text)
                 file.flush()
                 os.fsync(descriptor)

@@ -11,16 +11,18 @@ import os
 import secrets
 import signal
 import stat
-from contextlib import contextmanager
 from typing import Dict, Iterator, NamedTuple, Optional, Tuple
 
-from . import lists, system, trusted
-from .messages import SIGNALS, Failure, reason
+from . import system, trusted
+from .messages import SIGNALS, Failure, reason, signals_wait
+from .new_file import PRIVATE, give_mode
 
 VERSION = b"facl-plan 2\n"
 LOCK = b"lock"  # Nobody but the owner can open it, also where a group reads the plan.
 NAMES = (LOCK, b"plan", b"edits", b"old", b"new", b"files", b"by_hand", b"by_hand_undo", b"by_hand_done", b"meta",
          b"journal", b"state")
+DONE_BY_HAND = b"by_hand_done"
+MARKS = (LOCK, DONE_BY_HAND, b"journal", b"state")  # What is believed later; of the owner alone, also for --readers.
 NEW = b".new"  # At the end of a name while the file is written.
 # What facl-apply has done, in the file `state`; without it nothing was done.
 APPLYING, APPLIED, UNDOING, UNDONE = b"applying\n", b"applied\n", b"undoing\n", b"undone\n"
@@ -42,15 +44,23 @@ class Folder(NamedTuple):
         return True
 
     def read(self, name: bytes) -> bytes:
-        return trusted.read_in(self.descriptor, self.name, name)
+        return trusted.read_in(self.descriptor, self.name, name, name in MARKS)
+
+    def has_notes(self) -> bool:
+        """Whether by_hand has noted something; without that its notes are empty."""
+        try:
+            return os.stat(DONE_BY_HAND, dir_fd=self.descriptor, follow_symlinks=False).st_size > 0
+        except FileNotFoundError:
+            return False
 
     def state(self) -> bytes:
         return self.read(b"state") if self.has(b"state") else b""
 
     def write(self, name: bytes, text: bytes) -> None:
         """Makes a new file, which is on the disk then."""
-        descriptor = os.open(name, CREATE, 0o600, dir_fd=self.descriptor)
+        descriptor = os.open(name, CREATE, PRIVATE, dir_fd=self.descriptor)
         with open(descriptor, "wb") as file:
+            give_mode(descriptor, PRIVATE)
             file.write(text)
             file.flush()
             os.fsync(descriptor)
@@ -77,7 +87,7 @@ class Folder(NamedTuple):
         """Locks it until the command ends."""
         descriptor = self.descriptor
         if self.has(LOCK):
-            descriptor = os.open(LOCK, os.O_RDONLY | os.O_NOFOLLOW | os.O_CLOEXEC, dir_fd=self.descriptor)
+            descriptor = trusted.open_in(self.descriptor, self.name, LOCK, is_mark=True)
         try:
             fcntl.flock(descriptor, fcntl.LOCK_EX | fcntl.LOCK_NB)
         except BlockingIOError as error:
@@ -190,18 +200,6 @@ def new_folder(place: Place) -> Tuple[bytes, Folder]:
     return name, Folder(descriptor, place.shown)
 
 
-@contextmanager
-def signals_wait() -> Iterator[None]:
-    """No signal comes between the calls within. One that is ignored is not blocked: it would be kept, and look like one
-    that waits."""
-    heeded = {number for number in SIGNALS if signal.getsignal(number) != signal.SIG_IGN}
-    before = signal.pthread_sigmask(signal.SIG_BLOCK, heeded)
-    try:
-        yield
-    finally:
-        signal.pthread_sigmask(signal.SIG_SETMASK, before)
-
-
 def ignore_signals() -> None:
     """No signal ends the command from now on, nor does one that waits."""
     for number in SIGNALS:
@@ -216,7 +214,9 @@ def write_plan(target: Target, files: Dict[bytes, bytes], group: Optional[int]) 
     try:
         with signals_wait():
             made = new_folder(place)
-        made[1].write(LOCK, b"")
+        give_mode(made[1].descriptor, 0o700)
+        for mark in (LOCK, DONE_BY_HAND):
+            made[1].write(mark, b"")
         made[1].lock()
         for name, text in {b"plan": VERSION, **files}.items():
             made[1].write(name, text)
@@ -236,10 +236,10 @@ def write_plan(target: Target, files: Dict[bytes, bytes], group: Optional[int]) 
 
 
 def share(folder: Folder, group: Optional[int]) -> None:
-    """Lets the members of a group read it."""
+    """Lets the members of a group read it, but for what a command believes later."""
     if group is None:
         return
-    for name in set(os.listdir(folder.descriptor)) - {os.fsdecode(LOCK)}:
+    for name in set(os.listdir(folder.descriptor)) - set(map(os.fsdecode, MARKS)):
         descriptor = os.open(name, os.O_RDONLY | os.O_NOFOLLOW | os.O_CLOEXEC, dir_fd=folder.descriptor)
         share_one(descriptor, group, 0o640)
         os.close(descriptor)
@@ -247,14 +247,8 @@ def share(folder: Folder, group: Optional[int]) -> None:
 
 
 def share_one(descriptor: int, group: int, mode: int) -> None:
-    """Without the list that the folder above gave it, whose users would get what the mode gives the group."""
-    try:
-        os.removexattr(descriptor, lists.ACCESS)
-    except OSError as error:
-        if error.errno not in (errno.ENODATA, errno.ENOTSUP):
-            raise
     os.fchown(descriptor, -1, group)
-    os.fchmod(descriptor, mode)
+    give_mode(descriptor, mode)
 
 
 def remove(place: Place, name: bytes, folder: Folder) -> bool:
@@ -287,7 +281,7 @@ def put_away(target: Target, name: bytes) -> Optional[bytes]:
     place, old = target
     if old is None:
         return None
-    is_kept = old.has(b"state") or old.has(b"by_hand_done") or old.others() is not None
+    is_kept = old.has(b"state") or old.has_notes() or old.others() is not None
     if is_kept or not remove(place, name, old):
         return keep(place, name).shown
     return None

@@ -6,7 +6,7 @@ import json
 import re
 from typing import TYPE_CHECKING, Dict, Iterable, List, NamedTuple, Optional, Tuple
 
-from . import lists
+from . import differences, lists
 from .lists import Record
 from .messages import Failure
 from .names import path_order
@@ -59,7 +59,16 @@ def record_of(body: bytes, access: bytes, default: bytes) -> Record:
     head = HEAD_OF_RECORD.match(body)
     assert head is not None
     flags = sum(bit for bit, letter in zip((0o4000, 0o2000, 0o1000), head.groups()[2:]) if letter not in (None, b"-"))
-    return Record(int(head[1]), int(head[2]), flags, bytes.fromhex(access.decode()), bytes.fromhex(default.decode()))
+    record = Record(int(head[1]), int(head[2]), flags, bytes.fromhex(access.decode()), bytes.fromhex(default.decode()))
+    if entries_in(body) != [*differences.entry_lines(record.access), *differences.entry_lines(record.default, b"default:")]:
+        raise Failure(b"the bytes of a list are not those of its entries, so nothing is written: somebody else can have "
+                      b"changed what the program was given, or the program is of another version")
+    return record
+
+
+def entries_in(body: bytes) -> List[bytes]:
+    """The entries of a record, without what the mask leaves of them."""
+    return [line.partition(b"\t")[0] for line in body.split(b"\n") if line and not line.startswith(b"#")]
 
 
 def work_text(program: str, snapshot: Snapshot, changes: Changes, old: Files, new: Files) -> bytes:
@@ -132,7 +141,7 @@ def read_work(name: bytes, text: bytes) -> Work:
         if paths != sorted(paths, key=path_order) or not all(map(is_path, paths)):
             raise ValueError
         return Work(boot, files)
-    except (ValueError, KeyError, TypeError, IndexError, AttributeError, RecursionError) as error:
+    except (ValueError, KeyError, TypeError, IndexError, AttributeError, RecursionError, OverflowError, MemoryError) as error:
         raise Failure(name + b": is not as facl-plan wrote it: make the plan again") from error
 
 
@@ -159,7 +168,7 @@ def read_journal(name: bytes, text: bytes) -> Journal:
         fields = json.loads(text)
         files = {path.encode("latin-1"): identity_of(identity) for path, *identity in fields["files"]}
         return Journal(str(fields["boot"]), files)
-    except (ValueError, KeyError, TypeError, AttributeError, RecursionError) as error:
+    except (ValueError, KeyError, TypeError, AttributeError, RecursionError, OverflowError, MemoryError) as error:
         raise Failure(name + b": is not as facl-apply wrote it") from error
 
 

@@ -6,10 +6,10 @@ import os
 import re
 import shutil
 import subprocess
-import tempfile
 from types import TracebackType
 from typing import IO, Callable, Dict, Iterable, Iterator, List, NamedTuple, Optional, Type
 
+from . import scratch
 from .exchange import end_program, exchange, how_it_ended, pipes_of
 from .messages import Failure
 from .protocol import DUMP_NOT_READ, IN_LINE, PROBE, PROBE_REFUSED, SETUP, UNKNOWN_TOOL, has_text
@@ -99,7 +99,7 @@ class Session:
         words = [program, "--passwd", "passwd", "--group", "group", "--dump", "dump"]
         self.folder = folder
         self.number = 0
-        self.output = tempfile.TemporaryFile(prefix="facl-session.")
+        self.output = scratch.new_file("facl-session.")
         self.pipes = pipes_of(subprocess.Popen(
             words, bufsize=0, cwd=folder, env={"LC_ALL": "C", "PATH": os.environ.get("PATH", os.defpath)},
             stdin=subprocess.PIPE, stdout=self.output, stderr=subprocess.PIPE, start_new_session=True,
@@ -150,7 +150,7 @@ class Session:
 @contextlib.contextmanager
 def session_over(program: str, passwd: bytes, group: bytes, dump: bytes) -> Iterator[Session]:
     """A session over texts, which are in a folder of their own as long as it goes on."""
-    with tempfile.TemporaryDirectory(prefix="facl-texts.") as folder:
+    with scratch.folder("facl-texts.") as folder:
         for name, text in (("passwd", passwd), ("group", group), ("dump", dump)):
             with open(os.path.join(folder, name), "wb") as file:
                 file.write(text)

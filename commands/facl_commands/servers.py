@@ -7,10 +7,9 @@ from __future__ import annotations
 
 import argparse
 import os
-import tempfile
 from typing import Dict, Iterator, List, NamedTuple
 
-from . import overview
+from . import overview, scratch
 from .answering import heading, lines_for_terminal, lines_to_show, write_messages
 from .messages import UNUSABLE, Command, Failure
 from .names import shown
@@ -115,7 +114,7 @@ def body(command: Command, words: List[str], given: argparse.Namespace) -> int:
     are."""
     servers = read_servers([os.fsencode(word) for word in words])
     script = read_text("-")
-    with tempfile.TemporaryDirectory(prefix="facl-ask.") as work:
+    with scratch.folder("facl-ask.") as work:
         outcomes = run_hosts({it.host(): [it.folder] for it in servers}, program_option(given.program), script.text,
                              work)
         failures = {it: found for it in servers for found in [outcomes[it.host()]] if isinstance(found, Failure)}

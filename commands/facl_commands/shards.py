@@ -10,10 +10,9 @@ from __future__ import annotations
 import argparse
 import heapq
 import os
-import tempfile
 from typing import Dict, Iterator, List, NamedTuple, Optional, Set, Tuple
 
-from . import agreement, counts, overview
+from . import agreement, counts, overview, scratch
 from .answering import below_heading, lines_for_terminal, write_messages
 from .messages import Command, Failure
 from .names import path_order, read_path, sorting_key, write_name
@@ -241,7 +240,7 @@ def body(command: Command, folders: List[str], given: argparse.Namespace) -> int
     """Answers standard input over all snapshots."""
     hosts = hosts_of([os.fsencode(it) for it in folders])
     script = read_text("-")
-    with tempfile.TemporaryDirectory(prefix="facl-ask.") as work:
+    with scratch.folder("facl-ask.") as work:
         try:
             return answer_script(command, script, hosts, given, work)
         except (LookupError, ValueError) as error:

@@ -9,9 +9,9 @@ import shutil
 import signal
 import subprocess
 import sys
-import tempfile
 from typing import IO, Dict, List, NamedTuple, Optional, Sequence, Union
 
+from . import scratch
 from .messages import Failure
 from .program import HOME, OutputSlice, environment_of_called
 from .protocol import is_refused
@@ -103,7 +103,7 @@ def start(words: List[bytes], work: str, room: Optional[int]) -> Run:
     """Starts parallel with the script as its standard input, and with `room` for what it writes."""
     called = {**environment_of_called(), "LC_ALL": "C", "PARALLEL_SHELL": "/bin/sh", "PARALLEL_HOME": work,
               "TMPDIR": work}
-    out, messages = tempfile.TemporaryFile(dir=work), tempfile.TemporaryFile(dir=work)
+    out, messages = scratch.new_file("facl-ask."), scratch.new_file("facl-ask.")
     with open(os.path.join(work, "script"), "rb") as given:
         process = subprocess.Popen(words, stdin=given, stdout=out, stderr=messages, env=called,
                                    preexec_fn=lambda: prepare_parallel(room))

@@ -11,9 +11,9 @@ import contextlib
 import os
 import re
 import subprocess
-import tempfile
 from typing import Iterator, List, NamedTuple, Optional, Set
 
+from . import scratch
 from .messages import Failure, reason
 from .names import directories_above, path_order, read_name, read_path, script_word, shown_path
 from .people import rows_of
@@ -70,7 +70,7 @@ def opened(given: argparse.Namespace) -> Iterator[Source]:
             raise Failure(b"--passwd and --group go with --dump: a SNAPSHOT has its own")
         yield Source(os.fsencode(given.snapshot), os.fsencode(given.snapshot), False)
         return
-    with tempfile.TemporaryDirectory(prefix="facl.") as work:
+    with scratch.folder("facl.") as work:
         for name, file in (("dump", given.dump), ("passwd", given.passwd), ("group", given.group_file)):
             target = os.path.join(work, name)
             if file is not None:

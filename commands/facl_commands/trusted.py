@@ -11,10 +11,13 @@ import os
 import pwd
 import re
 import stat
-from typing import List, Optional
+from typing import IO, List, Optional
 
 from .messages import Failure, reason
 
+MOST = 1 << 30  # Bytes of a text of a snapshot, or of a file of a plan: a dump that the program loads has a quarter.
+MOST_WRITTEN = 64 << 20  # Bytes of what a person writes: rules, accepted findings.
+PIECE = 1 << 20
 DESCRIPTOR = re.compile(rb"/(?:dev|proc/self)/fd/([0-9]{1,9})")
 LINKS_LIMIT = 40  # Symbolic links on one way, as in the kernel.
 ACCESS_LIST = b"system.posix_acl_access"
@@ -146,11 +149,33 @@ def open_file(name: bytes) -> int:
     raise Failure(name + b": is no plain file")
 
 
-def read_trusted(name: bytes) -> bytes:
+def read_all(file: IO[bytes], shown: bytes, most: int) -> bytes:
+    """What is in a file, which has a limit: its size may be any number, and it may grow."""
+    if os.fstat(file.fileno()).st_size > most:
+        raise too_large(shown, most)
+    pieces: List[bytes] = []
+    size = 0
+    while True:
+        piece = file.read(PIECE)
+        if piece is None:
+            raise Failure(shown + b": has nothing to read yet: give a descriptor that waits")
+        if not piece:
+            return b"".join(pieces)
+        size += len(piece)
+        if size > most:
+            raise too_large(shown, most)
+        pieces.append(piece)
+
+
+def too_large(shown: bytes, most: int) -> Failure:
+    return Failure(shown + b": has more than %d MiB, which is too large" % (most >> 20))
+
+
+def read_trusted(name: bytes, most: int = MOST) -> bytes:
     """What is in a file that nobody else can have written."""
     try:
         with open(open_file(name), "rb") as file:
-            return file.read()
+            return read_all(file, name, most)
     except OSError as error:  # Of a folder, or of a disk: it has no name.
         raise Failure(name + b": " + reason(error)) from error
 
@@ -160,29 +185,40 @@ def read_given(name: bytes) -> bytes:
     that is trusted as standard input is. The command's own descriptors are none of these."""
     match = DESCRIPTOR.fullmatch(name)
     if match is None:
-        return read_trusted(name)
+        return read_trusted(name, MOST_WRITTEN)
     try:
         if not os.get_inheritable(int(match[1])):
             raise OSError(errno.EBADF, os.strerror(errno.EBADF))
         with open(int(match[1]), "rb", closefd=False) as file:
-            text: Optional[bytes] = file.read()
+            return read_all(file, name, MOST_WRITTEN)
     except OSError as error:
         raise Failure(name + b": " + reason(error)) from error
-    if text is None:
-        raise Failure(name + b": has nothing to read yet: give a descriptor that waits")
-    return text
 
 
-def read_in(folder: int, shown: bytes, name: bytes) -> bytes:
-    """What is in a file of an open folder; shown is the folder's name in messages."""
+def open_in(folder: int, shown: bytes, name: bytes, is_mark: bool = False) -> int:
+    """Opens a file of an open folder; shown is the folder's name in messages. A mark is a file that a command makes for
+    itself: it has one name, and nobody else can open it."""
     try:
         descriptor = os.open(name, os.O_RDONLY | os.O_NOFOLLOW | os.O_NONBLOCK | os.O_CLOEXEC, dir_fd=folder)
     except OSError as error:
         raise Failure(shown + b"/" + name + b": " + reason(error)) from error
     look = os.fstat(descriptor)
     fault = b"is no plain file" if not stat.S_ISREG(look.st_mode) else fault_of(descriptor, look)
+    if fault is None and is_mark:
+        fault = fault_of_mark(look)
     if fault is not None:
         os.close(descriptor)
         raise Failure(shown + b"/" + name + b": " + fault + b", so it is not trusted")
-    with open(descriptor, "rb") as file:
-        return file.read()
+    return descriptor
+
+
+def fault_of_mark(look: os.stat_result) -> Optional[bytes]:
+    if look.st_nlink != 1:
+        return b"has %d names" % look.st_nlink
+    return b"can be opened by others" if look.st_mode & 0o077 else None
+
+
+def read_in(folder: int, shown: bytes, name: bytes, is_mark: bool = False) -> bytes:
+    """What is in a file of an open folder."""
+    with open(open_in(folder, shown, name, is_mark), "rb") as file:
+        return read_all(file, shown + b"/" + name, MOST)

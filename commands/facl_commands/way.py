@@ -7,6 +7,7 @@ import stat
 from typing import Dict, Iterable, List, NamedTuple, Optional, Tuple
 
 from . import differences, live, looking, plan_folder, planned, system
+from .changing import is_between
 from .lists import Record, is_minimal, owner_permissions
 from .live import NotFound, OpenFile, Opener, Seen
 from .plan_folder import Folder
@@ -141,7 +142,7 @@ def is_closed(way: Way, path: bytes, now: Record) -> bool:
 def is_expected(way: Way, path: bytes, now: Record) -> bool:
     """Whether a file is as it was; after a run that was cut off it may be as planned too, or between the two."""
     start, end = way.start(path), way.end(path)
-    return now == start or way.is_in_part() and (now == end or live.is_between(now, start, end))
+    return now == start or way.is_in_part() and (now == end or is_between(now, start, end))
 
 
 def unexpected(way: Way, look: Look) -> Dict[bytes, bytes]:

@@ -3,16 +3,17 @@ from __future__ import annotations
 
 import json
 import os
+import shutil
 import signal
 import unittest
 import unittest.mock
 from functools import partial
-from typing import Any, Callable, Dict, Set
+from typing import Any, Callable, Dict, List, Set
 
 from common import Case, Done
 from real import RealCase
 
-from facl_commands import apply, by_hand_done, carrying, differences, lists, live, plan_folder, way  # noqa: E402
+from facl_commands import changing, apply, by_hand_done, carrying, differences, lists, live, plan_folder, way  # noqa: E402
 from facl_commands.messages import SIGNALS  # noqa: E402
 from facl_commands.plan_folder import Folder  # noqa: E402
 
@@ -37,6 +38,72 @@ class Plans(Case):
 
     def apply(self, *words: str) -> Done:
         return self.run_command("facl-apply", list(words))
+
+    def refused(self, text: str) -> None:
+        """A plan that is not taken, at once and with a message."""
+        done = self.apply("before.plan")
+        self.assertEqual(done.status, 2, done)
+        self.assertRegex(done.messages.decode(), text)
+        self.assertNotIn(b"Traceback", done.messages)
+
+    def test_a_file_that_is_too_large(self) -> None:
+        for name in ("files", "plan", "state", "journal", "meta", "by_hand", "by_hand_done"):
+            place = self.path("before.plan/" + name)
+            kept = self.path("kept")
+            was_there = os.path.exists(place)
+            if was_there:
+                os.rename(place, kept)
+            with open(place, "wb") as file:
+                os.fchmod(file.fileno(), 0o600)
+                file.truncate(9 << 30)
+            if name != "journal":  # Which is read where there is a state.
+                self.refused("/%s: has more than 1024 MiB, which is too large" % name)
+            os.unlink(place)
+            if was_there:
+                os.rename(kept, place)
+
+    def test_marks_that_others_can_open_or_that_have_another_name(self) -> None:
+        for name in ("lock", "by_hand_done", "state"):
+            place = self.path("before.plan/" + name)
+            if not os.path.exists(place):
+                self.write("before.plan/" + name, b"undone\n")
+            os.chmod(place, 0o640)
+            self.refused("/%s: can be opened by others, so it is not trusted" % name)
+            os.chmod(place, 0o600)
+            os.link(place, self.path("other name"))
+            self.refused("/%s: has 2 names, so it is not trusted" % name)
+            os.unlink(self.path("other name"))
+            os.rename(place, self.path("kept"))
+            os.mkfifo(place, 0o600)
+            self.refused("/%s: (is no plain file, so it is not trusted|No such device or address)" % name)
+            os.unlink(place)
+            os.rename(self.path("kept"), place)
+
+    def test_a_plan_has_empty_notes_of_its_owner_alone(self) -> None:
+        look = os.stat(self.path("before.plan/by_hand_done"))
+        self.assertEqual((look.st_size, look.st_mode & 0o7777), (0, 0o600))
+        self.assertEqual(self.plan(b"chmod 644 srv/share/one\n").status, 0)
+        self.assertFalse(os.path.exists(self.path("before.plan.1")))  # Empty notes keep no plan.
+        self.write("before.plan/by_hand_done", b"1 begun\n")
+        self.assertEqual(self.plan(b"chmod 600 srv/share/one\n").status, 0)
+        self.assertTrue(os.path.exists(self.path("before.plan.1")))
+
+    def test_lists_of_the_folder_above_are_not_in_a_plan(self) -> None:
+        entries = {(1, lists.NO_ID): 7, (2, 70001): 7, (4, lists.NO_ID): 5, (16, lists.NO_ID): 7, (32, lists.NO_ID): 5}
+        try:
+            os.setxattr(self.folder, lists.DEFAULT, lists.bytes_of(entries))
+        except OSError:
+            self.skipTest("no lists here")
+        no_options: List[str] = []
+        for options in (no_options, ["--readers", str(os.getegid())]):
+            self.assertEqual(self.plan(b"chmod 600 srv/share/one\n", *options, "--plan", "new.plan").status, 0)
+            for name in [".", *os.listdir(self.path("new.plan"))]:
+                place = os.path.join(self.path("new.plan"), name)
+                found = [it for it in os.listxattr(place) if "acl" in it]
+                is_mark = name in ("lock", "by_hand_done") or not options
+                wanted = (0o700 if not options else 0o750) if name == "." else 0o600 if is_mark else 0o640
+                self.assertEqual((found, os.stat(place).st_mode & 0o777), ([], wanted), name)
+            shutil.rmtree(self.path("new.plan"))
 
     def expect_unusable(self, message: bytes, *words: str) -> None:
         self.expect(self.apply(*words), 2, b"", b"facl-apply: " + message + b"\n")
@@ -92,6 +159,7 @@ class Plans(Case):
         folder = self.whole("before.plan")
         self.expect(self.apply("--undo", "before.plan"), 3, b"", b"facl-apply: " + folder + b": is not applied, so there is nothing to undo\n")
         self.write("before.plan/state", b"applied\n")
+        os.chmod(self.path("before.plan/state"), 0o600)
         self.expect(self.apply("before.plan"), 3, b"", b"facl-apply: " + folder + b": is applied already; --undo takes it back\n")
         self.assertEqual(self.plan(b"gpasswd -a guest audit\n", "--plan", "other").status, 0)
         self.expect(self.apply("other"), 3, b"still to be done by hand: sh " + self.whole("other/by_hand") + b"\n",
@@ -354,7 +422,7 @@ class SideBySide(Meanwhile):
 
     def test_a_process_that_is_killed(self) -> None:
         carrier = self.carrier_of_many()
-        change = live.change
+        change = changing.change
 
         def change_and_end(file: live.OpenFile, *words: Any) -> None:
             change(file, *words)
@@ -362,7 +430,7 @@ class SideBySide(Meanwhile):
                 os.kill(os.getpid(), signal.SIGKILL)
 
         first = os.getpid()
-        with unittest.mock.patch.object(live, "change", change_and_end):
+        with unittest.mock.patch.object(changing, "change", change_and_end):
             left = carrier.run()
         self.assertTrue(left)  # The first that is killed stops the others.
         self.assertEqual({text.endswith(b" has ended") for text in left.values()}, {True})

@@ -9,12 +9,12 @@ import random
 import resource
 import struct
 import unittest
-from typing import Dict, List, NamedTuple, Tuple
+from typing import Dict, List, NamedTuple, Optional, Tuple
 
 from common import Case
 from real import RealCase
 
-from facl_commands import live, lists  # noqa: E402
+from facl_commands import changing, live, lists  # noqa: E402
 from facl_commands.lists import Record  # noqa: E402
 from facl_commands.program import Session, find_program  # noqa: E402
 
@@ -58,6 +58,9 @@ class StandIn(live.OpenFile):
     def mode(self) -> int:
         return self.present.flags
 
+    def record(self) -> Record:
+        return self.present
+
     def set_access(self, data: bytes) -> None:
         self.become(self.present._replace(access=data))
 
@@ -68,7 +71,8 @@ class StandIn(live.OpenFile):
         flags = self.present.flags if self.is_directory else self.present.flags & 0o1000
         self.become(self.present._replace(owner=owner, group=group, flags=flags))
 
-    def set_flags(self, flags: int) -> None:
+    def set_flags(self, flags: int, permissions: Optional[int] = None) -> None:
+        assert permissions in (None, lists.permissions_of(self.present.access))
         self.become(self.present._replace(flags=flags))
 
 
@@ -125,15 +129,15 @@ class Moments(Case):
         for _ in range(number):
             is_directory, old, new = pairs.pair()
             file = StandIn(old, is_directory)
-            live.change(file, old, new, is_directory)
+            changing.change(file, old, new, is_directory)
             self.assertEqual(file.present, new)
             found.append(file.moments)
             cut = pairs.chance.choice(file.moments).record
             for end in (old, new):
                 again = StandIn(cut, is_directory)
-                live.change(again, cut, end, is_directory)
+                changing.change(again, cut, end, is_directory)
                 self.assertEqual(again.present, end)
-                self.assertTrue(all(live.is_between(it.record, old, new) for it in [*file.moments, *again.moments]))
+                self.assertTrue(all(changing.is_between(it.record, old, new) for it in [*file.moments, *again.moments]))
                 found.append([Moment(old, is_directory), *again.moments, Moment(new, is_directory)])
         return found
 
@@ -167,7 +171,7 @@ class Moments(Case):
             is_directory, old, new = pairs.pair()
             file = StandIn(old, is_directory)
             end = old._replace(access=new.access)
-            live.change(file, old, end, is_directory)
+            changing.change(file, old, end, is_directory)
             self.assertEqual([it.record for it in file.moments], [old, end] if old != end else [old])
 
 

@@ -678,6 +678,7 @@ class BadInput(Case):
         self.assertTrue(self.read("before.plan/new").startswith(b"# file: /srv/share/-x\n"))
         for number, state in enumerate((b"applied\n", b"undone\n"), 1):
             self.write("before.plan/state", state)
+            os.chmod(self.path("before.plan/state"), 0o600)
             done = self.plan(b"chmod 600 srv/share/one\n")
             self.assertEqual((done.status, done.messages), (0, b"facl-plan: the plan that was there is before.plan.%d now\n" % number))
             self.assertEqual(self.read("before.plan.%d/state" % number), state)

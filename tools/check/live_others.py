@@ -25,7 +25,7 @@ sys.dont_write_bytecode = True
 sys.path.insert(0, os.path.join(os.path.dirname(os.path.realpath(__file__)), "..", "lib"))
 import script  # noqa: E402
 from live_tree import (  # noqa: E402
-    CHANGING, LIBRARY, MALLORY, UIDS, UNDO, Call, Check, Done, State, Table, Traced, Tree, child, copy, exchange,
+    CHANGING, GIDS, LIBRARY, MALLORY, UIDS, UNDO, Call, Check, Done, State, Table, Traced, Tree, child, copy, exchange,
     expect, held, main, make, make_tree, must, remove, run, state_of, states_of, trace, word,
 )
 
@@ -33,6 +33,10 @@ BEN, MARA, GUEST = UIDS[1:]
 PR_SET_DUMPABLE = 4
 STEPS = ["the folder", "the file", "the directory", "closed folders", "targets", "all"]
 ENTERED = 77  # The status of a process of MALLORY that could enter a closed folder.
+FOREIGN = GIDS[3]  # A group that MALLORY is not in.
+NO_CHANGE, NOT_TAKEN, SAW, TOOK = range(10, 14)  # How a process ends that is after it.
+TAKEN = {NO_CHANGE: "saw no change", NOT_TAKEN: "got nothing", SAW: "saw the program with the group",
+         TOOK: "ran the program with the group", 1: "failed"}
 LOOKING = ["openat", "newfstatat", "fstat", "statx", "getxattr", "fstatfs", "flock", "rename", "fsync", "syncfs"]
 BY_HAND = ",".join(CHANGING) + ",chdir,mkdir,unlink,unlinkat,rmdir,rename,renameat2,newfstatat,statx,openat"
 RECORDS = b"""\
@@ -93,7 +97,8 @@ class Others(Check):
     """What other processes do meanwhile."""
 
     tools = [*Check.tools, "dash", "bash"]
-    parts = {"races": 520, "free": 45, "watched": 20, "trusted": 1, "locks": 20, "by_hand": 320}
+    parts = {"races": 520, "free": 45, "watched": 20, "trusted": 1, "locks": 20, "by_hand": 320,
+             "group": 180}
 
     # --- races
 
@@ -274,6 +279,33 @@ class Others(Check):
                 name = os.readlink(b"/proc/self/fd/%d" % descriptor)
                 expect(seen <= first | last, f"user {user} saw {seen - first - last} of {name!r}; {first}, {last}")
         self.count("moments in which somebody looked", sum(watcher.rounds for watcher in watchers))
+
+    def check_group(self, seed: int) -> None:
+        """MALLORY owns two programs. By the plan, and by its undo, one gets a group that MALLORY is not in, and a list
+        with execution. MALLORY watches the file, sets set-group-ID at its first change, and runs it as soon as that would
+        run with the group. In two of three races some milliseconds are between the calls."""
+        up, down = (self.name("group/" + it) for it in ("up", "down"))
+        if seed % 100000 == 0:
+            make_tree(self.name("group"), {"up": (MALLORY, 0o700), "down": (MALLORY, 0o700)})
+            for program in (up, down):
+                must(run([b"cp", b"/usr/bin/id", program]), 0)
+            os.chown(down, MALLORY, FOREIGN)
+            must(run([b"setfacl", b"-m", b"u:70002:rx", down]), 0)
+            lines = b"chgrp audit %s\nsetfacl -m u:ben:rx %s\n" % (word(up), word(up))
+            lines += b"chgrp staff %s\nsetfacl -b %s\nchmod 700 %s\n" % (word(down), word(down), word(down))
+            expect(self.planned(Tree.of(self.name("group")), lines), "no plan of the races for a group")
+            self.listed = must(run([b"getfacl", b"-n", b"-p", up, down]), 0)
+        options = [UNDO] * (seed % 2)
+        if options:
+            must(self.apply(), 0)
+        number = child(MALLORY, lambda: take_group(down if options else up))
+        slow = [f"{name}:delay_exit=2000" for name in CHANGING] if seed % 6 < 4 else []
+        done = trace(self, self.words(b"facl-apply", *options, self.plan), CHANGING, slow)
+        status = os.waitstatus_to_exitcode(os.waitpid(number, 0)[1])
+        must(run([b"setfacl", b"--restore=-"], self.listed), 0)
+        self.forget()
+        self.count("races for a group, %s, status %d: %s" % ("undo" if options else "apply", done.status, TAKEN[status]))
+        expect(status in (NO_CHANGE, NOT_TAKEN), f"{options}: the owner {TAKEN[status]}: {done}")
 
     def check_trusted(self, seed: int) -> None:
         """Plans and snapshots that others can write, or that are reached by a link of theirs."""
@@ -509,6 +541,24 @@ def attack_for_a_while(hand: bytes, what: str, chance: random.Random) -> None:
         time.sleep(chance.choice([0.001, 0.01, 0.1] if is_once else [0, 0.0002, 0.001, 0.005]))
     with contextlib.suppress(OSError):
         step(hand, what, chance)
+
+
+def take_group(name: bytes) -> None:
+    """What MALLORY does in a race for a group; its process ends with what it got."""
+    file = os.open(name, os.O_RDONLY)
+    first, end = os.fstat(file), time.monotonic() + 5
+    while os.fstat(file).st_ctime_ns == first.st_ctime_ns:
+        if time.monotonic() > end:
+            os._exit(NO_CHANGE)
+    with contextlib.suppress(OSError):
+        os.fchmod(file, 0o2740)
+    end = time.monotonic() + 0.3
+    while time.monotonic() < end:
+        look = os.fstat(file)
+        if look.st_gid == FOREIGN and look.st_mode & 0o2010 == 0o2010:
+            said = run([name, b"-g"]).stdout
+            os._exit(TOOK if said == b"%d\n" % FOREIGN else SAW)
+    os._exit(NOT_TAKEN)
 
 
 class Watcher:
