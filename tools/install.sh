@@ -35,8 +35,9 @@ case $version in *[!0-9a-z.]*) fail "$version: is no version" ;; esac
 prefix=${1:-/usr/local}
 case $prefix in /*) ;; *) fail "$prefix: PREFIX has to begin with a slash" ;; esac
 to=${DESTDIR:-}${prefix%/}
-python_commands='facl-ask facl-plan facl-apply facl-report facl-who facl-diff facl-audit facl-check'
-shell_commands='facl-snapshot facl-daily'
+# Those that use facl_commands, which are beside it; facl-snapshot is one in sh.
+python_commands='facl-snapshot facl-ask facl-plan facl-apply facl-report facl-who facl-diff facl-audit facl-check'
+shell_commands='facl-daily'
 pages="facl facl-commands $shell_commands $python_commands"
 completions=share/bash-completion/completions
 
@@ -69,6 +70,7 @@ install_files() {
     sed -i "s/^VERSION = \"0\"/VERSION = \"$version\"/" "$to/lib/facl/facl_commands/__init__.py"
     for name in $python_commands; do
         install -m 755 -- "$top/commands/$name" "$to/lib/facl"
+        sed -i "s/^version=0\>/version=$version/" "$to/lib/facl/$name"
         ln -sf -- "../lib/facl/$name" "$to/bin/$name"
     done
     # A start reads what is compiled; a package compiles it where it is installed.
