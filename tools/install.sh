@@ -35,15 +35,15 @@ case $version in *[!0-9a-z.]*) fail "$version: is no version" ;; esac
 prefix=${1:-/usr/local}
 case $prefix in /*) ;; *) fail "$prefix: PREFIX has to begin with a slash" ;; esac
 to=${DESTDIR:-}${prefix%/}
-python_commands='facl-ask facl-plan facl-apply facl-report facl-who facl-diff facl-audit facl-check facl-daily'
-shell_commands='facl-snapshot'
-pages="facl facl-commands $shell_commands $python_commands"
+# facl_commands is beside them; facl-snapshot is one in sh, which calls it.
+commands='facl-snapshot facl-ask facl-plan facl-apply facl-report facl-who facl-diff facl-audit facl-check facl-daily'
+pages="facl facl-commands $commands"
 completions=share/bash-completion/completions
 
 uninstall() {
-    for name in facl $shell_commands $python_commands; do rm -f -- "$to/bin/$name"; done
+    for name in facl $commands; do rm -f -- "$to/bin/$name"; done
     for page in $pages; do rm -f -- "$to/share/man/man1/$page.1"; done
-    for name in $shell_commands $python_commands; do rm -f -- "$to/$completions/$name"; done
+    for name in $commands; do rm -f -- "$to/$completions/$name"; done
     rm -rf -- "$to/lib/facl"
 }
 
@@ -58,28 +58,25 @@ check_parts() {
 
 install_files() {
     install -m 755 -- "$program" "$to/bin/facl"
-    for name in $shell_commands; do
-        install -m 755 -- "$top/commands/$name" "$to/bin"
-        sed -i "s/^version=0\>/version=$version/" "$to/bin/$name"
-    done
     rm -rf -- "$to/lib/facl"
     install -d -m 755 -- "$to/lib/facl" "$to/lib/facl/facl_commands"
     install -m 644 -- "$top"/commands/facl_commands/*.py "$top"/commands/facl_commands/*.css \
         "$top"/commands/facl_commands/*.js "$to/lib/facl/facl_commands"
     sed -i "s/^VERSION = \"0\"/VERSION = \"$version\"/" "$to/lib/facl/facl_commands/__init__.py"
-    for name in $python_commands; do
+    for name in $commands; do
         install -m 755 -- "$top/commands/$name" "$to/lib/facl"
+        sed -i "s/^version=0\>/version=$version/" "$to/lib/facl/$name"
         ln -sf -- "../lib/facl/$name" "$to/bin/$name"
     done
     # A start reads what is compiled; a package compiles it where it is installed.
     [ -n "${DESTDIR:-}" ] || ! command -v python3 >/dev/null || python3 -m compileall -q "$to/lib/facl/facl_commands"
     for page in facl facl-commands; do install -m 644 -- "$top/docs/$page.1" "$to/share/man/man1"; done
-    for name in $shell_commands $python_commands; do
+    for name in $commands; do
         echo ".so man1/facl-commands.1" >"$to/share/man/man1/$name.1"
         chmod 644 "$to/share/man/man1/$name.1"
     done
     install -m 644 -- "$top/commands/completion/facl.bash" "$to/lib/facl/facl.bash"
-    for name in $shell_commands $python_commands; do
+    for name in $commands; do
         ln -sf -- ../../../lib/facl/facl.bash "$to/$completions/$name"
     done
 }
@@ -107,5 +104,5 @@ else
     check_parts
     install_files
     [ -n "${DESTDIR:-}" ] || say_what_is_missing
-    echo "$script_name: facl, $(echo "$shell_commands $python_commands" | sed 's/ /, /g') are in $prefix/bin; man facl"
+    echo "$script_name: facl, $(echo "$commands" | sed 's/ /, /g') are in $prefix/bin; man facl"
 fi

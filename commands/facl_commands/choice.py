@@ -13,8 +13,12 @@ from .program import Session
 from .protocol import LIST
 from .superuser import ids_in
 
-FIRST_PERSON, LAST_PERSON = 1000, 59_999  # By Debian's policy and login.defs(5).
-LAST_OF_SYSTEM = 65_535  # A directory service gives people ids above it.
+# The ids of people; facl-snapshot, which is no Python, has the same numbers. login.defs(5) has them from 1000 to 60000, and
+# systemd (UIDS-GIDS) from 60001 to 60513 those of its own home directories. Up to 65535 follow service users, nobody and no user.
+# A directory service gives people ids above.
+FIRST_PERSON, LAST_PERSON = 1000, 60_513
+LAST_OF_SYSTEM = 65_535
+PEOPLE = f"ids from {FIRST_PERSON} to {LAST_PERSON}, and above {LAST_OF_SYSTEM}"
 MOST_NAMES = 5  # In a message.
 
 
@@ -22,7 +26,7 @@ def add_choice(parser: argparse.ArgumentParser, folders: str = "*", default: str
     """Takes --all-users, --with-root and --file-alone; and FOLDERs, as many as the word for nargs says, or none. The
     default is what is looked at without a FOLDER, in the words of --help."""
     parser.add_argument("--all-users", action="store_true",
-                        help="all users, and not people alone (ids from 1000 to 59999, and above 65535)")
+                        help=f"all users, and not people alone ({PEOPLE})")
     parser.add_argument("--with-root", action="store_true",
                         help="also the users of uid 0, to whom the kernel grants nearly everything")
     parser.add_argument("--file-alone", action="store_true",

@@ -6,7 +6,7 @@ from __future__ import annotations
 
 import os
 import re
-from typing import Iterator, List, NamedTuple, Set
+from typing import Dict, Iterator, List, NamedTuple, Set
 
 from . import meta
 from . import texts as source_texts
@@ -74,6 +74,15 @@ def members_without_row(texts: Texts) -> List[bytes]:
     return sorted(members - users)
 
 
+def users_with_one_id(texts: Texts) -> List[bytes]:
+    """The users with the id of another one, as ID NAME."""
+    names: Dict[bytes, List[bytes]] = {}
+    for row in rows_of(texts.passwd):
+        if len(row) > 2:
+            names.setdefault(plain_id(row[2]), []).append(row[0])
+    return sorted(uid + b" " + name for uid, its in names.items() if len(its) > 1 for name in its)
+
+
 def rows_with_returns(text: bytes) -> List[bytes]:
     return [row.split(b":")[0] for row in text.split(b"\n") if b"\r" in row]
 
@@ -91,6 +100,7 @@ def warnings(texts: Texts) -> Iterator[bytes]:
         (EMPTY_MASKS, list(open_empty_masks(texts.dump))),
         (b"ids in the dump without a row in passwd or group", ids_without_row(texts)),
         (b"members of groups without a row in passwd", members_without_row(texts)),
+        (b"users with an id that another user has too, as ID NAME", users_with_one_id(texts)),
     ]
     for text, names in found:
         if names:

@@ -256,8 +256,7 @@ def add_options(parser: argparse.ArgumentParser) -> None:
     parser.add_argument("--folder", metavar="FOLDER",
                         help="with --for-review: as on the live system, or from the root of the snapshot")
     parser.add_argument("--all-users", action="store_true",
-                        help="with --for-review: all users, and not people alone (ids from 1000 to 59999, and above "
-                        "65535)")
+                        help=f"with --for-review: all users, and not people alone ({choice.PEOPLE})")
 
 
 def check_options(parser: argparse.ArgumentParser, given: argparse.Namespace) -> None:

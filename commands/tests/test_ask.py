@@ -353,6 +353,10 @@ class Overview(Case):
         ])
         self.assertEqual(list(overview.torn(texts)), [
             b"group: 1 row has a carriage return, which is taken for a part of the last name, first: audit"])
+        self.write("before/passwd", self.read("before/passwd") + b"twin:x:01001:100::/:/bin/sh\n")
+        first = next(row.split(b":")[0] for row in self.read("before/passwd").split(b"\n") if row.split(b":")[2] == b"1001")
+        self.assertEqual([*overview.warnings(overview.read_texts(texts.folder))][-1],
+                         b"warning: users with an id that another user has too, as ID NAME: 2, first: 1001 " + min(first, b"twin"))
 
     def test_other_texts(self) -> None:
         for name, text in (("passwd", b""), ("group", b""), ("dump", b"# file: a\nuser::rwx\ngroup::r-x\nother::r-x\n\n"), ("links", b"")):

@@ -1,5 +1,5 @@
-"""facl-snapshot: what it writes, whom it trusts, and what it says, by a getfacl of its own. What needs root, or a file system
-with lists, is in tools/check/snapshot.py."""
+"""facl-snapshot: what it writes, whom it trusts, and what it says. Lists that need a file system, and attacks between two calls of
+the system, are played by code that is added to a copy of the commands; the rest is in tools/check/snapshot.py."""
 from __future__ import annotations
 
 import calendar
@@ -16,10 +16,31 @@ import unittest
 from typing import Dict, List, Optional, Tuple
 
 from common import COMMANDS, Case, Done, restore_signals
+
+sys.path.insert(0, COMMANDS)
+
+from facl_commands import choice, lists, names  # noqa: E402
 from test_each import PRINTER, names_of
 
 SNAPSHOT = os.path.join(COMMANDS, "facl-snapshot")
 FILES = ["dump", "group", "inodes", "links", "meta", "passwd"]
+# A find that does what find does, and then something in the folder of the test, where it looks for files to record.
+FIND = b"""\
+#!/bin/sh
+real=$(PATH=${PATH#*:} && command -v find)
+case "$*" in *-xdev*) ;; *) exec "$real" "$@" ;; esac
+"$real" "$@"
+status=$?
+cd '%s' || exit 3
+%s
+exit $status
+"""
+# Lists of all files: code that is added to recording.py.
+LISTS = """
+def attribute(name: bytes, attribute_name: bytes, follow: bool = True) -> Optional[bytes]:
+    return {b"system.posix_acl_access": %r, b"system.posix_acl_default": %r}[attribute_name]
+live.attribute = attribute
+"""
 # A getfacl that prints what getfacl -n -p prints of names without lists.
 GETFACL = b"""\
 #!/bin/sh
@@ -61,6 +82,7 @@ class SnapshotCase(Case):
         super().setUp()
         os.chmod(self.folder, 0o755)
         os.mkdir(self.path("bin"))
+        self.command = SNAPSHOT
         self.write("printer.py", PRINTER)
         self.tool("getfacl", GETFACL % (os.fsencode(sys.executable), os.fsencode(self.path("printer.py"))))
         self.tool("getent", GETENT % b":")
@@ -74,11 +96,24 @@ class SnapshotCase(Case):
         self.write("bin/" + name, text)
         os.chmod(self.path("bin/" + name), 0o755)
 
+    def add_code(self, code: str) -> None:
+        """Has a copy of the commands, with this at the end of recording.py."""
+        place = self.path("commands")
+        shutil.rmtree(place, ignore_errors=True)
+        shutil.copytree(os.path.join(COMMANDS, "facl_commands"), os.path.join(place, "facl_commands"))
+        self.command = shutil.copy(SNAPSHOT, place)
+        with open(os.path.join(place, "facl_commands", "recording.py"), "a", encoding="utf-8") as file:
+            file.write(code)
+
+    def after_find(self, text: bytes) -> None:
+        """Has this run, in the folder of the test, when find has found the files."""
+        self.tool("find", FIND % (os.fsencode(self.folder), text))
+
     def environment(self, **more: str) -> Dict[str, str]:
         return {**os.environ, "PATH": self.path("bin") + ":" + os.environ["PATH"], "FACL": "true", **more}
 
     def snapshot(self, *words: str, **more: str) -> Done:
-        done = subprocess.run([SNAPSHOT, *words], cwd=self.folder, env=self.environment(**more), capture_output=True, check=False)
+        done = subprocess.run([self.command, *words], cwd=self.folder, env=self.environment(**more), capture_output=True, check=False)
         return Done(done.returncode, done.stdout, done.stderr)
 
     def expect_status(self, done: Done, status: int, message: bytes = b"") -> None:
@@ -111,7 +146,7 @@ class Written(SnapshotCase):
             self.assertEqual(name.endswith(b"/"), stat.S_ISDIR(look.st_mode))
             names.append(name)
         self.assertEqual(names, sorted(names))
-        shown = [name.replace(b"\\", b"\\134").replace(b"\n", b"\\012") for name in names]
+        shown = [name.replace(b"\\", b"\\\\").replace(b"\n", b"\\012") for name in names]
         self.assertEqual(shown, names_of(self.read(folder + "/dump")))
 
     def test_inodes(self) -> None:
@@ -138,8 +173,9 @@ class Written(SnapshotCase):
     def numbers(self, links: int, unread: int, files: int, linked: int = 0) -> List[List[bytes]]:
         users, groups = (subprocess.run([self.path("bin/getent"), name], env=self.environment(), capture_output=True, check=True)
                          .stdout.count(b"\n") for name in ("passwd", "group"))
-        keys = (b"symbolic-links", b"unread", b"files", b"linked-names", b"users", b"users-asked-for", b"groups", b"groups-asked-for")
-        return [[key, b"%d" % number] for key, number in zip(keys, (links, unread, files, linked, users, 0, groups, 0))]
+        keys = (b"symbolic-links", b"unread", b"files", b"linked-names", b"users", b"users-asked-for", b"groups", b"groups-asked-for",
+                b"users-left-out", b"groups-left-out")
+        return [[key, b"%d" % number] for key, number in zip(keys, (links, unread, files, linked, users, 0, groups, 0, 0, 0))]
 
     def test_meta(self) -> None:
         odd = b"tree/x\ny\\z\r"
@@ -169,42 +205,78 @@ class Written(SnapshotCase):
             number = [b"part", b"%s of %03d" % (part.encode(), len(parts))]
             self.assertEqual(meta[4:], [[b"excluded", b"0"], *self.numbers(0, 0, files), number])
 
-    def test_a_file_that_is_exchanged(self) -> None:
-        """A symbolic link in the place of a file that was looked at gives getfacl the list of another file."""
-        tree = os.fsencode(os.path.realpath(self.path("tree")))
-        names = [b"b", b"back\\s", b"l\nf"]
-        for name in names:
-            with open(tree + b"/" + name, "wb"):
-                pass
-        exchange = b"".join(b"rm -f '%s/%s'; ln -s /etc/passwd '%s/%s'\n" % (tree, name, tree, name) for name in names)
-        self.tool("getfacl", self.read("bin/getfacl").replace(b"#!/bin/sh\n", b"#!/bin/sh\n" + exchange))
-        self.expect_status(self.snapshot("new", "tree"), 1, b"the dump lacks them or what is in them: 3, first: %s/b: was exchanged for another "
-                           b"file, or removed, meanwhile\n" % tree)
-        found = names_of(self.read("new/dump"))
-        self.assertEqual([name for name in found if name.startswith(tree + b"/")],
-                         [tree + b"/", *(tree + b"/" + name for name in (b"a/", b"a/1", b"a/2"))])
-        self.assertIn([b"files", b"%d" % len(found)], self.meta("new/meta"))
-        self.assertIn([b"unread", b"3"], self.meta("new/meta"))
+    def below_tree(self) -> List[bytes]:
+        """The recorded names below tree."""
+        start = os.path.realpath(self.path("tree")).encode() + b"/"
+        return [name[len(start):] for name in names_of(self.read("new/dump")) if name.startswith(start)]
 
-    @unittest.skipUnless(os.geteuid() == 0, "only root can give files away")
-    def test_a_file_that_is_exchanged_and_put_back(self) -> None:
-        """The owner of a record tells it, also of what is in a directory that is exchanged."""
-        tree, other = os.fsencode(os.path.realpath(self.path("tree"))), os.fsencode(self.path("other"))
-        os.mkdir(other)
-        for name in (b"/1", b"/2"):
-            with open(other + name, "wb"):
-                pass
-        for name in (b"", b"/1", b"/2"):
-            os.chown(other + name, 54321, -1)
-        before = b"mv '%s/a' '%s/kept'; ln -s '%s' '%s/a'; mv '%s/b' '%s/too'; ln -s '%s/1' '%s/b'\n" % (
-            tree, other, other, tree, tree, other, other, tree)
-        after = b"\nrm '%s/a' '%s/b'; mv '%s/kept' '%s/a'; mv '%s/too' '%s/b'\n" % (tree, tree, other, tree, other, tree)
-        plain = self.read("bin/getfacl").replace(b"exec ", b"")
-        self.tool("getfacl", plain.replace(b"#!/bin/sh\n", b"#!/bin/sh\n" + before) + after)
-        self.expect_status(self.snapshot("new", "tree"), 1, b"was exchanged for another file, or removed, meanwhile\n")
-        found = [name for name in names_of(self.read("new/dump")) if name.startswith(tree + b"/")]
-        self.assertEqual(found, [tree + b"/"])
-        self.assertNotIn(b"54321", self.read("new/dump"))
+    def test_files_that_are_exchanged_or_gone(self) -> None:
+        """After find another file, a link, a directory or nothing has the name, or a directory or a link above it."""
+        for name in ("kept", "link", "folder", "gone", "back\\s", "l\nf", "d1/same", "d2/same", "d3/same", "outside/same"):
+            os.makedirs(os.path.dirname(self.path("tree/" + name)), exist_ok=True)
+            self.write("tree/" + name, b"")
+        self.after_find(b"""cd tree && ln kept too && : >new && mv -f new 'back\\s' && ln -sf kept link && ln -sf kept 'l
+f' && rm folder gone && mkdir folder && mv d1 d && mv d2 d1 && mv d d2 && mv d3 elsewhere && ln -s outside d3""")
+        self.expect_status(self.snapshot("new", "tree"), 1, b"the dump lacks them or what is in them: 11, first: ")
+        self.assertEqual(self.below_tree(), [b"", b"a/", b"a/1", b"a/2", b"b", b"kept", b"outside/", b"outside/same"])
+        self.assertIn([b"unread", b"11"], self.meta("new/meta"))
+        self.assertIn([b"files", b"%d" % len(names_of(self.read("new/dump")))], self.meta("new/meta"))
+        self.expect_inodes("new")
+
+    def test_a_link_above_the_folder(self) -> None:
+        """A user who owns a directory above the FOLDER puts a link in its place while find is there, and takes it back or not."""
+        os.makedirs(self.path("user/mine/folder"))
+        os.makedirs(self.path("secret/folder/names"))
+        real, steps = b"mv user/mine user/kept; ln -s ../secret user/mine; ", b"rm user/mine; mv user/kept user/mine; "
+        for before, after in ((real, b":"), (real, steps)):
+            self.tool("find", FIND % (os.fsencode(self.folder), after))
+            text = self.read("bin/find").replace(b'\n"$real"', b"\n(cd '%s'; %s :)\n\"$real\"" % (os.fsencode(self.folder), before))
+            self.write("bin/find", text)
+            self.expect_status(self.snapshot("new", "user/mine/folder"), 1, b"was exchanged for another file, or removed, meanwhile")
+            for name in ("dump", "inodes", "links"):
+                self.assertNotIn(b"names", self.read("new/" + name))
+            if after == b":":
+                os.remove(self.path("user/mine"))
+                os.rename(self.path("user/kept"), self.path("user/mine"))
+
+    def test_names_that_never_end(self) -> None:
+        """A find that does not end is ended, whether it prints names, names that are left out, or messages."""
+        names = b"i=1; while :; do i=$((i + 1)); printf '%s'; done"
+        for line, most in ((b"n 1:1 $i /x$i\\0", b"16"), (b"l /x$i\\0", b"64"), (b"x /$i 1 1 1\\0", b"64"), (b"no\\n", b"64")):
+            self.add_code("\nfound_names.MOST_FILES, found_names.MOST_NAMES = 16, 64\n")
+            text = names.replace(b"'%s'", b'"%s"' % line) + b" >&2" * (line[:2] == b"no")
+            self.tool("find", b"#!/bin/sh\n" + text + b"\n")
+            self.expect_status(self.snapshot("new", "tree"), 2, b"facl-snapshot: more than %s names were found: name fewer FOLDERs" % most)
+            self.expect_nothing_left()
+        self.tool("find", b"#!/bin/sh\n" + names.replace(b"'%s'", b'"n 1:1 $i /x$i\\0"') + b"\n")
+        self.expect_status(self.snapshot("--split", "20", "new", "tree"), 2, b"more than 64 names were found: name fewer FOLDERs; ")
+        self.assertFalse(os.path.exists(self.path("new")))
+
+    def test_a_dump_that_facl_does_not_take(self) -> None:
+        self.add_code("\nMOST_BYTES = 100\n")
+        self.expect_status(self.snapshot("new", "tree"), 2, b"facl-snapshot: the dump has more than 100 bytes, which facl does not take: ")
+        self.expect_nothing_left()
+
+    def test_lists_that_facl_does_not_take(self) -> None:
+        """The kernel takes several entries of one user, of which the first counts, and of one group, and 8,191 entries."""
+        def pack(*entries: Tuple[int, int, int]) -> bytes:
+            return lists.HEAD + b"".join(lists.ENTRY.pack(*entry) for entry in entries)
+        first, last = (lists.USER_OBJ, 6, lists.NO_ID), [(lists.MASK, 7, lists.NO_ID), (lists.OTHER, 4, lists.NO_ID)]
+        own = (lists.GROUP_OBJ, 4, lists.NO_ID)
+        self.add_code(LISTS % (pack(first, (lists.USER, 1, 9), (lists.USER, 7, 9), (lists.USER, 2, 8), own, (lists.GROUP, 4, 7),
+                                    (lists.GROUP, 2, 7), *last), b""))
+        self.expect_status(self.snapshot("new", "tree/b"), 0, b"lists with several entries of one user or group, which are recorded as "
+                           b"one, as Linux judges by them: ")
+        self.assertTrue(self.read("new/dump").endswith(
+            b"\nuser::rw-\nuser:8:-w-\nuser:9:--x\ngroup::r--\ngroup:7:rw-\nmask::rwx\nother::r--\n\n"))
+        code = LISTS % (pack(first, *((lists.USER, 4, number) for number in range(4092)), own, *last), b"")
+        self.add_code(code)
+        self.expect_status(self.snapshot("new", "tree/b"), 1, b"most users that the dump names have no row in passwd")
+        self.assertIn(b"\nuser:4091:r--\n", self.read("new/dump"))
+        self.add_code(LISTS % (pack(first, *((lists.USER, 4, number) for number in range(4093)), own, *last), b"")
+                      + "of_all = attribute\nlive.attribute = lambda name, key: of_all(name, key) if not os.path.isdir(name) else None\n")
+        self.expect_status(self.snapshot("new", "tree"), 1, b"/a/1: has a list of more than 4096 entries, which facl does not take\n")
+        self.assertEqual(self.below_tree(), [b"", b"a/"])
 
     def recorded(self, *words: str) -> List[bytes]:
         """The names below tree of a snapshot by these words."""
@@ -217,11 +289,11 @@ class Written(SnapshotCase):
         for name in (b"*", b"[x]", b"x", b"-n", b"'q ", b"l\nf", b"\351", b"back\\s"):
             with open(os.fsencode(self.path("tree/a/")) + name, "wb"):
                 pass
-        everything = [b"a/", b"a/'q ", b"a/*", b"a/-n", b"a/1", b"a/2", b"a/[x]", b"a/back\\134s", b"a/l\\012f", b"a/x", b"a/\351", b"b"]
+        everything = [b"a/", b"a/'q ", b"a/*", b"a/-n", b"a/1", b"a/2", b"a/[x]", b"a/back\\\\s", b"a/l\\012f", b"a/x", b"a/\351", b"b"]
         self.assertEqual(sorted(self.recorded()), sorted(everything))
         cases: List[Tuple[List[str], List[bytes]]] = [
             (["\\*"], [b"a/*"]), (["[x]"], [b"a/x"]), (["\\[x]"], [b"a/[x]"]), (["-n"], [b"a/-n"]), (["'q "], [b"a/'q "]),
-            (["l\n*"], [b"a/l\\012f"]), ([os.fsdecode(b"\351")], [b"a/\351"]), (["back\\\\s"], [b"a/back\\134s"]),
+            (["l\n*"], [b"a/l\\012f"]), ([os.fsdecode(b"\351")], [b"a/\351"]), (["back\\\\s"], [b"a/back\\\\s"]),
             (["1", "b"], [b"a/1", b"b"]), (["*/tree/a/[12]"], [b"a/1", b"a/2"]), (["tree/a"], []), (["*/tree*/1"], [b"a/1"]),
             (["a/"], everything[:-1]), (["*/tree/a/"], everything[:-1]), (["$(touch made)", "`touch made`", "\";touch made;\""], []),
         ]
@@ -237,7 +309,7 @@ class Written(SnapshotCase):
         self.assertIn([b"exclude", b"l\\012f"], self.meta("new/meta"))
 
     def test_meta_counts_what_is_unread(self) -> None:
-        self.tool("getfacl", self.read("bin/getfacl").replace(b"exec", b"echo 'getfacl: x: no' >&2; shift; exec"))
+        self.after_find(b"echo 'find: x: no' >&2; status=1")
         self.expect_status(self.snapshot("new", "tree"), 1)
         self.assertIn([b"unread", b"1"], self.meta("new/meta"))
 
@@ -284,17 +356,20 @@ class Written(SnapshotCase):
         self.assertIn(os.path.realpath(self.path("tree/z/last")).encode(), names)
         self.assertEqual(sum(b"d" * 250 in name for name in names), short)
 
-    def test_each_name_has_a_record_or_a_message(self) -> None:
+    def test_nothing_can_be_read(self) -> None:
         self.expect_status(self.snapshot("new", "tree"), 0)
-        self.tool("getfacl", self.read("bin/getfacl").replace(b"shift\nexec", b"shift 2\nexec"))
-        self.expect_status(self.snapshot("other", "tree"), 1, b"getfacl has records or messages for ")
         old = self.read("new/dump")
-        self.expect_status(self.snapshot("new", "tree"), 2, b"new stays as it was")
-        self.assertEqual(self.read("new/dump"), old)
-        self.tool("getfacl", b"#!/bin/sh\nwhile [ $# -gt 3 ]; do echo \"getfacl: $4: no\" >&2; shift; done\nexit 1\n")
+        self.add_code("""
+def no(self: Opener, path: bytes) -> live.OpenFile:
+    raise NotFound(b"cannot be opened: no")
+Opener.open = no
+""")
         for name in ("new", "third"):
-            self.expect_status(self.snapshot(name, "tree"), 2, b"no file could be read: getfacl: /: no\n")
+            self.expect_status(self.snapshot(name, "tree"), 2, b"facl-snapshot: no file could be read: /: cannot be opened: no\n")
+        self.assertEqual(self.read("new/dump"), old)
         self.assertFalse(os.path.exists(self.path("third")))
+        self.after_find(b"status=3")
+        self.expect_status(self.snapshot("new", "tree"), 2, b"facl-snapshot: find ended with status 3\n")
         self.expect_nothing_left()
 
     def test_the_environment_changes_nothing(self) -> None:
@@ -323,13 +398,12 @@ class People(SnapshotCase):
         self.write("group.all", self.groups + b"prim:x:70100:\nlab:x:70101:carl,4711\nstaff:x:70102:\nmore:x:70103:ann\n"
                    b"other:x:70104:eve\n")
         self.write("groups.all", b"bea 70100 70102 70103 70001\ncarl 70101\ndora 70001 70102\nfinn 70001\neve 70104\n")
-        self.lists(b"user:70010:r--\\ngroup:70101:r--")
+        self.lists({(lists.USER, 70010): 4, (lists.GROUP, 70101): 4})
 
-    def lists(self, lines: bytes) -> None:
-        """Has each list these lines too."""
-        text = GETFACL.replace(b'"$@"', b"\"$@\" | sed 's/^group::/%s\\n&/'").replace(b"exec ", b"")
-        self.tool("getfacl", text.replace(b"%s\\n&", lines.replace(b"%", b"") + b"\\n&") % (
-            os.fsencode(sys.executable), os.fsencode(self.path("printer.py"))))
+    def lists(self, entries: lists.Entries) -> None:
+        """Has each list these entries too."""
+        more = {(lists.MASK, lists.NO_ID): 7} if entries else {}
+        self.add_code(LISTS % (lists.bytes_of({**lists.entries_of(lists.minimal(0o644)), **entries, **more}), b""))
 
     def test_those_that_are_named(self) -> None:
         """Users and groups by their ids, members by their names, and the groups of these users."""
@@ -363,8 +437,12 @@ class People(SnapshotCase):
         self.assertEqual(self.read("new/passwd").count(b"ann:"), 1)
         self.assertRegex(self.read("new/group"), rb"(?m)^staff:x:70102:(bea,dora|dora,bea)$")
         self.assertNotIn(b"eve", self.read("new/passwd") + self.read("new/group"))
-        self.write("more", b"dora\nzoe")
-        self.expect_status(self.snapshot("--users", "more", "other", "tree"), 2, b"facl-snapshot: more: no such user: zoe\n")
+        for text, message in ((b"\ndora\nzoe", b"line 3: no such user"), (b"zoe\n", b"line 1: no such user"),
+                              (b"dora\nroot:$6$secret:1::\n", b"line 2: is no name of a user"),
+                              (b"s" * 257, b"line 1: is no name of a user"), (b"\0x\n", b"line 1: no such user")):
+            self.write("more", text)
+            self.assertEqual(self.snapshot("--users", "more", "other", "tree").messages, b"facl-snapshot: more: " + message + b"\n")
+        self.assertNotIn(b"secret", self.read("asked"))
         self.expect_status(self.snapshot("--users", "absent", "other", "tree"), 2, b"absent: cannot be read\n")
         self.assertFalse(os.path.exists(self.path("other")))
         self.expect_nothing_left()
@@ -379,6 +457,28 @@ class People(SnapshotCase):
         self.expect_status(self.snapshot("--users", "more", "new", "tree"), 0)
         self.assertEqual(self.read("new/passwd"), self.listed + b"".join(rows))
 
+    def test_rows_that_facl_does_not_take(self) -> None:
+        """getent prints entries of NIS without ids."""
+        rows = [b"-x::::::", b"+@net::::::", b":x:5:5:::", b"o:x:4294967295:5:::", b"p:x:5:4294967295:::", b"few:x:5:5::", b"", b"x"]
+        good = b"zero:x:0004294967294:4294967294::/:/bin/sh\n"
+        self.write("passwd.list", b"\n".join(rows) + b"\n" + good + self.listed)
+        self.write("group.list", b"-x:::\n+:::\n" + self.groups + b"q:x:4294967295:\n")
+        done = self.snapshot("new", "tree")
+        for word, number, first in ((b"passwd", 8, b""), (b"group", 3, b"+")):
+            self.expect_status(done, 0, b"rows of %s without a name, an id or a field, which are left out: %d, first: %s\n" % (word, number, first))
+        self.assertTrue(self.read("new/passwd").startswith(good + self.listed))
+        self.assertIn(b"\nusers-left-out 8\ngroups-left-out 3\n", self.read("new/meta"))
+
+    def test_who_is_a_person(self) -> None:
+        """The numbers are those of choice.py."""
+        self.lists({})
+        for uid in (999, 1000, 59999, 60000, 60513, 60514, 61184, 65534, 65535, 65536, 1_000_000_000):
+            rows = b"root:x:0:0::/:/bin/sh\nsomebody:x:%d:0::/:/bin/sh\n" % uid
+            self.write("passwd.list", rows)
+            self.write("passwd.all", rows)
+            done = self.snapshot("new", "tree")
+            self.assertEqual((uid, b"there are no users but those of the system" in done.messages), (uid, not choice.is_person(uid)))
+
     def test_two_users_with_one_id(self) -> None:
         self.write("passwd.list", self.listed + b"anna:x:70001:70001::/:/bin/sh\n")
         done = self.snapshot("new", "tree")
@@ -392,11 +492,11 @@ class People(SnapshotCase):
         self.write("group.list", b"root:x:0:\n")
         self.write("passwd.all", b"")
         self.write("group.all", b"")
-        self.lists(b"other::---")
+        self.lists({})
         for words in (["new", "tree"], ["--quiet", "new", "tree"]):
             self.expect_status(self.snapshot(*words), 1, b"facl-snapshot: there are no users but those of the system: " + text)
         self.write("passwd.list", self.listed)
-        self.lists(b"user:80001:r--\\nuser:80002:r--")
+        self.lists({(lists.USER, 80001): 4, (lists.USER, 80002): 4})
         self.expect_status(self.snapshot("new", "tree"), 1, b"facl-snapshot: most users that the dump names have no row in passwd: " + text)
 
 
@@ -462,13 +562,14 @@ class Trusted(SnapshotCase):
 
 class Said(SnapshotCase):
     def test_names_on_the_terminal(self) -> None:
-        """Control characters, bytes that are no UTF-8, and characters that change the direction of text are escaped."""
+        """Control characters, bytes that are no UTF-8, and characters that cannot be seen or change the direction of text are
+        escaped."""
         hidden = ["\a", "\x1b", "\x7f", "\x80", "\x9b", "\u061c", "\u200e", "\u200f", "\u202a", "\u202e", "\u2066", "\u2069"]
         escaped = [(character.encode(), b"".join(b"\\%03o" % byte for byte in character.encode())) for character in hidden]
         # an overlong form, a surrogate, a number above the last one, and characters that are cut off
         for no_text in (b"\xc0\xaf", b"\xed\xa0\x80", b"\xf4\x90\x80\x80", b"\xe2\x80", b"\xff", b"\xc3"):
             escaped.append((no_text, b"".join(b"\\%03o" % byte for byte in no_text)))
-        plain = "ä\u00a0\u0410\u061b\u200d\u2010\u2029\u202f\u2065\u206a\ud7ff\ue000\uffff\U00010000\U0010ffff~ '".encode()
+        plain = "ä\u00a0\u0410\u061b\u2010\u202f\u2070\ud7ff\ue000\uffff\U00010000\U0010ffff~ '".encode()
         name = b"|".join(raw for raw, _ in escaped) + b"\n" + plain
         shown = b"|".join(text for _, text in escaped) + b"\\012" + plain
         self.assertLess(len(name), 256)
@@ -480,6 +581,19 @@ class Said(SnapshotCase):
                                   check=False)
             self.assertEqual((done.returncode, done.stdout[: len(out)], done.stderr), (status, out, message))
 
+    def test_names_are_escaped_as_in_python(self) -> None:
+        """The first and last ones of all that is escaped, and their neighbours."""
+        ranges = ((0x01, 0x1F), (0x7F, 0x9F), (0xAD, 0xAD), (0x34F, 0x34F), (0x61C, 0x61C), (0x115F, 0x1160), (0x17B4, 0x17B5),
+                  (0x180B, 0x180F), (0x200B, 0x200F), (0x2028, 0x202E), (0x2060, 0x206F), (0x2800, 0x2800), (0x3164, 0x3164),
+                  (0xFE00, 0xFE0F), (0xFEFF, 0xFEFF), (0xFFA0, 0xFFA0), (0xFFF0, 0xFFFB), (0x1BCA0, 0x1BCA3), (0x1D173, 0x1D17A),
+                  (0xE0000, 0xE0FFF))
+        codes = sorted({code for first, last in ranges for edge in (first, last) for code in range(edge - 17, edge + 18) if code > 0})
+        for start in range(0, len(codes), 100):
+            text = "|".join(map(chr, codes[start: start + 100])).encode()
+            done = subprocess.run([SNAPSHOT.encode(), b"new", b"/" + text], cwd=self.folder, env=self.environment(), capture_output=True,
+                                  check=False)
+            self.assertEqual(done.stderr, b"facl-snapshot: /" + names.shown(text) + b": no such file\n")
+
     def test_quiet(self) -> None:
         """Only what could not be read, and errors; the status is that without --quiet."""
         os.link(self.path("tree/a/1"), self.path("tree/c"))
@@ -490,14 +604,14 @@ class Said(SnapshotCase):
         done = self.snapshot(*words, FACL="false")
         self.assertEqual((done.status, done.out, done.messages[:35]), (2, b"", b"facl-snapshot: false does not load "))
         self.assertEqual(self.snapshot("--quiet", "new", "absent"), Done(2, b"", b"facl-snapshot: absent: no such file\n"))
-        self.tool("getfacl", self.read("bin/getfacl").replace(b"exec", b"echo 'getfacl: x: no' >&2; shift; exec"))
-        text = b"files or folders that could not be read, so that the dump lacks them or what is in them: 1, first: getfacl: x: no\n"
+        self.after_find(b"echo 'find: x: no' >&2; status=1")
+        text = b"files or folders that could not be read, so that the dump lacks them or what is in them: 1, first: find: x: no\n"
         self.assertEqual(self.snapshot("--quiet", "other", "tree"), Done(1, b"", b"facl-snapshot: warning: " + text))
 
     def test_messages_of_other_programs(self) -> None:
-        self.tool("getfacl", self.read("bin/getfacl").replace(b"exec", b"printf 'getfacl: \\033]0;x\\007: no\\n' >&2; shift; exec"))
+        self.after_find(b"printf 'find: \\033]0;x\\007: no\\n' >&2; status=1")
         done = self.snapshot("new", "tree")
-        self.expect_status(done, 1, b"the dump lacks them or what is in them: 1, first: getfacl: \\033]0;x\\007: no\n")
+        self.expect_status(done, 1, b"the dump lacks them or what is in them: 1, first: find: \\033]0;x\\007: no\n")
 
     def test_streams(self) -> None:
         """What is made does not depend on what can be said."""

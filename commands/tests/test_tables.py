@@ -22,7 +22,7 @@ from facl_commands.program import Session, find_program  # noqa: E402
 from facl_commands.tables import Column  # noqa: E402
 
 PASSWD = b"".join(b"%s:x:%d:100::/:\n" % row for row in (
-    (b"root", 0), (b"toor", 0), (b"daemon", 1), (b"svc", 999), (b"ann", 1000), (b"bob", 59999), (b"dyn", 60000), (b"old", 65533),
+    (b"root", 0), (b"toor", 0), (b"daemon", 1), (b"svc", 999), (b"ann", 1000), (b"bob", 59999), (b"home", 60513), (b"dyn", 60514), (b"old", 65533),
     (b"nobody", 65534), (b"edge", 65535), (b"dom", 65536), (b"AD\\eve", 1_234_500_123), (b"a b", 2000)))
 
 
@@ -98,7 +98,7 @@ class Fields(unittest.TestCase):
 
 class Users(unittest.TestCase):
     def test_people(self) -> None:
-        self.assertEqual(choice.people_of(PASSWD), {b"ann", b"bob", b"dom", b"AD\\eve", b"a b"})
+        self.assertEqual(choice.people_of(PASSWD), {b"ann", b"bob", b"home", b"dom", b"AD\\eve", b"a b"})
 
     def test_who_is_kept(self) -> None:
         users = [b"root", b"daemon", b"ann", b"AD\\134eve", b"a\\040b", b"nobody", b"gone"]

@@ -20,11 +20,12 @@ sys.dont_write_bytecode = True
 sys.path.insert(0, os.path.join(os.path.dirname(os.path.realpath(__file__)), "..", "lib"))
 import script  # noqa: E402
 from live_tree import (  # noqa: E402
-    COMMANDS, Check, State, expect, main, make, mounted, must, records_of, remove, run, state_of,
+    COMMANDS, MALLORY, Check, State, child, expect, main, make, mounted, must, records_of, remove, run, state_of,
 )
+from snapshot_races import WAYS, known_records, make_race, meddling, wrong_records  # noqa: E402
 
 NAMES = ("words targets replacing names links warnings rows kills chain streams packages trust private_groups "
-         "unreadable without_lists file_systems full_disk").split()
+         "unreadable without_lists file_systems full_disk races").split()
 SNAPSHOT = os.fsdecode(os.path.join(COMMANDS, b"facl-snapshot"))
 NOBODY = 65534
 SIGNALS = [getattr(signal, "SIG" + name) for name in "HUP INT QUIT USR1 USR2 ALRM TERM KILL".split()]
@@ -39,7 +40,7 @@ class Snapshots(Check):
     """Each part has a clean folder, in which it runs, with the folders closed, masks and odd in it."""
 
     tools = ["getfacl", "setfacl", "getent", "setpriv", "dash", "bash"]
-    parts = {**dict.fromkeys(NAMES, 1), "kills": 15}
+    parts = {**dict.fromkeys(NAMES, 1), "kills": 15, "races": 40}
 
     def variables(self) -> Dict[str, str]:
         return {"PATH": ":".join([*self.ahead, os.environ["PATH"]]), "FACL": self.given.program}
@@ -216,8 +217,8 @@ class Snapshots(Check):
         expect(not wrong, f"said, though it is not so: {wrong}: {self.done}")
         self.with_getent("", "staff:x:0:ines\r\nlab:x:6:\n")
         self.took(1, "before masks", "passwd is empty", f"rows of group {returns}staff", out=["0 users, 2 groups"])
-        self.with_getent("bad row\n", "")
-        self.took(1, "bad masks", "does not load it: facl: setup: passwd: text line 1: bad row")
+        self.with_getent("bad row\n-x::::::\n", "")
+        self.took(1, "bad masks", "rows of passwd without a name, an id or a field, which are left out: 2, first: -x")
         self.with_getent("", "", "exit 3")
         self.took(2, "other masks", "getent passwd ended with status 3")
         self.nothing_left()
@@ -263,12 +264,12 @@ class Snapshots(Check):
                 expect(self.read("before/inodes") != b"", f"no snapshot: {shell} {words}")
 
     def check_packages(self, _seed: int) -> None:
-        """Nothing but sh, getent and the programs of three packages is called."""
+        """Nothing but sh, getent, python3 and the programs of five packages is called."""
         if shutil.which("dpkg") is None:
             return
         files = must(run([b"dpkg", b"-L", b"acl", b"findutils", b"coreutils", b"grep", b"sed"]), 0).split(b"\n")
         self.make("only/")
-        for file in [*files, self.name("bin/getent"), b"/bin/sh"]:
+        for file in [*files, self.name("bin/getent"), b"/bin/sh"]:  # And /usr/bin/python3, by its whole name.
             if os.path.dirname(file).endswith(b"/bin"):
                 os.symlink(file, self.name(b"only/" + os.path.basename(file)))
         self.took(0, "before odd masks", PATH=self.text("only"))
@@ -386,6 +387,26 @@ class Snapshots(Check):
             make(self.name("fake/user.txt"), text=rows[: len(user)].encode())
             remove(self.name("own/new"))
             self.took(status, "own/new masks", start=["setpriv", "--reuid=65534", "--regid=7", "--clear-groups"])
+
+    def check_races(self, _seed: int) -> None:
+        """A user who exchanges files, folders and links all the while, in seven ways: each record of the FOLDER is that of the
+        very file that inodes has, and none is of a link or of a file outside."""
+        top = self.name("race")
+        for way in WAYS:
+            make_race(top, way)
+            known = known_records(top)
+            user = child(MALLORY, meddling(top, way))
+            try:
+                done = run([os.fsencode(it) for it in [SNAPSHOT, "--quiet", "before", "race/tree"]], variables=self.variables(),
+                           folder=self.work)
+            finally:
+                os.kill(user, signal.SIGKILL)
+                os.waitpid(user, 0)
+            expect(done.returncode in (0, 1), f"{way.title}: {done}")
+            wrong = wrong_records(top, known, self.read("before/dump"), self.read("before/inodes"))
+            expect(not wrong, f"{way.title}: {len(wrong)} records, first: {wrong[:1]}")
+            self.count(f"snapshots while a user exchanges {way.title}")
+            self.count(f"of these snapshots lack what was exchanged ({way.title})", done.returncode)
 
 
 if __name__ == "__main__":
