@@ -12,7 +12,6 @@ import stat
 import subprocess
 import sys
 import time
-import unittest
 from typing import Dict, List, Optional, Tuple
 
 from common import COMMANDS, Case, Done, restore_signals
