@@ -2,12 +2,15 @@
 from __future__ import annotations
 
 import argparse
+import grp
 import os
+import pwd
 from collections import Counter
-from typing import Dict, List, Mapping
+from typing import Callable, Dict, List, Mapping, Tuple
 
 from . import by_hand_done, differences, live, meta, plan_folder, planned
 from .carrying import Carrier
+from .lists import Record
 from .live import Seen
 from .messages import Command, Failure, counted, parser_of, reason, signals_wait
 from .names import live_name, path_order, shell_word
@@ -171,6 +174,22 @@ def give_all(command: Command, way: Way, carrier: Carrier, is_whole: bool) -> in
     return DONE
 
 
+def say_without_row(command: Command, records: List[Record]) -> None:
+    """Names the ids in the `records` of files that no user or group has now: the next one who gets such an id has the
+    files."""
+    sides: List[Tuple[bytes, Counter[int], Callable[[int], object]]] = [
+        (b"user", Counter(record.owner for record in records), pwd.getpwuid),
+        (b"group", Counter(record.group for record in records), grp.getgrgid),
+    ]
+    for kind, counts, look_up in sides:
+        for number, count in sorted(counts.items()):
+            try:
+                look_up(number)
+            except KeyError:
+                command.say(counted(count, "file belongs", "files belong")
+                            + b" to the %s id %d, which has no %s now" % (kind, number, kind))
+
+
 def by_hand(way: Way) -> List[bytes]:
     """The line that names what is to be done by hand, where there is something. It is made before anything is touched:
     a script that cannot be read has no part in what is said of the files."""
@@ -214,7 +233,10 @@ def body(command: Command, words: List[str]) -> int:
         for path in [*look.files, *look.later]:
             command.tell(b"would change " + live_name(path) + b": " + differences.parts(way.start(path), way.end(path)))
         return DONE
-    status = carry_out(command, way, Carrier(way, look), not changed)
+    carrier = Carrier(way, look)
+    status = carry_out(command, way, carrier, not changed)
     for line in rest if status == DONE else []:
         command.tell(line)
+    if status == DONE and way.is_undo:
+        say_without_row(command, [way.end(path) for path in carrier.seen])
     return status

@@ -8,7 +8,7 @@ from __future__ import annotations
 
 from typing import Dict, List, NamedTuple, Tuple
 
-from . import by_hand_files, by_hand_undo
+from . import by_hand_files, by_hand_undo, owners
 from . import by_hand_texts as texts
 from .messages import counted
 from .names import live_path, parent_of, path_order, shell_word
@@ -43,6 +43,11 @@ class Things(NamedTuple):
 
     def number_made(self) -> int:
         return self.number_removed() + len(self.removed)
+
+    def kept(self) -> List[File]:
+        """The files of the snapshot that are not removed."""
+        removed = set(self.removed)
+        return [file for path, file in self.old.items() if path not in removed]
 
 
 def things_of(people: List[PeopleChange], changes: Changes, old: Files, new: Files, inodes: Identities) -> Things:
@@ -186,11 +191,11 @@ def is_blind(things: Things) -> bool:
     return any(path not in things.inodes for path in looked_at - made)
 
 
-def common(name: bytes, things: Things) -> bytes:
-    tools = [b"flock", b"sed"]
+def common(name: bytes, things: Things, has_files: bool) -> bytes:
+    tools = [b"flock", b"sed", b"awk"]
     if things.people:
-        tools += [b"getent", b"awk"] + sorted({change.tool() for change in things.people})
-    if things.removed or things.made:
+        tools += [b"getent"] + sorted({change.tool() for change in things.people})
+    if has_files:
         tools += [b"stat", b"find", b"mktemp", b"setfacl", b"python3"]
     return texts.COMMON % {b"name": name, b"tools": b" ".join(tools)}
 
@@ -216,19 +221,26 @@ def script_of(people: List[PeopleChange], changes: Changes, old: Files, new: Fil
     if not lines:
         return b""
     head = texts.HEAD % {b"what": what(things), b"blind": texts.BLIND * is_blind(things)}
+    head += common(b"by_hand", things, bool(things.removed or things.made))
     refuses = any(line.startswith(b"refuse ") for line in lines)
-    return head + common(b"by_hand", things) + functions_of(things, refuses) + b"\n" + b"".join(lines)
+    end = texts.CHANGES_END if people else b""
+    return head + functions_of(things, refuses) + b"\n" + b"".join(lines) + end
 
 
 # --- by_hand_undo
 
 
-def people_back(number: int, place: int, people: List[PeopleChange]) -> bytes:
+def people_back(number: int, place: int, things: Things) -> bytes:
     """The line that takes a change of users back; a comment where nothing does."""
-    change = people[place]
-    is_removed_later = any(it.kind == REMOVE_USER and it.user.name == change.user.name for it in people[place:])
+    change = things.people[place]
+    is_removed_later = any(it.kind == REMOVE_USER and it.user.name == change.user.name
+                           for it in things.people[place + 1 :])
     if is_removed_later or people_line(number, change).startswith(b"refuse "):
         return comment(shown_change(change))
+    if change.kind == REMOVE_USER:
+        owned, grouped = owners.files_of(change.user.uid, change.user.gid, things.kept())
+        return call(b"lost_user", number_word(number), *ids_of(change)[:2], number_word(owned),
+                    number_word(change.user.gid), number_word(grouped))
     group = [word(change.group)] if change.kind in (ADD_MEMBER, REMOVE_MEMBER) else []
     return call(FUNCTIONS[change.kind] + b"_back", number_word(number), *ids_of(change, *group))
 
@@ -249,19 +261,28 @@ def undo_lines(things: Things) -> Tuple[List[bytes], List[bytes]]:
     numbers = {path: number for number, path in enumerate(things.made, things.number_made())}
     files = [made_back(numbers[path], path, things, numbers) for path in reversed(things.made)]
     files += [comment(live_path(path) + b" is gone") for path in reversed(things.removed)]
+    if things.removed:
+        files.append(call(b"lost_files", number_word(things.number_removed()), number_word(things.number_made() - 1)))
     places = range(len(things.people))
-    return files, [people_back(place + 1, place, things.people) for place in reversed(places)]
+    return files, [people_back(place + 1, place, things) for place in reversed(places)]
 
 
 def undo_script_of(people: List[PeopleChange], changes: Changes, old: Files, new: Files, inodes: Identities) -> bytes:
-    """by_hand_undo; empty where nothing can be taken back."""
+    """by_hand_undo; empty if by_hand does nothing that it takes back or has to name."""
     things = things_of(people, changes, old, new, inodes)
     files, users = undo_lines(things)
-    if all(line.startswith(b"# ") for line in files + users):
+    lines = files + users
+    if all(line.startswith(b"# ") for line in lines):
         return b""
     head = by_hand_undo.UNDO_HEAD % {b"blind": texts.BLIND * is_blind(things)}
-    head += by_hand_undo.LOST_HEAD if any(line.startswith(b"# ") for line in files + users) else b""
-    functions = by_hand_undo.UNDO
-    functions += by_hand_files.FOLDERS + by_hand_files.PRIVATE + by_hand_undo.UNMAKE if things.made else b""
-    functions += texts.USERS + by_hand_undo.UNDO_USERS if not all(line.startswith(b"# ") for line in users) else b""
-    return head + common(b"by_hand_undo", things) + functions + b"\n" + b"".join(files + users) + by_hand_undo.UNDO_END
+    head += by_hand_undo.LOST_HEAD if any(line.startswith((b"# ", b"lost_")) for line in lines) else b""
+    wanted = [
+        (bool(things.made), by_hand_files.FOLDERS + by_hand_files.PRIVATE + by_hand_undo.UNMAKE),
+        (bool(things.removed), by_hand_undo.LOST_FILES),
+        (not all(line.startswith(b"# ") for line in users), texts.USERS),
+        (any(b"_back " in line for line in users), by_hand_undo.UNDO_USERS),
+        (any(line.startswith(b"lost_user ") for line in users), by_hand_undo.LOST_USERS),
+    ]
+    head += common(b"by_hand_undo", things, bool(things.made)) + by_hand_undo.UNDO
+    functions = b"".join(text for is_wanted, text in wanted if is_wanted)
+    return head + functions + b"\n" + b"".join(lines) + by_hand_undo.UNDO_END

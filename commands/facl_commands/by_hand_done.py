@@ -7,7 +7,8 @@ from typing import Dict
 from .plan_folder import Folder
 
 # A line of by_hand that is one thing, with its number; what is made in a tree is done with the tree.
-THING = re.compile(rb"^(?!make_)[a-z_]+ ([0-9]+) ", re.MULTILINE)
+# A line lost_ takes nothing back.
+THING = re.compile(rb"^(?!make_|lost_)[a-z_]+ ([0-9]+) ", re.MULTILINE)
 FINISHED, FOUND, BEGUN = b"finished", b"found", b"begun"
 
 

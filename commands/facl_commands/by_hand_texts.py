@@ -17,9 +17,13 @@ HEAD = b"""\
 %(blind)s#
 # Where something is not as in the snapshot, it stops before that thing, with a message and the status 1. A command that
 # fails ends it with the message and the status of that command. Mend what is wrong, and run it again: what is done is
-# noted in the file by_hand_done beside it, and is not done twice. Where a thing is done already in another way, or is
-# not wanted any more, put a # before its line and run it again. When it was killed, a folder .facl.* may be left in the
-# folder where it was at work: move back what was taken there, and remove it.
+# noted in the file by_hand_done beside it, and is not done twice. It stops with the status 2 if somebody else may have
+# written that file. Where a thing is done already in another way, or is not wanted any more, put a # before its line
+# and run it again. When it was killed, a folder .facl.* may be left in the folder where it was at work: move back what
+# was taken there, and remove it.
+#
+# The tools of the system change rows of /etc/passwd and /etc/group alone. A user or a group of a directory service is
+# named, with what has to be done there; the other things are done, and the status is 1.
 #
 # What can be taken back by_hand_undo takes back.
 """
@@ -58,6 +62,19 @@ cd -P -- "$plan"
 [ -f ./%(name)s ] || stop 'run it by its name: sh PLAN/%(name)s'
 plan=$(env pwd -P && echo .)
 plan=${plan%%??}
+made=''
+if [ ! -e ./by_hand_done ] && [ ! -L ./by_hand_done ]; then
+    : >./by_hand_done
+    made=yes
+fi
+case $(ls -dln ./by_hand_done) in
+"-rw------- 1 $(id -u) "* | "-rw-------. 1 $(id -u) "*) ;;
+*)
+    say 'by_hand_done: others may have written it: it is no plain file of yours with mode 0600, one name and no ACL'
+    [ -z "$made" ] || rm -f ./by_hand_done    # A default list of the folder gave it an access list.
+    exit 2
+    ;;
+esac
 exec 9>>"$plan/by_hand_done"
 [ -z "$(tail -c 1 "$plan/by_hand_done")" ] || echo >&9
 flock -n 9 || stop 'by_hand or by_hand_undo of this plan is at work already'
@@ -89,37 +106,62 @@ read_name() {
 """
 
 USERS = b"""
-# look_up DATABASE NAME: sets row to what the first row of a user (UID:GID) or a group (GID:MEMBERS) has, or to nothing
-look_up() {
-    rows=$(getent "$1") || stop "getent $1 fails"
-    row=$(printf '%s\\n' "$rows" | wanted=$2 awk -F : '
+# pick NAME: sets row to what the first of $rows with this name has: UID:GID of a user, GID:MEMBERS of a group, or nothing
+pick() {
+    row=$(printf '%s\\n' "$rows" | wanted=$1 awk -F : '
         $1 "" == ENVIRON["wanted"] "" && !found { found = 1; print $3 ":" $4 }
     ')
 }
 
-# is_user NAME UID, is_group NAME GID: whether there is one of this name with this id; sets user or group, and row
+# look_up DATABASE NAME ID: sets row to what a user or a group of this name has, and local_row to what it has in
+# /etc/passwd or /etc/group. The name service is asked for the one name, as a directory service may list nobody. getent
+# takes a name of digits for an id: then ID is asked for, and the name compared.
+look_up() {
+    rows=$(getent -s files "$1") || stop "getent -s files $1 fails"
+    pick "$2"
+    local_row=$row key=$2 answer=0
+    case $key in *[!0-9]*) ;; *) key=$3 ;; esac
+    rows=$(getent "$1" -- "$key") || answer=$?
+    [ "$answer" -eq 0 ] || [ "$answer" -eq 2 ] || stop "getent $1 fails"
+    pick "$2"
+    [ -n "$row" ] || row=$local_row
+}
+
+# is_local: whether $row is that of /etc/passwd or /etc/group, which are all that the tools of the system change
+is_local() {
+    [ -n "$local_row" ] && [ "${local_row%%:*}" = "${row%%:*}" ]
+}
+
+# is_user NAME UID, is_group NAME GID: whether there is one of this name with this id; sets user or group, row and local_row
 is_user() {
     read_name "$1"
     user=$name
-    look_up passwd "$user"
+    look_up passwd "$user" "$2"
     [ "${row%%:*}" = "$2" ]
 }
 
 is_group() {
     read_name "$1"
     group=$name
-    look_up group "$group"
+    look_up group "$group" "$2"
     [ "${row%%:*}" = "$2" ]
 }
 
-# is_member: whether the user is in the row of the group
+# is_member ROW: whether the user is a member by the row of a group
 is_member() {
-    case ,${row#*:}, in *",$user,"*) return 0 ;; esac
+    case ,${1#*:}, in *",$user,"*) return 0 ;; esac
     return 1
 }
 """
 
 CHANGE_USERS = b"""
+# leave TEXT: says what has to be done in a directory service
+left=0
+leave() {
+    say "$1"
+    left=$((left + 1))
+}
+
 # found_done NUMBER: a thing is as it should be already. Where it was not begun, somebody else did it, and by_hand_undo leaves it.
 found_done() {
     case $state in
@@ -136,9 +178,17 @@ change_member() {
     is_user "$3" "$4" || stop "user $3: is not there with the id $4"
     is_group "$5" "$6" || stop "group $5: is not there with the id $6"
     member=-d
-    ! is_member || member=-a
+    ! is_member "$row" || member=-a
     if [ "$member" = "$1" ]; then
         found_done "$2"
+        return 0
+    fi
+    if ! is_local; then
+        leave "group $5: is of a directory service, and not of /etc/group, so gpasswd $1 $3 is not run: change its members there"
+        return 0
+    fi
+    if [ "$1" = -d ] && ! is_member "$local_row"; then
+        leave "group $5: user $3 is a member by a directory service, and not by /etc/group: end the membership there"
         return 0
     fi
     note "$2" begun
@@ -162,10 +212,16 @@ change_user() {
     state_of "$number"
     [ "$state" != finished ] || return 0
     read_name "$shown"
-    user=$name
-    look_up passwd "$user"
+    user=$name known=${old:-$new}
+    look_up passwd "$user" "${known%%:*}"
     if [ "$row" = "$new" ]; then
+        [ -n "$row$state" ] || say "user $shown: is not there, or a directory service does not answer; $1 has nothing to do"
         found_done "$number"
+        return 0
+    fi
+    if [ -n "$row" ] && ! is_local && [ "$row" = "${old:-$row}" ]; then
+        case $1 in userdel) wanted=remove ;; *) wanted=change ;; esac
+        leave "user $shown: is of a directory service, and not of /etc/passwd, so $1 is not run: $wanted the user there"
         return 0
     fi
     [ "$row" = "$old" ] || stop "user $shown: has the ids ${row:-(none)}, and not ${old:-(none)}"
@@ -192,6 +248,10 @@ add_user() {
 remove_user() {
     change_user "$1" "$2" "$3:$4" '' userdel
 }
+"""
+
+CHANGES_END = b"""
+[ "$left" -eq 0 ] || stop "left to be done in a directory service: $left"
 """
 
 REFUSE = b"""

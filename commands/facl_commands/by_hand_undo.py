@@ -11,7 +11,9 @@ UNDO_HEAD = b"""\
 # is empty by then. Both are looked up as by_hand does it, in their folders, which have to be those of the plan.
 %(blind)s#
 # Where something is not as by_hand left it, it is left so, with a message, the others are taken back, and the status is 1.
-# It can be run again. To do again what was taken back, make a new snapshot and a new plan.
+# So it is if by_hand removed users or files: they do not come back, and the message has the files of the snapshot that
+# belong to a number without a user then. It can be run again. It stops with the status 2 if somebody else may have written
+# the file by_hand_done. To do again what was taken back, make a new snapshot and a new plan.
 #
 # userdel removes the user's row, memberships and mail, and a group of the user's name that nobody else has; the home
 # directory and the files stay, with the number of the user as their owner.
@@ -19,15 +21,20 @@ UNDO_HEAD = b"""\
 
 LOST_HEAD = b"""\
 #
-# What is not taken back is a comment at its place: files and directories that went (a backup has them), and users that
-# were removed, with changes of them before that: one who is added again has neither the password nor the memberships.
+# What is not taken back is a comment at its place, or a line that says what is left: files and directories that went (a
+# backup has them), and users that were removed, with changes of them before that: one who is added again has neither the
+# password nor the memberships.
 """
 
 UNDO = b"""
-# leave TEXT: something is not taken back
+# leave TEXT: something is not taken back; lose TEXT: nothing can take it back
 left=''
 leave() {
-    say "$1; it is left as it is"
+    lose "$1; it is left as it is"
+}
+
+lose() {
+    say "$1"
     left=yes
 }
 
@@ -35,6 +42,49 @@ leave() {
 is_ours() {
     state_of "$1"
     [ "$state" = begun ] || [ "$state" = finished ]
+}
+"""
+
+LOST_FILES = b"""
+# lost_files FIRST LAST: says how many files of these numbers by_hand has removed
+lost_files() {
+    lost=$(awk -v first="$1" -v last="$2" '
+        $1 >= first && $1 <= last { state[$1] = $2 }
+        END {
+            for (number in state)
+                lost += state[number] == "begun" || state[number] == "finished"
+            print lost + 0
+        }
+    ' "$plan/by_hand_done")
+    [ "$lost" -eq 0 ] || lose "files and directories that by_hand removed, and that do not come back: $lost"
+}
+"""
+
+LOST_USERS = b"""
+# say_held KIND DATABASE ID FILES: says whose the files of an id are
+say_held() {
+    [ "$4" -gt 0 ] || return 0
+    answer=0
+    getent "$2" -- "$3" >/dev/null || answer=$?
+    case $answer in
+    0) held="which another $1 has now" ;;
+    2) held="which has no $1 now" ;;
+    *) held="and getent $2 fails" ;;
+    esac
+    lose "files of the snapshot that belong to the $1 id $3, $held: $4"
+}
+
+# lost_user NUMBER USER UID FILES GID FILES: a user who was removed, and how many files have the ids. userdel removes a group
+# of the user's name.
+lost_user() {
+    is_ours "$1" || return 0
+    if is_user "$2" "$3"; then
+        note "$1" undone
+        return 0
+    fi
+    lose "user $2: was removed by by_hand, and does not come back"
+    say_held user passwd "$3" "$4"
+    getent group -- "$5" >/dev/null || say_held group group "$5" "$6"
 }
 """
 
@@ -103,8 +153,10 @@ member_back() {
         return 0
     fi
     member=-d
-    ! is_member || member=-a
-    if [ "$member" = "$1" ] || gpasswd "$1" "$user" -- "$group" >/dev/null; then
+    ! is_member "$row" || member=-a
+    if [ "$member" != "$1" ] && ! is_local; then
+        leave "group $5: is of a directory service, and not of /etc/group"
+    elif [ "$member" = "$1" ] || gpasswd "$1" "$user" -- "$group" >/dev/null; then
         note "$2" undone
     else
         leave "user $3, group $5: gpasswd fails"
@@ -127,11 +179,13 @@ user_back() {
     is_ours "$number" || return 0
     read_name "$shown"
     user=$name
-    look_up passwd "$user"
+    look_up passwd "$user" "${now%%:*}"
     if [ "$row" = "$before" ]; then
         note "$number" undone
     elif [ "$row" != "$now" ]; then
         leave "user $shown: has the ids ${row:-(none)}, and not $now"
+    elif ! is_local; then
+        leave "user $shown: is of a directory service, and not of /etc/passwd"
     elif "$@" -- "$user"; then
         note "$number" undone
     else

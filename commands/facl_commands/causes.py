@@ -7,11 +7,13 @@ from typing import Dict, List, Optional
 
 from .cause_rows import TABLE, Cause
 from .names import json_text, shown
-from .refused_line import Line, line_of
+from .refused_line import Line, harmless, line_of
 from .scripts import Unit
 from .tools import LOADERS, OPTIONS, TEXT, TEXT_WORDS, options_of_tool, options_with, split
 
-__all__ = ["TABLE", "advice", "explained", "explained_by_number", "find_cause"]
+__all__ = ["MARK", "TABLE", "advice", "explained", "explained_by_number", "find_cause"]
+
+MARK = b"  in the script: "  # No command of a shell has the name `in`.
 
 
 def find_cause(line: bytes, message: bytes) -> Optional[Cause]:
@@ -29,24 +31,32 @@ def advice_of(cause: Cause, line: Line) -> bytes:
     return text.replace(b"{known}", b", ".join(options_of_tool(line.tool(), has_long=False)) or b"no option")
 
 
+def lines_of(cause: Cause, line: Line) -> List[bytes]:
+    """The lines of a remedy, as far as they are lines of tools: a script may be anybody's, and a person may paste what is
+    printed of it."""
+    return [it for it in map(harmless, cause.remedy(line)) if it is not None]
+
+
 def advice(line: bytes, message: bytes) -> Optional[str]:
     """The cause in one line, with the lines that would do where it ends in a colon."""
     cause = find_cause(line, message)
     if cause is None:
         return None
     parsed = line_of(line, message)
-    text = advice_of(cause, parsed)
-    return json_text(text + b" " + b"; ".join(cause.remedy(parsed)) if text[-1:] == b":" else text)
+    text, lines = advice_of(cause, parsed), lines_of(cause, parsed)
+    if text[-1:] == b":":
+        text = text + b" " + b", then ".join(lines) if lines else text[:-1] + b"."
+    return json_text(text)
 
 
 def explained(unit: Unit, message: bytes) -> List[bytes]:
-    """What is said below the message of a refused line: the cause, the lines that would do, each after two spaces, and
-    which lines were taken as its text. Nothing where nothing is known."""
+    """What is said below the message of a refused line: the cause, the lines of a script that would do, each with a mark,
+    and which lines were taken as its text. Nothing where nothing is known."""
     cause = find_cause(unit.lines[0], message)
     if cause is None:
         return [shown(it) for it in swallowed(unit)]
     line = line_of(unit.lines[0], message)
-    instead = [b"  " + it for it in cause.remedy(line) if it != unit.lines[0]]
+    instead = [MARK + it for it in lines_of(cause, line) if it != unit.lines[0]]
     text = advice_of(cause, line)
     return [shown(it) for it in [text if instead or text[-1:] != b":" else text[:-1] + b".", *instead,
                                  *swallowed(unit)]]

@@ -3,6 +3,7 @@ who is removed leaves behind."""
 from __future__ import annotations
 
 import re
+from collections import Counter
 from typing import Dict, Iterable, List, NamedTuple, Optional, Tuple, Union
 
 from .messages import counted
@@ -195,6 +196,16 @@ def cleared(flags: bytes, body: bytes) -> bytes:
 
 
 # --- what a user who is removed leaves
+
+
+def files_of(uid: int, gid: int, files: Iterable[File]) -> Tuple[int, int]:
+    """Counts the files that belong to the owner `uid`, and to the group `gid`."""
+    owned = grouped = 0
+    for body, count in Counter(file.body for file in files).items():
+        head = HEAD_OF_RECORD.match(body)
+        owned += count * (head is not None and int(head[1]) == uid)
+        grouped += count * (head is not None and int(head[2]) == gid)
+    return owned, grouped
 
 
 class Left(NamedTuple):

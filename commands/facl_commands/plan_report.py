@@ -11,7 +11,7 @@ from typing import Dict, Iterable, Iterator, List, NamedTuple, Optional
 from . import meta, no_gain, owners, people, rights
 from .answering import below_heading
 from .messages import counted
-from .names import json_text, live_path, shell_word, shown, shown_path
+from .names import json_text, live_name, shell_word, shown, shown_path
 from .records import Changes, Files
 from .scripts import Unit
 
@@ -60,7 +60,12 @@ class Outcome(NamedTuple):
     about: meta.Meta  # What the snapshot is of.
 
     def name_of(self, path: bytes) -> bytes:
-        return live_path(path) if self.is_whole else shown_path(path)
+        """The name of a file in JSON: a backslash is an escape too, so two files have two names."""
+        return live_name(path) if self.is_whole else shown_path(path)
+
+    def name_of_shown(self, path: bytes) -> bytes:
+        """The same of a path as the program prints it."""
+        return b"/" + (b"" if path == b"." else path) if self.is_whole else path
 
     def refusals(self) -> List[Message]:
         return [message for message in self.messages if not message.is_warning]
@@ -151,16 +156,18 @@ def texts(found: Iterable[bytes]) -> List[str]:
 
 def rights_json(outcome: Outcome, is_full: bool) -> List[Dict[str, object]]:
     """The changes by user and kind, or those of each file."""
+    name_of = outcome.name_of_shown
     if is_full:
         users = {it.user: json_text(it.user) for group in outcome.rights.groups for it in group.differences}
         return [{"user": users[it.user], "from": it.old, "to": it.new, "file": name}
-                for file, group in outcome.rights.files for name in [json_text(file)] for it in group.differences]
-    return [{"user": json_text(user), "from": old, "to": new, "files": count, "first": json_text(first)}
+                for file, group in outcome.rights.files for name in [json_text(name_of(file))]
+                for it in group.differences]
+    return [{"user": json_text(user), "from": old, "to": new, "files": count, "first": json_text(name_of(first))}
             for user, old, new, count, first in outcome.kinds.kinds]
 
 
-def no_gain_json(it: no_gain.NoGain) -> Dict[str, object]:
-    return {"user": json_text(it.user), "files": it.files, "directory": json_text(it.directory),
+def no_gain_json(outcome: Outcome, it: no_gain.NoGain) -> Dict[str, object]:
+    return {"user": json_text(it.user), "files": it.files, "directory": json_text(outcome.name_of_shown(it.directory)),
             "entries": texts(map(no_gain.shown_entry, it.entries)), "edit": json_text(it.edit),
             "closed_below": it.closed}
 
@@ -178,7 +185,7 @@ def json_report(outcome: Outcome, is_full: bool, changes: Changes, commands: Lis
         "snapshot": meta.fields_of(outcome.about),
         "plan": None if plan is None else json_text(plan),
         "changes": rights_json(outcome, is_full),
-        "no_gain": list(map(no_gain_json, outcome.no_gain)),
+        "no_gain": [no_gain_json(outcome, it) for it in outcome.no_gain],
         "left_out": texts(sorted(outcome.kinds.left_out)),
         **dict(zip(("records", "made", "removed"), names)),
         "by_hand": texts(commands),

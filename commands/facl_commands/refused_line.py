@@ -5,11 +5,15 @@ import re
 from typing import List, NamedTuple, Optional
 
 from .protocol import ANY_TOOL, EXISTS, IS_DIRECTORY, NO_FILE, NO_GROUP, NO_USER, NOT_DIRECTORY, USER_EXISTS
-from .scripts import WORD, words_of
+from .scripts import words_of
 from .tools import LONG_NAMES, OPTIONS, Option, Split, split
 
-__all__ = ["OPTIONS", "Line", "line_of", "quoted"]
+__all__ = ["OPTIONS", "Line", "harmless", "line_of", "quoted"]
 
+# What a shell takes as it is; an escape of the script language is three digits there.
+PLAIN_CHARACTER = rb"[A-Za-z0-9_./:=@%+,\x80-\xff-]|\\[0-3][0-7][0-7]"
+PLAIN = re.compile(rb"(?:" + PLAIN_CHARACTER + rb")+")
+HARMLESS_LINE = re.compile(rb"(?:" + PLAIN_CHARACTER + rb"|'[^']*'|[ \t])+")
 QUOTED = re.compile(rb"'[^']*'|\"[^\"]*\"")
 SUBJECT = re.compile(
     ANY_TOOL + b": (.*): (?:"
@@ -67,5 +71,14 @@ def line_of(text: bytes, message: bytes = b"") -> Line:
 
 
 def quoted(word: bytes) -> bytes:
-    """A word as it is written in a line: in quotes where it needs them."""
-    return word if WORD.fullmatch(word) and word[:1] != b"#" else b"'" + word + b"'"
+    """Writes a word for a line of a script: in quotes if a shell would not take it as it is."""
+    return word if PLAIN.fullmatch(word) else b"'" + word.replace(b"'", b"\\047") + b"'"
+
+
+def harmless(text: bytes) -> Optional[bytes]:
+    """Writes a line so that it does nothing in a shell but call its first word: each word is plain or in quotes. Returns
+    None if `text` is no line of a tool."""
+    words = words_of(text)
+    if not words or words[0] not in OPTIONS:
+        return None
+    return text if HARMLESS_LINE.fullmatch(text) else b" ".join(map(quoted, words))

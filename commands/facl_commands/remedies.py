@@ -10,8 +10,10 @@ from .tools import HARMLESS, OPTIONS, operands_of
 
 CLAUSE = re.compile(rb"([ugoa]*)((?:[-+=](?:[rwxXst]*|[ugo]))+)\Z")
 TRIADS = re.compile(rb"[-dlbcps]?(([r-])([w-])([xsS-]))(([r-])([w-])([xsS-]))(([r-])([w-])([xtT-]))[.+]?\Z")
-REDIRECTION = re.compile(rb"\s*\d?(?:>>?|<{1,3})(?:&\d|\s*[^\s|;&<>]+)?")
-PARTS = re.compile(rb"\s*(?:;|&&|\|\|)\s*")
+REDIRECTION = re.compile(rb"('[^']*')|\s*\d?(?:>>?|<{1,3})(?:&\d|\s*[^\s|;&<>]+)?")
+BEFORE_PIPE = re.compile(rb"(?:[^|']|'[^']*')*")
+TOKEN = re.compile(rb"'[^']*'|;|&&|\|\||[^;&|']+|[&|]")
+ENDS = (b";", b"&&", b"||")  # Of the commands of a shell.
 PLACEHOLDERS = (b"USER", b"GROUP", b"FILE", b"PERMS", b"MODE", b"UID", b"NAME", b"NEWFILE")
 
 Remedy = Callable[[Line], List[bytes]]
@@ -65,16 +67,30 @@ def replaced(pattern: bytes, by: bytes) -> Remedy:
 
 
 def before_pipe(line: Line) -> List[bytes]:
-    return [REDIRECTION.sub(b"", line.text.split(b"|")[0]).strip()]
+    found = BEFORE_PIPE.match(line.text)
+    assert found is not None
+    return [unredirected(found[0])]
 
 
 def without_redirection(line: Line) -> List[bytes]:
-    return [REDIRECTION.sub(b"", line.text).strip()]
+    return [unredirected(line.text)]
+
+
+def unredirected(text: bytes) -> bytes:
+    """Removes redirections outside of quotes."""
+    return REDIRECTION.sub(lambda found: found[1] or b"", text).strip()
 
 
 def parts(line: Line) -> List[bytes]:
-    """The commands of one line as lines."""
-    return [part for part in PARTS.split(line.text.rstrip(b"& \t")) if part.split()[:1] and part.split()[0] in OPTIONS]
+    """The commands of one line as lines, cut outside of quotes; none if a quote is open."""
+    text = line.text.rstrip(b"& \t")
+    found = [b""]
+    for token in TOKEN.findall(text):
+        if token in ENDS:
+            found.append(b"")
+        else:
+            found[-1] += token
+    return [part.strip() for part in found] if text.count(b"'") % 2 == 0 else []
 
 
 def single_quotes(line: Line) -> List[bytes]:

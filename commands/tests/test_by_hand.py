@@ -4,16 +4,20 @@ from __future__ import annotations
 
 import os
 import shutil
+import struct
 import subprocess
 import sys
 import unittest
 from typing import Dict, List, Optional, Sequence
+from unittest import mock
 
 from common import COMMANDS, Case, Done, restore_signals
 
 sys.path.insert(0, COMMANDS)
 
-from facl_commands import by_hand, records  # noqa: E402
+from facl_commands import apply, by_hand, records  # noqa: E402
+from facl_commands.lists import Record  # noqa: E402
+from facl_commands.messages import Command  # noqa: E402
 from facl_commands.people import People, PeopleChange, shown_change  # noqa: E402
 from facl_commands.records import File  # noqa: E402
 from facl_commands.snapshot import Identity, nanoseconds  # noqa: E402
@@ -24,6 +28,16 @@ FILE, FOLDER = File(False, BODY % (b"-", b"-")), File(True, BODY % (b"x", b"x"))
 PASSWD = (b"root:x:0:0::/:/bin/sh\nben:x:1002:100::/:/bin/sh\nmara:x:1003:200::/:/bin/sh\n0777:x:1005:100::/:/bin/sh\n"
           b"-x:x:1006:100::/:/bin/sh\n")
 GROUP = b"root:x:0:\nstaff:x:100:\ndesign:x:200:mara\n777:x:400:ben\n"
+# Answers a name or an id, and lists what is in the files alone, as getent with a directory service that lists nobody.
+GETENT = """\
+case $1 in -s) exec cat "%s.$3" ;; esac
+cat "%s.$1" "%s.directory.$1" | awk -F : -v "key=$3" '
+    (key ~ /^[0-9]+$/ ? $3 : $1) "" == key "" { print; found = 1; exit }
+    END { exit found ? 0 : 2 }
+'
+"""
+STEFAN = b"stefan:x:20005:21000::/:/bin/sh\n"
+STAFF_OF_DIRECTORY = b"dirstaff:x:21000:stefan\n"
 
 
 class Lines(Case):
@@ -53,11 +67,12 @@ class Lines(Case):
             b"begin_tree 8 /srv/share - new", b"make_directory 8 new", b"make_file 9 'new/it'\\''s'", b"end_tree <<'END'",
             b"# file: ./new/it's", b"# owner: 1001", b"# group: 100", b"user::rw-", b"group::r--", b"other::---", b"",
             b"# file: ./new", b"# owner: 1001", b"# group: 100", b"user::rwx", b"group::r-x", b"other::---", b"", b"END",
+            b"", b'[ "$left" -eq 0 ] || stop "left to be done in a directory service: $left"',
         ])
-        self.assertEqual(self.lines_of("by_hand_undo")[:10], [
+        self.assertEqual(self.lines_of("by_hand_undo")[:11], [
             b"unmake_file 9 /srv/share/new @8 'it'\\''s'", b"unmake_directory 8 /srv/share - new",
             b"# is not taken back: /srv/share/drafts is gone", b"# is not taken back: /srv/share/drafts/logo.svg is gone",
-            b"# is not taken back: userdel mara", b"remove_member_back 4 ben 1002 audit 400", b"add_user_back 3 'new one' 1010 300",
+            b"lost_files 6 7", b"lost_user 5 mara 1003 0 200 0", b"remove_member_back 4 ben 1002 audit 400", b"add_user_back 3 'new one' 1010 300",
             b"change_group_back 2 ben 1002 100 200", b"add_member_back 1 guest 1009 audit 400", b"",
         ])
         self.assertEqual(self.read("before.plan/new"), b"")
@@ -73,7 +88,8 @@ class Lines(Case):
 
     def test_nothing_can_be_taken_back(self) -> None:
         self.plan(b"userdel mara\nrm srv/share/one\n")
-        self.assertEqual(self.read("before.plan/by_hand_undo"), b"")
+        self.assertEqual(self.lines_of("by_hand_undo")[:3], [b"# is not taken back: /srv/share/one is gone", b"lost_files 2 2",
+                                                             b"lost_user 1 mara 1003 2 200 2"])
         self.plan(b"chmod 600 srv/share/one\n")
         self.assertEqual((self.read("before.plan/by_hand"), self.read("before.plan/by_hand_undo")), (b"", b""))
 
@@ -131,9 +147,9 @@ class Scripts(Case):
             self.stand_in(name, 'echo "%s $*" >>"%s"\n' % (name, self.path("calls")))
         self.stand_in("setfacl", 'exec >>"%s"\necho "setfacl $*"\ncase $1 in --restore=-) cat ;; esac\n' % self.path("calls"))
         self.stand_in("python3", f'exec "{sys.executable}" "$@"\n')
-        self.stand_in("getent", 'cat "%s.$1"\n' % self.path("rows"))
-        self.write("rows.passwd", PASSWD)
-        self.write("rows.group", GROUP)
+        self.stand_in("getent", GETENT % ((self.path("rows"),) * 3))
+        for name, text in (("passwd", PASSWD), ("group", GROUP), ("directory.passwd", b""), ("directory.group", b"")):
+            self.write("rows." + name, text)
         self.make_tree()
 
     def make_tree(self) -> None:
@@ -200,9 +216,9 @@ class Files(Scripts):
             self.assertEqual((self.names("d"), self.names("d/new")), (["new", "stays"], ["f"]))
             self.assertEqual(os.stat(self.tree + "/d/new").st_mode & 0o7777, 0o700)
             self.expect_run("by_hand", 0, shell=shell)
-            self.expect_run("by_hand_undo", 0, shell=shell)
-            self.assertEqual(self.names("d"), ["stays"])
-            self.expect_run("by_hand_undo", 0, shell=shell)
+            for _ in range(2):
+                self.expect_run("by_hand_undo", 1, "files and directories that by_hand removed, and that do not come back: 1", shell)
+                self.assertEqual(self.names("d"), ["stays"])
 
     def test_records_come_inside_first(self) -> None:
         flags = File(True, b"# owner: 1001\n# group: 100\n# flags: -s-\nuser::---\ngroup::---\nother::---\n")
@@ -226,7 +242,7 @@ class Files(Scripts):
             self.assertTrue(all(it.isprintable() or it == "\n" for it in text))
             self.expect_run("by_hand", 0, shell=shell)
             self.assertEqual((self.names("d"), self.names("new")), (["gone", "stays"], sorted(map(os.fsdecode, odd))))
-        self.expect_run("by_hand_undo", 0)
+        self.expect_run("by_hand_undo", 1, f"files and directories that by_hand removed, and that do not come back: {len(odd)}")
         self.assertEqual(self.names(), ["d", "secret"])
 
     def test_a_plan_in_a_folder_with_an_odd_name(self) -> None:
@@ -402,7 +418,7 @@ class Exchanges(Scripts):
         self.assertEqual(self.names("d"), ["gone", "stays"])
 
 
-class Users(Scripts):
+class UserScripts(Scripts):
     """With rows that stand-ins print and do not change."""
 
     def changes(self, *lines: bytes) -> List[PeopleChange]:
@@ -412,6 +428,8 @@ class Users(Scripts):
     def calls(self) -> List[bytes]:
         return self.read("calls").splitlines() if os.path.exists(self.path("calls")) else []
 
+
+class Users(UserScripts):
     def test_operands(self) -> None:
         people = self.changes(b"gpasswd -a ben design", b"usermod -g 400 ben", b"useradd -u 1010 -g 400 nell",
                               b"gpasswd -d mara design", b"userdel 0")
@@ -453,12 +471,15 @@ class Users(Scripts):
             self.assertEqual(self.calls(), [])
         self.stand_in("python3", f'exec "{sys.executable}" "$@"\n')
         self.stand_in("getent", "exit 3\n")
+        self.expect_run("by_hand", 1, "getent -s files passwd fails")
+        self.stand_in("getent", "case $1 in -s) ;; *) exit 3 ;; esac\n")
         self.expect_run("by_hand", 1, "getent passwd fails")
 
     def test_what_is_done_already_is_not_taken_back(self) -> None:
         self.write_scripts(people=self.changes(b"gpasswd -a ben design", b"userdel mara"))
         self.write("rows.group", GROUP.replace(b"design:x:200:mara", b"design:x:200:mara,ben"))
         self.write("rows.passwd", PASSWD.replace(b"mara", b"nell"))
+        self.expect_run("by_hand", 0, "user mara: is not there, or a directory service does not answer; userdel has nothing to do")
         self.expect_run("by_hand", 0)
         self.expect_run("by_hand_undo", 0)
         self.assertEqual(self.calls(), [])
@@ -468,9 +489,10 @@ class Users(Scripts):
                                                b"gpasswd -d mara design", b"userdel mara"))
         self.expect_run("by_hand", 0)
         os.unlink(self.path("calls"))
-        self.write("rows.passwd", PASSWD.replace(b"ben:x:1002:100", b"ben:x:1002:400") + b"nell:x:1010:400::/:/bin/sh\n")
+        left = PASSWD.replace(b"ben:x:1002:100", b"ben:x:1002:400").replace(b"mara", b"kept")
+        self.write("rows.passwd", left + b"nell:x:1010:400::/:/bin/sh\n")
         self.write("rows.group", GROUP.replace(b"design:x:200:mara", b"design:x:200:ben"))
-        self.expect_run("by_hand_undo", 0)
+        self.expect_run("by_hand_undo", 1, "user mara: was removed by by_hand, and does not come back")
         self.assertEqual(self.calls(), [b"userdel -- nell", b"usermod -g 100 -- ben", b"gpasswd -d ben -- design"])
 
     def test_undo_of_what_was_changed_since(self) -> None:
@@ -478,6 +500,235 @@ class Users(Scripts):
         self.expect_run("by_hand", 0)
         self.write("rows.passwd", PASSWD + b"nell:x:1011:400::/:/bin/sh\n")
         self.expect_run("by_hand_undo", 1, "user nell: has the ids 1011:400, and not 1010:400; it is left as it is")
+
+
+class DirectoryServices(UserScripts):
+    """A service answers names that it does not list. The tools of the system change /etc/passwd and /etc/group alone."""
+
+    SUMMARY = "by_hand: left to be done in a directory service: %d\n"
+
+    def setUp(self) -> None:
+        super().setUp()
+        self.write("rows.directory.passwd", STEFAN)
+        self.write("rows.directory.group", STAFF_OF_DIRECTORY)
+
+    def changes(self, *lines: bytes) -> List[PeopleChange]:
+        people = People(PASSWD + STEFAN, GROUP + STAFF_OF_DIRECTORY)
+        return [change for change in (people.change(line.split()) for line in lines) if change is not None]
+
+    def expect_left(self, *messages: str) -> None:
+        for shell in SHELLS * 2:
+            whole = "".join(f"by_hand: {it}\n" for it in messages) + self.SUMMARY % len(messages)
+            self.expect(self.run_script("by_hand", shell), 1, b"", whole.encode())
+
+    def test_a_user_of_the_service(self) -> None:
+        self.write_scripts(people=self.changes(b"usermod -g staff stefan", b"userdel stefan", b"gpasswd -a ben design"))
+        self.write("rows.directory.passwd", STEFAN.replace(b"21000", b"100"))
+        message = "user stefan: is of a directory service, and not of /etc/passwd, so userdel is not run: remove the user there"
+        self.expect_left(message)
+        self.assertEqual(self.calls(), [b"gpasswd -a ben -- design"])
+        self.write("rows.directory.passwd", b"")
+        self.expect_run("by_hand", 1, "user stefan: has the ids (none), and not 20005:21000")
+        os.unlink(self.path("plan/by_hand_done"))
+        self.write_scripts(people=self.changes(b"userdel stefan"))
+        self.expect_run("by_hand", 0, "user stefan: is not there, or a directory service does not answer; userdel has nothing to do")
+
+    def test_the_primary_group_of_a_user_of_the_service(self) -> None:
+        self.write_scripts(people=self.changes(b"usermod -g staff stefan", b"usermod -g dirstaff ben"))
+        self.expect_left("user stefan: is of a directory service, and not of /etc/passwd, so usermod is not run: change the user there")
+        self.assertEqual(self.calls(), [b"usermod -g 21000 -- ben"])
+
+    def test_a_user_of_the_service_who_is_to_be_added(self) -> None:
+        people = People(PASSWD, GROUP + STAFF_OF_DIRECTORY)
+        lines = (b"useradd -u 20005 -g dirstaff stefan", b"useradd -u 1010 -g dirstaff nell")
+        self.write_scripts(people=[it for it in map(people.change, map(bytes.split, lines)) if it is not None])
+        self.expect_run("by_hand", 0)
+        self.assertEqual(self.calls(), [b"useradd -u 1010 -g 21000 -- nell"])
+        os.unlink(self.path("plan/by_hand_done"))
+        self.write("rows.directory.passwd", STEFAN.replace(b"20005", b"20006"))
+        self.expect_left("user stefan: is of a directory service, and not of /etc/passwd, so useradd is not run: change the user there")
+
+    def test_members_of_local_groups(self) -> None:
+        self.write_scripts(people=self.changes(b"gpasswd -a stefan design"))
+        self.expect_run("by_hand", 0)
+        self.write("rows.group", GROUP.replace(b"design:x:200:mara", b"design:x:200:mara,stefan"))
+        self.expect_run("by_hand_undo", 0)
+        self.assertEqual(self.calls(), [b"gpasswd -a stefan -- design", b"gpasswd -d stefan -- design"])
+
+    def test_members_of_groups_of_the_service(self) -> None:
+        self.write_scripts(people=self.changes(b"gpasswd -a ben dirstaff", b"gpasswd -d stefan dirstaff"))
+        message = "group dirstaff: is of a directory service, and not of /etc/group, so gpasswd %s is not run: change its members there"
+        self.expect_left(message % "-a ben", message % "-d stefan")
+        self.write("rows.directory.group", STAFF_OF_DIRECTORY.replace(b"stefan", b"ben"))
+        self.expect_run("by_hand", 0)
+        self.assertEqual(self.calls(), [])
+
+    def test_a_membership_by_the_service_in_a_local_group(self) -> None:
+        self.write_scripts(people=self.changes(b"gpasswd -d mara design"))
+        self.write("rows.group", GROUP.replace(b"design:x:200:mara", b"design:x:200:"))
+        merged = 'case $*" " in "group -- design ") echo design:x:200:mara; exit ;; esac\n'
+        self.stand_in("getent", merged + GETENT % ((self.path("rows"),) * 3))
+        self.expect_left("group design: user mara is a member by a directory service, and not by /etc/group: end the membership there")
+        self.assertEqual(self.calls(), [])
+
+    def test_a_local_user_of_the_same_name(self) -> None:
+        self.write("rows.directory.passwd", b"ben:x:20009:21000::/:/bin/sh\n")
+        self.write_scripts(people=self.changes(b"userdel ben"))
+        service = 'case $*" " in "passwd -- ben ") exec cat "%s" ;; esac\n' % self.path("rows.directory.passwd")
+        self.stand_in("getent", service + GETENT % ((self.path("rows"),) * 3))
+        self.expect_run("by_hand", 1, "user ben: has the ids 20009:21000, and not 1002:100")
+        self.stand_in("getent", GETENT % ((self.path("rows"),) * 3))
+        self.expect_run("by_hand", 0)
+        self.assertEqual(self.calls(), [b"userdel -- ben"])
+
+    def test_names_of_digits(self) -> None:
+        """getent takes them for ids."""
+        row = b"4711:x:20011:21000::/:/bin/sh\n"
+        people = People(PASSWD + row, GROUP)
+        self.write_scripts(people=[it for it in (people.change([b"userdel", b"20011"]),) if it is not None])
+        self.write("rows.directory.passwd", row)
+        self.expect_left("user 4711: is of a directory service, and not of /etc/passwd, so userdel is not run: remove the user there")
+        self.write("rows.directory.passwd", row.replace(b"4711", b"4712") + b"x:x:4711:100::/:/bin/sh\n")
+        self.expect_run("by_hand", 0, "user 4711: is not there, or a directory service does not answer; userdel has nothing to do")
+        self.write("rows.passwd", PASSWD + row)
+        self.expect_run("by_hand", 0)
+        self.assertEqual(self.calls(), [b"userdel -- 4711"])
+
+
+class Lost(UserScripts):
+    """by_hand_undo names what does not come back."""
+
+    REMOVED = "user mara: was removed by by_hand, and does not come back"
+
+    def write_removal(self, *files: bytes) -> None:
+        """A plan that removes mara, over files of these bodies."""
+        old = {b"%d" % number: File(False, body) for number, body in enumerate(files)}
+        people, nothing = self.changes(b"userdel mara"), records.Changes([], [], [])
+        self.write("plan/by_hand", by_hand.script_of(people, nothing, old, old, {}))
+        self.write("plan/by_hand_undo", by_hand.undo_script_of(people, nothing, old, old, {}))
+
+    def expect_lost(self, *messages: str) -> None:
+        whole = "".join(f"by_hand_undo: {it}\n" for it in messages).encode()
+        for shell in SHELLS:
+            self.expect(self.run_script("by_hand_undo", shell), 1 if messages else 0, b"", whole)
+
+    def test_files_of_a_number(self) -> None:
+        os.mkdir(self.path("plan"))
+        mine, ours = BODY.replace(b"1001", b"1003"), BODY.replace(b"group: 100", b"group: 200")
+        self.write_removal(BODY, mine % (b"-", b"-"), mine % (b"x", b"x"), ours, ours, ours)
+        self.expect_lost()
+        self.expect_run("by_hand", 0)
+        self.write("rows.passwd", PASSWD.replace(b"mara:x:1003", b"nell:x:1004"))
+        files = "files of the snapshot that belong to the %s id %d, which %s: %d"
+        user = files % ("user", 1003, "has no user now", 2)
+        self.expect_lost(self.REMOVED, user)
+        self.write("rows.group", GROUP.replace(b"design:x:200", b"design:x:201"))
+        self.expect_lost(self.REMOVED, user, files % ("group", 200, "has no group now", 3))
+        self.write("rows.passwd", PASSWD.replace(b"mara:x:1003", b"nell:x:1003"))
+        self.expect_lost(self.REMOVED, files % ("user", 1003, "another user has now", 2), files % ("group", 200, "has no group now", 3))
+        self.write("rows.passwd", PASSWD)
+        self.expect_lost()
+
+    def test_files_that_went(self) -> None:
+        self.write_scripts(["d/gone", "secret/gone", "secret"])
+        os.rename(self.tree + "/d/gone", self.tree + "/d/away")
+        self.expect_run("by_hand", 1, self.tree + "/d/gone: is not there any more")
+        removed = "files and directories that by_hand removed, and that do not come back: %d"
+        self.expect_lost(removed % 2)
+        os.rename(self.tree + "/d/away", self.tree + "/d/gone")
+        self.expect_run("by_hand", 0)
+        self.expect_lost(removed % 3)
+
+
+class IdsWithoutRow(unittest.TestCase):
+    """What facl-apply --undo says of them."""
+
+    def test_messages(self) -> None:
+        ids = [(0, 0), (4_000_000_001, 0), (4_000_000_001, 4_000_000_003), (4_000_000_000, 0)]
+        said: List[bytes] = []
+        with mock.patch.object(Command, "say", lambda _command, text: said.append(text)):
+            apply.say_without_row(Command("facl-apply"), [Record(owner, group, 0, b"", b"") for owner, group in ids])
+        self.assertEqual(said, [b"1 file belongs to the user id 4000000000, which has no user now",
+                                b"2 files belong to the user id 4000000001, which has no user now",
+                                b"1 file belongs to the group id 4000000003, which has no group now"])
+
+
+class Notes(Scripts):
+    """by_hand_done is believed only where nobody else can have written it."""
+
+    MESSAGE = "by_hand_done: others may have written it: it is no plain file of yours with mode 0600, one name and no ACL"
+
+    def setUp(self) -> None:
+        super().setUp()
+        self.write_scripts(["d/gone"])
+        self.notes = self.path("plan/by_hand_done")
+
+    def expect_refused(self) -> None:
+        for name, shell in zip(("by_hand", "by_hand_undo") * 2, SHELLS * 4):
+            self.expect_run(name, 2, self.MESSAGE, shell)
+        self.assertEqual(self.names("d"), ["gone", "stays"])
+        os.unlink(self.notes)
+
+    def test_one_that_is_made(self) -> None:
+        old = os.umask(0)
+        self.expect_run("by_hand", 0)
+        os.umask(old)
+        self.assertEqual((os.stat(self.notes).st_mode & 0o7777, self.names("d")), (0o600, ["stays"]))
+
+    def test_one_of_the_plan(self) -> None:
+        self.write("plan/by_hand_done", b"")
+        os.chmod(self.notes, 0o600)
+        self.expect_run("by_hand", 0)
+        self.assertEqual(self.names("d"), ["stays"])
+
+    def test_other_modes(self) -> None:
+        for mode in (0o640, 0o620, 0o602, 0o644, 0o400, 0o4600, 0o700):
+            self.write("plan/by_hand_done", b"1 finished\n")
+            os.chmod(self.notes, mode)
+            self.expect_refused()
+
+    def test_no_plain_file_of_one_name(self) -> None:
+        self.write("other", b"1 finished\n")
+        os.chmod(self.path("other"), 0o600)
+        os.symlink("../other", self.notes)
+        self.expect_refused()
+        os.symlink("nowhere", self.notes)
+        self.expect_refused()
+        os.link(self.path("other"), self.notes)
+        self.expect_refused()
+        os.mkfifo(self.notes, 0o600)
+        self.expect_refused()
+        os.mkdir(self.notes, 0o700)
+        self.expect_run("by_hand", 2, self.MESSAGE)
+
+    def test_a_list(self) -> None:
+        self.write("plan/by_hand_done", b"1 finished\n")
+        if not set_named_entry(self.notes):
+            self.skipTest("the file system has no access control lists")
+        os.chmod(self.notes, 0o600)
+        self.expect_refused()
+        set_named_entry(self.path("plan"), b"system.posix_acl_default")
+        for shell in SHELLS:
+            self.expect_run("by_hand", 2, self.MESSAGE, shell)
+            self.assertFalse(os.path.exists(self.notes))
+
+    @unittest.skipUnless(os.geteuid() == 0, "only root gives files away")
+    def test_another_owner(self) -> None:
+        self.write("plan/by_hand_done", b"1 finished\n")
+        os.chmod(self.notes, 0o600)
+        os.chown(self.notes, 70001, -1)
+        self.expect_refused()
+
+
+def set_named_entry(name: str, attribute: bytes = b"system.posix_acl_access") -> bool:
+    """Gives a file an access control list with an entry of another user; returns whether its file system has lists."""
+    entries = ((0x01, 6, -1), (0x02, 6, 70001), (0x04, 0, -1), (0x10, 6, -1), (0x20, 0, -1))
+    text = struct.pack("<I", 2) + b"".join(struct.pack("<HHi", *entry) for entry in entries)
+    try:
+        os.setxattr(name, attribute, text)
+    except OSError:
+        return False
+    return True
 
 
 class Shells(Scripts):

@@ -3,15 +3,20 @@ from __future__ import annotations
 
 import os
 import re
+import shutil
+import subprocess
 import sys
+import tempfile
 import unittest
 from typing import Callable, Dict, List, Optional, Set
+from unittest import mock
 
 from common import COMMANDS, HERE
 
 sys.path.insert(0, COMMANDS)
 
 from facl_commands import causes, manual, owners, refused_line, remedies, tools  # noqa: E402
+from facl_commands.cause_tests import Cause  # noqa: E402
 from facl_commands.people import People  # noqa: E402
 from facl_commands.program import Session, find_program  # noqa: E402
 from facl_commands.scripts import Unit, read_script  # noqa: E402
@@ -193,7 +198,7 @@ class Spoiled(Asked):
                 unit = units_of(wrong)[0]
                 messages = self.messages(unit, True)
                 self.assertEqual(len(messages), 1)
-                found = [it[2:] for it in causes.explained(unit, messages[0]) if it.startswith(b"  ")]
+                found = [it[len(causes.MARK) :] for it in causes.explained(unit, messages[0]) if it.startswith(causes.MARK)]
                 self.assertEqual(found, [line, *more])
 
     def test_the_right_lines_are_accepted(self) -> None:
@@ -239,10 +244,10 @@ class Explained(Asked):
 
     def test_the_line_that_would_do(self) -> None:
         self.expect(b"namei -l srv/share/one", b"What decides on each directory of a path is asked of a user:",
-                    b"  why --reach USER srv/share/one")
+                    b"  in the script: why --reach USER srv/share/one")
         self.expect(b"usermod -aG audit,guests mara", b"usermod changes the primary group alone. A membership is added by gpasswd:",
-                    b"  gpasswd -a mara audit", b"  gpasswd -a mara guests")
-        self.expect(b"userdel -r ines", b"userdel has no -r here; it takes no option.", b"  userdel ines")
+                    b"  in the script: gpasswd -a mara audit", b"  in the script: gpasswd -a mara guests")
+        self.expect(b"userdel -r ines", b"userdel has no -r here; it takes no option.", b"  in the script: userdel ines")
         self.expect(b"getfacl -pd srv", b"getfacl has no -p, -d here; it takes -a, -c, -e, -E, -n, -R, -s.")
         self.expect(b"setfacl srv/share/one", b"No option says what to do. Entries are added or changed by -m, and removed by -x.")
         self.expect(b"frob")
@@ -260,7 +265,7 @@ class Explained(Asked):
             self.assertEqual(remedies.mode_line(refused_line.line_of(b"chmod " + mode + b" F")), lines, mode)
 
     def test_lines_that_were_taken_as_a_text(self) -> None:
-        head = (b"Nobody logs in. What a user may do with a file:", b"  can --reach ines srv/share/one")
+        head = (b"Nobody logs in. What a user may do with a file:", b"  in the script: can --reach ines srv/share/one")
         su = b"su - ines -c 'test -r srv/share/one'\n"
         self.expect(su, *head)
         self.expect(su + b"who r srv\n", *head, b"line 2 was taken as the text of line 1, since it has a word -")
@@ -279,11 +284,11 @@ class Explained(Asked):
                          [b"lines 2 to 3 were taken as the text of line 1, since it has a word -"])
 
     def test_bytes_that_a_terminal_obeys(self) -> None:
-        self.expect(b"namei a\x1b[2J", b"What decides on each directory of a path is asked of a user:", b"  why --reach USER a\\033[2J")
+        self.expect(b"namei a\x1b[2J", b"What decides on each directory of a path is asked of a user:", b"  in the script: why --reach USER 'a\\033[2J'")
 
     def test_messages_of_a_run(self) -> None:
         units = {unit.number: unit for unit in units_of(b"# one\nchmod a=r srv\nfrob -\nindex\n.\n")}
-        self.assertEqual(causes.explained_by_number(units, b"line 2: chmod: usage"), [b"MODE is one to four octal digits:", b"  chmod 444 srv"])
+        self.assertEqual(causes.explained_by_number(units, b"line 2: chmod: usage"), [b"MODE is one to four octal digits:", b"  in the script: chmod 444 srv"])
         self.assertEqual(causes.explained_by_number(units, b"line 3: facl: unknown tool"),
                          [b"lines 4 to 5 were taken as the text of line 3, since it has a word -"])
         for message in (b"facl: script too long", b"line 4: facl: unknown tool", b"line x: facl: unknown tool"):
@@ -292,8 +297,82 @@ class Explained(Asked):
     def test_one_line(self) -> None:
         self.assertEqual(causes.advice(b"mkdir x", b"facl: unknown tool"),
                          "A directory is made by creat -d: creat -d --user=USER --mode=MODE x")
+        self.assertEqual(causes.advice(b"usermod -aG audit,guests mara", b"usermod: usage"),
+                         "usermod changes the primary group alone. A membership is added by gpasswd: gpasswd -a mara audit, then "
+                         "gpasswd -a mara guests")
         self.assertIsNone(causes.advice(b"frob", b"facl: unknown tool"))
         self.assertIsNone(causes.advice(b"load x", b"load: usage"))
+
+
+# What a shell runs of a line, with `it` for what it would run.
+HOSTILE = [rb"\'; it; \'", rb"'; it; '", rb"$(it)", rb"`it`", rb"x;it", rb"x&it&", rb"x|it", rb"x||it", rb"x&&it", rb"\';it;\'",
+           rb"<(it)", rb"x #';it;'", rb"\\'; it; \\'", rb'"$(it)"', rb"''; it", rb"'a';it;'b'", rb"\;it", rb"!it", rb"x>it", rb"{it,it}",
+           b"\x01;it", b"a\rit", b"\xc2\xa0;it", b"\xe9;it", rb"\047;it;\047", rb"$'\n'it", rb"x\ ;it"]
+# Only words that a shell takes as they are, and words in quotes.
+INERT = re.compile(rb"(?:[A-Za-z0-9_./:=@%+, \t\x80-\xff-]|\\[0-3][0-7][0-7]|'[^'\n]*')+\Z")
+
+
+class Hostile(unittest.TestCase):
+    """A script may be anybody's, and a person may paste a line that is printed of it."""
+
+    def hostile_lines(self, cause: Cause) -> List[bytes]:
+        """The line of a cause with hostile words in the place of each word, and after it."""
+        found, words = [], cause.wrong.split(b" ")[:8]
+        for evil in HOSTILE:
+            found += [cause.wrong[:200] + b" " + evil, cause.wrong[:200] + evil]
+            found += [b" ".join([*words[:place], evil, *words[place + 1 :]]) for place in range(1, len(words))]
+        return found
+
+    def advised(self, cause: Cause, line: bytes) -> List[bytes]:
+        """What is said to be a line of the script where the cause fits."""
+        if not cause.fits(refused_line.line_of(line)):
+            return []
+        with mock.patch.object(causes, "find_cause", lambda *_words: cause):
+            units = units_of(line)
+            return [it for unit in units for it in causes.explained(unit, b"") if it.startswith(b"  ")]
+
+    def test_a_line_that_would_do_is_one_of_the_script(self) -> None:
+        count = 0
+        for cause in causes.TABLE:
+            for line in self.hostile_lines(cause):
+                for it in self.advised(cause, line):
+                    count += 1
+                    self.assertTrue(it.startswith(causes.MARK), it)
+                    text = it[len(causes.MARK) :]
+                    self.assertIn(units_of(text)[0].words[0], tools.OPTIONS, it)
+                    self.assertTrue(INERT.match(text), (cause.name, line, it))
+        self.assertGreater(count, 1000)
+
+    def test_no_shell_runs_it(self) -> None:
+        """Of each hostile word, below each cause by which it is found in a line of a tool; with and without the mark."""
+        pasted = set()
+        for cause in causes.TABLE:
+            for evil in HOSTILE:
+                for it in self.advised(cause, cause.wrong[:200] + b" " + evil):
+                    pasted.update([it, it[len(causes.MARK) :]])
+        self.assertGreater(len(pasted), 500)
+        text = b"".join(b"( eval %s ) </dev/null\n" % (b"'" + it.replace(b"'", b"'\\''") + b"'") for it in sorted(pasted))
+        with tempfile.TemporaryDirectory() as folder:
+            with open(os.path.join(folder, "it"), "w", encoding="ascii") as file:
+                file.write("#!/bin/sh\necho ran >>%s/ran\n" % folder)
+            os.chmod(os.path.join(folder, "it"), 0o755)
+            for shell in ("dash", "bash"):
+                path = shutil.which(shell)
+                if path is not None:
+                    done = subprocess.run([path], input=text + b"it\n", cwd=folder, env={"PATH": folder}, capture_output=True, check=False)
+                    self.assertEqual(done.returncode, 0)
+                    with open(os.path.join(folder, "ran"), encoding="ascii") as file:
+                        self.assertEqual(file.read(), "ran\n")
+                    self.assertEqual(sorted(os.listdir(folder)), ["it", "ran"])
+                    os.unlink(os.path.join(folder, "ran"))
+
+    def test_commands_are_cut_outside_of_quotes_alone(self) -> None:
+        for line, lines in ((b"getfacl 'a;b' ; changes", [b"getfacl 'a;b'", b"changes"]), (b"getfacl a; touch b", [b"getfacl a"]),
+                            (b"chmod 600 a; \\'; rm b; \\'", [b"chmod 600 a"]), (b"chmod 600 a; chmod 'b", [])):
+            found = [it for it in map(refused_line.harmless, remedies.parts(refused_line.line_of(line))) if it is not None]
+            self.assertEqual(found, lines)
+        for line, wanted in ((b"getfacl 'a|b' | wc", b"getfacl 'a|b'"), (b"getfacl 'a>b' >c | wc", b"getfacl 'a>b'")):
+            self.assertEqual(remedies.before_pipe(refused_line.line_of(line)), [wanted])
 
 
 if __name__ == "__main__":

@@ -168,8 +168,8 @@ class Reports(Case):
         self.assertEqual(report["plan"], "before.plan")
         self.assertEqual(report["records"], ["/srv/share/notes", "/srv/share/p\\351q"])
         self.assertEqual(report["changes"], [
-            {"user": "mara", "from": "r--", "to": "rw-", "files": 1, "first": "srv/share/notes"},
-            {"user": "guest", "from": "none", "to": "r--", "files": 2, "first": "srv/share/notes"},
+            {"user": "mara", "from": "r--", "to": "rw-", "files": 1, "first": "/srv/share/notes"},
+            {"user": "guest", "from": "none", "to": "r--", "files": 2, "first": "/srv/share/notes"},
         ])
         self.assertEqual(report["answers"], [
             {"script": "edits", "line": 2, "question": "can guest srv/share/notes", "answer": "r--\n"}
@@ -188,8 +188,13 @@ class Reports(Case):
         done = self.plan(script, "--full", "--json")
         report = json.loads(done.out)
         self.assertEqual(done.out.decode(), json.dumps(report, indent=2) + "\n")
-        self.assertEqual([[it["user"], it["from"], "->", it["to"], it["file"]] for it in report["changes"]], rows)
+        self.assertEqual([[it["user"], it["from"], "->", it["to"], it["file"]] for it in report["changes"]],
+                         [[*row[:-1], "/" + row[-1].lstrip(".")] for row in rows])
         self.assertGreater(len(rows), 20)
+
+    def test_the_root_in_json(self) -> None:
+        report = json.loads(self.plan(b"chmod 700 /\n", "--json", "--file-alone").out)
+        self.assertEqual(({it["first"] for it in report["changes"]}, report["records"]), ({"/"}, ["/"]))
 
     def test_nothing_to_do(self) -> None:
         message = b"facl-plan: nothing to do: no line changes a list, an owner, a flag, a file or a user\n"
@@ -213,13 +218,13 @@ class RefusedLines(Case):
         self.assertTrue(done.messages.startswith(
             b"facl-plan: edits, line 2: facl: unknown tool\n"
             b"    What decides on each directory of a path is asked of a user:\n"
-            b"      why --reach USER srv/share/one\n"
+            b"      in the script: why --reach USER srv/share/one\n"
             b"facl-plan: edits, line 3: facl: text without end\n"), done.messages)
         self.assertIn(b"\n    line 4 was taken as the text of line 3, since it has a word -\n", done.messages)
         report = json.loads(self.plan(self.read("edits"), "--json").out)
         self.assertEqual(report["refused"][0], {
             "script": "edits", "line": 2, "message": "facl: unknown tool",
-            "cause": ["What decides on each directory of a path is asked of a user:", "  why --reach USER srv/share/one"],
+            "cause": ["What decides on each directory of a path is asked of a user:", "  in the script: why --reach USER srv/share/one"],
         })
 
     def test_keep_going(self) -> None:
@@ -428,6 +433,19 @@ class Names(Case):
         self.write("before/dump", self.read("before/dump") + write_record(b"srv/share/" + name, File(False, body)))
         return self.plan(script, *options)
 
+    def test_each_file_has_a_name_of_its_own_in_json(self) -> None:
+        """Of two files one has a byte that is no UTF-8, the other one the four characters of its escape."""
+        names = (rb"'srv/share/p\351q'", rb"'srv/share/p\134351q'")
+        wanted = ["/srv/share/p\\134351q", "/srv/share/p\\351q"]
+        self.assertEqual(self.plan_with(rb"p\351q", b"setfacl -m u:guest:r %s %s\n" % names).status, 0)
+        for script in (b"setfacl -m u:guest:r %s %s\n" % names, b"rm %s %s\n" % names):
+            for view, number in (("--json", 1), ("--full", 2)):
+                report = json.loads(self.plan(script, "--json", "--file-alone", *{view} - {"--json"}).out)
+                self.assertEqual(sorted(report["records"] + report["removed"]), wanted)
+                found = {it["file" if view == "--full" else "first"] for it in report["changes"]}
+                self.assertLessEqual(found, set(wanted))
+                self.assertEqual(len(found), number)
+
     def test_what_a_terminal_would_obey(self) -> None:
         name, word, seen = b"z\033[2J\xc2\x9b", b"'srv/share/z\\033[2J\\302\\233'", b"srv/share/z\\033[2J\\302\\233"
         row = b"guest  none -> r--    1 file    first: %s\n" % seen
@@ -442,7 +460,7 @@ class Names(Case):
         done = self.plan_with(b"z\033", b"setfacl -m u:guest:r 'srv/share/z\\033'\n", "--full", "--file-alone")
         self.assertTrue(done.out.startswith(b"guest\tnone\t->\tr--\tsrv/share/z\033\n"), done.out)
         report = json.loads(self.plan(self.read("edits"), "--json", "--file-alone").out)
-        self.assertEqual(report["changes"][0]["first"], "srv/share/z\033")
+        self.assertEqual(report["changes"][0]["first"], "/srv/share/z\033")
 
     def test_full_at_a_terminal(self) -> None:
         self.plan_with(b"z\033", b"setfacl -m u:guest:r 'srv/share/z\\033'\n")
