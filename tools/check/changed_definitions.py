@@ -35,7 +35,7 @@ SECONDS = "300"
 # The crates whose tests are run first for a change in a crate; then come those of whole scripts.
 TESTS: Dict[str, List[str]] = {
     "acl_entry": ["acl_entry_tests"], "acl_names": ["acl_text_tests", "acl_tree_tests"],
-    "path_map": ["path_map_tests", "acl_tree_tests"], "kinds": ["kinds_tests"],
+    "path_map": ["path_map_tests", "acl_tree_tests"], "kinds": ["path_map_tests"],
     "acl_text": ["acl_text_tests"],
     "acl_people": ["acl_rights_tests", "acl_tree_tests"],
     "acl_edit": ["acl_edit_tests"],

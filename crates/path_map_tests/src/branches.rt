@@ -73,11 +73,16 @@ fn are_changed(mut entries: Entries<'_, usize>) -> bool {
 #[test]
 fn the_first_and_the_last_branch_are_changed(rt: HostRuntime) {
     let map = evens(&rt, rt.alloc());
-    let puts = numbers(&rt, rt.alloc(), 1, 2);
-    let gone = numbers(&rt, rt.alloc(), 69_998, 70_000);
-    let changed = merged(&rt, rt.alloc(), &map, &puts, &gone);
-    assert!(rt; are_changed(changed.iter()));
+    let changed = merged(
+        &rt,
+        rt.alloc(),
+        &map,
+        &numbers(&rt, rt.alloc(), 1, 2),
+        &numbers(&rt, rt.alloc(), 69_998, 70_000),
+    );
     assert!(rt; are_evens(map.iter(), 0, 70_000));
+    drop(map);
+    assert!(rt; are_changed(changed.iter()));
 }
 
 /// Whether a look-up finds each even number from one to before another, in turn, and no odd one.

@@ -1,6 +1,9 @@
-//! Each public call of `path_map` once, on a map with two names that begin alike, and on one of several branches.
+//! Each public call of `path_map` once, on a map with two names that begin alike, and on one of several branches. Of `kinds`:
+//! lists in shared blocks, numbers of nodes that are given back and given again, maps that are built and put into, and maps of
+//! the same paths with other nodes.
 //!
-//! They are apart from `path_map`, since a crate with tests is proved twice.
+//! They are apart from `path_map` and `kinds`, since a crate with tests is proved twice. Edits of maps by kinds are tested by
+//! the commands of `acl_tree`.
 #![tactic(auto)]
 
 #[cfg(test)]
@@ -8,6 +11,14 @@ mod above;
 #[cfg(test)]
 mod branches;
 #[cfg(test)]
+mod kind_maps;
+#[cfg(test)]
+mod lists;
+#[cfg(test)]
 mod made;
 #[cfg(test)]
 mod maps;
+#[cfg(test)]
+mod nodes;
+#[cfg(test)]
+mod numbers;

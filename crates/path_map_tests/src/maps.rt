@@ -171,8 +171,14 @@ fn entries_are_removed(rt: HostRuntime) {
 fn a_map_is_changed_and_its_copies_are_not(rt: HostRuntime) {
     let map = four(&rt, rt.alloc());
     let copy = map.share().expect(&rt, "memory");
-    let puts = rows(&rt, rt.alloc(), &PUT);
-    let changed = merged(&rt, rt.alloc(), &map, &puts, &rows(&rt, rt.alloc(), &GONE));
+    let changed = merged(
+        &rt,
+        rt.alloc(),
+        &map,
+        &rows(&rt, rt.alloc(), &PUT),
+        &rows(&rt, rt.alloc(), &GONE),
+    );
+    drop(map);
     expect_printed(&rt, rt.alloc(), &changed, b".=1 a/b=3 a/c=5 ab=4 ");
     expect_printed(&rt, rt.alloc(), &copy, b".=1 a=2 a/b=3 ab=4 ");
 }
@@ -187,8 +193,9 @@ fn values_are_replaced_by_their_paths(rt: HostRuntime) {
     assert!(rt; is_in_order(&puts));
     let map = four(&rt, rt.alloc());
     let new = map.with_values(rt.alloc(), &puts).expect(&rt, "memory");
-    expect_printed(&rt, rt.alloc(), &new, b".=1 a=7 a/b=3 ab=9 ");
     expect_printed(&rt, rt.alloc(), &map, b".=1 a=2 a/b=3 ab=4 ");
+    drop(map);
+    expect_printed(&rt, rt.alloc(), &new, b".=1 a=7 a/b=3 ab=9 ");
 }
 
 #[test]

@@ -3,7 +3,7 @@
 
 ghost use Rattle.std.specs.Prelude.{nat_lt, false};
 
-use crate::maps::{built, expect_entry, put_one};
+use crate::kind_maps::{b_freed, built, expect_entry, expect_given_again};
 use kinds::{KindMap, KindTest, Renewal};
 use std::alloc::{AllocError, Global};
 use std::process::Abort;
@@ -91,44 +91,40 @@ fn a_map_with_other_nodes_has_the_same_numbers(rt: HostRuntime) {
     expect_entry(&rt, rt.alloc(), &new, b"b", 6, 1);
 }
 
-// No path has the number of b after the first put. So the second one gets it, in the other map too.
+// No path has the number of b. So the node that is put gets it, in the other map too.
 #[test]
 fn a_number_that_is_free_is_free_in_a_map_with_other_nodes(rt: HostRuntime) {
-    let map = built(&rt, rt.alloc(), [5, 6, 5]);
-    let map = put_one(&rt, rt.alloc(), &map, b"b", 5);
-    let new = with_its_nodes(&rt, rt.alloc(), &map);
+    let new = with_its_nodes(&rt, rt.alloc(), &b_freed(&rt, rt.alloc()));
     assert!(rt; new.used(1).is_none());
-    let new = put_one(&rt, rt.alloc(), &new, b"d", 8);
-    expect_entry(&rt, rt.alloc(), &new, b"b", 5, 0);
-    expect_entry(&rt, rt.alloc(), &new, b"d", 8, 1);
-    assert!(rt; new.numbers_len() == 2);
+    expect_given_again(&rt, rt.alloc(), &new);
 }
 
 #[test]
 fn a_node_that_two_paths_have_is_renewed_once(rt: HostRuntime) {
     let map = built(&rt, rt.alloc(), [6, 5, 6]);
     let (new, renewed) = with_nines(&rt, rt.alloc(), &map);
+    expect_entry(&rt, rt.alloc(), &map, b"a", 6, 0);
+    drop(map);
     assert!(rt; renewed == 1);
     expect_entry(&rt, rt.alloc(), &new, b"a", 9, 0);
     expect_entry(&rt, rt.alloc(), &new, b"b", 5, 1);
     expect_entry(&rt, rt.alloc(), &new, b"c", 9, 0);
-    expect_entry(&rt, rt.alloc(), &map, b"a", 6, 0);
 }
 
 #[test]
 fn a_node_that_no_path_has_is_not_renewed(rt: HostRuntime) {
-    let map = built(&rt, rt.alloc(), [5, 6, 5]);
-    let map = put_one(&rt, rt.alloc(), &map, b"b", 5);
-    let (new, renewed) = with_nines(&rt, rt.alloc(), &map);
+    let (new, renewed) = with_nines(&rt, rt.alloc(), &b_freed(&rt, rt.alloc()));
     assert!(rt; renewed == 0);
-    let new = put_one(&rt, rt.alloc(), &new, b"d", 8);
-    expect_entry(&rt, rt.alloc(), &new, b"d", 8, 1);
+    expect_given_again(&rt, rt.alloc(), &new);
 }
 
 #[test]
 fn a_table_has_an_item_for_each_number(rt: HostRuntime) {
-    let map = built(&rt, rt.alloc(), [5, 6, 5]);
-    expect_table(&rt, rt.alloc(), &map, [false, true]);
-    let map = put_one(&rt, rt.alloc(), &map, b"b", 5);
-    expect_table(&rt, rt.alloc(), &map, [false, false]);
+    expect_table(
+        &rt,
+        rt.alloc(),
+        &built(&rt, rt.alloc(), [5, 6, 5]),
+        [false, true],
+    );
+    expect_table(&rt, rt.alloc(), &b_freed(&rt, rt.alloc()), [false, false]);
 }

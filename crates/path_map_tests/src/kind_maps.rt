@@ -1,5 +1,6 @@
 //! Maps by kinds of three paths. Numbers are compared, since paths that have one share its node.
-use acl_names::{Path, read_path};
+use crate::made::path;
+use acl_names::Path;
 use kinds::{GivenNode, KindMap, KindMapBuilder, KindPuts, Likeness};
 use std::alloc::Global;
 use std::process::Abort;
@@ -16,11 +17,6 @@ impl Likeness<u32> for ByLastDigit {
     fn is_same(&self, one: &u32, other: &u32) -> bool {
         *one == *other
     }
-}
-
-fn path(rt: &impl Abort, alloc: Global, text: &[u8]) -> Path {
-    let read = read_path(alloc, text).expect(rt, "memory");
-    read.expect(rt, "a path")
 }
 
 /// The entries with one more.
@@ -62,23 +58,27 @@ pub(crate) fn put_one(
     puts.finish(alloc).expect(rt, "memory")
 }
 
+/// The map where the node of b is that of a, so that no path has the number 1.
+pub(crate) fn b_freed(rt: &impl Abort, alloc: Global) -> KindMap<u32> {
+    put_one(rt, alloc, &built(rt, alloc, [5, 6, 5]), b"b", 5)
+}
+
 /// The map with nodes put at two paths, in path order.
 fn put_two(
     rt: &impl Abort,
     alloc: Global,
     map: &KindMap<u32>,
-    texts: [&[u8]; 2],
+    first: &Path,
+    second: &Path,
     nodes: [u32; 2],
 ) -> KindMap<u32> {
-    let first = path(rt, alloc, texts[0]);
-    let second = path(rt, alloc, texts[1]);
-    assert!(rt; first.order(&second).is_lt());
+    assert!(rt; first.order(second).is_lt());
     let puts = KindPuts::new(alloc, map).expect(rt, "memory");
     let puts = puts
-        .push(alloc, &first, nodes[0], &ByLastDigit)
+        .push(alloc, first, nodes[0], &ByLastDigit)
         .expect(rt, "memory");
     let puts = puts
-        .push(alloc, &second, nodes[1], &ByLastDigit)
+        .push(alloc, second, nodes[1], &ByLastDigit)
         .expect(rt, "memory");
     puts.finish(alloc).expect(rt, "memory")
 }
@@ -97,12 +97,16 @@ pub(crate) fn expect_entry(
     assert!(rt; map.numbers().get(&path).expect(rt, "a number") == number);
 }
 
+fn takes(rt: &impl Abort, alloc: Global, builder: &KindMapBuilder<u32>, text: &[u8]) -> bool {
+    builder.takes(&path(rt, alloc, text))
+}
+
 #[test]
 fn a_path_is_taken_after_those_before_it(rt: HostRuntime) {
     let builder = pushed(&rt, rt.alloc(), KindMapBuilder::new(rt.alloc()), b"b", 5);
-    assert!(rt; builder.takes(&path(&rt, rt.alloc(), b"b/x")));
-    assert!(rt; !builder.takes(&path(&rt, rt.alloc(), b"b")));
-    assert!(rt; !builder.takes(&path(&rt, rt.alloc(), b"a")));
+    assert!(rt; takes(&rt, rt.alloc(), &builder, b"b/x"));
+    assert!(rt; !takes(&rt, rt.alloc(), &builder, b"b"));
+    assert!(rt; !takes(&rt, rt.alloc(), &builder, b"a"));
 }
 
 #[test]
@@ -125,30 +129,46 @@ fn nodes_that_have_one_mark_do_not(rt: HostRuntime) {
 fn a_path_that_is_there_gets_another_node(rt: HostRuntime) {
     let map = built(&rt, rt.alloc(), [5, 6, 5]);
     let new = put_one(&rt, rt.alloc(), &map, b"a", 7);
+    expect_entry(&rt, rt.alloc(), &map, b"a", 5, 0);
+    drop(map);
     expect_entry(&rt, rt.alloc(), &new, b"a", 7, 2);
     expect_entry(&rt, rt.alloc(), &new, b"c", 5, 0);
-    expect_entry(&rt, rt.alloc(), &map, b"a", 5, 0);
 }
 
-// The number of b has no path after the first put, so the second one gets it.
+/// A map where no path has the number 1 gives it to a node that is put.
+pub(crate) fn expect_given_again(rt: &impl Abort, alloc: Global, map: &KindMap<u32>) {
+    let new = put_one(rt, alloc, map, b"d", 8);
+    expect_entry(rt, alloc, &new, b"b", 5, 0);
+    expect_entry(rt, alloc, &new, b"d", 8, 1);
+    assert!(rt; new.numbers_len() == 2);
+}
+
 #[test]
 fn a_number_whose_last_path_goes_is_given_again(rt: HostRuntime) {
-    let map = built(&rt, rt.alloc(), [5, 6, 5]);
-    let map = put_one(&rt, rt.alloc(), &map, b"b", 5);
+    let map = b_freed(&rt, rt.alloc());
     assert!(rt; map.kinds().get(1).is_none());
-    let map = put_one(&rt, rt.alloc(), &map, b"d", 8);
-    expect_entry(&rt, rt.alloc(), &map, b"b", 5, 0);
-    expect_entry(&rt, rt.alloc(), &map, b"d", 8, 1);
+    expect_given_again(&rt, rt.alloc(), &map);
+}
+
+/// The node of b and b/x has the number 2, and no path has the number 1.
+fn expect_nines(rt: &impl Abort, alloc: Global, map: &KindMap<u32>) {
+    expect_entry(rt, alloc, map, b"b", 9, 2);
+    expect_entry(rt, alloc, map, b"b/x", 9, 2);
+    expect_entry(rt, alloc, map, b"c", 5, 0);
+    assert!(rt; map.kinds().get(1).is_none());
 }
 
 #[test]
 fn a_path_that_is_there_is_put_with_one_that_is_not(rt: HostRuntime) {
-    let map = built(&rt, rt.alloc(), [5, 6, 5]);
-    let new = put_two(&rt, rt.alloc(), &map, [b"b", b"b/x"], [9, 9]);
-    expect_entry(&rt, rt.alloc(), &new, b"b", 9, 2);
-    expect_entry(&rt, rt.alloc(), &new, b"b/x", 9, 2);
-    expect_entry(&rt, rt.alloc(), &new, b"c", 5, 0);
-    assert!(rt; new.kinds().get(1).is_none());
+    let new = put_two(
+        &rt,
+        rt.alloc(),
+        &built(&rt, rt.alloc(), [5, 6, 5]),
+        &path(&rt, rt.alloc(), b"b"),
+        &path(&rt, rt.alloc(), b"b/x"),
+        [9, 9],
+    );
+    expect_nines(&rt, rt.alloc(), &new);
 }
 
 /// The nearest entry above a path is that of this path, with this node.
@@ -167,16 +187,28 @@ fn expect_nearest(
     assert!(rt; *found.1 == node);
 }
 
+/// Paths that have no entry above.
+static WITHOUT_ABOVE: [&[u8]; 3] = [b"b", b".", b"bb/x"];
+
+fn expect_none_above(rt: &impl Abort, alloc: Global, map: &KindMap<u32>, text: &[u8]) {
+    let below = path(rt, alloc, text);
+    assert!(rt; map.nearest_above(&below).is_none());
+}
+
 #[test]
 fn the_nearest_entry_above_a_path(rt: HostRuntime) {
-    let map = built(&rt, rt.alloc(), [5, 6, 5]);
-    let map = put_one(&rt, rt.alloc(), &map, b"b/x", 7);
+    let map = put_one(
+        &rt,
+        rt.alloc(),
+        &built(&rt, rt.alloc(), [5, 6, 5]),
+        b"b/x",
+        7,
+    );
     expect_nearest(&rt, rt.alloc(), &map, b"b/x/y/z", b"b/x", 7);
     expect_nearest(&rt, rt.alloc(), &map, b"b/xy/z", b"b", 6);
     expect_nearest(&rt, rt.alloc(), &map, b"c/d", b"c", 5);
-    for text in [b"b".as_slice(), b".", b"bb/x"] {
-        let below = path(&rt, rt.alloc(), text);
-        assert!(rt; map.nearest_above(&below).is_none());
+    for text in &WITHOUT_ABOVE {
+        expect_none_above(&rt, rt.alloc(), &map, text);
     }
 }
 
@@ -185,15 +217,14 @@ fn put_at_both(
     rt: &impl Abort,
     alloc: Global,
     map: &KindMap<u32>,
-    texts: [&[u8]; 2],
+    first: &Path,
+    second: &Path,
     node: u32,
 ) -> KindMap<u32> {
-    let first = path(rt, alloc, texts[0]);
-    let second = path(rt, alloc, texts[1]);
-    assert!(rt; first.order(&second).is_lt());
+    assert!(rt; first.order(second).is_lt());
     let node = Rc::new(alloc, node).expect(rt, "memory");
     let (new, numbers) = map
-        .put_placed(alloc, &[(&first, 0), (&second, 0)], &[GivenNode::New(node)])
+        .put_placed(alloc, &[(first, 0), (second, 0)], &[GivenNode::New(node)])
         .expect(rt, "memory");
     assert!(rt; numbers.len() == 1);
     new
@@ -201,10 +232,13 @@ fn put_at_both(
 
 #[test]
 fn entries_of_one_place_share_a_number(rt: HostRuntime) {
-    let map = built(&rt, rt.alloc(), [5, 6, 5]);
-    let new = put_at_both(&rt, rt.alloc(), &map, [b"b", b"b/x"], 9);
-    expect_entry(&rt, rt.alloc(), &new, b"b", 9, 2);
-    expect_entry(&rt, rt.alloc(), &new, b"b/x", 9, 2);
-    expect_entry(&rt, rt.alloc(), &new, b"c", 5, 0);
-    assert!(rt; new.kinds().get(1).is_none());
+    let new = put_at_both(
+        &rt,
+        rt.alloc(),
+        &built(&rt, rt.alloc(), [5, 6, 5]),
+        &path(&rt, rt.alloc(), b"b"),
+        &path(&rt, rt.alloc(), b"b/x"),
+        9,
+    );
+    expect_nines(&rt, rt.alloc(), &new);
 }

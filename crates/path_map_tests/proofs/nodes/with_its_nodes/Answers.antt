@@ -1,8 +1,8 @@
 use Rattle.std.proofs.Common.{◌≡◌, length, ap, ◌∙◌, arith}
 use Rattle.kinds.specs.Renewed.{renewed_before}
 use Rattle.kinds.specs.Given.{shared_nodes}
-use Rattle.kinds_tests.proofs.OwnNodes.{nodes_long, nodes_have}
-use Rattle.kinds_tests.proofs.nodes.with_its_nodes.Goals as goal
+use Rattle.path_map_tests.proofs.OwnNodes.{nodes_long, nodes_have}
+use Rattle.path_map_tests.proofs.nodes.with_its_nodes.Goals as goal
 
 pub with_nodes-requires-clause-long : goal.with_nodes-requires-clause-long
 with_nodes-requires-clause-long g c =
