@@ -11,7 +11,7 @@ from typing import Dict, List, NamedTuple, Tuple
 from . import by_hand_files, by_hand_undo, owners
 from . import by_hand_texts as texts
 from .messages import counted
-from .names import live_path, parent_of, path_order, shell_word
+from .names import UNSEEN, live_path, parent_of, path_order, shell_word
 from .people import ADD_MEMBER, ADD_USER, CHANGE_GROUP, REMOVE_MEMBER, REMOVE_USER, PeopleChange, shown_change
 from .protocol import FILE_HEAD, FLAGS_HEAD
 from .records import Changes, File, Files
@@ -73,13 +73,13 @@ def commands_of(people: List[PeopleChange], changes: Changes, old: Files, new: F
 
 
 def escaped(name: bytes) -> bytes:
-    """A name as characters that a terminal prints: each byte of another one, and a backslash, is a backslash and three
-    octal digits."""
+    """A name as characters that a person sees: each byte of another one, and a backslash, is a backslash and three octal
+    digits."""
     found = []
     for character in name.decode("utf-8", "surrogateescape"):
         plain = character.encode("utf-8", "surrogateescape")
-        found.append(plain if character.isprintable() and character != "\\"
-                     else b"".join(b"\\%03o" % byte for byte in plain))
+        is_seen = character.isprintable() and character != "\\" and not UNSEEN.match(character)
+        found.append(plain if is_seen else b"".join(b"\\%03o" % byte for byte in plain))
     return b"".join(found)
 
 

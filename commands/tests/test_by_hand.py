@@ -123,7 +123,7 @@ class Words(unittest.TestCase):
     def test_names(self) -> None:
         for name, text in ((b"plain", b"plain"), (b"a\nb", b"a\\012b"), (b"\x1b[31m", b"\\033[31m"), (b"\\012", b"\\134012"),
                            (b"\xc3\xa9", b"\xc3\xa9"), (b"\xe9", b"\\351"), (b"\xe2\x80\xaex", b"\\342\\200\\256x"), (b"\x7f", b"\\177"),
-                           (b"\xc2\x9b", b"\\302\\233")):
+                           (b"\xc2\x9b", b"\\302\\233"), (b"\xe3\x85\xa4", b"\\343\\205\\244")):
             self.assertEqual(by_hand.escaped(name), text)
 
     def test_identities(self) -> None:
