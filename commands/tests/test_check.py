@@ -193,7 +193,7 @@ class Comments(Checks):
         dump = b"# file: -x\n# owner: 1001\n# group: 2001\nuser::rw-\ngroup::rw-\nother::---\n\n"
         self.write("small/dump", dump)
         self.assertEqual([row[2:5] for row in (line.split(b"\t") for line in self.check(b"never anna write -x\n", "--tsv").out.splitlines()[1:])],
-                         [[b"anna", b"1", b"-x"]])
+                         [[b"anna", b"1", b"'-x"]])
 
 
 class WrongRules(Checks):
