@@ -20,6 +20,8 @@ HEAD_OF_RECORD = re.compile(OWNER_LINES + b"(?:" + FLAGS_LINE + b")?")
 ATTRIBUTES = re.compile(ATTRIBUTE_LINES)
 PORTION = 10_000  # Questions that are sent at once.
 ALL_FLAGS = 0o7000
+OTHER_BYTES = (b"the bytes of a list are not those of its entries, so nothing is written: somebody else can have changed what "
+               b"the program was given, or the program is of another version")
 NOWHERE = Identity(0, 0, 0)  # Of a file of a snapshot without inodes.
 
 
@@ -51,19 +53,28 @@ def ask_records(program: str, bodies: Iterable[bytes]) -> Dict[bytes, Record]:
         for place in range(0, len(known), PORTION):
             lines = b"\n".join(ATTRIBUTES_OF % number for number in range(place, min(place + PORTION, len(known))))
             found += ATTRIBUTES.findall(session.ask_accepted(lines).read())
-    assert len(found) == len(known)
+    if len(found) != len(known):
+        raise Failure(OTHER_BYTES)
     return {body: record_of(body, *lists) for body, lists in zip(known, found)}
 
 
 def record_of(body: bytes, access: bytes, default: bytes) -> Record:
+    """The record that the body of a listing is, with the bytes of its lists; these have to be valid, and of its entries."""
     head = HEAD_OF_RECORD.match(body)
-    assert head is not None
+    if head is None:
+        raise Failure(OTHER_BYTES)
     flags = sum(bit for bit, letter in zip((0o4000, 0o2000, 0o1000), head.groups()[2:]) if letter not in (None, b"-"))
     record = Record(int(head[1]), int(head[2]), flags, bytes.fromhex(access.decode()), bytes.fromhex(default.decode()))
-    if entries_in(body) != [*differences.entry_lines(record.access), *differences.entry_lines(record.default, b"default:")]:
-        raise Failure(b"the bytes of a list are not those of its entries, so nothing is written: somebody else can have "
-                      b"changed what the program was given, or the program is of another version")
+    if not are_valid(record) or entries_in(body) != [
+        *differences.entry_lines(record.access), *differences.entry_lines(record.default, b"default:")
+    ]:
+        raise Failure(OTHER_BYTES)
     return record
+
+
+def are_valid(record: Record) -> bool:
+    """Whether the lists of a record are lists; it may have no default list."""
+    return lists.is_valid(record.access) and (record.default == b"" or lists.is_valid(record.default))
 
 
 def entries_in(body: bytes) -> List[bytes]:
@@ -94,8 +105,7 @@ def read_record(fields: List[object]) -> Record:
     if not (isinstance(access, str) and isinstance(default, str)):
         raise TypeError
     record = Record(number_of(owner), number_of(group), number_of(flags), bytes.fromhex(access), bytes.fromhex(default))
-    lists_of = (record.access, record.default) if record.default else (record.access,)
-    if max(record.ids()) >= lists.NO_ID or record.flags & ~ALL_FLAGS or not all(map(lists.is_valid, lists_of)):
+    if max(record.ids()) >= lists.NO_ID or record.flags & ~ALL_FLAGS or not are_valid(record):
         raise ValueError
     return record
 

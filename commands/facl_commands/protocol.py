@@ -107,8 +107,8 @@ ACCESS_GROUP_LINE = rb"^(?:# group: |group:)([0-9]+)"
 SET_FLAGS_LINE = rb"\n# flags: (?:s|-s)"
 OWNER_LINES = rb"# owner: ([0-9]+)\n# group: ([0-9]+)\n"
 FLAGS_LINE = rb"# flags: ([s-])([s-])([t-])\n"
-ATTRIBUTE_LINES = (rb"system\.posix_acl_access=0x([0-9a-f]+)\n"
-                   rb"(?:system\.posix_acl_default=0x([0-9a-f]+)\n)?\n")  # By `attr`.
+ATTRIBUTE_LINES = (rb"system\.posix_acl_access=0x((?:[0-9a-f]{2})+)\n"
+                   rb"(?:system\.posix_acl_default=0x((?:[0-9a-f]{2})+)\n)?\n")  # By `attr`.
 EFFECTIVE = b"#effective:"  # After an entry that the mask cuts.
 
 # --- lines that the commands ask
