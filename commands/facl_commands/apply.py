@@ -154,7 +154,12 @@ def carry_out(command: Command, way: Way, carrier: Carrier, is_whole: bool) -> i
         except OSError as error:
             raise Failure(way.folder.name + b": cannot be written: " + reason(error)
                           + b"; nothing is touched") from error
-        status = give_all(command, way, carrier, is_whole)
+        try:
+            status = give_all(command, way, carrier, is_whole)
+        except MemoryError:
+            command.say(b"memory ran out, so files may be neither as they were nor as they should be: run facl-apply --undo "
+                        + shell_word(way.folder.name))
+            status = IN_PART
         if status != NOT_DONE:
             plan_folder.ignore_signals()
     return status

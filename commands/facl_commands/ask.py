@@ -16,10 +16,11 @@ from .messages import SIGNALS, Command, Failure, parser_of, reason
 from .names import shown
 from .program import Session, environment_of_called, find_program
 from .protocol import ANSWERED, REFUSED, is_refused
-from .scripts import Unit, read_script, read_text, read_units
+from .scripts import Unit, open_script, read_script, read_text, read_units
 from .snapshot import check_texts
 from .stops import marked
 from .texts import Source
+from .trusted import MOST
 
 HELP = """\
 Answers questions and edits over a snapshot, by the program facl.
@@ -84,7 +85,7 @@ def take_script(script: str) -> None:
     """Makes a script the standard input."""
     if script != "-":
         try:
-            descriptor = os.open(script, os.O_RDONLY)
+            descriptor = open_script(script)
             os.read(descriptor, 0)  # A folder cannot be read.
         except OSError as error:
             raise Failure(os.fsencode(script) + b": " + reason(error)) from error
@@ -94,7 +95,8 @@ def take_script(script: str) -> None:
 def units_of_input() -> Dict[int, Unit]:
     """The lines of a script that is the standard input, by their numbers; none where it can be read once alone."""
     try:
-        text = os.pread(0, os.fstat(0).st_size, 0)
+        size = os.fstat(0).st_size
+        text = os.pread(0, size, 0) if size <= MOST else b""
     except OSError:
         return {}
     return {unit.number: unit for unit in read_script(b"", text)}

@@ -263,6 +263,8 @@ def fault_of(step: Callable[[Opener, bytes], None], opener: Opener, path: bytes)
         return error.text
     except OSError as error:
         return reason(error)
+    except MemoryError:
+        return b"memory ran out"
     return None
 
 

@@ -125,6 +125,10 @@ class Command:
             self.goes_on = True
             self.say(named(error))
             return UNUSABLE
+        except MemoryError:
+            self.goes_on = True
+            self.say(b"memory ran out")
+            return UNUSABLE
         except (Interrupted, KeyboardInterrupt) as error:
             return 128 + (error.number if isinstance(error, Interrupted) else signal.SIGINT)
         return NOT_SAID if status == 0 and self.fault is not None else status

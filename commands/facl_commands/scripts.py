@@ -8,6 +8,7 @@ from typing import Iterable, Iterator, List, NamedTuple, Optional
 
 from .messages import Failure, reason
 from .tools import LOADERS, TEXT_WORDS
+from .trusted import MOST, read_all
 
 LINE_LIMIT = 65536
 DESCRIPTOR = re.compile(r"/dev/(?:stdin|fd/\d+)\Z|/proc/self/fd/\d+\Z")
@@ -93,7 +94,7 @@ def read_text(name: str) -> Script:
     shown = b"standard input" if name == "-" else os.fsencode(name)
     try:
         with open(0 if name == "-" else open_script(name), "rb", closefd=name != "-") as file:
-            return Script(shown, file.read())
+            return Script(shown, read_all(file, shown, MOST))
     except OSError as error:
         raise Failure(shown + b": " + reason(error)) from error
 

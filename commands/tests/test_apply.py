@@ -1,20 +1,26 @@
 """facl-apply over real files whose lists are those of their modes, which needs neither root nor a file system with lists."""
 from __future__ import annotations
 
+import contextlib
 import json
 import os
+import resource
 import shutil
 import signal
+import socket
+import stat
+import subprocess
+import sys
 import unittest
 import unittest.mock
 from functools import partial
 from typing import Any, Callable, Dict, List, Set
 
-from common import Case, Done
+from common import COMMANDS, Case, Done
 from real import RealCase
 
-from facl_commands import changing, apply, by_hand_done, carrying, differences, lists, live, plan_folder, way  # noqa: E402
-from facl_commands.messages import SIGNALS  # noqa: E402
+from facl_commands import changing, apply, by_hand_done, carrying, differences, lists, live, plan_folder, planned, way  # noqa: E402
+from facl_commands.messages import SIGNALS, Failure  # noqa: E402
 from facl_commands.plan_folder import Folder  # noqa: E402
 
 
@@ -154,6 +160,59 @@ class Plans(Case):
         self.expect_unusable(self.whole("before.plan/files") + b": is no plain file, so it is not trusted", "before.plan")
         os.rmdir(self.path("before.plan/files"))
         self.expect_unusable(self.whole("before.plan/files") + b": No such file or directory", "before.plan")
+
+    def test_values_that_no_plan_has(self) -> None:
+        """Deep nesting, long numbers and other types, for each reader of JSON."""
+        deep, row = 100_000, '["a",1,2,3,0,0,1]'
+        values = ["[" * deep + "]" * deep, '{"a":' * deep + "1" + "}" * deep, "1" + "0" * 100_000, "1e999", "NaN", "-Infinity", "null",
+                  "true", '"\\ud800"', '"a\\u0000b"', "[]", "{}", "[[]]", '[{"a":1}]', "[%s,%s]" % (row, row), "9" * 400, '"\u2603"']
+        text = self.read("before.plan/files").decode()
+        fields = json.loads(text)
+        journal = json.dumps({"boot": "-", "files": [["a", 1, 2, 3]]})
+        for value in values:
+            work = [value, '{"boot":"","files":[],"records":%s}' % value, '{"boot":"","files":%s,"records":[]}' % value]
+            for name in ("0", "1", "2", "6", "7"):
+                other = json.loads(text)
+                other["files"][0][int(name)] = "@"
+                work.append(json.dumps(other).replace('"@"', value))
+            for it in work:
+                self.read_or_fail(planned.read_work, it)
+            for it in (value, '{"boot":"","files":%s}' % value, journal.replace('"a"', value), journal.replace("1", value)):
+                self.read_or_fail(planned.read_journal, it)
+        self.assertEqual(list(planned.read_work(b"files", text.encode()).files), [it[0].encode() for it in fields["files"]])
+
+    def read_or_fail(self, read: Callable[[bytes, bytes], object], text: str) -> None:
+        """Reads a text; a fault in it has a message."""
+        with contextlib.suppress(Failure):
+            read(b"the file", text.encode())
+
+    def test_other_kinds_of_files(self) -> None:
+        place, kept = self.path("before.plan/files"), self.path("kept")
+        os.rename(place, kept)
+
+        def bind() -> None:
+            with socket.socket(socket.AF_UNIX) as made:
+                made.bind(place)
+
+        makers: Dict[str, Callable[[], object]] = {
+            "is no plain file, so it is not trusted": lambda: os.mkfifo(place, 0o600),
+            "Too many levels of symbolic links": lambda: os.symlink(kept, place),
+            "No such device or address": bind,
+        }
+        if os.geteuid() == 0:
+            makers["is no plain file"] = lambda: os.mknod(place, stat.S_IFCHR | 0o600, os.makedev(1, 5))
+        for text, make in makers.items():
+            make()
+            self.refused("/files: " + text)
+            os.unlink(place)
+
+    def test_memory_runs_out(self) -> None:
+        with open(self.path("before.plan/files"), "wb") as file:
+            file.truncate(400 << 20)
+        words = [sys.executable, "-I", os.path.join(COMMANDS, "facl-apply"), "before.plan"]
+        limit = partial(resource.setrlimit, resource.RLIMIT_AS, (300 << 20, 300 << 20))
+        done = subprocess.run(words, cwd=self.folder, capture_output=True, check=False, preexec_fn=limit)
+        self.assertEqual((done.returncode, done.stderr), (2, b"facl-apply: memory ran out\n"))
 
     def test_nothing_to_do(self) -> None:
         folder = self.whole("before.plan")
@@ -370,6 +429,24 @@ class Meanwhile(Tree):
         finally:
             signal.sigwait({signal.SIGQUIT})
             signal.pthread_sigmask(signal.SIG_SETMASK, before)
+
+    def test_memory_runs_out_in_the_middle(self) -> None:
+        carrier = self.carrier(b"chmod 604 " + self.word("a") + b" " + self.word("b"))
+        real = carrying.change
+
+        def change_once(file: live.OpenFile, *words: Any) -> None:
+            if os.readlink(file.name).endswith(b"/b"):
+                raise MemoryError
+            real(file, *words)
+
+        command = unittest.mock.Mock()
+        with unittest.mock.patch.object(carrying, "change", change_once):
+            self.assertEqual(apply.carry_out(command, carrier.way, carrier, True), 4)  # Nor can it be given back.
+        self.assertEqual([self.mode(name) for name in ("a", "b")], [0o640, 0o640])
+        with unittest.mock.patch.object(carrying.Carrier, "run", unittest.mock.Mock(side_effect=MemoryError)):
+            self.assertEqual(apply.carry_out(command, carrier.way, carrier, True), 4)
+        self.assertRegex(command.say.call_args.args[0], b"^memory ran out, .*: run facl-apply --undo ")
+        self.assertEqual(self.read("before.plan/state"), b"applying\n")
 
     def test_no_signal_is_the_status_of_what_is_done(self) -> None:
         carrier = self.carrier(b"chmod 604 " + self.word("a"))

@@ -105,6 +105,13 @@ class AsTheProgram(Case):
             done = self.run_command("facl-ask", [demo, os.path.join(demo, "plan")])
             self.expect(done, 0, file.read(), b"facl-ask: " + os.fsencode(demo) + b": " + UNKNOWN)
 
+    @unittest.skipUnless(os.geteuid() == 0, "needs root")
+    def test_a_pipe_of_another_user(self) -> None:
+        """Nobody waits for what that user may write."""
+        os.mkfifo(self.path("pipe"))
+        os.chown(self.path("pipe"), 70001, 70001)
+        self.expect(self.run_command("facl-ask", ["before", "pipe"]), 2, b"", b"facl-ask: pipe: is a pipe of another user\n")
+
     def test_several_scripts(self) -> None:
         self.write("first", b"# one\nfrob\nsetfacl -m u:guest:r srv/share/one\nsetfacl -M - srv/share/two\nu:guest:r")
         self.write("second", b"who r srv/share/one\nwho r\n")

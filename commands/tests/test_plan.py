@@ -674,6 +674,14 @@ class BadInput(Case):
     def test_scripts(self) -> None:
         self.expect_unusable(b"absent: No such file or directory", "before", "absent")
         self.expect_unusable(b"before: Is a directory", "before", "before")
+        with open(self.path("huge"), "wb") as file:
+            file.truncate(9 << 30)
+        too_large = b" has more than 1024 MiB, which is too large"
+        self.expect_unusable(b"huge:" + too_large, "before", "huge")
+        with open(self.path("huge"), "rb") as file:
+            words = [sys.executable, "-I", os.path.join(COMMANDS, "facl-plan"), "before", "-"]
+            done = subprocess.run(words, cwd=self.folder, stdin=file, capture_output=True, check=False)
+        self.assertEqual((done.returncode, done.stderr), (2, b"facl-plan: standard input:" + too_large + b"\n"))
 
     def test_programs(self) -> None:
         self.write("edits", b"chmod 600 srv/share/one\n")
