@@ -401,10 +401,13 @@ class Snapshots(Check):
                            folder=self.work)
             finally:
                 os.kill(user, signal.SIGKILL)
-                os.waitpid(user, 0)
+                ended = os.waitpid(user, 0)[1]
+            expect(ended == signal.SIGKILL, f"{way.title}: the user could not exchange them")
             expect(done.returncode in (0, 1), f"{way.title}: {done}")
-            wrong = wrong_records(top, known, self.read("before/dump"), self.read("before/inodes"))
+            dump = self.read("before/dump")
+            wrong = wrong_records(top, known, dump, self.read("before/inodes"))
             expect(not wrong, f"{way.title}: {len(wrong)} records, first: {wrong[:1]}")
+            self.count("records of files that change places", dump.count(b"# file: " + top + b"/tree/"))
             self.count(f"snapshots while a user exchanges {way.title}")
             self.count(f"of these snapshots lack what was exchanged ({way.title})", done.returncode)
 

@@ -5,7 +5,7 @@ import os
 import time
 from typing import Callable, Dict, List, NamedTuple, NoReturn, Tuple
 
-from live_tree import MALLORY, exchange, make, must, records_of, remove, run
+from live_tree import MALLORY, exchange, expect, make, must, records_of, remove, run
 
 FILES = 240
 USER_ENTRY = 100000  # The first id of the entries, each of one file.
@@ -40,7 +40,7 @@ def make_files(folder: bytes, owner: int) -> None:
 def make_race(top: bytes, way: Way) -> None:
     """A folder of MALLORY with what is to be exchanged, and a closed folder of root; each file has a list of its own."""
     remove(top)
-    make(top + b"/")
+    make(top + b"/", 0o755)
     make(top + b"/tree/", 0o755, MALLORY, MALLORY)
     make_files(top + b"/tree/d", MALLORY)
     make_files(top + b"/outside", ROOT)
@@ -65,14 +65,14 @@ def make_race(top: bytes, way: Way) -> None:
 
 
 def meddling(top: bytes, way: Way) -> Callable[[], NoReturn]:
-    """What MALLORY does until it is ended."""
+    """What MALLORY does until it is ended; it ends by itself where names do not change places."""
     one, other = top + b"/tree/d", top + b"/tree/e"
     pairs = [(b"%s/%03d" % (one, number), b"%s/%03d" % (other, number)) for number in range(FILES)]
 
     def meddle() -> NoReturn:
         while True:
             for pair in [(one, other)] if way.is_of_folders else pairs:
-                exchange(*pair)
+                expect(exchange(*pair), f"{pair} do not change places")
                 time.sleep(way.pause) if way.pause else None
 
     return meddle
