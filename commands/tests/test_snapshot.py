@@ -18,7 +18,7 @@ from common import COMMANDS, Case, Done, restore_signals
 
 sys.path.insert(0, COMMANDS)
 
-from facl_commands import choice, lists, names  # noqa: E402
+from facl_commands import by_hand, choice, lists, names, page_columns  # noqa: E402
 from test_each import PRINTER, names_of
 
 SNAPSHOT = os.path.join(COMMANDS, "facl-snapshot")
@@ -580,18 +580,23 @@ class Said(SnapshotCase):
                                   check=False)
             self.assertEqual((done.returncode, done.stdout[: len(out)], done.stderr), (status, out, message))
 
-    def test_names_are_escaped_as_in_python(self) -> None:
-        """The first and last ones of all that is escaped, and their neighbours."""
-        ranges = ((0x01, 0x1F), (0x7F, 0x9F), (0xAD, 0xAD), (0x34F, 0x34F), (0x61C, 0x61C), (0x115F, 0x1160), (0x17B4, 0x17B5),
-                  (0x180B, 0x180F), (0x200B, 0x200F), (0x2028, 0x202E), (0x2060, 0x206F), (0x2800, 0x2800), (0x3164, 0x3164),
-                  (0xFE00, 0xFE0F), (0xFEFF, 0xFEFF), (0xFFA0, 0xFFA0), (0xFFF0, 0xFFFB), (0x1BCA0, 0x1BCA3), (0x1D173, 0x1D17A),
-                  (0xE0000, 0xE0FFF))
-        codes = sorted({code for first, last in ranges for edge in (first, last) for code in range(edge - 17, edge + 18) if code > 0})
-        for start in range(0, len(codes), 100):
-            text = "|".join(map(chr, codes[start: start + 100])).encode()
+    def test_names_are_escaped_alike_everywhere(self) -> None:
+        """All that is escaped, and the neighbours of its first and last ones: in a message of facl-snapshot, which is sh, in those
+        of the commands in Python, on a page, and in by_hand, where more is."""
+        unseen = {code for code in range(1, sys.maxunicode + 1) if names.UNSEEN.match(chr(code))}
+        edges = {code + step for code in unseen for step in (-1, 1)} - unseen
+        near = {code + step for code in edges for step in range(-17, 18)}
+        codes = sorted(code for code in unseen | near if 0 < code <= sys.maxunicode and not 0xD800 <= code < 0xE000)
+        for start in range(0, len(codes), 900):
+            text = "|".join(map(chr, codes[start: start + 900])).encode()
             done = subprocess.run([SNAPSHOT.encode(), b"new", b"/" + text], cwd=self.folder, env=self.environment(), capture_output=True,
                                   check=False)
             self.assertEqual(done.stderr, b"facl-snapshot: /" + names.shown(text) + b": no such file\n")
+        for code in codes:
+            text = chr(code).encode()
+            self.assertEqual(page_columns.shown_name(text).encode(), names.shown(names.write_name(text)))
+            if code in unseen:
+                self.assertEqual(by_hand.escaped(text), names.shown(text))
 
     def test_quiet(self) -> None:
         """Only what could not be read, and errors; the status is that without --quiet."""

@@ -22,10 +22,12 @@ import script  # noqa: E402
 from live_tree import (  # noqa: E402
     COMMANDS, MALLORY, Check, State, child, expect, main, make, mounted, must, records_of, remove, run, state_of,
 )
-from snapshot_races import WAYS, known_records, make_race, meddling, wrong_records  # noqa: E402
+from snapshot_races import (  # noqa: E402
+    WAYS, known_records, make_chain, make_race, meddling, moving, wrong_records,
+)
 
 NAMES = ("words targets replacing names links warnings rows kills chain streams packages trust private_groups "
-         "unreadable without_lists file_systems full_disk races").split()
+         "unreadable without_lists file_systems full_disk endless races").split()
 SNAPSHOT = os.fsdecode(os.path.join(COMMANDS, b"facl-snapshot"))
 NOBODY = 65534
 SIGNALS = [getattr(signal, "SIG" + name) for name in "HUP INT QUIT USR1 USR2 ALRM TERM KILL".split()]
@@ -388,6 +390,20 @@ class Snapshots(Check):
             remove(self.name("own/new"))
             self.took(status, "own/new masks", start=["setpriv", "--reuid=65534", "--regid=7", "--clear-groups"])
 
+    def check_endless(self, _seed: int) -> None:
+        """A user who moves a large directory ahead of find whenever find opens it: there is no snapshot of that, nothing is
+        left, and the command ends."""
+        places = make_chain(self.name("chain"))
+        user = child(MALLORY, moving(places))
+        try:
+            self.took(2, "before chain", "more than 1,048,576 names were found")
+        finally:
+            os.kill(user, signal.SIGKILL)
+            os.waitpid(user, 0)
+        expect(not os.path.lexists(self.name("before")), "there is a snapshot")
+        self.nothing_left()
+        self.count("moves ahead of find", next(number for number, it in enumerate(places) if os.path.exists(it)))
+
     def check_races(self, _seed: int) -> None:
         """A user who exchanges files, folders and links all the while, in seven ways: each record of the FOLDER is that of the
         very file that inodes has, and none is of a link or of a file outside."""
@@ -401,10 +417,13 @@ class Snapshots(Check):
                            folder=self.work)
             finally:
                 os.kill(user, signal.SIGKILL)
-                os.waitpid(user, 0)
+                ended = os.waitpid(user, 0)[1]
+            expect(ended == signal.SIGKILL, f"{way.title}: the user could not exchange them")
             expect(done.returncode in (0, 1), f"{way.title}: {done}")
-            wrong = wrong_records(top, known, self.read("before/dump"), self.read("before/inodes"))
+            dump = self.read("before/dump")
+            wrong = wrong_records(top, known, dump, self.read("before/inodes"))
             expect(not wrong, f"{way.title}: {len(wrong)} records, first: {wrong[:1]}")
+            self.count("records of files that change places", dump.count(b"# file: " + top + b"/tree/"))
             self.count(f"snapshots while a user exchanges {way.title}")
             self.count(f"of these snapshots lack what was exchanged ({way.title})", done.returncode)
 

@@ -86,8 +86,9 @@ def child(user: int, what: Callable[[], object]) -> int:
     return number
 
 
-def exchange(one: bytes, other: bytes) -> None:
-    LIBRARY.renameat2(HERE, one, HERE, other, EXCHANGE)
+def exchange(one: bytes, other: bytes) -> bool:
+    """Has two names change places; whether they did."""
+    return bool(LIBRARY.renameat2(HERE, one, HERE, other, EXCHANGE) == 0)
 
 
 # --- files

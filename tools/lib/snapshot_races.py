@@ -1,15 +1,18 @@
-"""A user who exchanges files and folders while facl-snapshot records them, and what a snapshot may have of them."""
+"""A user who exchanges and moves files and folders while facl-snapshot records them, and what a snapshot may have of them."""
 from __future__ import annotations
 
+import itertools
 import os
 import time
 from typing import Callable, Dict, List, NamedTuple, NoReturn, Tuple
 
-from live_tree import MALLORY, exchange, make, must, records_of, remove, run
+from live_tree import LIBRARY, MALLORY, exchange, expect, make, must, records_of, remove, run
 
 FILES = 240
 USER_ENTRY = 100000  # The first id of the entries, each of one file.
 OWN, ROOT = (MALLORY, 0)
+MOVED_FILES, LEVELS = 50_000, 60  # More files in all than a snapshot can have.
+OPENED = 0x20  # Of inotify.
 
 
 class Way(NamedTuple):
@@ -40,7 +43,7 @@ def make_files(folder: bytes, owner: int) -> None:
 def make_race(top: bytes, way: Way) -> None:
     """A folder of MALLORY with what is to be exchanged, and a closed folder of root; each file has a list of its own."""
     remove(top)
-    make(top + b"/")
+    make(top + b"/", 0o755)
     make(top + b"/tree/", 0o755, MALLORY, MALLORY)
     make_files(top + b"/tree/d", MALLORY)
     make_files(top + b"/outside", ROOT)
@@ -65,17 +68,60 @@ def make_race(top: bytes, way: Way) -> None:
 
 
 def meddling(top: bytes, way: Way) -> Callable[[], NoReturn]:
-    """What MALLORY does until it is ended."""
+    """What MALLORY does until it is ended; it ends by itself where names do not change places."""
     one, other = top + b"/tree/d", top + b"/tree/e"
     pairs = [(b"%s/%03d" % (one, number), b"%s/%03d" % (other, number)) for number in range(FILES)]
 
     def meddle() -> NoReturn:
         while True:
             for pair in [(one, other)] if way.is_of_folders else pairs:
-                exchange(*pair)
+                expect(exchange(*pair), f"{pair} do not change places")
                 time.sleep(way.pause) if way.pause else None
 
     return meddle
+
+
+def name_after(folder: bytes, first: bytes) -> bytes:
+    """A name that comes after another one in the list of a directory, where it is made before."""
+    for name in (b"%d" % number for number in itertools.count()):
+        made = [os.path.join(folder, it) for it in (name, first)]
+        for place in made:
+            os.mkdir(place)
+        names = os.listdir(folder)
+        for place in made:
+            os.rmdir(place)
+        if names.index(first) < names.index(name):
+            return name
+    raise AssertionError
+
+
+def make_chain(top: bytes) -> List[bytes]:
+    """A chain of directories of MALLORY, and a large one in the first of them, which find reads before the next of the chain;
+    the places of the large one in all of them."""
+    make(top + b"/", 0o755, MALLORY, MALLORY)
+    name = name_after(top, b"large")
+    places = [top + b"/large"]
+    for _ in range(LEVELS):
+        above = os.path.dirname(places[-1])
+        make(os.path.join(above, name) + b"/", 0o755, MALLORY, MALLORY)
+        places.append(os.path.join(above, name, b"large"))
+    make(places[0] + b"/", 0o755, MALLORY, MALLORY)
+    for number in range(MOVED_FILES):
+        os.mknod(b"%s/%d" % (places[0], number))
+    return places
+
+
+def moving(places: List[bytes]) -> Callable[[], None]:
+    """Has MALLORY move a directory to its next place each time that somebody opens it."""
+
+    def move() -> None:
+        events = LIBRARY.inotify_init()
+        expect(LIBRARY.inotify_add_watch(events, places[0], OPENED) > 0, "inotify does not watch")
+        for place, following in zip(places, places[1:]):
+            os.read(events, 4096)
+            os.rename(place, following)
+
+    return move
 
 
 Known = Dict[Tuple[int, int], List[bytes]]
