@@ -13,6 +13,7 @@ top=$(cd "$(dirname "$0")/.." && pwd)
 . "$top/tools/lib/program.sh"
 
 program=$built
+python=/usr/bin/python3 # by which the commands run
 version=0
 action=install
 if [ "${1:-}" = --uninstall ]; then
@@ -69,7 +70,7 @@ install_files() {
         ln -sf -- "../lib/facl/$name" "$to/bin/$name"
     done
     # A start reads what is compiled; a package compiles it where it is installed.
-    [ -n "${DESTDIR:-}" ] || ! command -v python3 >/dev/null || python3 -m compileall -q "$to/lib/facl/facl_commands"
+    [ -n "${DESTDIR:-}" ] || ! command -v $python >/dev/null || $python -m compileall -q "$to/lib/facl/facl_commands"
     for page in facl facl-commands; do install -m 644 -- "$top/docs/$page.1" "$to/share/man/man1"; done
     for name in $commands; do
         echo ".so man1/facl-commands.1" >"$to/share/man/man1/$name.1"
@@ -87,12 +88,12 @@ warn() {
 
 # say_what_is_missing: what the commands call, and where they are looked for
 say_what_is_missing() {
-    for needed in 'getfacl acl' 'setfacl acl' 'getent libc-bin' 'find findutils' 'xargs findutils' 'python3 python3'; do
+    for needed in 'getfacl acl' 'setfacl acl' 'getent libc-bin' 'find findutils' 'xargs findutils' "$python python3"; do
         command -v "${needed% *}" >/dev/null || warn "without ${needed% *} (package ${needed#* }) the commands fail"
     done
-    ! command -v python3 >/dev/null || python3 -c 'import sys; sys.exit(sys.version_info < (3, 9))' ||
+    ! command -v $python >/dev/null || $python -c 'import sys; sys.exit(sys.version_info < (3, 9))' ||
         warn "python3 is older than 3.9, which the commands need"
-    ! command -v python3 >/dev/null || python3 -c 'import prompt_toolkit' 2>/dev/null ||
+    ! command -v $python >/dev/null || $python -c 'import prompt_toolkit' 2>/dev/null ||
         warn "without the package python3-prompt-toolkit the prompt of facl-ask completes no words"
     case :$PATH: in *:"$prefix/bin":*) ;; *) warn "$prefix/bin is not on the path" ;; esac
 }

@@ -23,38 +23,17 @@ import shutil
 import stat
 from typing import List, Optional
 
-from . import trusted
+from . import new_file, trusted
 from .messages import Failure, reason
+from .new_file import DIRECTORY, create, give_mode, is_there, make_directory
+from .trusted import PRIVATE
 
 LOCK, MADE = b"lock.of-facl-daily", b"made.by-facl-daily"
 NEW, NEXT, BEGUN = b"new", b"made", b"begun"  # In the work folder.
 WORK = re.compile(rb"\.work\.[0-9A-Za-z]{10}")
 NAME = re.compile(rb"[0-9]{4,}-[0-9]{2}-[0-9]{2}(?:\.([0-9]{1,9}))?")
 TEXTS = (b"passwd", b"group", b"dump", b"links", b"inodes", b"meta")
-LISTS = ("system.posix_acl_access", "system.posix_acl_default")
 LIST_LIMIT = 1 << 20  # Bytes of the list.
-DIRECTORY = os.O_RDONLY | os.O_DIRECTORY | os.O_NOFOLLOW | os.O_CLOEXEC
-CREATE = os.O_RDWR | os.O_CREAT | os.O_EXCL | os.O_NOFOLLOW | os.O_CLOEXEC
-
-
-def make_private(descriptor: int, mode: int) -> None:
-    """Takes the lists that a new file got by the default list of its directory, and sets its mode."""
-    for name in LISTS:
-        try:
-            os.removexattr(descriptor, name)
-        except OSError:
-            pass  # It has none; what is left is found below.
-    os.fchmod(descriptor, mode)
-    if trusted.has_list(descriptor):
-        raise Failure(b"a new file keeps its access list")
-
-
-def make_directory(name: bytes, above: int) -> int:
-    """Makes a directory of the caller alone, and opens it."""
-    os.mkdir(name, 0o700, dir_fd=above)
-    descriptor = os.open(name, DIRECTORY, dir_fd=above)
-    make_private(descriptor, 0o700)
-    return descriptor
 
 
 def open_folder(name: bytes) -> int:
@@ -72,20 +51,6 @@ def open_folder(name: bytes) -> int:
     return descriptor
 
 
-def fault_of(descriptor: int) -> Optional[bytes]:
-    """Why a file is none that facl-daily made, or why others can open it."""
-    look = os.fstat(descriptor)
-    if not stat.S_ISREG(look.st_mode):
-        return b"is no plain file"
-    if look.st_uid != os.geteuid():
-        return b"belongs to " + trusted.owner_name(look.st_uid)
-    if look.st_nlink != 1:
-        return b"has another name too"
-    if stat.S_IMODE(look.st_mode) != 0o600:
-        return b"has the mode %04o in place of 0600" % stat.S_IMODE(look.st_mode)
-    return None
-
-
 class Folder:
     """DIR by its descriptor; the process works in it."""
 
@@ -98,27 +63,19 @@ class Folder:
         self.lock_file = self.lock()
 
     def open_own(self, name: bytes, above: Optional[int] = None) -> int:
-        """Opens a file that facl-daily made, and fails where it is another one; a pipe or device is not opened."""
-        above = self.descriptor if above is None else above
-        plain = stat.S_ISREG(os.stat(name, dir_fd=above, follow_symlinks=False).st_mode)
-        flags = os.O_RDONLY if plain else os.O_PATH
-        descriptor = os.open(name, flags | os.O_NOFOLLOW | os.O_NONBLOCK | os.O_CLOEXEC, dir_fd=above)
-        fault = fault_of(descriptor) if plain else b"is no plain file"
-        if fault is not None:
-            os.close(descriptor)
-            raise self.fault(name, fault)
-        return descriptor
+        """Opens a file that facl-daily made, and fails if it is another one."""
+        return trusted.open_mark(self.descriptor if above is None else above, self.name, name)
 
     def fault(self, name: bytes, text: bytes) -> Failure:
-        return Failure(self.name + b"/" + name + b": " + text + b", so it is not trusted: look at it, and mend or remove it")
+        return trusted.mark_failure(self.name, name, text)
 
     def lock(self) -> int:
         """Takes the lock, which nobody else can open, until the descriptor is closed here and in all commands that have it."""
         try:
-            descriptor = os.open(LOCK, CREATE, 0o600, dir_fd=self.descriptor)
+            descriptor = create(LOCK, self.descriptor)
         except FileExistsError:
             descriptor = self.open_own(LOCK)
-        make_private(descriptor, 0o600)  # A run may have been killed before this.
+            give_mode(descriptor, PRIVATE)  # The run that made it may have been killed before it did this.
         try:
             fcntl.flock(descriptor, fcntl.LOCK_EX | fcntl.LOCK_NB)
         except BlockingIOError as error:
@@ -135,7 +92,7 @@ class Folder:
 
     def made(self) -> List[bytes]:
         """The snapshots that were kept and are there, the oldest first."""
-        if not has(self.descriptor, MADE):
+        if not is_there(MADE, self.descriptor):
             return []
         with open(self.open_own(MADE), "rb") as file:
             if trusted.has_list(file.fileno()):
@@ -155,7 +112,7 @@ class Folder:
         """The day, with a number from its second snapshot on."""
         last = NAME.fullmatch(names[-1]) if names and names[-1].partition(b".")[0] == day else None
         number = 1 if last is None else int(last[1] or 1) + 1
-        while has(self.descriptor, day if number == 1 else day + b".%d" % number):
+        while is_there(day if number == 1 else day + b".%d" % number, self.descriptor):
             number += 1
         return day if number == 1 else day + b".%d" % number
 
@@ -181,10 +138,10 @@ class Folder:
     def settle(self, inside: int) -> None:
         """Puts the next list of a work folder in place where its snapshot has its name already; else drops it, before the
         snapshot goes."""
-        if has(inside, NEXT) and not has(inside, NEW):
+        if is_there(NEXT, inside) and not is_there(NEW, inside):
             os.close(self.open_own(NEXT, inside))
             os.rename(NEXT, MADE, src_dir_fd=inside, dst_dir_fd=self.descriptor)
-        elif has(inside, NEXT):
+        elif is_there(NEXT, inside):
             os.unlink(NEXT, dir_fd=inside)
 
     def begin(self) -> None:
@@ -210,12 +167,7 @@ class Folder:
 
     def write_next(self, names: List[bytes]) -> None:
         """Writes the next list beside the snapshot."""
-        descriptor = os.open(BEGUN, CREATE, 0o600, dir_fd=self.inside)
-        with open(descriptor, "wb") as file:
-            make_private(descriptor, 0o600)
-            file.write(b"".join(it + b"\n" for it in names))
-            file.flush()
-            os.fsync(descriptor)
+        new_file.write(BEGUN, self.inside, b"".join(it + b"\n" for it in names))
         os.rename(BEGUN, NEXT, src_dir_fd=self.inside, dst_dir_fd=self.inside)  # Never a part of it.
         os.fsync(self.inside)
 
@@ -255,14 +207,6 @@ class Folder:
             self.settle(self.inside)
             shutil.rmtree(self.work)
             self.work = b""
-
-
-def has(folder: int, name: bytes) -> bool:
-    try:
-        os.stat(name, dir_fd=folder, follow_symlinks=False)
-    except FileNotFoundError:
-        return False
-    return True
 
 
 def sync(name: str, folder: int) -> None:

@@ -13,9 +13,9 @@ import signal
 import stat
 from typing import Dict, Iterator, NamedTuple, Optional, Tuple
 
-from . import system, trusted
+from . import new_file, system, trusted
 from .messages import SIGNALS, Failure, reason, signals_wait
-from .new_file import PRIVATE, give_mode
+from .new_file import DIRECTORY, give_mode, is_there, make_directory
 
 VERSION = b"facl-plan 2\n"
 LOCK = b"lock"  # Nobody but the owner can open it, also where a group reads the plan.
@@ -27,7 +27,6 @@ NEW = b".new"  # At the end of a name while the file is written.
 # What facl-apply has done, in the file `state`; without it nothing was done.
 APPLYING, APPLIED, UNDOING, UNDONE = b"applying\n", b"applied\n", b"undoing\n", b"undone\n"
 UNDONE_IN_PART = b"undone in part\n"  # Files that somebody had changed were left out.
-CREATE = os.O_WRONLY | os.O_CREAT | os.O_EXCL | os.O_NOFOLLOW | os.O_CLOEXEC
 
 
 class Folder(NamedTuple):
@@ -37,14 +36,11 @@ class Folder(NamedTuple):
     name: bytes
 
     def has(self, name: bytes) -> bool:
-        try:
-            os.stat(name, dir_fd=self.descriptor, follow_symlinks=False)
-        except FileNotFoundError:
-            return False
-        return True
+        return is_there(name, self.descriptor)
 
     def read(self, name: bytes) -> bytes:
-        return trusted.read_in(self.descriptor, self.name, name, name in MARKS)
+        read = trusted.read_mark if name in MARKS else trusted.read_in
+        return read(self.descriptor, self.name, name)
 
     def has_notes(self) -> bool:
         """Whether by_hand has noted something; without that its notes are empty."""
@@ -58,12 +54,7 @@ class Folder(NamedTuple):
 
     def write(self, name: bytes, text: bytes) -> None:
         """Makes a new file, which is on the disk then."""
-        descriptor = os.open(name, CREATE, PRIVATE, dir_fd=self.descriptor)
-        with open(descriptor, "wb") as file:
-            give_mode(descriptor, PRIVATE)
-            file.write(text)
-            file.flush()
-            os.fsync(descriptor)
+        new_file.write(name, self.descriptor, text)
 
     def replace(self, name: bytes, text: bytes) -> None:
         """Writes a file of a plan by one rename; on the disk it is the old one or the new one."""
@@ -87,7 +78,7 @@ class Folder(NamedTuple):
         """Locks it until the command ends."""
         descriptor = self.descriptor
         if self.has(LOCK):
-            descriptor = trusted.open_in(self.descriptor, self.name, LOCK, is_mark=True)
+            descriptor = trusted.open_mark(self.descriptor, self.name, LOCK)
         try:
             fcntl.flock(descriptor, fcntl.LOCK_EX | fcntl.LOCK_NB)
         except BlockingIOError as error:
@@ -113,8 +104,7 @@ class Place(NamedTuple):
     def open(self) -> Folder:
         """Opens and locks the plan that is there."""
         try:
-            descriptor = os.open(self.name, os.O_RDONLY | os.O_DIRECTORY | os.O_NOFOLLOW | os.O_CLOEXEC,
-                                 dir_fd=self.above)
+            descriptor = os.open(self.name, DIRECTORY, dir_fd=self.above)
         except OSError as error:
             raise Failure(self.shown + b": " + reason(error)) from error
         fault = trusted.fault_of(descriptor, os.fstat(descriptor))
@@ -127,7 +117,7 @@ class Place(NamedTuple):
         return folder
 
     def has(self) -> bool:
-        return Folder(self.above, b"").has(self.name)
+        return is_there(self.name, self.above)
 
     def numbered(self) -> Iterator["Place"]:
         number = 1
@@ -195,9 +185,7 @@ def open_target(name: bytes) -> Target:
 def new_folder(place: Place) -> Tuple[bytes, Folder]:
     """Makes a folder beside a place, which nobody else can enter."""
     name = place.name + b"." + secrets.token_hex(4).encode()
-    os.mkdir(name, 0o700, dir_fd=place.above)
-    descriptor = os.open(name, os.O_RDONLY | os.O_DIRECTORY | os.O_NOFOLLOW | os.O_CLOEXEC, dir_fd=place.above)
-    return name, Folder(descriptor, place.shown)
+    return name, Folder(make_directory(name, place.above), place.shown)
 
 
 def ignore_signals() -> None:
@@ -214,7 +202,6 @@ def write_plan(target: Target, files: Dict[bytes, bytes], group: Optional[int]) 
     try:
         with signals_wait():
             made = new_folder(place)
-        give_mode(made[1].descriptor, 0o700)
         for mark in (LOCK, DONE_BY_HAND):
             made[1].write(mark, b"")
         made[1].lock()

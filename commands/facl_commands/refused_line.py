@@ -15,6 +15,7 @@ PLAIN_CHARACTER = rb"[A-Za-z0-9_./:=@%+,\x80-\xff-]|\\[0-3][0-7][0-7]"
 PLAIN = re.compile(rb"(?:" + PLAIN_CHARACTER + rb")+")
 HARMLESS_LINE = re.compile(rb"(?:" + PLAIN_CHARACTER + rb"|'[^']*'|[ \t])+")
 QUOTED = re.compile(rb"'[^']*'|\"[^\"]*\"")
+IN_DOUBLE_QUOTES = re.compile(rb"('[^']*')|(?<![^ \t])\"([^\"']*)\"(?![^ \t])")  # A word; what is in single quotes is none.
 SUBJECT = re.compile(
     ANY_TOOL + b": (.*): (?:"
     + b"|".join((NO_FILE, NO_USER, NO_GROUP, EXISTS, IS_DIRECTORY, NOT_DIRECTORY, USER_EXISTS)) + rb")\Z", re.DOTALL)
@@ -76,8 +77,9 @@ def quoted(word: bytes) -> bytes:
 
 
 def harmless(text: bytes) -> Optional[bytes]:
-    """Writes a line so that it does nothing in a shell but call its first word: each word is plain or in quotes. Returns
-    None if `text` is no line of a tool."""
+    """Writes a line so that it does nothing in a shell but call its first word: each word is plain or in quotes, also one in
+    double quotes, which do not quote here. Returns None if `text` is no line of a tool."""
+    text = IN_DOUBLE_QUOTES.sub(lambda found: found[1] or b"'" + found[2] + b"'", text)
     words = words_of(text)
     if not words or words[0] not in OPTIONS:
         return None

@@ -12,12 +12,11 @@ import shutil
 from typing import IO, Iterator, Optional
 
 from .messages import Failure, reason, signals_wait
-from .new_file import PRIVATE, give_mode
+from .new_file import create, make_directory
 from .trusted import open_folder
 
 USUAL = (b"/tmp", b"/var/tmp")
 PROBE = bytes(4096)  # Which is written where a place is tried: a file system without room still makes folders.
-MAKE = os.O_RDWR | os.O_CREAT | os.O_EXCL | os.O_NOFOLLOW | os.O_CLOEXEC
 
 
 def new_name(prefix: str) -> bytes:
@@ -28,7 +27,7 @@ def make_file(folder: int, prefix: str) -> IO[bytes]:
     """A file without a name."""
     name = new_name(prefix)
     with signals_wait():
-        descriptor = os.open(name, MAKE, PRIVATE, dir_fd=folder)
+        descriptor = create(name, folder)
         os.unlink(name, dir_fd=folder)
     return open(descriptor, "w+b")
 
@@ -77,12 +76,7 @@ def make_folder(prefix: str) -> bytes:
     """Makes a folder, which nobody else can enter, and returns its whole name."""
     with place() as above:
         name = new_name(prefix)
-        os.mkdir(name, 0o700, dir_fd=above)
-        made = os.open(name, os.O_RDONLY | os.O_DIRECTORY | os.O_NOFOLLOW | os.O_CLOEXEC, dir_fd=above)
-        try:
-            give_mode(made, 0o700)
-        finally:
-            os.close(made)
+        os.close(make_directory(name, above))
         return os.path.join(os.readlink(b"/proc/self/fd/%d" % above), name)
 
 

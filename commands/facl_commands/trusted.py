@@ -13,14 +13,15 @@ import re
 import stat
 from typing import IO, List, Optional
 
+from . import lists
 from .messages import Failure, reason
 
+PRIVATE = 0o600
 MOST = 1 << 30  # Bytes of a text of a snapshot, or of a file of a plan: a dump that the program loads has a quarter.
 MOST_WRITTEN = 64 << 20  # Bytes of what a person writes: rules, accepted findings.
 PIECE = 1 << 20
 DESCRIPTOR = re.compile(rb"/(?:dev|proc/self)/fd/([0-9]{1,9})")
 LINKS_LIMIT = 40  # Symbolic links on one way, as in the kernel.
-ACCESS_LIST = b"system.posix_acl_access"
 
 
 def owner_name(uid: int) -> bytes:
@@ -43,7 +44,7 @@ def is_own_group(gid: int, uid: int) -> bool:
 
 def has_list(descriptor: int) -> bool:
     try:
-        return bool(os.getxattr(b"/proc/self/fd/%d" % descriptor, ACCESS_LIST))
+        return bool(os.getxattr(b"/proc/self/fd/%d" % descriptor, lists.ACCESS))
     except OSError as error:
         return error.errno not in (errno.ENODATA, errno.ENOTSUP)
 
@@ -195,30 +196,61 @@ def read_given(name: bytes) -> bytes:
         raise Failure(name + b": " + reason(error)) from error
 
 
-def open_in(folder: int, shown: bytes, name: bytes, is_mark: bool = False) -> int:
-    """Opens a file of an open folder; shown is the folder's name in messages. A mark is a file that a command makes for
-    itself: it has one name, and nobody else can open it."""
+def open_in(folder: int, shown: bytes, name: bytes) -> int:
+    """Opens a file of an open folder; `shown` is the folder's name in messages."""
     try:
         descriptor = os.open(name, os.O_RDONLY | os.O_NOFOLLOW | os.O_NONBLOCK | os.O_CLOEXEC, dir_fd=folder)
     except OSError as error:
         raise Failure(shown + b"/" + name + b": " + reason(error)) from error
     look = os.fstat(descriptor)
     fault = b"is no plain file" if not stat.S_ISREG(look.st_mode) else fault_of(descriptor, look)
-    if fault is None and is_mark:
-        fault = fault_of_mark(look)
     if fault is not None:
         os.close(descriptor)
         raise Failure(shown + b"/" + name + b": " + fault + b", so it is not trusted")
     return descriptor
 
 
+def read_in(folder: int, shown: bytes, name: bytes) -> bytes:
+    """Returns what is in a file of an open folder."""
+    with open(open_in(folder, shown, name), "rb") as file:
+        return read_all(file, shown + b"/" + name, MOST)
+
+
+# --- files that a command makes for itself, and believes later
+
+
 def fault_of_mark(look: os.stat_result) -> Optional[bytes]:
+    """Says why a file is none that a command of the caller made for itself; returns None if it can be one."""
+    if not stat.S_ISREG(look.st_mode):
+        return b"is no plain file"
+    if look.st_uid != os.geteuid():
+        return b"belongs to " + owner_name(look.st_uid)
     if look.st_nlink != 1:
-        return b"has %d names" % look.st_nlink
-    return b"can be opened by others" if look.st_mode & 0o077 else None
+        return b"has another name too"
+    mode = stat.S_IMODE(look.st_mode)
+    return None if mode == PRIVATE else b"has the mode %04o in place of %04o" % (mode, PRIVATE)
 
 
-def read_in(folder: int, shown: bytes, name: bytes, is_mark: bool = False) -> bytes:
-    """What is in a file of an open folder."""
-    with open(open_in(folder, shown, name, is_mark), "rb") as file:
+def mark_failure(shown: bytes, name: bytes, fault: bytes) -> Failure:
+    return Failure(shown + b"/" + name + b": " + fault + b", so it is not trusted: look at it, and mend or remove it")
+
+
+def open_mark(folder: int, shown: bytes, name: bytes) -> int:
+    """Opens a mark of an open folder; fails if it is another file. A pipe or device is not opened."""
+    try:
+        is_plain = stat.S_ISREG(os.stat(name, dir_fd=folder, follow_symlinks=False).st_mode)
+        flags = os.O_RDONLY if is_plain else os.O_PATH
+        descriptor = os.open(name, flags | os.O_NOFOLLOW | os.O_NONBLOCK | os.O_CLOEXEC, dir_fd=folder)
+    except OSError as error:
+        raise Failure(shown + b"/" + name + b": " + reason(error)) from error
+    fault = fault_of_mark(os.fstat(descriptor))
+    if fault is not None:
+        os.close(descriptor)
+        raise mark_failure(shown, name, fault)
+    return descriptor
+
+
+def read_mark(folder: int, shown: bytes, name: bytes) -> bytes:
+    """Returns what is in a mark of an open folder."""
+    with open(open_mark(folder, shown, name), "rb") as file:
         return read_all(file, shown + b"/" + name, MOST)

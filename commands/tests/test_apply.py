@@ -74,14 +74,14 @@ class Plans(Case):
             if not os.path.exists(place):
                 self.write("before.plan/" + name, b"undone\n")
             os.chmod(place, 0o640)
-            self.refused("/%s: can be opened by others, so it is not trusted" % name)
+            self.refused("/%s: has the mode 0640 in place of 0600, so it is not trusted" % name)
             os.chmod(place, 0o600)
             os.link(place, self.path("other name"))
-            self.refused("/%s: has 2 names, so it is not trusted" % name)
+            self.refused("/%s: has another name too, so it is not trusted" % name)
             os.unlink(self.path("other name"))
             os.rename(place, self.path("kept"))
             os.mkfifo(place, 0o600)
-            self.refused("/%s: (is no plain file, so it is not trusted|No such device or address)" % name)
+            self.refused("/%s: is no plain file, so it is not trusted" % name)
             os.unlink(place)
             os.rename(self.path("kept"), place)
 

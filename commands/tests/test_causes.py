@@ -366,6 +366,11 @@ class Hostile(unittest.TestCase):
                     self.assertEqual(sorted(os.listdir(folder)), ["it", "ran"])
                     os.unlink(os.path.join(folder, "ran"))
 
+    def test_words_in_double_quotes_are_in_single_ones(self) -> None:
+        for line, wanted in ((b'rm "a b" "$(it)" x"y', b"rm 'a b' '$(it)' 'x\"y'"), (b"rm 'a \"b\" c'", b"rm 'a \"b\" c'"),
+                             (b"rm 'a\"b c\" d' \"\"", b"rm 'a\"b c\" d' ''"), (b'rm "a\'b"', None)):
+            self.assertEqual(refused_line.harmless(line), wanted)
+
     def test_commands_are_cut_outside_of_quotes_alone(self) -> None:
         for line, lines in ((b"getfacl 'a;b' ; changes", [b"getfacl 'a;b'", b"changes"]), (b"getfacl a; touch b", [b"getfacl a"]),
                             (b"chmod 600 a; \\'; rm b; \\'", [b"chmod 600 a"]), (b"chmod 600 a; chmod 'b", [])):

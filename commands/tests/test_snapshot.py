@@ -612,6 +612,16 @@ class Said(SnapshotCase):
         text = b"files or folders that could not be read, so that the dump lacks them or what is in them: 1, first: find: x: no\n"
         self.assertEqual(self.snapshot("--quiet", "other", "tree"), Done(1, b"", b"facl-snapshot: warning: " + text))
 
+    def test_wrong_words(self) -> None:
+        for words, message in (((), b"a FOLDER is missing, as in: facl-snapshot before /srv/project"), (("new",), b"a FOLDER is missing, "),
+                               (("--frob", "new", "tree"), b"--frob: is no option"), (("--users",), b"--users: takes a word"),
+                               (("--exclude=", "new", "tree"), b"--exclude: takes a word"),
+                               (("--exclude", "/", "new", "tree"), b"--exclude /: leaves out all"),
+                               (("--split", "0", "new", "tree"), b"--split 0: is no number from 1 to 9999999")):
+            done = self.snapshot(*words)
+            self.expect_status(done, 2, b"\nfacl-snapshot: " + message)
+            self.assertEqual((done.out, done.messages[:21]), (b"", b"usage: facl-snapshot "))
+
     def test_messages_of_other_programs(self) -> None:
         self.after_find(b"printf 'find: \\033]0;x\\007: no\\n' >&2; status=1")
         done = self.snapshot("new", "tree")
