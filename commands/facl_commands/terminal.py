@@ -12,9 +12,9 @@ from . import trusted
 from .completion import Completer
 from .messages import Failure
 from .prompt import Read
+from .trusted import PRIVATE
 
 HISTORY = ".facl_history"
-PRIVATE = 0o600
 
 
 def find_toolkit() -> Optional[ModuleType]:
