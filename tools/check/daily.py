@@ -1,7 +1,7 @@
 #!/usr/bin/env python3
 """Runs commands/facl-daily as root over a small tree, with a sendmail of its own, and ends it at any moment, fills its
-disk, and has another user lock, open and exchange what it uses: what changed is said once or again, each run that ends
-without its text sends a mail, and nothing is left.
+disk, and has another user lock, open and own what it uses: what changed is said once or again, each run that ends without
+its text, but by SIGKILL, sends a mail, and the next one leaves nothing of it.
 
 usage: tools/check/daily.py [--PART N].. [--seed N] [--folder DIR] [--record] PROGRAM
 

@@ -1,9 +1,12 @@
 #!/usr/bin/env python3
-"""Takes snapshots by commands/facl-snapshot as root, and compares what it writes, warns of and leaves, and what the
-program answers of them, with what has to be. commands/tests/test_snapshot.py tries what needs no root and no lists.
+"""Takes snapshots by commands/facl-snapshot as root, also while a user exchanges and moves files, and compares what it writes,
+warns of and leaves, and what the program answers of them, with what has to be.
 
-It makes its files in a folder of its own, and asks about the user nobody. --help prints its parts. The exit status is 1
-where something is not as it has to be, 2 where the words are others, a tool is not installed or it is not run as root.
+usage: tools/check/snapshot.py [--PART N].. [--seed N] [--folder DIR] [--record] PROGRAM
+
+It makes its files in a folder of its own, and asks about the user nobody. --help prints its parts; commands/tests/test_snapshot.py
+tries what needs no root and no lists. The exit status is 1 where something is not as it has to be, 2 where the words are
+others, a tool is not installed or it is not run as root.
 """
 from __future__ import annotations
 
