@@ -135,8 +135,9 @@ class Daily(Check):
             self.count("over before" if is_over else "ended by SIGKILL" if is_killed else "ended by others")
             mails = self.mails()
             said += mails.count(CHANGED)
-            # Less than 0: by SIGKILL, or before it began; 0: it came too late in the run before.
-            expect(done.returncode <= 0 or b"Subject: " in mails, f"no mail: {done}")
+            # Less than 0: by SIGKILL, or before it began; 0: it came too late in the run before. Python itself ends with 1.
+            has_begun = b"Fatal Python error: init_" not in done.stderr
+            expect(done.returncode <= 0 or b"Subject: " in mails or not has_begun, f"no mail: {done}")
         mails = self.daily()
         said += mails.count(CHANGED)
         expect(said >= 1, f"what changed was never said: {mails!r}")
