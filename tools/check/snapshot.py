@@ -126,7 +126,9 @@ class Snapshots(Check):
         for words in ("", "other", "--readers", "--exclude", "--exclude / odd other", "--frob odd other", "--program",
                       "--program odd"):
             self.took(2, words)
-            expect(self.done.stderr == usage, f"usage: {words}: {self.done}")
+            *before, reason = self.done.stderr.splitlines(True)
+            is_so = b"".join(before) == usage and reason.startswith(b"facl-snapshot: ")
+            expect(is_so, f"usage: {words}: {self.done}")
         self.took(2, "--program ./absent other closed", "./absent: no such program")
 
     def check_targets(self, _seed: int) -> None:
