@@ -112,7 +112,7 @@ class Damaged(Check):
             ((b"facl-diff", b"--all-users", folder, self.name("before")), (0, 1, 2), b""),
             ((b"facl-diff", b"--all-users", b"--json", self.name("before"), folder, b"/"), (0, 1, 2), b""),
             ((b"facl-plan", b"--keep-going", b"--plan", self.name("new.plan"), folder, self.name("edits")), (0, 1, 2, 3), b""),
-            ((b"facl-report", folder, self.name("page.html")), (0, 1, 2), b""),
+            ((b"facl-report", b"--output", self.name("page.html"), folder), (0, 1, 2), b""),
         ]
 
     def check_snapshots(self, seed: int) -> None:

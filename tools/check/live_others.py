@@ -25,8 +25,8 @@ sys.dont_write_bytecode = True
 sys.path.insert(0, os.path.join(os.path.dirname(os.path.realpath(__file__)), "..", "lib"))
 import script  # noqa: E402
 from live_tree import (  # noqa: E402
-    CHANGING, GIDS, LIBRARY, MALLORY, UIDS, UNDO, Call, Check, Done, State, Table, Traced, Tree, child, copy, exchange,
-    expect, held, main, make, make_tree, must, remove, run, state_of, states_of, trace, word,
+    CHANGING, COMMANDS, GIDS, LIBRARY, MALLORY, PYTHON, UIDS, UNDO, Call, Check, Done, State, Table, Traced, Tree, child,
+    copy, exchange, expect, held, main, make, make_tree, must, remove, run, state_of, states_of, trace, word,
 )
 
 BEN, MARA, GUEST = UIDS[1:]
@@ -85,6 +85,20 @@ HAND_LINKS = {"mine/link": "secret", "mine/d/to_secret": "secret", "mine/d/to_ba
               "mine/d/to_empty": "secret/empty", "mine/d/to_new": "secret/new"}
 
 
+# Runs words in a folder of MALLORY, where no usual place of temporary files has room; the work folder is /mnt.
+FULL = b'''\
+mount --bind "$0" /mnt
+for place in /tmp /var/tmp; do
+    mount -t tmpfs -o size=64k,mode=1777 none $place
+    head -c 1000000 /dev/zero >$place/full 2>/dev/null
+done
+cd /mnt/own
+TMPDIR=$1
+export TMPDIR
+shift
+exec "$@"'''
+
+
 class Race(NamedTuple):
     mode: str  # apply, failing or undo.
     one: str
@@ -97,7 +111,7 @@ class Others(Check):
     """What other processes do meanwhile."""
 
     tools = [*Check.tools, "dash", "bash"]
-    parts = {"races": 520, "free": 45, "watched": 20, "trusted": 1, "locks": 20, "by_hand": 320,
+    parts = {"races": 520, "free": 45, "watched": 20, "trusted": 1, "places": 1, "locks": 20, "by_hand": 320,
              "group": 180}
 
     # --- races
@@ -406,6 +420,25 @@ class Others(Check):
             self.count(f"commands while {name.decode()} is in the middle", len(found))
             self.undo(tree, 0, 3)
             found.clear()
+
+    def check_places(self, _seed: int) -> None:
+        """MALLORY has filled /tmp and /var/tmp, and root works in a folder of MALLORY: facl-plan ends with a message, or
+        takes a $TMPDIR that nobody else can write; nothing is made in the folder."""
+        top, own, room = (make(self.name(it), 0o755, owner) for it, owner in (("places/", 0), ("own/", MALLORY), ("room/", 0)))
+        expect(self.planned(Tree.of(top, [b"a"]), b"chmod 600 " + word(top + b"/a")), "no plan of the places")
+        full = b": No space left on device"
+        for place, status, said in ((b"", 2, b"/tmp%s; /var/tmp%s" % (full, full)), (b".", 2, b"/tmp%s; /var/tmp%s" % (full, full)),
+                                    (b"/mnt/own", 2, b"/mnt/own: belongs to "), (b"/mnt/room", 0, b"")):
+            self.remove_plans()
+            before = os.stat(own).st_mtime_ns  # Which a file that is made and removed changes too.
+            facl_plan = [PYTHON, b"-I", os.path.join(COMMANDS, b"facl-plan"), b"/mnt/before", b"/mnt/edits"]
+            words = [b"unshare", b"-m", b"sh", b"-c", FULL, self.work, place, *facl_plan]
+            done = run(words, variables={"FACL": self.given.program})
+            must(done, status, said=b"no place for files of the command's own: " * (status == 2) + said)
+            expect(os.stat(own).st_mtime_ns == before, f"TMPDIR {place!r}: something was made in the current folder")
+            is_clean = not os.listdir(room) and os.path.exists(self.plan) == (status == 0)
+            expect(is_clean, f"TMPDIR {place!r}: left {os.listdir(room)}, plan {os.path.exists(self.plan)}")
+            self.count(f"runs with full places, status {status}")
 
     def check_by_hand(self, seed: int) -> None:
         """MALLORY owns the folder in which by_hand, or by_hand_undo alone, removes and makes files. It exchanges, links
