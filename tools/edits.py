@@ -43,6 +43,7 @@ from wrong_bodies import Fault, WrongBody  # noqa: E402
 
 PROVED = re.compile(r"^rt: (\w+) proved$", re.MULTILINE)
 NICE = 10
+PAUSE = 1.0  # Seconds between two looks at what ended; each reads /proc.
 
 
 class Proved:
@@ -221,7 +222,7 @@ class Gate:
         try:
             while self.step(libraries, jobs, lambda trial: trial.prepare(
                     work, kit.words("check", self.crates, trial.crate, libraries.folder))):
-                time.sleep(0.5)
+                time.sleep(PAUSE)
         finally:
             for trial in self.trials:
                 if trial.check:

@@ -430,7 +430,13 @@ class Meanwhile(Tree):
             signal.sigwait({signal.SIGQUIT})
             signal.pthread_sigmask(signal.SIG_SETMASK, before)
 
+    def keep_signals(self) -> None:
+        """Has the signals do at the end what they do now: a command ignores them once its work is done."""
+        for number in SIGNALS:
+            self.addCleanup(signal.signal, number, signal.getsignal(number))
+
     def test_memory_runs_out_in_the_middle(self) -> None:
+        self.keep_signals()
         carrier = self.carrier(b"chmod 604 " + self.word("a") + b" " + self.word("b"))
         real = carrying.change
 
@@ -450,8 +456,7 @@ class Meanwhile(Tree):
 
     def test_no_signal_is_the_status_of_what_is_done(self) -> None:
         carrier = self.carrier(b"chmod 604 " + self.word("a"))
-        for number in SIGNALS:
-            self.addCleanup(signal.signal, number, signal.getsignal(number))
+        self.keep_signals()
         command = unittest.mock.Mock()
         self.assertEqual(apply.carry_out(command, carrier.way, carrier, True), 0)
         command.tell.assert_called_once_with(b"1 file is as planned")
