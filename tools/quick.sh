@@ -1,6 +1,6 @@
 #!/bin/sh
-# Runs the tests of all crates without a proof, and those of the commands and scripts that need no program, side by side: at
-# most five minutes on four processors. Each crate of tests is compiled with run-time checks by `rt try --test`.
+# Runs the tests of all crates without a proof, and those of the commands and scripts that need no program, side by side, in
+# some minutes. Each crate of tests is compiled with run-time checks by `rt try --test`.
 #
 # usage: tools/quick.sh
 #
