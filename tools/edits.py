@@ -36,8 +36,9 @@ import lanes  # noqa: E402
 import script  # noqa: E402
 import wrong_bodies  # noqa: E402
 from kit import Kit  # noqa: E402
+from processes import is_running, programs_below  # noqa: E402
 from prove import KEPT, Kept  # noqa: E402
-from side_by_side import LOGS, Run, folder_of, is_running, log_of, programs_below  # noqa: E402
+from side_by_side import LOGS, Run, folder_of, log_of  # noqa: E402
 from ways import Crates  # noqa: E402
 from wrong_bodies import Fault, WrongBody  # noqa: E402
 
@@ -81,7 +82,7 @@ class Beside:
         """Whether a lane is idle, once the first crate is proved: until then all have work."""
         if not is_running(self.process):
             return True
-        busy = programs_below(self.process, "rattle") + running
+        busy = len(programs_below(self.process, "rattle")) + running
         return bool(self.crates) and busy < self.jobs and lanes.room().free > lanes.GIGABYTES_A_LANE * 1e9
 
 

@@ -5,8 +5,8 @@ usage: tools/gate.py
 
 First the ways through crates.txt (tools/ways.py) and tools/check_commands.sh --lint, which ends the gate where it finds
 something. Then `rt ci` proves every crate from nothing and runs its tests, in as many lanes as tools/lib/lanes.py finds: with
-two or more they are given by RT_JOBS, and then `rt ci` reserves no memory; with one, or where RT_JOBS is set already, nothing
-changes. Beside it, tools/edits.py tries the wrong bodies of crates/NAME/wrong/ on lanes that are idle, and once `rt ci` says
+two or more they are given by RT_JOBS, and then `rt ci` reserves no memory, but a check waits while memory is short
+(tools/lib/memory_watch.py); with one, or where RT_JOBS is set already, nothing changes. Beside it, tools/edits.py tries the wrong bodies of crates/NAME/wrong/ on lanes that are idle, and once `rt ci` says
 that facl_cli is proved, which it does after it has built it, tools/check_commands.sh tests the commands by it.
 
 What `rt ci` prints is printed as it comes; what the others print, once it has ended. The last line is `N passed, M failed`, of
@@ -28,10 +28,13 @@ sys.dont_write_bytecode = True
 sys.path.insert(0, os.path.join(os.path.dirname(os.path.realpath(__file__)), "lib"))
 import lanes  # noqa: E402
 import script  # noqa: E402
+from memory_watch import MemoryWatch  # noqa: E402
+from processes import programs_below  # noqa: E402
 from script import TOP  # noqa: E402
 
 PROGRAM = "crates/facl_cli/out/facl_cli"
 BUILT = b"\nrt: facl_cli proved\n"
+PAUSE = 0.5  # Seconds between two looks at what ended, and at memory.
 NUMBERS = re.compile(r"(\d+) passed, (\d+) failed")
 
 
@@ -82,22 +85,33 @@ class Gate:
     def __init__(self, work: str) -> None:
         self.work = work
         self.stages: Dict[str, Stage] = {}
+        self.watch = MemoryWatch()
 
     def start(self, name: str, words: List[str], environment: Optional[Dict[str, str]] = None,
               keeps_messages: bool = True) -> Stage:
         self.stages[name] = Stage(os.path.join(self.work, name), words, environment, keeps_messages)
         return self.stages[name]
 
+    def update(self) -> None:
+        """Has a check wait where memory is short."""
+        self.watch.update(programs_below(os.getpid(), "rattle"), lanes.room().free)
+
     def end(self) -> None:
+        self.watch.end()
         for stage in self.stages.values():
             stage.end()
 
     def sum(self) -> int:
         """Waits for all, prints their output and the last line. Returns the exit status."""
+        while not all(stage.ended() for stage in self.stages.values()):
+            self.update()
+            time.sleep(PAUSE)
         found = []
         for stage in self.stages.values():
             found.append(stage.numbers())
             stage.show()
+        if self.watch.stops:
+            script.say(f"checks waited for memory {self.watch.stops} times")
         failed = sum(each[1] for each in found)
         print(f"{sum(each[0] for each in found)} passed, {failed} failed", flush=True)
         return 1 if failed else 0
@@ -137,7 +151,8 @@ def run(gate: Gate) -> int:
         rt.show()
         if "commands" not in gate.stages and BUILT in rt.text():
             gate.start("commands", ["tools/check_commands.sh", "--no-lint", PROGRAM])
-        time.sleep(0.5)
+        gate.update()
+        time.sleep(PAUSE)
     rt.show()
     if "commands" not in gate.stages:
         gate.start("commands", ["tools/check_commands.sh", "--no-lint", PROGRAM])

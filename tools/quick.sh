@@ -1,6 +1,7 @@
 #!/bin/sh
-# Runs the tests of all crates without a proof, and those of the commands and scripts that need no program, side by side, in
-# some minutes. Each crate of tests is compiled with run-time checks by `rt try --test`.
+# Runs the tests of all crates without a proof, the scripts of commands/tests/rows by the program before its proof, and those
+# tests of the commands and of tools/ that need no program, side by side, in some minutes. Each crate of tests and the program
+# are compiled with run-time checks by `rt try`.
 #
 # usage: tools/quick.sh
 #

@@ -1,4 +1,7 @@
-"""Findings that are accepted, each with a reason: the lines of the file of --accepted."""
+"""Findings that are accepted, each with a reason: the lines of the file of --accepted.
+
+The file may be one that the caller cannot read, as by sudo: messages have no word of a line but the name of a finding.
+"""
 from __future__ import annotations
 
 import os
@@ -7,7 +10,7 @@ from typing import List, NamedTuple, Set
 from .findings import BY_NAME, Findings
 from .messages import Failure
 from .names import read_path
-from .scripts import is_empty, words_of
+from .scripts import lines_with_numbers, words_of
 from .trusted import read_given
 
 FIELDS = 3  # The finding, the path, and the first word of the reason.
@@ -41,15 +44,14 @@ def read_line(name: bytes, number: int, line: bytes) -> Accepted:
         raise Failure(b"%s, line %d: %s" % (name, number, b"a quote is open" if words is None else FORM))
     kind = words[0].decode("utf-8", "replace")
     if kind not in BY_NAME:
-        raise Failure(b"%s, line %d: %s: is no finding; facl-audit --help lists them" % (name, number, words[0]))
+        raise Failure(b"%s, line %d: word 1: no such finding; facl-audit --help lists them" % (name, number))
     return Accepted(name, number, kind, words[1], b" ".join(words[2:]))
 
 
 def read_accepted(name: str) -> List[Accepted]:
     """The lines of a file that nobody else than root and the caller can have written."""
     shown = os.fsencode(name)
-    lines = read_given(shown).split(b"\n")
-    return [read_line(shown, number, line) for number, line in enumerate(lines, 1) if not is_empty(line)]
+    return [read_line(shown, number, line) for number, line in lines_with_numbers(read_given(shown))]
 
 
 class Sorted(NamedTuple):
@@ -58,6 +60,14 @@ class Sorted(NamedTuple):
     rest: Findings
     unused: List[Accepted]  # The lines that no file has.
     accepted: int  # Files.
+
+
+class Unused(NamedTuple):
+    """A line that accepts nothing."""
+
+    line: Accepted
+    said: bytes
+    is_recorded: bool  # Whether its path is in the snapshot.
 
 
 def sort_out(findings: Findings, lines: List[Accepted]) -> Sorted:
@@ -78,7 +88,7 @@ def sort_out(findings: Findings, lines: List[Accepted]) -> Sorted:
 
 def why_unused(line: Accepted, findings: Findings) -> bytes:
     """What is said of a line that accepts nothing."""
-    text = b"%s, line %d: %s %s: is not found" % (line.file, line.number, line.kind.encode(), line.word)
+    text = b"%s, line %d: %s is not found" % (line.file, line.number, line.kind.encode())
     if not line.is_folder() and any(it.path.startswith(line.path() + b"/") for it in findings[line.kind]):
-        return text + b" there, but below it: end the path with a slash"
-    return text + b": remove the line"
+        return text + b" at the path, but below it: end the path with a slash"
+    return text + b" at the path: remove the line"

@@ -4,6 +4,7 @@ from __future__ import annotations
 import argparse
 import contextlib
 import os
+import re
 import signal
 import subprocess
 import termios
@@ -16,11 +17,12 @@ from .messages import SIGNALS, Command, Failure, parser_of, reason
 from .names import shown
 from .program import Session, environment_of_called, find_program
 from .protocol import ANSWERED, REFUSED, is_refused
-from .scripts import Unit, open_script, read_script, read_text, read_units
+from .scripts import Unit, lines_of_file, open_script, read_script, read_text, read_units
+from .side_by_side import SECONDS
 from .snapshot import check_texts
 from .stops import marked
 from .texts import Source
-from .trusted import MOST
+from .trusted import MOST_WRITTEN, too_large
 
 HELP = """\
 Answers questions and edits over a snapshot, by the program facl.
@@ -42,7 +44,7 @@ paths. A line that edits is taken where all its files lie in one of them.
 
 With --hosts all words are servers, NAME:DIR, each with a snapshot DIR of its own. They answer standard input side by
 side, by GNU parallel and ssh, and each line of an answer and each message begins with the NAME. localhost is this
-machine.
+machine. One that does not answer in time has a message, and the others' answers are given.
 """
 STATUS = """\
 The exit status is that of facl: 0 where every line was accepted, 1 where some line was refused, 2 where it ended
@@ -58,6 +60,8 @@ def parse(words: List[str]) -> argparse.Namespace:
     parser.add_argument("--each", action="store_true", help="answer standard input over several SNAPSHOTs side by side")
     parser.add_argument("--hosts", action="store_true",
                         help="answer standard input over the snapshots of several servers, NAME:DIR")
+    parser.add_argument("--timeout", metavar="SECONDS", type=seconds_of,
+                        help=f"with --each and --hosts: how long another machine may take ({SECONDS})")
     parser.add_argument("--records", action="store_true", help=argparse.SUPPRESS)  # With --part: what it records, too.
     # With --part: a file that other snapshots have too.
     parser.add_argument("--shared", action="append", default=[], help=argparse.SUPPRESS)
@@ -65,6 +69,14 @@ def parse(words: List[str]) -> argparse.Namespace:
     texts.add_source(parser, words)
     parser.add_argument("scripts", metavar="SCRIPT", nargs="*", default=[])
     return parser.parse_args(words)
+
+
+def seconds_of(word: str) -> int:
+    """A number of seconds that a wait can have."""
+    found = int(word) if re.fullmatch("[0-9]{1,7}", word) else 0
+    if found == 0:
+        raise argparse.ArgumentTypeError(word + ": is no number from 1 to 9999999")
+    return found
 
 
 def program_words(program: str, folder: bytes) -> List[bytes]:
@@ -82,35 +94,36 @@ def program_words(program: str, folder: bytes) -> List[bytes]:
 
 
 def take_script(script: str) -> None:
-    """Makes a script the standard input."""
-    if script != "-":
-        try:
-            descriptor = open_script(script)
-            os.read(descriptor, 0)  # A folder cannot be read.
-        except OSError as error:
-            raise Failure(os.fsencode(script) + b": " + reason(error)) from error
-        os.dup2(descriptor, 0)
+    """Makes a script by name the standard input."""
+    try:
+        descriptor = open_script(script)
+        os.read(descriptor, 0)  # A folder cannot be read.
+    except OSError as error:
+        raise Failure(os.fsencode(script) + b": " + reason(error)) from error
+    if os.fstat(descriptor).st_size > MOST_WRITTEN:  # The program ends at so many of another one, as of a device.
+        raise too_large(os.fsencode(script), MOST_WRITTEN)
+    os.dup2(descriptor, 0)
 
 
 def units_of_input() -> Dict[int, Unit]:
     """The lines of a script that is the standard input, by their numbers; none where it can be read once alone."""
     try:
         size = os.fstat(0).st_size
-        text = os.pread(0, size, 0) if size <= MOST else b""
+        text = os.pread(0, size, 0) if size <= MOST_WRITTEN else b""
     except OSError:
         return {}
     return {unit.number: unit for unit in read_script(b"", text)}
 
 
-def run_explained(command: Command, program: str, source: Source, is_explained: bool) -> int:
-    """Runs the program over a script, and returns its status; below each message comes what was probably meant, of a
-    script by name. A terminal gets messages without what it obeys."""
+def run_explained(command: Command, program: str, source: Source, name: Optional[bytes]) -> int:
+    """Runs the program over the standard input, and returns its status. Where that is a script by name, what was probably
+    meant comes below each message. A terminal gets messages without what it obeys."""
     from .causes import explained_by_number
 
-    units: Optional[Dict[int, Unit]] = None if is_explained else {}
+    units: Optional[Dict[int, Unit]] = None if name is not None else {}
     is_terminal = os.isatty(2)
     with subprocess.Popen(program_words(program, source.folder), stderr=subprocess.PIPE,
-                          env=environment_of_called()) as run:
+                          env=environment_of_called()) as run, ended(run):
         assert run.stderr is not None
         for line in run.stderr:
             units = units_of_input() if units is None else units
@@ -118,6 +131,16 @@ def run_explained(command: Command, program: str, source: Source, is_explained: 
             command.explain(explained_by_number(units, line.rstrip(b"\n")))
             command.put(command.messages)
     return run.returncode if run.returncode >= 0 else 128 - run.returncode
+
+
+@contextlib.contextmanager
+def ended(run: "subprocess.Popen[bytes]") -> Iterator[None]:
+    """A program that is left early is ended: its script may be a pipe of which nothing comes."""
+    try:
+        yield
+    except BaseException:
+        run.kill()
+        raise
 
 
 def become_program(program: str, folder: bytes) -> NoReturn:
@@ -151,11 +174,12 @@ def answer_units(
     return status
 
 
-def answer_input(command: Command, program: str, folder: bytes, is_explained: bool) -> int:
-    """Answers the lines of standard input, each when it is read."""
+def answer_input(command: Command, program: str, folder: bytes, name: Optional[bytes]) -> int:
+    """Answers the lines of standard input, which can be a script by name, each when it is read."""
     with open(0, "rb", closefd=False) as file:
-        units = read_units(b"", (line[:-1] if line.endswith(b"\n") else line for line in file))
-        return answer_units(command, program, folder, units, False, is_explained, lambda unit: b"line %d" % unit.number)
+        units = read_units(b"", lines_of_file(file, b"standard input" if name is None else name))
+        return answer_units(command, program, folder, units, False, name is not None,
+                            lambda unit: b"line %d" % unit.number)
 
 
 def leave(number: int, _frame: Optional[FrameType]) -> None:
@@ -233,13 +257,14 @@ def answer_one(command: Command, given: argparse.Namespace, source: Source) -> i
         overview.say_notices(command, source)
         units = [unit for name in given.scripts or ["-"] for unit in read_text(name).units()]
         return answer_units(command, program, source.folder, units, given.headings)
-    is_named = given.scripts not in ([], ["-"])
-    take_script(given.scripts[0] if is_named else "-")
+    name = None if given.scripts in ([], ["-"]) else os.fsencode(given.scripts[0])
+    if name is not None:
+        take_script(given.scripts[0])
     overview.say_notices(command, source)
     if os.isatty(1):
-        return answer_input(command, program, source.folder, is_named)
-    if is_named or os.isatty(2):
-        return run_explained(command, program, source, is_named)
+        return answer_input(command, program, source.folder, name)
+    if name is not None or os.isatty(2):
+        return run_explained(command, program, source, name)
     if source.is_made:  # The folder is removed after it.
         words = program_words(program, source.folder)
         status = subprocess.run(words, env=environment_of_called(), check=False).returncode
@@ -249,6 +274,8 @@ def answer_one(command: Command, given: argparse.Namespace, source: Source) -> i
 
 def body(command: Command, words: List[str]) -> int:
     given = parse(words)
+    if given.timeout is not None and not (given.each or given.hosts):
+        raise Failure(b"--timeout is for --each and --hosts")
     if given.each and given.hosts:
         raise Failure(b"--each is for parts of one tree, and --hosts for servers: give one of them")
     if given.each or given.hosts:

@@ -3,10 +3,10 @@ from __future__ import annotations
 
 import argparse
 import os
-from typing import List, Optional
+from typing import List, Optional, Set
 
-from . import choice, overview, texts
-from .accepted import Accepted, read_accepted, sort_out, why_unused
+from . import choice, overview, split_tree, texts
+from .accepted import Accepted, Unused, read_accepted, sort_out, why_unused
 from .alike import at_or_below
 from .audit_lists import of_lists
 from .audit_report import SCHEMA, Report, json_of, lines_of, table_of, table_of_files
@@ -14,16 +14,13 @@ from .audit_rights import Audited, entries_without_effect, of_everybody, of_writ
 from .entries import Ids
 from .everybody import World, listing_of, world_of
 from .findings import KINDS, WEIGHTS, Findings, Found, edits_of
-from .messages import Command, parser_of
-from .meta import meta_of
-from .names import parent_of, shell_word, shown, shown_path
+from .messages import Command, Failure, parser_of
+from .meta import Meta, meta_of
+from .names import parent_of, read_path, shell_word, shown, shown_path
 from .new_file import NewFile
 from .program import find_program
-from .records import Files
-from .snapshot import check_texts, has, read_links
 from .tables import add_output, paged, write_json, write_table
 from .texts import Source
-from .trusted import read_trusted
 
 NONE = "none"
 HELP = """\
@@ -82,15 +79,15 @@ def audited_folders(world: World, given: argparse.Namespace) -> List[bytes]:
     return choice.folders_made_of(world.session) or choice.folders_of(world.session, [])
 
 
+def folders_in_parts(parts: List[bytes], about: Meta, given: argparse.Namespace) -> List[bytes]:
+    """The same of a snapshot in parts, any of which may record them."""
+    if given.folders:
+        return choice.folders_in(given.folders, lambda paths: split_tree.recorded_in(parts, paths))
+    found = [*map(read_path, about.folders)]
+    return found if found and split_tree.recorded_in(parts, found) == {*found} else [b""]
+
+
 # --- hard links
-
-
-def links_of(source: Source) -> List[List[bytes]]:
-    """The names that are one file; none where the snapshot does not have them."""
-    folder = check_texts(source.folder)
-    is_there = has(folder, b"links")
-    os.close(folder)
-    return read_links(read_trusted(os.path.join(source.folder, b"links"))) if is_there else []
 
 
 def across_folders(sets: List[List[bytes]], paths: List[bytes]) -> List[Found]:
@@ -108,36 +105,64 @@ def across_folders(sets: List[List[bytes]], paths: List[bytes]) -> List[Found]:
 # --- all of it
 
 
-def findings_of(audited: Audited, program: str, source: Source) -> Findings:
+def findings_of(audited: Audited, program: str, links: List[List[bytes]]) -> Findings:
     found: Findings = {**of_everybody(audited), **of_writers(audited)}
     for name, look in of_lists(audited.files, audited.paths, audited.ids).items():
         found[name] = list(look())
     found["entry-without-effect"] = list(entries_without_effect(audited, program))
     plain = [path for path in audited.paths if not audited.is_directory(path)]
-    found["links-across-folders"] = across_folders(links_of(source), plain)
+    found["links-across-folders"] = across_folders(links, plain)
     return found
 
 
-def is_about(line: Accepted, folders: List[bytes], files: Files) -> bool:
+def is_about(line: Accepted, folders: List[bytes], recorded: Set[bytes]) -> bool:
     """Whether a line that accepts nothing is said: it is about what is audited, or its path is not in the snapshot."""
     path = line.path()
-    if path and path not in files:
+    if path and path not in recorded:
         return True
     return bool(at_or_below([path], folders) or line.is_folder() and at_or_below(folders, [path]))
 
 
-def report_of(world: World, given: argparse.Namespace, source: Source, program: str) -> Report:
-    lines = read_accepted(given.accepted) if given.accepted is not None else []
-    folders = audited_folders(world, given)
-    files = listing_of(world).files
-    ids = Ids(world.texts.passwd, world.texts.group)
-    audited = Audited(world, given, files, at_or_below(files, folders), ids)
-    found = findings_of(audited, program, source)
-    rest = sort_out(found, lines)
-    unused = {line: why_unused(line, found) for line in rest.unused if is_about(line, folders, files)}
-    is_whole = texts.find_tops(world.session, source.folder) == [b""]
-    return Report(source.shown, meta_of(source.folder), folders, len(audited.paths), rest.rest, rest.accepted, unused,
-                  is_whole, written(texts.source_words(given)), written(words_again(given)))
+class All:
+    """What is found in all parts of a snapshot, or in one that has none."""
+
+    def __init__(self, given: argparse.Namespace, parts: List[bytes], about: Meta) -> None:
+        self.given = given
+        self.lines = read_accepted(given.accepted) if given.accepted is not None else []
+        self.folders = folders_in_parts(parts, about, given) if parts else []
+        self.once = split_tree.Once()
+        self.found: Findings = {}
+        self.files = 0  # Those that are audited.
+        self.recorded: Set[bytes] = set()  # The paths of lines that are in the snapshot.
+        self.is_whole = False
+
+    def add(self, world: World, program: str, links: List[List[bytes]]) -> None:
+        """Adds what is found in the next part."""
+        self.folders = self.folders or audited_folders(world, self.given)
+        files = listing_of(world).files
+        paths = at_or_below(self.once.of_part(files), self.folders)
+        audited = Audited(world, self.given, files, paths, Ids(world.texts.passwd, world.texts.group))
+        for name, found in findings_of(audited, program, links).items():
+            self.found.setdefault(name, []).extend(found)
+        self.files += len(paths)
+        self.recorded.update(path for path in (line.path() for line in self.lines) if path in files)
+        self.is_whole = texts.find_tops(world.session, world.session.folder) == [b""]
+
+
+def report_of(given: argparse.Namespace, source: Source, program: str) -> Report:
+    parts = split_tree.parts_in(source.folder)
+    about = split_tree.meta_of_all(parts) if parts else meta_of(source.folder)
+    found = All(given, parts, about)
+    links = split_tree.links_in(parts or [source.folder])
+    for folder in parts or [source.folder]:
+        with world_of(program, source._replace(folder=folder)) as world:
+            found.add(world, program, links)
+    rest = sort_out(found.found, found.lines)
+    unused = [Unused(line, why_unused(line, found.found), line.path() in found.recorded) for line in rest.unused
+              if is_about(line, found.folders, found.recorded)]
+    of_edits = given if not parts else argparse.Namespace(**{**vars(given), "snapshot": os.fsdecode(parts[0])})
+    return Report(source.shown, about, found.folders, found.files, rest.rest, rest.accepted, unused, found.is_whole,
+                  written(words_again(given)), written(words_again(of_edits)), written(texts.source_words(of_edits)), bool(parts))
 
 
 def words_again(given: argparse.Namespace) -> List[str]:
@@ -157,6 +182,8 @@ def page_of(given: argparse.Namespace, report: Report, source: Source, program: 
     """The page, where one is asked for."""
     if given.page is None:
         return None
+    if report.is_split:
+        raise Failure(b"--page: a snapshot in parts has none")
     from .audit_page import page_with  # Few runs need it.
 
     return page_with(report, source, program, given)
@@ -187,14 +214,13 @@ def body(command: Command, words: List[str]) -> int:
     given = parse(words)
     target = NewFile(os.fsencode(given.page)) if given.page is not None else None
     with texts.opened(given) as source:
-        os.close(check_texts(source.folder))
+        split_tree.check_all(source.folder)
         overview.say_notices(command, source, has_masks=False)
         program = find_program(given.program)
-        with world_of(program, source) as world:
-            report = report_of(world, given, source, program)
+        report = report_of(given, source, program)
         page = page_of(given, report, source, program)
-    for text in report.unused.values():
-        command.say(text)
+    for it in report.unused:
+        command.say(it.said)
     with paged(command, not given.no_pager):
         write(command, given, report)
     if target is not None and page is not None:

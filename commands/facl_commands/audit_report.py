@@ -3,7 +3,7 @@ from __future__ import annotations
 
 from typing import Callable, Dict, Iterator, List, NamedTuple, Optional
 
-from .accepted import Accepted
+from .accepted import Unused
 from .findings import HIGH, KINDS, LOW, MIDDLE, WEIGHTS, Findings, Found, Kind
 from .messages import counted
 from .meta import Meta, fields_of, named
@@ -23,10 +23,12 @@ class Report(NamedTuple):
     files: int  # At or below these.
     findings: Findings  # Without what is accepted.
     accepted: int  # Files.
-    unused: Dict[Accepted, bytes]  # The lines that accept nothing, each with what is said of it.
+    unused: List[Unused]
     is_whole: bool  # Whether paths start at the root of the file system.
-    source: bytes  # The words of a command over the same snapshot,
-    words: bytes  # and those of facl-audit about the same files and users.
+    words: bytes  # Those of facl-audit about the same files and users,
+    words_of_edits: bytes  # the same for --edits, of the first part of a snapshot in parts,
+    source: bytes  # and those of a command over the same snapshot or part.
+    is_split: bool  # Whether the snapshot is in parts.
 
     def name_of(self, path: bytes) -> bytes:
         return live_name(path) if self.is_whole else shown_path(path)
@@ -84,7 +86,9 @@ def lines_of(report: Report) -> Iterator[bytes]:
     if report.kinds():
         name = report.kinds()[0].name.encode()
         yield b"all files of one: facl-audit --list %s %s" % (name, report.words)
-        yield b"all lines of one: facl-audit --edits %s %s >edits; facl-plan %s edits" % (name, report.words, report.source)
+        of_part = b", of the first part" * report.is_split
+        yield b"all lines of one%s: facl-audit --edits %s %s >edits; facl-plan %s edits" % (
+            of_part, name, report.words_of_edits, report.source)
 
 
 def table_of(report: Report) -> Table:
@@ -122,5 +126,6 @@ def json_of(report: Report, only: Optional[str]) -> Dict[str, object]:
         "files": report.files,
         "findings": [json_of_kind(kind, report.findings[kind.name], only is not None, report.is_whole) for kind in kinds],
         "accepted": report.accepted,
-        "unused": [{"line": it.number, "finding": it.kind, "path": json_text(it.word)} for it in report.unused],
+        "unused": [{"line": it.number, "finding": it.kind, "path": json_text(shown_path(it.path())) if is_recorded else None}
+                   for it, _, is_recorded in report.unused],
     }

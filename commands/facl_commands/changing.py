@@ -1,7 +1,8 @@
 """The order of the calls by which a file gets its new record.
 
 One call changes a list, and one owner and group. Before each call the owner of the file may set any mode and list, and a
-group of its own. Who is not in the file's group cannot set set-group-ID, and loses it by each mode and list.
+group of its own. Who is not in the file's group cannot set set-group-ID, and loses it by each mode and list. A call that
+sets flags sets the permissions of a list of facl-apply's too, so it keeps none that an owner set.
 
   before the call        what the owner set then, and what the calls that follow make of it
   first flags            a mode, a list, a group: as those before the owner
@@ -41,14 +42,14 @@ def change(file: OpenFile, now: Record, end: Record, is_directory: bool) -> None
     meanwhile = flags_meanwhile(now.flags, end.flags, is_directory)
     if is_moved or now.access != end.access or now.default != end.default:
         if meanwhile != now.flags and (is_moved or now.flags != end.flags):
-            file.set_flags(meanwhile)
+            file.set_mode(meanwhile | lists.permissions_of(now.access))
     found = move(file, now, end, meanwhile) if is_moved else now
     if found.access != end.access:
         file.set_access(end.access)
     if found.default != end.default:
         file.set_default(end.default)
     if now.flags | found.flags | end.flags and file.mode() & FLAGS != end.flags:
-        file.set_flags(end.flags, lists.permissions_of(end.access))
+        file.set_mode(end.flags | lists.permissions_of(end.access))
 
 
 def move(file: OpenFile, now: Record, end: Record, flags: int) -> Record:
@@ -59,7 +60,7 @@ def move(file: OpenFile, now: Record, end: Record, flags: int) -> Record:
     file.set_owner(end.owner, end.group)
     found = file.record()
     if found.flags != flags:
-        file.set_flags(flags)
+        file.set_mode(flags | lists.permissions_of(end.access if found.access == end.access else access))
     return found
 
 

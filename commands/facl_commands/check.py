@@ -3,9 +3,9 @@ from __future__ import annotations
 
 import argparse
 import os
-from typing import List
+from typing import Dict, List, Set, Tuple
 
-from . import choice, overview, texts
+from . import choice, overview, split_tree, texts
 from .check_report import SCHEMA, Report, json_of, lines_of, table_of
 from .everybody import World, listing_of, world_of
 from .messages import UNUSABLE, Command, Failure, parser_of
@@ -13,10 +13,9 @@ from .meta import meta_of, named
 from .names import shown, write_user
 from .people import rows_of
 from .program import find_program
-from .rule_answers import Rights, outcome
+from .rule_answers import Outcome, Rights, outcome
 from .rule_writing import lines_of as lines_of_rules
-from .rules import INPUT, Faults, Reader
-from .snapshot import check_texts
+from .rules import INPUT, Faults, Reader, Rule
 from .superuser import ids_in
 from .tables import add_output, paged, write_json, write_table
 from .texts import Source
@@ -68,7 +67,8 @@ def chosen_users(world: World, given: argparse.Namespace) -> List[bytes]:
 
 def write_rules(command: Command, world: World, given: argparse.Namespace, source: Source) -> int:
     chosen = chosen_users(world, given)
-    rights = Rights(world, given, listing_of(world).files, chosen)
+    files = listing_of(world).files
+    rights = Rights(world, given, files, files, chosen)
     tops = choice.folders_of(world.session, given.rules)
     if not given.rules:
         tops = choice.folders_made_of(world.session) or tops
@@ -79,15 +79,51 @@ def write_rules(command: Command, world: World, given: argparse.Namespace, sourc
     return 0
 
 
-def report_of(world: World, given: argparse.Namespace, source: Source) -> Report:
-    chosen = chosen_users(world, given)
-    reader = Reader(world, set(chosen), given.with_root)
-    rules = reader.read(given.rules)
-    rights = Rights(world, given, listing_of(world).files, chosen)
-    outcomes = [outcome(rights, rule) for rule in rules]
-    left_out = choice.in_order(map(write_user, rights.left_out), world.texts.passwd)
+class All:
+    """The rules, and whether they hold in all parts of a snapshot, or in one that has none."""
+
+    def __init__(self, given: argparse.Namespace, parts: List[bytes]) -> None:
+        self.given, self.parts = given, parts
+        self.once = split_tree.Once()
+        self.rules: List[Rule] = []
+        self.notes: List[bytes] = []
+        self.outcomes: Dict[int, Outcome] = {}  # By the number of the line.
+        self.left_out: Set[bytes] = set()
+        self.passwd = b""
+
+    def read(self, world: World, chosen: List[bytes]) -> None:
+        parts = self.parts
+        reader = Reader(world, set(chosen), self.given.with_root,
+                        (lambda path: bool(split_tree.recorded_in(parts, [path]))) if parts else None)
+        self.rules, self.notes, self.passwd = reader.read(self.given.rules), reader.notes, world.texts.passwd
+
+    def add(self, world: World) -> None:
+        """Adds what the next part says. A rule on a path that it does not have is not about its files."""
+        chosen = chosen_users(world, self.given)
+        if not self.rules:
+            self.read(world, chosen)
+        files = listing_of(world).files
+        rights = Rights(world, self.given, files, self.once.of_part(files), chosen)
+        for rule in self.rules:
+            if not self.parts or rule.path in files or not rule.path:
+                found = outcome(rights, rule)
+                known = self.outcomes.get(rule.number)
+                self.outcomes[rule.number] = found if known is None else known.joined(found)
+        self.left_out |= rights.left_out
+
+
+def report_of(given: argparse.Namespace, source: Source, program: str) -> Tuple[Report, bytes]:
+    """The report, and the users of the snapshot."""
+    parts = split_tree.parts_in(source.folder)
+    found = All(given, parts)
+    for folder in parts or [source.folder]:
+        with world_of(program, source._replace(folder=folder)) as world:
+            found.add(world)
+    left_out = choice.in_order(map(write_user, found.left_out), found.passwd)
     name = b"standard input" if given.rules == INPUT else os.fsencode(given.rules)
-    return Report(source.shown, meta_of(source.folder), name, outcomes, left_out, reader.notes)
+    about = split_tree.meta_of_all(parts) if parts else meta_of(source.folder)
+    outcomes = [found.outcomes[rule.number] for rule in found.rules]
+    return Report(source.shown, about, name, outcomes, left_out, found.notes), found.passwd
 
 
 def write(command: Command, given: argparse.Namespace, report: Report) -> None:
@@ -107,21 +143,24 @@ def body(command: Command, words: List[str]) -> int:
     if given.write and (given.json or given.tsv):
         raise Failure(b"--write prints rules: leave out --json and --tsv")
     with texts.opened(given) as source:
-        os.close(check_texts(source.folder))
+        folders = split_tree.check_all(source.folder)
         overview.say_notices(command, source, has_masks=not given.quiet)
-        with world_of(find_program(given.program), source) as world:
-            if given.write:
+        program = find_program(given.program)
+        if given.write:
+            if folders != [source.folder]:
+                raise Failure(b"--write: takes one part of a snapshot, as " + folders[0])
+            with world_of(program, source) as world:
                 return write_rules(command, world, given, source)
-            try:
-                report = report_of(world, given, source)
-            except Faults as faults:
-                for text in faults.texts:
-                    command.say(text)
-                return UNUSABLE
-            for note in report.notes:
-                command.say(b"warning: " + note)
-            for note in () if given.json or given.quiet else choice.notes(report.left_out, world.texts.passwd):
-                command.say(note)
+        try:
+            report, passwd = report_of(given, source, program)
+        except Faults as faults:
+            for text in faults.texts:
+                command.say(text)
+            return UNUSABLE
+    for note in report.notes:
+        command.say(b"warning: " + note)
+    for note in () if given.json or given.quiet else choice.notes(report.left_out, passwd):
+        command.say(note)
     with paged(command, not given.no_pager):
         write(command, given, report)
     return int(bool(report.broken()))

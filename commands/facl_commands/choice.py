@@ -3,7 +3,7 @@ from __future__ import annotations
 
 import argparse
 import os
-from typing import Dict, Iterable, Iterator, List, Set
+from typing import Callable, Dict, Iterable, Iterator, List, Set
 
 from . import meta, texts
 from .messages import Failure, counted
@@ -120,6 +120,21 @@ def folder_of(session: Session, word: bytes) -> bytes:
     folders = folders_made_of(session)
     about = b": the snapshot is of " + few(list(map(live_name, folders))) if folders else b": the snapshot has no files"
     raise Failure(word + b": is not recorded" + about)
+
+
+def folders_in(words: Iterable[str], recorded_of: Callable[[Set[bytes]], Set[bytes]]) -> List[bytes]:
+    """The paths of words of a person, in a snapshot that no session is over: recorded_of has those of some paths that it records."""
+    named = [*map(os.fsencode, words)]
+    for word in named:
+        refuse_empty(word)
+    recorded = recorded_of({path for word in named for path in paths_of(word)}) if named else set()
+    found = []
+    for word in named:
+        path = next((path for path in paths_of(word) if path in recorded), None)
+        if path is None:
+            raise Failure(word + b": is not recorded")
+        found.append(path)
+    return found
 
 
 def folders_of(session: Session, words: Iterable[str]) -> List[bytes]:

@@ -32,6 +32,7 @@ LOCK, MADE = b"lock.of-facl-daily", b"made.by-facl-daily"
 NEW, NEXT, BEGUN = b"new", b"made", b"begun"  # In the work folder.
 WORK = re.compile(rb"\.work\.[0-9A-Za-z]{10}")
 NAME = re.compile(rb"[0-9]{4,}-[0-9]{2}-[0-9]{2}(?:\.([0-9]{1,9}))?")
+PART = re.compile(rb"[0-9]{3,7}")  # The folder of a part of a snapshot (--split).
 TEXTS = (b"passwd", b"group", b"dump", b"links", b"inodes", b"meta")
 LIST_LIMIT = 1 << 20  # Bytes of the list.
 
@@ -156,9 +157,7 @@ class Folder:
     def keep(self, name: bytes, names: List[bytes]) -> None:
         """Gives the new snapshot its name, and adds it to the list; on the disk each step comes after the one before."""
         new = os.open(NEW, DIRECTORY, dir_fd=self.inside)
-        for text in os.listdir(new):
-            sync(text, new)
-        os.fsync(new)
+        sync_all(new)
         os.close(new)
         self.write_next([*names, name])
         os.rename(NEW, name, src_dir_fd=self.inside, dst_dir_fd=self.descriptor)
@@ -187,19 +186,8 @@ class Folder:
         return left
 
     def remove_snapshot(self, name: bytes) -> bool:
-        """Removes the known files of a snapshot, and its folder where nothing else is in it."""
-        descriptor = os.open(name, DIRECTORY, dir_fd=self.descriptor)
-        for text in TEXTS:
-            try:
-                os.unlink(text, dir_fd=descriptor)
-            except (FileNotFoundError, IsADirectoryError):
-                pass
-        os.close(descriptor)
-        try:
-            os.rmdir(name, dir_fd=self.descriptor)
-        except OSError:
-            return False
-        return True
+        """Removes the known files of a snapshot and of its parts, and its folder where nothing else is in it."""
+        return remove_known(name, self.descriptor, has_parts=True)
 
     def end(self) -> None:
         """Removes the work folder."""
@@ -207,6 +195,38 @@ class Folder:
             self.settle(self.inside)
             shutil.rmtree(self.work)
             self.work = b""
+
+
+def remove_known(name: bytes, above: int, has_parts: bool) -> bool:
+    """Removes the known files in a folder, the parts where it may have some, and the folder where nothing else is in it; whether
+    the folder is gone."""
+    folder = os.open(name, DIRECTORY, dir_fd=above)
+    for text in TEXTS:
+        try:
+            os.unlink(text, dir_fd=folder)
+        except (FileNotFoundError, IsADirectoryError):
+            pass
+    for part in sorted(map(os.fsencode, os.listdir(folder))) if has_parts else ():
+        if PART.fullmatch(part) and stat.S_ISDIR(os.stat(part, dir_fd=folder, follow_symlinks=False).st_mode):
+            remove_known(part, folder, has_parts=False)
+    os.close(folder)
+    try:
+        os.rmdir(name, dir_fd=above)
+    except OSError:
+        return False
+    return True
+
+
+def sync_all(folder: int) -> None:
+    """Waits until what is in the folder of a snapshot is on the disk, and in the folders of its parts."""
+    for name in os.listdir(folder):
+        if PART.fullmatch(os.fsencode(name)):
+            part = os.open(name, DIRECTORY, dir_fd=folder)
+            sync_all(part)
+            os.close(part)
+        else:
+            sync(name, folder)
+    os.fsync(folder)
 
 
 def sync(name: str, folder: int) -> None:

@@ -9,7 +9,7 @@ from .messages import Failure
 
 USAGE = """\
 usage: facl-daily [--folder DIR] [--keep COUNT] [--rules FILE] [--accepted FILE] [--fail-on WEIGHT] [--mail ADDRESS]
-                  [--snapshot OPTIONS] FOLDER..
+                  [--split COUNT] [--snapshot OPTIONS] FOLDER..
 """
 HELP = USAGE + """
 Takes a snapshot of the FOLDERs by facl-snapshot, as DIR/YYYY-MM-DD, and says what there is to look at: what differs from
@@ -25,6 +25,9 @@ prints nothing, so that cron sends no mail. Run it as root, once a day.
                     low, or none: no finding counts
   --mail ADDRESS    sends the text by sendmail in place of printing it, and a mail also where the command fails or is ended
                     by a signal
+  --split COUNT     for a tree above the limit of one snapshot, 1,048,576 files: DIR/YYYY-MM-DD has parts of at most COUNT files,
+                    by facl-snapshot --split. All that is said is of the whole tree. It may come and go from day to day, and
+                    COUNT may differ
   --snapshot OPTIONS
                     options of facl-snapshot, with blanks between them: --snapshot '--exclude *.tmp --cross-file-systems'.
                     A file in them has its name from the root on
@@ -42,9 +45,7 @@ failure ended, the next run removes; it says that.
 The exit status is 0 where there is nothing to look at, 1 where there is, and 2 where the snapshot is not made, or
 something could not be asked or sent; that is said too. A signal gives 128 and its number.
 """
-SPLIT = (b"--snapshot: leave --split out, since parts are cut at other places from day to day: give each FOLDER of fewer files a "
-         b"facl-daily of its own, with a --folder of its own")
-OPTIONS = ("--folder", "--keep", "--rules", "--accepted", "--fail-on", "--mail", "--snapshot")
+OPTIONS = ("--folder", "--keep", "--rules", "--accepted", "--fail-on", "--mail", "--split", "--snapshot")
 WEIGHTS = ("high", "middle", "low", "none")
 ADDRESS = re.compile(r"[A-Za-z0-9@._+][A-Za-z0-9@._+-]*")
 HINT = b"; facl-daily --help prints the options"
@@ -57,7 +58,7 @@ class Words(NamedTuple):
     accepted: str
     weight: str
     address: str
-    options: List[str]
+    options: List[str]  # Of facl-snapshot.
     folders: List[str]
 
 
@@ -101,12 +102,12 @@ def check(values: "dict[str, str]", folders: List[str]) -> None:
         fault = f"--keep {keep}: is no number of snapshots"
     elif weight not in WEIGHTS:
         fault = f"--fail-on {weight}: give high, middle, low or none"
+    elif "--split" in values and not re.fullmatch("[1-9][0-9]{0,6}", values["--split"]):
+        fault = f"--split {values['--split']}: is no number from 1 to 9999999"
     elif address and not ADDRESS.fullmatch(address):
         fault = f"--mail {address}: is no address"
     if fault:
         raise Failure(os.fsencode(fault))
-    if any(it.partition("=")[0] == "--split" for it in values.get("--snapshot", "").split()):
-        raise Failure(SPLIT)
     for name in folders:
         if not name.startswith("/"):
             raise Failure(os.fsencode(name) + b": give a FOLDER from the root on")
@@ -116,5 +117,6 @@ def read_words(words: List[str]) -> Words:
     values, folders = read_options(words)
     check(values, folders)
     rules, accepted = (whole(values.get(it, "")) for it in ("--rules", "--accepted"))
+    options = [*values.get("--snapshot", "").split(), *(["--split", values["--split"]] if "--split" in values else [])]
     return Words(whole(values["--folder"]), int(values["--keep"]), rules, accepted, values["--fail-on"],
-                 values.get("--mail", ""), values.get("--snapshot", "").split(), folders)
+                 values.get("--mail", ""), options, folders)

@@ -3,7 +3,7 @@ from __future__ import annotations
 
 import argparse
 import os
-from typing import Iterable, List, NamedTuple, Optional, Tuple
+from typing import Dict, Iterable, List, NamedTuple, Optional, Set, Tuple
 
 from . import choice, diff_report, overview, scratch, tables, texts
 from .diff_edits import CannotLead, Edits, group_text
@@ -12,15 +12,16 @@ from .diff_labels import Labels, Shapes, is_in, records_of_folders
 from .diff_moved import Moved, find_moved
 from .diff_report import Compared
 from .diff_states import (
-    Pair, State, counts_of, is_same_text, members_of, pairs_of, people_counts, read_state, records_in, session_of,
-    tops_of,
+    Pair, State, counts_of, is_same_text, listing_of_all, members_of, name_of, pairs_of, people_counts, read_state, records_in,
+    session_of, tops_of,
 )
-from .diff_words import reasons_of
+from .diff_words import ask_records, reasons_of
 from .messages import Command, Failure, parser_of
 from .names import write_user
 from .new_file import NewFile
 from .people import rows_of as rows_of_text
 from .program import OutputSlice, Session, find_program
+from .records import path_of
 
 SAME, DIFFERS = 0, 1
 BY_GAINS, BY_INDEX = "gains", "index"
@@ -33,7 +34,8 @@ users, and by files that are new, gone or moved. People of one change are on one
   WHY            why it is so on the first file, where that is plain
 
 A right counts where the user can get to the file: with search on each directory above. Without FOLDER all files are
-looked at. Users who are no people are left out, and root.
+looked at. Users who are no people are left out, and root. A folder of the parts that facl-snapshot --split makes is
+compared as one snapshot, also with one that has no parts.
 """
 STATUS = """\
 The exit status is 0 where nobody of those who are looked at gained or lost anything, 1 where somebody did, and 2 where
@@ -57,7 +59,7 @@ def parse(words: List[str]) -> argparse.Namespace:
     parser.add_argument("--any-host", action="store_true", help="also snapshots of two servers")
     parser.add_argument("--page", metavar="FILE",
                         help="also write a page to look at, as facl-report does, to a new file")
-    parser.add_argument("before", metavar="BEFORE", help="a snapshot")
+    parser.add_argument("before", metavar="BEFORE", help="a snapshot, or the folder of the parts of one")
     parser.add_argument("after", metavar="AFTER", help="a later one")
     choice.add_choice(parser)
     tables.add_output(parser)
@@ -85,21 +87,65 @@ def folders_of(sessions: Tuple[Session, Session], words: Iterable[str]) -> List[
 
 
 class Comparison:
-    """Two snapshots, each with a session and its listing."""
+    """Two snapshots by their listings."""
 
-    def __init__(self, program: str, states: Tuple[State, State], sessions: Tuple[Session, Session],
+    def __init__(self, program: str, states: Tuple[State, State], listings: List[List[OutputSlice]],
                  given: argparse.Namespace) -> None:
-        self.program, self.states, self.sessions, self.given = program, states, sessions, given
+        self.program, self.states, self.listings, self.given = program, states, listings, given
         self.is_alone: bool = given.file_alone
-        self.tops = tops_of((sessions[0], states[0]), (sessions[1], states[1]))
-        self.folders = folders_of(sessions, given.folders)
-        self.listings = [texts.list_below(session, texts.find_tops(session, state.folder))
-                         for session, state in zip(sessions, states)]
+        self.folders: List[bytes] = []  # Those that are looked at; none where all files are.
+        self.is_whole = False  # Whether paths start at the root of the file system.
+
+    def records_of(self, paths: List[bytes]) -> Dict[bytes, bytes]:
+        """The later records of some paths."""
+        wanted = set(paths)
+        both = ((path_of(name_of(record)), record) for record in records_in(self.listings[1]))
+        return {path: record for path, record in both if path in wanted}
 
     def pairs(self, is_all: bool = False) -> Iterable[Pair]:
         """What differs in the files that are looked at, and the directories above them; or all of these."""
         old, new = (records_of_folders(records_in(it), self.folders or [b""]) for it in self.listings)
         return pairs_of(old, new, is_all)
+
+    def answer(self) -> Answered:
+        return self.by_labels(list(self.pairs()))
+
+    def by_labels(self, pairs: List[Pair]) -> Answered:
+        shapes = Shapes()
+        shapes.add(self.pairs(is_all=True), self.folders or [b""])
+        labels = Labels(self.program, self.states[0], self.states[1], shapes, self.is_alone)
+        return Answered(BY_INDEX, labels.gains(), pairs, [], [])
+
+    def compared(self, answered: Answered) -> Compared:
+        old, new = self.states
+        chosen = chosen_users(old, new, self.given)
+        place = {user: number for number, user in enumerate(chosen)}
+        gains = sorted((it for it in answered.gains if it.user in place), key=lambda it: place[it.user])
+        counted = [pair for pair in answered.pairs if is_in(pair.path, self.folders or [b""])]
+        moved: List[Moved] = find_moved(old, new, counted)
+        reasons = reasons_of(self.program, self.states, self.records_of, {it.path: it for it in answered.pairs}, gains,
+                             self.is_alone, self.is_whole)
+        reasons.moved_from = {it.new: it.old for it in moved}
+        reasons.moved_to = {it.old: it.new for it in moved}
+        left_out = list(dict.fromkeys(it.user for it in answered.gains if it.user not in place))
+        return Compared(old, new, self.folders, self.is_alone, self.is_whole, answered.by, rows_of(gains, reasons.of),
+                        set(chosen), left_out, counts_of(counted),
+                        people_counts(members_of(old.people()), members_of(new.people())), moved)
+
+
+class OfSessions(Comparison):
+    """Two snapshots, each with a session."""
+
+    def __init__(self, program: str, states: Tuple[State, State], sessions: Tuple[Session, Session],
+                 given: argparse.Namespace) -> None:
+        super().__init__(program, states, [texts.list_below(session, texts.find_tops(session, state.folder))
+                                           for session, state in zip(sessions, states)], given)
+        self.sessions = sessions
+        self.tops = tops_of((sessions[0], states[0]), (sessions[1], states[1]))
+        self.folders, self.is_whole = folders_of(sessions, given.folders), self.tops == [b""]
+
+    def records_of(self, paths: List[bytes]) -> Dict[bytes, bytes]:
+        return ask_records(self.sessions[1], paths)
 
     def answer(self) -> Answered:
         pairs = list(self.pairs())
@@ -121,12 +167,6 @@ class Comparison:
             raise CannotLead(b"the files are others then")
         return Answered(BY_GAINS, ask_gains(self.sessions[0], self.is_alone), pairs, edits.people, listing)
 
-    def by_labels(self, pairs: List[Pair]) -> Answered:
-        shapes = Shapes()
-        shapes.add(self.pairs(is_all=True), self.folders or [b""])
-        labels = Labels(self.program, self.states[0], self.states[1], shapes, self.is_alone)
-        return Answered(BY_INDEX, labels.gains(), pairs, [], [])
-
     def page(self, answered: Answered) -> Optional[bytes]:
         if self.given.page is None:
             return None
@@ -136,22 +176,25 @@ class Comparison:
         listings = [self.listings[0], answered.listing]
         return page_of(self.program, self.states[0], self.states[1], group, answered.people, listings, self.given)
 
-    def compared(self, answered: Answered) -> Compared:
-        old, new = self.states
-        is_whole = self.tops == [b""]
-        chosen = chosen_users(old, new, self.given)
-        place = {user: number for number, user in enumerate(chosen)}
-        gains = sorted((it for it in answered.gains if it.user in place), key=lambda it: place[it.user])
-        counted = [pair for pair in answered.pairs if is_in(pair.path, self.folders or [b""])]
-        moved: List[Moved] = find_moved(old, new, counted)
-        reasons = reasons_of(self.program, self.states, self.sessions[1], {it.path: it for it in answered.pairs}, gains,
-                             self.is_alone, is_whole)
-        reasons.moved_from = {it.new: it.old for it in moved}
-        reasons.moved_to = {it.old: it.new for it in moved}
-        left_out = list(dict.fromkeys(it.user for it in answered.gains if it.user not in place))
-        return Compared(old, new, self.folders, self.is_alone, is_whole, answered.by, rows_of(gains, reasons.of),
-                        set(chosen), left_out, counts_of(counted),
-                        people_counts(members_of(old.people()), members_of(new.people())), moved)
+
+class OfParts(Comparison):
+    """Two snapshots of which at least one has parts. One session has no room for the files of all of them."""
+
+    def __init__(self, program: str, states: Tuple[State, State], given: argparse.Namespace) -> None:
+        if given.page is not None:
+            raise Failure(b"--page: a snapshot in parts has none")
+        super().__init__(program, states, [[listing_of_all(program, state)] for state in states], given)
+        firsts = [next(records_in(it), b"") for it in self.listings]
+        self.is_whole = b"" in [path_of(name_of(record)) for record in firsts if record]
+        self.folders = choice.folders_in(given.folders, self.recorded_of)
+
+    def close(self) -> None:
+        for listing in self.listings:
+            listing[0].file.close()
+
+    def recorded_of(self, paths: Set[bytes]) -> Set[bytes]:
+        """Those of some paths that are there before or after."""
+        return {path for it in self.listings for path in (path_of(name_of(record)) for record in records_in(it)) if path in paths}
 
 
 def chosen_users(old: State, new: State, given: argparse.Namespace) -> List[bytes]:
@@ -173,9 +216,15 @@ def compare(command: Command, given: argparse.Namespace) -> Tuple[Compared, Opti
         command.say(text)
     for state in (old, new):
         overview.say_notices(command, texts.Source(state.folder, state.folder, False), has_masks=state is new)
+    if old.is_split() or new.is_split():
+        parts = OfParts(program, (old, new), given)
+        try:
+            return parts.compared(parts.answer()), None
+        finally:
+            parts.close()
     with scratch.folder("facl-diff.") as work:
         with session_of(program, old, work, group_text(old, new)) as before, session_of(program, new, work) as after:
-            comparison = Comparison(program, (old, new), (before, after), given)
+            comparison = OfSessions(program, (old, new), (before, after), given)
             answered = comparison.answer()
             return comparison.compared(answered), comparison.page(answered)
 

@@ -4,8 +4,10 @@ from __future__ import annotations
 import os
 from typing import Dict, Iterable, List, NamedTuple, Set, Tuple
 
+from . import split_tree
 from .diff_states import Pair, State
-from .snapshot import Identity, nanoseconds, read_links
+from .names import sorting_key
+from .snapshot import Identity, nanoseconds
 from .trusted import read_trusted
 
 NO_BOOT = b"-"  # Of a system that does not say since when it runs.
@@ -23,14 +25,10 @@ class Inodes(NamedTuple):
     files: Dict[bytes, Identity]
 
 
-def text_of(state: State, name: bytes) -> bytes:
-    path = os.path.join(state.folder, name)
-    return read_trusted(path) if os.path.exists(path) else b""
-
-
-def read_some(state: State, paths: Set[bytes]) -> Inodes:
+def read_some(folder: bytes, paths: Set[bytes]) -> Inodes:
     """What is known of some paths; nothing where the snapshot has no inodes."""
-    records = text_of(state, b"inodes").split(b"\0")
+    name = os.path.join(folder, b"inodes")
+    records = (read_trusted(name) if os.path.exists(name) else b"").split(b"\0")
     found: Dict[bytes, Identity] = {}
     for record in records[1:-1]:
         fields = record.split(b" ", 3)
@@ -40,9 +38,15 @@ def read_some(state: State, paths: Set[bytes]) -> Inodes:
     return Inodes(records[0].partition(b" ")[2] or NO_BOOT, found)
 
 
+def read_all(state: State, paths: Set[bytes]) -> Inodes:
+    """The same of all parts of a snapshot."""
+    found = [read_some(folder, paths) for folder in state.folders]
+    return Inodes(found[0].boot, {path: it for part in reversed(found) for path, it in part.files.items()})
+
+
 def names_of_one_file(state: State) -> Set[bytes]:
     """The paths of files that have several."""
-    return {path for names in read_links(text_of(state, b"links")) for path in names}
+    return {path for names in split_tree.links_in(state.folders) for path in names}
 
 
 def by_file(inodes: Inodes, with_device: bool) -> Dict[Tuple[int, ...], List[bytes]]:
@@ -62,7 +66,7 @@ def find_moved(old: State, new: State, pairs: Iterable[Pair]) -> List[Moved]:
     made = {pair.path: pair.new.is_directory for pair in both if pair.new is not None and pair.old is None}
     if not gone or not made:
         return []
-    before, after = read_some(old, set(gone)), read_some(new, set(made))
+    before, after = read_all(old, set(gone)), read_all(new, set(made))
     with_device = before.boot == after.boot != NO_BOOT
     several = names_of_one_file(old) | names_of_one_file(new)
     places = by_file(after, with_device)
@@ -72,4 +76,4 @@ def find_moved(old: State, new: State, pairs: Iterable[Pair]) -> List[Moved]:
         if len(names) == len(there) == 1 and several.isdisjoint((names[0], there[0])):
             if gone[names[0]] == made[there[0]]:
                 found.append(Moved(names[0], there[0]))
-    return found
+    return sorted(found, key=lambda it: sorting_key(it.old))

@@ -6,7 +6,7 @@ import itertools
 import os
 from typing import Dict, FrozenSet, Iterable, Iterator, List, NamedTuple, Optional, Tuple
 
-from . import meta, texts
+from . import meta, scratch, split_tree, texts
 from .messages import Failure
 from .names import path_order, sorting_key
 from .no_gain import groups_by_user
@@ -14,10 +14,8 @@ from .people import People
 from .program import OutputSlice, Session
 from .protocol import DEFAULT_ENTRY, FILE_HEAD
 from .records import path_of
-from .snapshot import NEEDED, check_texts
+from .snapshot import NEEDED
 from .trusted import read_trusted
-
-PART = b"001"  # The first of the folders that facl-snapshot --split makes.
 
 
 class State(NamedTuple):
@@ -27,6 +25,10 @@ class State(NamedTuple):
     passwd: bytes
     group: bytes
     about: meta.Meta
+    folders: List[bytes]  # Those of its parts; of a snapshot that has none its own.
+
+    def is_split(self) -> bool:
+        return self.folders != [self.folder]
 
     def named(self) -> bytes:
         return meta.named(self.folder, self.about)
@@ -77,11 +79,10 @@ Members = Dict[bytes, Member]  # By name.
 
 
 def read_state(folder: bytes) -> State:
-    if not os.path.exists(os.path.join(folder, NEEDED[0])) and os.path.isdir(os.path.join(folder, PART)):
-        raise Failure(folder + b": has the parts of a tree (--split): facl-diff compares one snapshot with one other")
-    os.close(check_texts(folder))
-    passwd, group = (read_trusted(os.path.join(folder, name)) for name in NEEDED[:2])
-    return State(folder, passwd, group, meta.meta_of(folder))
+    folders = split_tree.check_all(folder)
+    passwd, group = (read_trusted(os.path.join(folders[0], name)) for name in NEEDED[:2])
+    about = split_tree.meta_of_all(folders) if folders != [folder] else meta.meta_of(folder)
+    return State(folder, passwd, group, about, folders)
 
 
 def members_of(people: People) -> Members:
@@ -111,6 +112,29 @@ def tops_of(*sides: Tuple[Session, State]) -> List[bytes]:
     """The paths of both snapshots that no recorded directory is above."""
     found = {path for session, state in sides for path in texts.find_tops(session, state.folder)}
     return sorted((path for path in found if not any(is_below(path, it) for it in found)), key=path_order)
+
+
+def listing_of_all(program: str, state: State) -> OutputSlice:
+    """The files of all parts of a snapshot, each once, in path order."""
+    file, once = scratch.new_file("facl-parts."), split_tree.Once()
+    last = b""
+    for folder in state.folders:
+        with Session(program, folder) as session:
+            for record in records_in(texts.list_below(session, texts.find_tops(session, folder))):
+                if once.is_new(path_of(name_of(record))):
+                    file.write(as_listed(last, record))
+                    last = record
+    file.write(as_listed(last, b""))
+    file.flush()
+    return OutputSlice(file, 0, file.tell())
+
+
+def as_listed(record: bytes, following: bytes) -> bytes:
+    """A record as it is in the listing of a whole tree, where the name of a directory ends in a slash only if nothing is in it."""
+    name = name_of(record)
+    if name[-1:] == b"/" and following.startswith(FILE_HEAD + name):
+        record = FILE_HEAD + name[:-1] + record[len(FILE_HEAD + name) :]
+    return record + b"\n\n" if record else b""
 
 
 def is_below(path: bytes, above: bytes) -> bool:
@@ -202,7 +226,7 @@ def counts_of(pairs: Iterable[Pair]) -> Counts:
     changed = made = removed = 0
     for pair in pairs:
         is_kept = pair.old is not None and pair.new is not None and not pair.is_of_other_kind()
-        changed += is_kept
+        changed += pair.old is not None and pair.new is not None and is_kept and pair.old.body() != pair.new.body()
         made += not is_kept and pair.new is not None
         removed += not is_kept and pair.old is not None
     return Counts(changed, made, removed)

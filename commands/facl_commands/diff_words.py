@@ -8,7 +8,7 @@ another list; where both are so, nothing is said.
 from __future__ import annotations
 
 import re
-from typing import Dict, FrozenSet, Iterable, List, NamedTuple, Tuple
+from typing import Callable, Dict, FrozenSet, Iterable, List, NamedTuple, Tuple
 
 from .diff_edits import CannotLead, path_word, user_word
 from .diff_gains import Gain
@@ -276,11 +276,11 @@ def ask_records(session: Session, paths: List[bytes]) -> Dict[bytes, bytes]:
     return found
 
 
-def reasons_of(program: str, states: Tuple[State, State], session: Session, pairs: Dict[bytes, Pair],
-               gains: List[Gain], is_alone: bool, is_whole: bool) -> Reasons:
-    """Why the changes are as they are; the session is over the later snapshot, and pairs are what differs."""
+def reasons_of(program: str, states: Tuple[State, State], records_of: Callable[[List[bytes]], Dict[bytes, bytes]],
+               pairs: Dict[bytes, Pair], gains: List[Gain], is_alone: bool, is_whole: bool) -> Reasons:
+    """Why the changes are as they are; records_of gives the later records of paths, and pairs are what differs."""
     paths = paths_to_know(gains, is_alone)
-    after = ask_records(session, [path for path in paths if path not in pairs or pairs[path].new is not None])
+    after = records_of([path for path in paths if path not in pairs or pairs[path].new is not None])
     before = {path: record for path, record in after.items() if path not in pairs}
     before.update({path: it.record for path in paths if path in pairs for it in [pairs[path].old] if it is not None})
     times = [Time(program, state, records, is_alone) for state, records in zip(states, (before, after))]

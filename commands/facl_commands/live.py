@@ -122,24 +122,26 @@ class OpenFile:
 
     def set_access(self, data: bytes) -> None:
         try:
-            os.setxattr(self.name, lists.ACCESS, data)
+            self.set_attribute(lists.ACCESS, data)
         except OSError as error:
             if error.errno != errno.ENOTSUP or not lists.is_minimal(data):
                 raise
-            os.chmod(self.name, self.mode() & FLAGS | lists.mode_of(data))
+            self.set_mode(self.mode() & FLAGS | lists.mode_of(data))
+
+    def set_attribute(self, attribute_name: bytes, data: bytes) -> None:
+        os.setxattr(self.name, attribute_name, data)
 
     def set_default(self, data: bytes) -> None:
         if data:
-            os.setxattr(self.name, lists.DEFAULT, data)
+            self.set_attribute(lists.DEFAULT, data)
         else:
             os.removexattr(self.name, lists.DEFAULT)
 
     def set_owner(self, owner: int, group: int) -> None:
         os.chown(self.name, owner, group)
 
-    def set_flags(self, flags: int, permissions: Optional[int] = None) -> None:
-        """Gives the file flags; with permissions those of its mode too, by the same call, else it keeps them."""
-        os.chmod(self.name, (self.mode() & 0o777 if permissions is None else permissions) | flags)
+    def set_mode(self, mode: int) -> None:
+        os.chmod(self.name, mode)
 
 
 class Opener:

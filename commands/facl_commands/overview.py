@@ -8,7 +8,7 @@ import os
 import re
 from typing import Dict, Iterator, List, NamedTuple, Set
 
-from . import meta
+from . import meta, split_tree
 from . import texts as source_texts
 from .messages import Command, counted
 from .names import live_name
@@ -55,7 +55,7 @@ def open_empty_masks(dump: bytes) -> Iterator[bytes]:
     for mask in EMPTY_MASKS_OF_LISTS.finditer(dump):
         start = dump.rfind(FILE_HEAD, 0, mask.start())
         end = dump.find(b"\n\n", mask.end())
-        if OTHERS_WITH_SOMETHING.search(dump[start : end if end >= 0 else len(dump)]):
+        if start >= 0 and OTHERS_WITH_SOMETHING.search(dump[start : end if end >= 0 else len(dump)]):
             yield dump[start + len(FILE_HEAD) : dump.index(b"\n", start)]
 
 
@@ -83,13 +83,18 @@ def users_with_one_id(texts: Texts) -> List[bytes]:
     return sorted(uid + b" " + name for uid, its in names.items() if len(its) > 1 for name in its)
 
 
-def rows_with_returns(text: bytes) -> List[bytes]:
-    return [row.split(b":")[0] for row in text.split(b"\n") if b"\r" in row]
+def rows_with_returns(text: bytes) -> List[int]:
+    """The numbers of the lines that have a carriage return, from 1 on."""
+    return [number for number, row in enumerate(text.split(b"\n"), 1) if b"\r" in row] if b"\r" in text else []
+
+
+def counted_warning(text: bytes, number: int, first: bytes) -> bytes:
+    return b"warning: %s: %d, first: %s" % (text, number, first)
 
 
 def warning_of(text: bytes, names: List[bytes]) -> bytes:
     """A warning with a number and the first name."""
-    return b"warning: %s: %d, first: %s" % (text, len(names), names[0])
+    return counted_warning(text, len(names), names[0])
 
 
 def warnings(texts: Texts) -> Iterator[bytes]:
@@ -118,9 +123,10 @@ def unknown(folder: bytes, dump: bytes) -> Iterator[bytes]:
 def names_without_row(folder: bytes, dump: bytes) -> Iterator[bytes]:
     """A warning where a dump has such names, with which the program does not load it."""
     passwd, group = (read_trusted(os.path.join(folder, name)) for name in (b"passwd", b"group"))
-    names = source_texts.names_without_row(passwd, group, dump)
-    if names:
-        yield warning_of(b"users and groups in the dump without a row, with which the program does not load it", names)
+    found = source_texts.names_without_row(passwd, group, dump)
+    if found.names:
+        yield counted_warning(b"users and groups in the dump without a row, with which the program does not load it",
+                              found.names, b"line %d" % found.line)
 
 
 def torn(texts: Texts) -> Iterator[bytes]:
@@ -146,7 +152,7 @@ def torn(texts: Texts) -> Iterator[bytes]:
         rows = rows_with_returns(text)
         if rows:
             yield (name + b": " + counted(len(rows), "row has", "rows have") + b" a carriage return, which is taken for a part of "
-                   b"the last name, first: " + rows[0])
+                   b"the last name, first: line %d" % rows[0])
 
 
 def torn_warnings(texts: Texts, source: Source) -> Iterator[bytes]:
@@ -157,11 +163,14 @@ def torn_warnings(texts: Texts, source: Source) -> Iterator[bytes]:
 
 def say_notices(command: Command, source: Source, has_masks: bool = True) -> None:
     """What answers over this snapshot cannot tell, and the warning of empty masks, where there are any."""
-    found = read_texts(source.folder)
-    for text in unknown(source.folder, found.dump):
-        command.say(source.shown + b": " + text if not text.startswith(b"warning: ") else text)
-    for text in torn_warnings(found, source):
-        command.say(text)
-    names = list(open_empty_masks(found.dump)) if has_masks else []
+    names: Dict[bytes, None] = {}  # A directory can be in several parts of a snapshot.
+    for folder in split_tree.snapshots_in(source.folder):
+        part = source if folder == source.folder else Source(folder, folder, False)
+        found = read_texts(folder)
+        for text in unknown(folder, found.dump):
+            command.say(part.shown + b": " + text if not text.startswith(b"warning: ") else text)
+        for text in torn_warnings(found, part):
+            command.say(text)
+        names.update(dict.fromkeys(open_empty_masks(found.dump) if has_masks else ()))
     if names:
-        command.say(warning_of(EMPTY_MASKS, names))
+        command.say(warning_of(EMPTY_MASKS, [*names]))

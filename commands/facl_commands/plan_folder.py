@@ -27,6 +27,7 @@ NEW = b".new"  # At the end of a name while the file is written.
 # What facl-apply has done, in the file `state`; without it nothing was done.
 APPLYING, APPLIED, UNDOING, UNDONE = b"applying\n", b"applied\n", b"undoing\n", b"undone\n"
 UNDONE_IN_PART = b"undone in part\n"  # Files that somebody had changed were left out.
+STATES = (APPLYING, APPLIED, UNDOING, UNDONE, UNDONE_IN_PART)
 
 
 class Folder(NamedTuple):
@@ -50,7 +51,14 @@ class Folder(NamedTuple):
             return False
 
     def state(self) -> bytes:
-        return self.read(b"state") if self.has(b"state") else b""
+        """What facl-apply has done; empty where it did nothing."""
+        if not self.has(b"state"):
+            return b""
+        found = self.read(b"state")
+        if found not in STATES:
+            raise Failure(self.name + b"/state: is not as facl-apply wrote it, so it is not known what was done: compare the files "
+                          b"with old and new of the plan, and make another plan")
+        return found
 
     def write(self, name: bytes, text: bytes) -> None:
         """Makes a new file, which is on the disk then."""

@@ -5,11 +5,13 @@ has to be the file that find found under this name: where it is not, or is gone,
 """
 from __future__ import annotations
 
+import copy
 import itertools
 import operator
 import os
+import shutil
 import stat
-from typing import IO, Dict, Iterable, Iterator, List, NamedTuple, Optional, Set
+from typing import IO, Dict, Iterable, Iterator, List, NamedTuple, Optional, Set, Tuple
 
 from . import found_names, lists, live, system
 from .found_names import (
@@ -24,6 +26,15 @@ MOST_PATHS = 4096  # Directories whose paths are kept.
 EXCHANGED = b"was exchanged for another file, or removed, meanwhile"
 BY_FILE = operator.attrgetter("device", "inode")
 BY_RANK = operator.attrgetter("rank")
+
+
+class TooLarge(Failure):
+    """The dump of a snapshot would have more than MOST_BYTES; `fitting` of its files fit."""
+
+    def __init__(self, fitting: int) -> None:
+        super().__init__(b"the dump has more than %s bytes, which facl does not take: name fewer FOLDERs, or take several snapshots "
+                         b"by --split COUNT" % format(MOST_BYTES, ",").encode())
+        self.fitting = fitting
 
 
 class Paths:
@@ -150,8 +161,9 @@ class Recorder:
             if found is not None:
                 dump.write(found.text)
                 if dump.size > MOST_BYTES:
-                    raise Failure(b"the dump has more than %s bytes, which facl does not take: name fewer FOLDERs, or take several "
-                                  b"snapshots by --split COUNT, of fewer files" % format(MOST_BYTES, ",").encode())
+                    dump.close()
+                    self.inodes.close()
+                    raise TooLarge(len(into.nodes) - 1)
         dump.close()
         self.inodes.close()
         if not into.nodes:
@@ -204,22 +216,36 @@ def too_few(count: int, node: Node) -> Failure:
     return Failure(b"--split %d: is too few for the directories above %s" % (count, shown_name(Paths().of(node))))
 
 
-def parts_of(nodes: List[Node], count: int) -> Iterator[List[Node]]:
-    """The names of each snapshot: the directories above its first one, and as many as fit. A directory at the end is left
-    to the next snapshot, where the following name is in it."""
-    start = 0
+def part_of(nodes: List[Node], start: int, count: int) -> Tuple[List[Node], int]:
+    """The names of the snapshot that begins with one of these: the directories above it, and as many as fit; and where the
+    next one begins. A directory at the end is left to the next snapshot, where the following name is in it."""
+    above = above_of(nodes[start])
+    end = start + count - len(above)
+    if end <= start:
+        raise too_few(count, nodes[start])
+    following = nodes[end] if end < len(nodes) else None
+    while end < len(nodes) and nodes[end].parent is nodes[end - 1]:
+        end -= 1
+        if end == start:
+            raise too_few(count, following or nodes[start])
+    return sorted([*above, *nodes[start:end]], key=BY_RANK), end
+
+
+def record_parts(recorder: Recorder, nodes: List[Node], made: bytes, count: int, complaints: Complaints) -> None:
+    """Writes snapshots of at most so many files. One whose dump is too large is written once more, of fewer files, so that
+    nobody keeps a snapshot from being made by long names and lists."""
+    start, number, size = 0, 1, count
     while start < len(nodes):
-        above = above_of(nodes[start])
-        end = start + count - len(above)
-        if end <= start:
-            raise too_few(count, nodes[start])
-        following = nodes[end] if end < len(nodes) else None
-        while end < len(nodes) and nodes[end].parent is nodes[end - 1]:
-            end -= 1
-            if end == start:
-                raise too_few(count, following or nodes[start])
-        yield sorted([*above, *nodes[start:end]], key=BY_RANK)
-        start = end
+        part, end = part_of(nodes, start, size)
+        folder = os.path.join(made, b"%03d" % number)
+        os.mkdir(folder)
+        try:
+            recorder.write(folder, part, copy.copy(complaints) if number == 1 else Complaints(), number)
+        except TooLarge as fault:
+            shutil.rmtree(folder)
+            size = min(size // 2, fault.fitting)
+            continue
+        start, number, size = end, number + 1, min(count, 2 * size)
 
 
 def write_left_out(tree: Tree, choice: Choice, paths: Paths) -> None:
@@ -255,10 +281,7 @@ def record(choice: Choice, made: bytes, count: Optional[int]) -> None:
             recorder.write(made, (node for node in nodes if node.kind == FILE), complaints, 1)
             return
         nodes = [node for node in tree.in_order(of_components=True) if node.kind == FILE]
-        for number, part in enumerate(parts_of(nodes, count), 1):
-            folder = os.path.join(made, b"%03d" % number)
-            os.mkdir(folder)
-            recorder.write(folder, part, complaints if number == 1 else Complaints(), number)
+        record_parts(recorder, nodes, made, count, complaints)
 
 
 def body(_command: Command, words: List[str]) -> int:

@@ -31,6 +31,7 @@ class Block(NamedTuple):
 class Violation(NamedTuple):
     """A user for whom a rule does not hold."""
 
+    place: int  # Of the user among those on whom the rule says something.
     user: bytes  # The name; OTHERS for the user without entries.
     paths: List[bytes]  # The files on which the user may, or, of `always`, may not.
     blocks: List[Block]  # Of the first of them, and of the directories above it.
@@ -42,12 +43,20 @@ class Outcome(NamedTuple):
     files: int  # At or below the path.
     violations: List[Violation]
 
+    def joined(self, other: Outcome) -> Outcome:
+        """That of two parts of a snapshot, of which the other one is later."""
+        found = {it.place: it for it in self.violations}
+        for it in other.violations:
+            found[it.place] = found[it.place]._replace(paths=found[it.place].paths + it.paths) if it.place in found else it
+        return Outcome(self.rule, self.files + other.files, [found[place] for place in sorted(found)])
+
 
 class Rights:
     """What users may do, as the program answers."""
 
-    def __init__(self, world: World, given: argparse.Namespace, files: Files, chosen: List[bytes]) -> None:
+    def __init__(self, world: World, given: argparse.Namespace, files: Files, paths: Iterable[bytes], chosen: List[bytes]) -> None:
         self.world, self.is_alone, self.files, self.chosen = world, bool(given.file_alone), files, chosen
+        self.paths = paths  # The files that are looked at.
         self.reach = world.reach(self.is_alone)
         self.left_out: Set[bytes] = set()  # Users who are not chosen, and may what a rule gives to others only.
         self.below_paths: Dict[bytes, List[bytes]] = {}
@@ -56,7 +65,7 @@ class Rights:
     def at_or_below(self, path: bytes) -> List[bytes]:
         """The files at or below a path, in path order."""
         if path not in self.below_paths:
-            self.below_paths[path] = at_or_below(self.files, [path])
+            self.below_paths[path] = at_or_below(self.paths, [path])
         return self.below_paths[path]
 
     def asked(self, right: bytes, top: bytes) -> List[bytes]:
@@ -114,10 +123,10 @@ def deciding(blocks: List[Block], is_missing: bool) -> List[Block]:
     return closed[:1] or blocks[-1:]
 
 
-def violation(rights: Rights, rule: Rule, user: bytes, paths: List[bytes]) -> Violation:
+def violation(rights: Rights, rule: Rule, place: int, user: bytes, paths: List[bytes]) -> Violation:
     blocks = deciding(rights.why(user, paths[0]), rule.kind == ALWAYS)
     others = [name for name in rights.who(rule.right, paths[0]) if name != user]
-    return Violation(OTHERS if user == rights.world.everybody else user, paths, blocks, others)
+    return Violation(place, OTHERS if user == rights.world.everybody else user, paths, blocks, others)
 
 
 def subjects(rights: Rights, rule: Rule) -> List[bytes]:
@@ -135,13 +144,13 @@ def missing(rights: Rights, rule: Rule, user: bytes) -> List[bytes]:
 
 def outcome(rights: Rights, rule: Rule) -> Outcome:
     """Whether a rule holds, and for whom it does not."""
-    users: Iterable[bytes] = subjects(rights, rule)
+    users = list(enumerate(subjects(rights, rule)))
     if rule.kind == ALWAYS:
-        found = [(user, missing(rights, rule, user)) for user in users]
+        found = [(place, user, missing(rights, rule, user)) for place, user in users]
     else:
         some = rights.some(rule.right, rule.path)
         if rule.kind == ONLY:
             rights.left_out |= some - rule.users - {*rights.chosen, rights.world.everybody}
-        found = [(user, rights.granted(user, rule.right, rule.path)) for user in users if user in some]
-    violations = [violation(rights, rule, user, paths) for user, paths in found if paths]
+        found = [(place, user, rights.granted(user, rule.right, rule.path)) for place, user in users if user in some]
+    violations = [violation(rights, rule, place, user, paths) for place, user, paths in found if paths]
     return Outcome(rule, len(rights.asked(rule.right, rule.path)), violations)

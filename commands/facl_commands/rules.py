@@ -1,9 +1,12 @@
-"""The rules of facl-check: a line says who never, only or always has a right on all files at or below a path."""
+"""The rules of facl-check: a line says who never, only or always has a right on all files at or below a path.
+
+The file may be one that the caller cannot read, as by sudo: what is said of a line that is no rule has no word of it.
+"""
 from __future__ import annotations
 
 import os
 import re
-from typing import List, NamedTuple, Optional, Set, Tuple
+from typing import Callable, List, NamedTuple, Optional, Set, Tuple
 
 from .choice import is_recorded
 from .everybody import World
@@ -11,7 +14,7 @@ from .findings import plain_word
 from .messages import Failure
 from .names import number_of, read_name, read_path, shown_path, write_name
 from .people import Group, People, User
-from .scripts import WORD, is_empty, read_text, words_of
+from .scripts import WORD, lines_with_numbers, read_text, words_of
 from .superuser import ids_in
 from .trusted import read_given
 
@@ -23,8 +26,9 @@ KINDS, RIGHTS = (NEVER, ONLY, ALWAYS), (READ, WRITE, ENTER)
 COMMENT = re.compile(rb"(?:^|(?<=[ \t]))#")
 FORM = b"a rule is never|only|always WHO.. read|write|enter PATH"
 LEAST = 4  # Words of a rule.
-IS_ROOT = (b": has the uid 0, to which the kernel grants nearly everything: leave it out, or give --with-root to judge it "
+IS_ROOT = (b"a user of the uid 0, to whom the kernel grants nearly everything: leave it out, or give --with-root to judge it "
            b"as any other user")
+NO_MEMBERS = b"a group that has no members in the snapshot"
 INPUT = "-"  # The name of standard input.
 
 
@@ -52,7 +56,7 @@ class Faults(Exception):
 
 
 class BadRule(Exception):
-    """What is wrong with a line."""
+    """What is wrong with a line, or with one of its words."""
 
     def __init__(self, text: bytes) -> None:
         super().__init__(text)
@@ -78,8 +82,10 @@ def raw_words(line: bytes) -> List[bytes]:
 class Reader:
     """Reads rules, and looks up their names."""
 
-    def __init__(self, world: World, chosen: Set[bytes], with_root: bool) -> None:
+    def __init__(self, world: World, chosen: Set[bytes], with_root: bool,
+                 is_in_part: Optional[Callable[[bytes], bool]] = None) -> None:
         self.world, self.chosen, self.with_root = world, chosen, with_root
+        self.is_in_part = is_in_part  # Of a snapshot in parts: whether one of them records a path.
         self.people = People(world.texts.passwd, world.texts.group)
         self.notes: List[bytes] = []  # On groups of whom nobody is checked.
         self.roots = {name for name, uid in ids_in(world.texts.passwd).items() if uid == 0} if not with_root else set()
@@ -90,17 +96,17 @@ class Reader:
         primary = {user.name for user in self.people.users if user.gid == group.gid}
         return (primary | set(group.members) & rows) - self.roots
 
-    def members_asked(self, raw: bytes, group: Group) -> Set[bytes]:
-        """The users of a group that a rule names, with a note where there are none."""
+    def members_asked(self, place: int, group: Group) -> Set[bytes]:
+        """The users of a group that a word of a rule names, with a note where there are none."""
         found = self.members(group)
         if not found:
-            self.notes.append(raw + b": has no members in the snapshot" + b" but users of the uid 0" * self.has_roots(group))
+            self.notes.append(of_word(place, NO_MEMBERS + b" but users of the uid 0" * self.has_roots(group)))
         return found
 
     def has_roots(self, group: Group) -> bool:
         return any(it.name in self.roots and (it.gid == group.gid or it.name in group.members) for it in self.people.users)
 
-    def who(self, raw: bytes) -> Tuple[Set[bytes], bool]:
+    def who(self, place: int, raw: bytes) -> Tuple[Set[bytes], bool]:
         """The users that a word means, and whether it is the word for others."""
         if raw == OTHERS:
             return set(), True
@@ -108,36 +114,36 @@ class Reader:
             return set(self.chosen), False
         word = raw.replace(b"'", b"")
         if raw.startswith(IN_GROUP):
-            return self.members_asked(raw, self.group(word[1:], b"'" in raw)), False
-        return {self.user(word, b"'" in raw)}, False
+            return self.members_asked(place, self.group(place, word[1:], b"'" in raw)), False
+        return {self.user(place, word, b"'" in raw)}, False
 
-    def group(self, word: bytes, is_quoted: bool) -> Group:
+    def group(self, place: int, word: bytes, is_quoted: bool) -> Group:
         name = read_name(word)
         found = next((it for it in self.people.groups if is_named(it.name, it.gid, name, is_quoted)), None)
         if found is None:
-            raise BadRule(b"@" + word + b": no such group in the snapshot")
+            raise BadRule(of_word(place, b"no such group in the snapshot"))
         return found
 
-    def user(self, word: bytes, is_quoted: bool) -> bytes:
+    def user(self, place: int, word: bytes, is_quoted: bool) -> bytes:
         name = read_name(word)
         found: Optional[User] = next(
             (it for it in self.people.users if is_named(it.name, it.uid, name, is_quoted)), None)
         if found is None:
             is_group = any(it.name == name for it in self.people.groups)
-            more = b"; @" + word + b" is a group" if is_group else b""
-            raise BadRule(word + b": no such user in the snapshot" + more)
+            more = b", but a group: write @ before it" if is_group else b""
+            raise BadRule(of_word(place, b"no such user in the snapshot" + more))
         if found.name in self.roots:
-            raise BadRule(word + IS_ROOT)
+            raise BadRule(of_word(place, IS_ROOT))
         return found.name
 
-    def path(self, word: bytes) -> bytes:
+    def path(self, place: int, word: bytes) -> bytes:
         if b".." in word.split(b"/"):
-            raise BadRule(word + b": write the path from the root, without ..")
+            raise BadRule(of_word(place, b"write the path from the root, without .."))
         if not word:
             raise BadRule(b"an empty word is no PATH; all files are those of /")
         path = read_path(word)
-        if path and not is_recorded(self.world.session, path):
-            raise BadRule(word + b": is not in the snapshot")
+        if path and not (self.is_in_part(path) if self.is_in_part else is_recorded(self.world.session, path)):
+            raise BadRule(of_word(place, b"no such file in the snapshot"))
         return path
 
     def rule(self, number: int, raw: List[bytes]) -> Rule:
@@ -146,11 +152,12 @@ class Reader:
             raise BadRule(FORM)
         users: Set[bytes] = set()
         has_others = False
-        for word in raw[1:-2]:
-            names, is_others = self.who(word)
+        for place, word in enumerate(raw[1:-2], 2):
+            names, is_others = self.who(place, word)
             users |= names
             has_others = has_others or is_others
-        return Rule(number, raw, raw[0], users, has_others, raw[-2], self.path(raw[-1].replace(b"'", b"")))
+        return Rule(number, raw, raw[0], users, has_others, raw[-2],
+                    self.path(len(raw), raw[-1].replace(b"'", b"")))
 
     def read(self, name: str) -> List[Rule]:
         """The rules of a file; fails with what is wrong in all of its lines."""
@@ -158,9 +165,9 @@ class Reader:
         text = read_text(name).text if name == INPUT else read_given(shown)
         found: List[Rule] = []
         faults: List[bytes] = []
-        for number, line in enumerate(text.split(b"\n"), 1):
+        for number, line in lines_with_numbers(text):
             try:
-                words = [] if is_empty(line) else raw_words(line)
+                words = raw_words(line)
                 known = len(self.notes)
                 found += [self.rule(number, words)] if words else []
                 self.notes[known:] = [b"%s, line %d: %s" % (shown, number, it) for it in self.notes[known:]]
@@ -171,6 +178,11 @@ class Reader:
         if not found:
             raise Failure(shown + b": has no rules: facl-check --write SNAPSHOT FOLDER writes those that hold")
         return found
+
+
+def of_word(place: int, text: bytes) -> bytes:
+    """What is said of a word of a line, by its number from 1 on."""
+    return b"word %d: %s" % (place, text)
 
 
 def is_named(name: bytes, number: int, word: bytes, is_quoted: bool) -> bool:

@@ -17,7 +17,7 @@ from .program import lines_of
 from .protocol import ANSWERED, REFUSED
 from .scripts import Unit, read_text
 from .shards import superusers_of
-from .side_by_side import HERE, HOST, NOT_READABLE, Answered, Part, checked_operand, program_option, run_hosts
+from .side_by_side import HERE, HOST, NOT_READABLE, SECONDS, Answered, Part, checked_operand, program_option, run_hosts
 from .superuser import Superusers
 
 LONGEST_LINE = 1 << 20  # Bytes; of a server's answer.
@@ -116,7 +116,7 @@ def body(command: Command, words: List[str], given: argparse.Namespace) -> int:
     script = read_text("-")
     with scratch.folder("facl-ask.") as work:
         outcomes = run_hosts({it.host(): [it.folder] for it in servers}, program_option(given.program), script.text,
-                             work)
+                             work, given.timeout or SECONDS)
         failures = {it: found for it in servers for found in [outcomes[it.host()]] if isinstance(found, Failure)}
         parts = {it: found[0] for it in servers for found in [outcomes[it.host()]] if not isinstance(found, Failure)}
         for server, part in parts.items():

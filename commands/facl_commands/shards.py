@@ -20,7 +20,7 @@ from .program import OutputSlice, lines_of
 from .protocol import ANSWERED, FILE_HEAD, PROGRAM, REFUSED, is_refused, lacking_file, lacks_file, message_of
 from .records import path_of
 from .scripts import Script, Unit, read_text
-from .side_by_side import HERE, NOT_READABLE, Answered, Part, program_option, run_hosts
+from .side_by_side import HERE, NOT_READABLE, SECONDS, Answered, Part, program_option, run_hosts
 from .side_by_side import hosts_of as hosts_of
 from .superuser import Superusers
 from .tools import (
@@ -201,10 +201,11 @@ def superusers_of(parts: List[Part], with_root: bool) -> Superusers:
     return Superusers({} if with_root else ids)
 
 
-def run_parts(hosts: Dict[bytes, List[bytes]], options: List[bytes], script: bytes, work: str) -> List[Part]:
-    """The answers of all snapshots."""
+def run_parts(hosts: Dict[bytes, List[bytes]], options: List[bytes], script: bytes, work: str,
+              seconds: int) -> List[Part]:
+    """The answers of all snapshots, of which those of another machine have so many seconds."""
     parts: List[Part] = []
-    for host, outcome in run_hosts(hosts, options, script, work).items():
+    for host, outcome in run_hosts(hosts, options, script, work, seconds).items():
         if isinstance(outcome, Failure):
             raise Failure((b"" if host == HERE else host + b": ") + outcome.text)
         parts += outcome
@@ -218,7 +219,8 @@ def answer_script(command: Command, script: Script, hosts: Dict[bytes, List[byte
     dropped: Dict[int, Joined] = {}
     program = program_option(given.program)
     is_one = sum(map(len, hosts.values())) == 1
-    parts = run_parts(hosts, [*[b"--records"] * (not is_one), *program], script.text, work)
+    seconds = given.timeout or SECONDS
+    parts = run_parts(hosts, [*[b"--records"] * (not is_one), *program], script.text, work, seconds)
     check_agreement(parts)
     say_notices(command, parts)
     is_counting = any(unit.is_of(*COUNTING) for unit in units)
@@ -228,7 +230,7 @@ def answer_script(command: Command, script: Script, hosts: Dict[bytes, List[byte
     is_answered = not options  # Else they answer again, and say what they count of the files that several have.
     while True:
         if not is_answered:
-            parts = run_parts(hosts, [*(options or []), *program], without(script.text, units, set(dropped)), work)
+            parts = run_parts(hosts, [*(options or []), *program], without(script.text, units, set(dropped)), work, seconds)
         joined = join_all(units, parts, dropped, fault)
         new = next((number for number, it in joined.items() if it.is_dropped and number not in dropped), None)
         if new is None:

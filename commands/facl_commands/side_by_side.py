@@ -9,6 +9,7 @@ import shutil
 import signal
 import subprocess
 import sys
+import time
 from typing import IO, Dict, List, NamedTuple, Optional, Sequence, Union
 
 from . import scratch
@@ -23,6 +24,7 @@ HOST = re.compile(rb"((?:" + NAME_OF_HOST + rb"@)?" + NAME_OF_HOST + rb"):(.*)\Z
 LIKE_HOST = re.compile(rb"[A-Za-z0-9@._-]+:|-[^/]*:")  # What somebody may have meant for one.
 NO_OPERAND = re.compile(rb".*\n|::::?\+?\Z|\Z", re.DOTALL)  # What parallel does not take as it is.
 HERE = b":"  # What parallel calls this machine.
+SECONDS = 600  # That another machine has for its answers.
 MOST_READ = 16_777_216  # Bytes of another machine's answers that are read into memory.
 MOST_WRITTEN = 1 << 32  # Bytes that it may write into one file, where there is room.
 MOST_SAID = 10_000  # Bytes of its messages in which the first one is looked for.
@@ -51,17 +53,35 @@ class Part(NamedTuple):
 Outcome = Union[List[Part], Failure]  # Of the snapshots on one machine.
 
 
+class Limits(NamedTuple):
+    """What another machine may take."""
+
+    room: int  # Bytes of a file that it writes.
+    seconds: int  # From the start to its end.
+
+
 class Run(NamedTuple):
     """A run of parallel, with files for what it prints."""
 
     process: "subprocess.Popen[bytes]"
     out: IO[bytes]
     messages: IO[bytes]
-    room: Optional[int]  # Bytes that each of them may have.
+    limits: Optional[Limits]
+    started: float
 
     def is_full(self) -> bool:
         sizes = [os.fstat(it.fileno()).st_size for it in (self.out, self.messages)]
-        return self.room is not None and max(sizes) >= self.room
+        return self.limits is not None and max(sizes) >= self.limits.room
+
+    def wait(self) -> None:
+        """Waits for its end; Failure where it takes too long."""
+        if self.limits is None:
+            self.process.wait()
+            return
+        try:
+            self.process.wait(max(0.0, self.started + self.limits.seconds - time.monotonic()))
+        except subprocess.TimeoutExpired as error:
+            raise Failure(b"did not answer in %d seconds (--timeout)" % self.limits.seconds) from error
 
 
 def hosts_of(folders: List[bytes]) -> Dict[bytes, List[bytes]]:
@@ -99,27 +119,28 @@ def program_option(program: Optional[str]) -> List[bytes]:
     return [] if program is None else [b"--program", os.fsencode(program)]
 
 
-def start(words: List[bytes], work: str, room: Optional[int]) -> Run:
-    """Starts parallel with the script as its standard input, and with `room` for what it writes."""
+def start(words: List[bytes], work: str, limits: Optional[Limits]) -> Run:
+    """Starts parallel with the script as its standard input."""
     called = {**environment_of_called(), "LC_ALL": "C", "PARALLEL_SHELL": "/bin/sh", "PARALLEL_HOME": work,
               "TMPDIR": work}
     out, messages = scratch.new_file("facl-ask."), scratch.new_file("facl-ask.")
     with open(os.path.join(work, "script"), "rb") as given:
         process = subprocess.Popen(words, stdin=given, stdout=out, stderr=messages, env=called,
-                                   preexec_fn=lambda: prepare_parallel(room))
-    return Run(process, out, messages, room)
+                                   preexec_fn=lambda: prepare_parallel(None if limits is None else limits.room))
+    return Run(process, out, messages, limits, time.monotonic())
 
 
-def run_hosts(hosts: Dict[bytes, List[bytes]], options: List[bytes], script: bytes, work: str) -> Dict[bytes, Outcome]:
-    """Runs all snapshots side by side, and reads what they wrote; by machine."""
+def run_hosts(hosts: Dict[bytes, List[bytes]], options: List[bytes], script: bytes, work: str,
+              seconds: int = SECONDS) -> Dict[bytes, Outcome]:
+    """Runs all snapshots side by side, and reads what they wrote; by machine. Another one than this has so many seconds."""
     with open(os.path.join(work, "script"), "wb") as file:
         file.write(script + b"\n")
     numbers = [unit.number for unit in read_script(b"", script)]
-    room = room_for_answers(hosts, work)
+    limits = Limits(room_for_answers(hosts, work), seconds)
     runs: Dict[bytes, Run] = {}
     try:
         for host, names in hosts.items():
-            runs[host] = start(parallel_words(host, names, options), work, None if host == HERE else room)
+            runs[host] = start(parallel_words(host, names, options), work, None if host == HERE else limits)
         return {host: outcome_of(run, host, len(hosts[host]), numbers) for host, run in runs.items()}
     finally:
         for run in runs.values():
@@ -128,8 +149,8 @@ def run_hosts(hosts: Dict[bytes, List[bytes]], options: List[bytes], script: byt
 
 def outcome_of(run: Run, host: bytes, wanted: int, numbers: Sequence[int]) -> Outcome:
     """Waits for a run, and reads what it wrote."""
-    run.process.wait()
     try:
+        run.wait()
         return read_parts(run, host, wanted, numbers)
     except Failure as failure:
         return failure
@@ -210,7 +231,7 @@ class Reader:
 def read_parts(run: Run, host: bytes, wanted: int, numbers: Sequence[int]) -> List[Part]:
     """The places of the answers of `wanted` snapshots in what one run of parallel wrote."""
     if run.is_full():
-        raise Failure(b"what it wrote takes more than the %d bytes that there is room for" % (run.room or 0))
+        raise Failure(b"what it wrote takes more than the %d bytes that there is room for" % (run.limits.room if run.limits else 0))
     if run.process.returncode != 0:
         run.messages.seek(0)
         said = next((line for line in run.messages.read(MOST_SAID).splitlines() if line), b"")

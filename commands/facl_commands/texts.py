@@ -22,12 +22,13 @@ from .protocol import FILE_HEAD, FREE_FILE_LINE, LIST, LIST_ALL, lacks_file
 from .trusted import open_file, read_trusted
 
 DUMP = b"dump"
-KINDS = ("user", "group")
+DATABASES = ("passwd", "group")
 NAMED = {"passwd": re.compile(rb"[ \t]*(?:#[ \t]*owner:[ ]?|(?:d(?:efault)?:)?u(?:ser)?:)([^:#]+)"),
          "group": re.compile(rb"[ \t]*(?:#[ \t]*group:[ ]?|(?:d(?:efault)?:)?g(?:roup)?:)([^:#]+)")}
 KEYS_AT_ONCE = 500  # Of getent.
 LIVE_ROOT = FILE_HEAD + b"/\n"  # As facl-snapshot writes it.
 FILE_NAME = re.compile(FREE_FILE_LINE, re.DOTALL)
+HAS_FILE = re.compile(rb"^[ \t]*#[ \t]*file:", re.MULTILINE)
 PIECE = 1 << 20
 ROOM = 60_000  # Bytes of names in a line, which may have 65,536.
 
@@ -71,6 +72,7 @@ def opened(given: argparse.Namespace) -> Iterator[Source]:
         yield Source(os.fsencode(given.snapshot), os.fsencode(given.snapshot), False)
         return
     with scratch.folder("facl.") as work:
+        dump = read_dump(os.fsencode(given.dump))
         for name, file in (("dump", given.dump), ("passwd", given.passwd), ("group", given.group_file)):
             target = os.path.join(work, name)
             if file is not None:
@@ -78,7 +80,8 @@ def opened(given: argparse.Namespace) -> Iterator[Source]:
                 os.symlink(os.path.join(os.getcwdb(), os.fsencode(file)), os.fsencode(target))
             else:
                 with open(target, "wb") as made:
-                    made.write(rows_of_system(name, read_trusted(os.fsencode(given.dump))))
+                    made.write(rows_of_system(name, dump))
+        del dump  # Which is large.
         source = Source(os.fsencode(work), os.fsencode(given.dump), True)
         try:
             yield source
@@ -87,6 +90,15 @@ def opened(given: argparse.Namespace) -> Iterator[Source]:
             if not failure.text.startswith(start):
                 raise
             raise Failure(source.shown + b": " + failure.text[len(start) :], failure.status) from failure
+
+
+def read_dump(name: bytes) -> bytes:
+    """What is in a dump. Another file is refused at once, since names in a dump become words of getent, which all users can
+    see."""
+    found = read_trusted(name)
+    if found and HAS_FILE.search(found) is None:
+        raise Failure(name + b": is no dump: it has no line `# file: NAME`")
+    return found
 
 
 def getent(words: List[bytes]) -> bytes:
@@ -133,15 +145,34 @@ def rows_of_system(database: str, dump: bytes) -> bytes:
     return text
 
 
-def names_without_row(passwd: bytes, group: bytes, dump: bytes) -> List[bytes]:
+class WithoutRow(NamedTuple):
     """The users and groups that a dump names, and that have no row; ids need none."""
-    found: List[bytes] = []
+
+    names: int
+    line: int  # The first line of the dump that names one of them, from 1 on.
+
+
+def names_without_row(passwd: bytes, group: bytes, dump: bytes) -> WithoutRow:
+    """Their number, and where the first one is. The file may be any: no name is given back."""
+    names, of_them = 0, set()
     lines = distinct_lines(dump)
-    for kind, database, rows in zip(KINDS, ("passwd", "group"), (passwd, group)):
+    for database, rows in zip(DATABASES, (passwd, group)):
         known = {row[0] for row in rows_of(rows)}
-        found += [kind.encode() + b" " + name for name in sorted(names_in(database, lines) - known)
-                  if not name.isdigit()]
-    return found
+        lacking = {name for name in names_in(database, lines) - known if not name.isdigit()}
+        names += len(lacking)
+        of_them |= {line for line in lines if names_in(database, {line}) & lacking} if lacking else set()
+    return WithoutRow(names, line_of(dump, of_them) if names else 0)
+
+
+def line_of(dump: bytes, wanted: Set[bytes]) -> int:
+    """The number of the first line that is one of some."""
+    number = 0
+    for piece in pieces_of(dump):
+        for line in piece:
+            number += 1
+            if line in wanted:
+                return number
+    return 0
 
 
 def notice(folder: bytes, dump: bytes) -> Optional[bytes]:

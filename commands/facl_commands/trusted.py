@@ -18,7 +18,7 @@ from .messages import Failure, reason
 
 PRIVATE = 0o600
 MOST = 1 << 30  # Bytes of a text of a snapshot, or of a file of a plan: a dump that the program loads has a quarter.
-MOST_WRITTEN = 64 << 20  # Bytes of what a person writes: rules, accepted findings.
+MOST_WRITTEN = 64 << 20  # Bytes of what a person writes: rules, accepted findings, a script, as many as the program takes.
 PIECE = 1 << 20
 DESCRIPTOR = re.compile(rb"/(?:dev|proc/self)/fd/([0-9]{1,9})")
 LINKS_LIMIT = 40  # Symbolic links on one way, as in the kernel.

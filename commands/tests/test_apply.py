@@ -52,6 +52,15 @@ class Plans(Case):
         self.assertRegex(done.messages.decode(), text)
         self.assertNotIn(b"Traceback", done.messages)
 
+    def test_a_state_that_facl_apply_did_not_write(self) -> None:
+        """What is done is not known, so nothing is touched."""
+        for text in (b"", b"applying", b"undone in part", b"done\n", b"applied\napplied\n"):
+            self.write("before.plan/state", text)
+            os.chmod(self.path("before.plan/state"), 0o600)
+            self.refused("/state: is not as facl-apply wrote it, so it is not known what was done: compare the files with old and new of "
+                         "the plan, and make another plan")
+        os.unlink(self.path("before.plan/state"))
+
     def test_a_file_that_is_too_large(self) -> None:
         for name in ("files", "plan", "state", "journal", "meta", "by_hand", "by_hand_done"):
             place = self.path("before.plan/" + name)

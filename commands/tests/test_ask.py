@@ -248,7 +248,7 @@ other::r--
     def test_names_without_a_row(self) -> None:
         self.write("folder/dump", self.DUMP.replace(b"user:guest", b"user:gone"))
         self.expect(self.run_command("facl-ask", ["folder"], self.QUESTIONS), 2, b"", b"facl-ask: folder: " + UNKNOWN
-                    + b"facl-ask: warning: users and groups in the dump without a row, with which the program does not load it: 1, first: user gone\n"
+                    + b"facl-ask: warning: users and groups in the dump without a row, with which the program does not load it: 1, first: line 12\n"
                     + self.MASKS + b"facl: setup: dump: text line 12: unknown user\n")
 
     def test_words(self) -> None:
@@ -359,7 +359,7 @@ class Overview(Case):
             b"warning: members of groups without a row in passwd: 1, first: nell\r",
         ])
         self.assertEqual(list(overview.torn(texts)), [
-            b"group: 1 row has a carriage return, which is taken for a part of the last name, first: audit"])
+            b"group: 1 row has a carriage return, which is taken for a part of the last name, first: line 5"])
         self.write("before/passwd", self.read("before/passwd") + b"twin:x:01001:100::/:/bin/sh\n")
         first = next(row.split(b":")[0] for row in self.read("before/passwd").split(b"\n") if row.split(b":")[2] == b"1001")
         self.assertEqual([*overview.warnings(overview.read_texts(texts.folder))][-1],

@@ -287,9 +287,9 @@ class AcceptedFindings(TwoKinds):
     def test_lines_that_accept_nothing(self) -> None:
         done = self.accept(b"set-user-id srv/hr/old gone\nset-group-id srv/hr/sub they are old\n", "--tsv")
         self.assertEqual((done.status, done.out.count(b"\n")), (1, 3))
-        self.assertEqual(done.messages, b"facl-audit: accepted, line 1: set-user-id srv/hr/old: is not found: remove the line\n"
-                         b"facl-audit: accepted, line 2: set-group-id srv/hr/sub: is not found there, but below it: end the path "
-                         b"with a slash\n")
+        self.assertEqual(done.messages, b"facl-audit: accepted, line 1: set-user-id is not found at the path: remove the line\n"
+                         b"facl-audit: accepted, line 2: set-group-id is not found at the path, but below it: end the "
+                         b"path with a slash\n")
 
     def test_a_line_of_another_folder_is_not_said(self) -> None:
         self.write("accepted", b"set-user-id srv/hr/new needed\n")
@@ -301,11 +301,11 @@ class AcceptedFindings(TwoKinds):
         self.write("accepted", b"set-user-id srv/hr/newer needed\n")
         os.chmod(self.path("accepted"), 0o600)
         done = self.run_command("facl-audit", ["--tsv", "--accepted", "accepted", "small", "srv/hr/sub"])
-        self.assertEqual(done.messages, b"facl-audit: accepted, line 1: set-user-id srv/hr/newer: is not found: remove the line\n")
+        self.assertEqual(done.messages, b"facl-audit: accepted, line 1: set-user-id is not found at the path: remove the line\n")
 
     def test_lines_that_are_wrong(self) -> None:
         for text, message in ((b"set-user-id srv/hr/new\n", b"a line is FINDING PATH REASON; words with spaces are in single "
-                               b"quotes"), (b"setuid srv why\n", b"setuid: is no finding; facl-audit --help lists them"),
+                               b"quotes"), (b"setuid srv why\n", b"word 1: no such finding; facl-audit --help lists them"),
                               (b"set-user-id 'srv why\n", b"a quote is open")):
             self.expect(self.accept(text), 2, b"", b"facl-audit: accepted, line 1: " + message + b"\n")
 

@@ -97,8 +97,8 @@ class Forms(Checks):
         self.assertEqual(self.broken(b"only @hr xaver read srv/hr/", "--all-users"), [b"daemon 1 srv/hr/x"])
         self.assertEqual(self.broken(b"never daemon read srv/hr/"), [b"daemon 1 srv/hr/x"])
         self.assertEqual(self.broken(b"never root write srv/hr/", "--with-root"), [b"root 1 srv/hr"])
-        self.expect(self.check(b"never root write srv/hr/\n"), 2, b"", b"facl-check: rules, line 1: root: has the uid 0, to which "
-                    b"the kernel grants nearly everything: leave it out, or give --with-root to judge it as any other user\n")
+        self.expect(self.check(b"never root write srv/hr/\n"), 2, b"", b"facl-check: rules, line 1: word 2: a user of the uid 0, to "
+                    b"whom the kernel grants nearly everything: leave it out, or give --with-root to judge it as any other user\n")
 
 
 class Report(Checks):
@@ -173,13 +173,13 @@ class Digits(Checks):
         self.assertEqual(self.broken(b"never @2003 read srv/hr/cases/two"), [b"anna 1 srv/hr/cases/two"])
         self.assertEqual(self.broken(b"never @'2003' read srv/hr/cases/two"), [])
         self.expect(self.check(b"never @none read srv/hr/\n", "--quiet"), 0, b"",
-                    b"facl-check: warning: rules, line 1: @none: has no members in the snapshot\n")
+                    b"facl-check: warning: rules, line 1: word 2: a group that has no members in the snapshot\n")
         self.expect(self.check(b"# one\nnever @root read srv/hr/\n", "--quiet"), 0, b"",
-                    b"facl-check: warning: rules, line 2: @root: has no members in the snapshot but users of the uid 0\n")
+                    b"facl-check: warning: rules, line 2: word 2: a group that has no members in the snapshot but users of the uid 0\n")
 
     def test_more_digits_than_a_number_may_have(self) -> None:
         self.expect(self.check(b"never %s read srv/hr/\n" % (b"9" * 5000)), 2, b"",
-                    b"facl-check: rules, line 1: %s: no such user in the snapshot\n" % (b"9" * 5000))
+                    b"facl-check: rules, line 1: word 2: no such user in the snapshot\n")
 
 
 class Comments(Checks):
@@ -202,9 +202,9 @@ class WrongRules(Checks):
                           b"never hr read srv/hr/\nnever anna see srv/hr/\nnever 4711 read srv/hr/\nnever 'anna read srv\n"
                           b"never anna read srv/../srv\nnever read srv/hr/\nnever anna read ''\n")
         form = b"a rule is never|only|always WHO.. read|write|enter PATH"
-        texts = [b"nobody: no such user in the snapshot", b"@nix: no such group in the snapshot", b"srv/nix: is not in the snapshot",
-                 b"hr: no such user in the snapshot; @hr is a group", form, b"4711: no such user in the snapshot",
-                 b"a single quote is open: in a name write it as \\047", b"srv/../srv: write the path from the root, without ..", form,
+        texts = [b"word 2: no such user in the snapshot", b"word 2: no such group in the snapshot", b"word 4: no such file in the snapshot",
+                 b"word 2: no such user in the snapshot, but a group: write @ before it", form, b"word 2: no such user in the snapshot",
+                 b"a single quote is open: in a name write it as \\047", b"word 4: write the path from the root, without ..", form,
                  b"an empty word is no PATH; all files are those of /"]
         wanted = b"".join(b"facl-check: rules, line %d: %s\n" % (place, text) for place, text in enumerate(texts, 2))
         self.expect(done, 2, b"", wanted)

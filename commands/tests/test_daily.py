@@ -163,6 +163,26 @@ class Week(Daily):
             self.assertEqual(self.kept(), [])
 
 
+class InParts(Daily):
+    def test_days_with_and_without_parts(self) -> None:
+        above = self.tree.count("/") + 1  # Directories, with the root and the tree.
+        os.chmod(self.tree, 0o700)
+        for number in range(6):
+            self.make("f%d" % number, 0o600)
+        parts = ("--split", str(above + 3), "--keep", "1", "--fail-on", "none")
+        for words in (parts, parts, parts[2:], parts, ("--split", str(above + 4), *parts[2:])):
+            self.expect(self.daily(*words), 0, b"")
+        self.assertEqual(self.kept(), ["DAY.5", "made.by-facl-daily"])
+        self.assertEqual(sorted(os.listdir(self.path("kept/%s.5" % time.strftime("%Y-%m-%d")))), ["001", "002"])
+        self.make("e", 0o666)  # Before the cut.
+        os.chmod(self.tree, 0o755)
+        done = self.daily(*parts)
+        self.assertEqual((done.status, done.messages), (1, b""))
+        self.assertEqual(done.out.count(b"== "), 2, done.out)
+        self.assertIn(b"files: 1 with another owner, group, flags or list, 1 new\n", done.out)
+        self.assertIn(b"    others may write 1 file, first: %s/e\n" % self.tree.strip("/").encode(), done.out)
+
+
 class Units(Daily):
     """The files that the package has for systemd and cron."""
 
@@ -198,7 +218,7 @@ class Faults(Daily):
     def test_words(self) -> None:
         for words, text in ((["--keep", "0"], b"--keep 0: is no number of snapshots"), (["--keep"], b"--keep: takes a word"),
                             (["--mail", "a b"], b"--mail a b: is no address"), (["--fail-on", "x"], b"give high, middle, low or none"),
-                            (["--snapshot", "--quiet --split 9"], b"leave --split out"), (["--nix"], b"--nix: is no option")):
+                            (["--split", "0"], b"--split 0: is no number from 1 to 9999999"), (["--nix"], b"--nix: is no option")):
             done = self.daily(*words, folders=[] if words == ["--keep"] else None)
             self.assertEqual((done.status, done.out, text in done.messages), (2, b"", True), done)
         self.assertIn(b"give a FOLDER from the root on", self.daily(folders=["tree"]).messages)
@@ -229,7 +249,7 @@ class Faults(Daily):
         self.write("rules", b"never nobody read /\n")
         done = self.daily()
         self.assertEqual((done.status, self.kept()), (2, ["DAY", "made.by-facl-daily"]))
-        self.assertIn(b"rules, line 1: nobody: no such user in the snapshot\n", done.out)
+        self.assertIn(b"rules, line 1: word 2: no such user in the snapshot\n", done.out)
 
     def test_mail_that_cannot_be_sent(self) -> None:
         self.write("stubs/broken", b"")

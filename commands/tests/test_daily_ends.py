@@ -26,6 +26,10 @@ STUBS = {
     "sendmail": '#!/bin/sh\n[ ! -e "$STUBS/broken" ] || exit 75\ncat >>"$STUBS/mails"\n',
     "state": "A",
 }
+SPLIT = ('#!/bin/sh\n[ ! -e "$STUBS/in-snapshot" ] || . "$STUBS/in-snapshot"\n'
+         'for part in 001 002; do mkdir -p -- "$2/$part" && cp -- "$STUBS/state" "$2/$part/dump"; done\n')
+DIFF_OF_PARTS = ('#!/bin/sh\n[ ! -e "$STUBS/in-diff" ] || . "$STUBS/in-diff"\n'
+                 'cmp -s "$1/001/dump" "$2/001/dump" || { echo "$(cat "$1/001/dump") to $(cat "$2/001/dump"), in $2"; exit 1; }\n')
 SAID = b"A to B"
 
 
@@ -176,6 +180,23 @@ class Kills(Stubbed):
         self.write("kept/.work.abcdefghij", b"")
         self.assertEqual((self.daily(), os.listdir(self.path("mine"))), (0, ["file"]))
         self.assertEqual(len([it for it in os.listdir(self.kept) if it.startswith(".work.")]), 3)
+
+
+class KillsOfParts(Kills):
+    """The same of a snapshot in parts, which comes after one without parts and goes for one with others."""
+
+    def setUp(self) -> None:
+        super().setUp()
+        self.stub("facl-snapshot", SPLIT)
+        self.stub("facl-diff", DIFF_OF_PARTS)
+
+    def states(self) -> Dict[str, bytes]:
+        for name in os.listdir(self.kept) if os.path.exists(self.kept) else []:
+            for part in sorted(os.listdir(os.path.join(self.kept, name))) if os.path.isdir(os.path.join(self.kept, name)) else []:
+                self.assertIn(part, ("001", "002", "003"))
+        names = self.read("kept/" + MADE).decode().splitlines() if os.path.exists(self.path("kept/" + MADE)) else []
+        self.assertEqual(sorted(it for it in os.listdir(self.kept) if it not in (LOCK, MADE)), sorted(names))
+        return {name: self.read(f"kept/{name}/001/dump") for name in names}
 
 
 class Unsaid(Stubbed):

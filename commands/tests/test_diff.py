@@ -312,7 +312,7 @@ class Snapshots(DiffCase):
         os.mkdir(self.path("parts"))
         shutil.copytree(self.path("before"), self.path("parts/001"))
         done = self.run_command("facl-diff", ["before", "parts"])
-        self.assertEqual((done.status, b"has the parts of a tree (--split)" in done.messages), (2, True))
+        self.assertEqual((done.status, b"parts: lacks parts of its tree, or has parts of another one" in done.messages), (2, True))
         self.write("after/passwd", b"ines:x:one:100:::\n")
         self.assertEqual(self.diff().status, 2)
         self.write("after/passwd", self.read("before/passwd"))

@@ -162,6 +162,21 @@ class WrongServers(Case):
                 self.assertIsNone(message, name)
                 self.assertEqual([it.answers for it in outcome][0].keys(), {1, 2, 3, 4})
 
+    def test_one_that_never_answers(self) -> None:
+        """The others' answers are given, and nothing of it is left."""
+        self.machine("silent", b"echo $$ >silent.id; exec sleep 1000")
+        good = self.ask("good")
+        done = self.run_command("facl-ask", ["--hosts", "--timeout", "2", "silent:DIR", "good:DIR"], SCRIPT, self.environment())
+        self.assertEqual((done.status, done.out), (2, good.out))
+        self.assertEqual(done.messages.splitlines()[-1], b"silent: did not answer in 2 seconds (--timeout)")
+        self.assertFalse(os.path.exists("/proc/" + self.read("machines/silent.id").decode().strip()))
+        self.assertEqual(os.listdir(self.path("temporary")), [])
+        done = self.run_command("facl-ask", ["--each", "--timeout", "2", "silent:DIR"], SCRIPT, self.environment())
+        self.expect(done, 2, b"", b"facl-ask: silent: did not answer in 2 seconds (--timeout)\n")
+        for word in ("0", "-1", "x", "99999999", "1.5"):
+            self.assertEqual(self.run_command("facl-ask", ["--hosts", "--timeout=" + word, "good:DIR"]).status, 2)
+        self.expect(self.run_command("facl-ask", ["--timeout", "2", "before"]), 2, b"", b"facl-ask: --timeout is for --each and --hosts\n")
+
     def test_much_in_one_line(self) -> None:
         """What is kept in memory has a limit of its own."""
         self.wrong("wide", b'{"part": "' + b"x" * 100_000 + b'"}\n')

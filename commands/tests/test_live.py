@@ -9,7 +9,7 @@ import random
 import resource
 import struct
 import unittest
-from typing import Dict, List, NamedTuple, Optional, Tuple
+from typing import Dict, List, NamedTuple, Tuple
 
 from common import Case
 from real import RealCase
@@ -71,9 +71,9 @@ class StandIn(live.OpenFile):
         flags = self.present.flags if self.is_directory else self.present.flags & 0o1000
         self.become(self.present._replace(owner=owner, group=group, flags=flags))
 
-    def set_flags(self, flags: int, permissions: Optional[int] = None) -> None:
-        assert permissions in (None, lists.permissions_of(self.present.access))
-        self.become(self.present._replace(flags=flags))
+    def set_mode(self, mode: int) -> None:
+        assert mode & 0o777 == lists.permissions_of(self.present.access)
+        self.become(self.present._replace(flags=mode & 0o7000))
 
 
 class Pairs:

@@ -628,7 +628,7 @@ class ADumpByName(Case):
         self.write("edits", b"setfacl -m u:guest:r srv/share/notes\n")
         self.write("acls", b"# file: srv\n# owner: gone\n# group: 7\nuser::rwx\ngroup::r-x\nother::--x\n")
         words = ["--dump", "acls", "--passwd", "before/passwd", "--group", "before/group"]
-        warning = b"users and groups in the dump without a row, with which the program does not load it: 1, first: user gone\n"
+        warning = b"users and groups in the dump without a row, with which the program does not load it: 1, first: line 2\n"
         fault = b": acls: the program does not load it: facl: setup: dump: text line 2: unknown user\n"
         cases: List[Tuple[str, List[str]]] = [("facl-plan", ["edits"]), ("facl-audit", [])]
         for name, more in cases:
@@ -676,7 +676,7 @@ class BadInput(Case):
         self.expect_unusable(b"before: Is a directory", "before", "before")
         with open(self.path("huge"), "wb") as file:
             file.truncate(9 << 30)
-        too_large = b" has more than 1024 MiB, which is too large"
+        too_large = b" has more than 64 MiB, which is too large"
         self.expect_unusable(b"huge:" + too_large, "before", "huge")
         with open(self.path("huge"), "rb") as file:
             words = [sys.executable, "-I", os.path.join(COMMANDS, "facl-plan"), "before", "-"]

@@ -12,7 +12,7 @@ import stat
 import subprocess
 import sys
 import time
-from typing import Dict, List, Optional, Tuple
+from typing import Dict, List, Optional, Set, Tuple
 
 from common import COMMANDS, Case, Done, restore_signals
 
@@ -256,6 +256,23 @@ f' && rm folder gone && mkdir folder && mv d1 d && mv d2 d1 && mv d d2 && mv d3 
         self.expect_status(self.snapshot("new", "tree"), 2, b"facl-snapshot: the dump has more than 100 bytes, which facl does not take: ")
         self.expect_nothing_left()
 
+    def test_parts_of_fewer_bytes(self) -> None:
+        """A user with long names makes more parts, and keeps none from being made."""
+        self.expect_status(self.snapshot("whole", "tree"), 0)
+        for number in range(30):
+            self.write("tree/" + 200 * "x" + str(number), b"")
+        self.add_code("\nMOST_BYTES = 3000\n")
+        self.expect_status(self.snapshot("whole", "tree"), 2, b"the dump has more than 3,000 bytes")
+        self.expect_status(self.snapshot("--split", "1000", "parts", "tree"), 0)
+        found: Set[bytes] = set()
+        for part in sorted(os.listdir(self.path("parts"))):
+            dump = self.read("parts/%s/dump" % part)
+            self.assertLessEqual(len(dump), 3000)
+            found.update(names_of(dump))
+        expected = {os.path.realpath(os.fsencode(self.path("tree/" + 200 * "x" + str(number)))) for number in range(30)}
+        self.assertEqual(found, {*names_of(self.read("whole/dump")), *expected})
+        self.assertGreater(len(os.listdir(self.path("parts"))), 2)
+
     def test_lists_that_facl_does_not_take(self) -> None:
         """The kernel takes several entries of one user, of which the first counts, and of one group, and 8,191 entries."""
         def pack(*entries: Tuple[int, int, int]) -> bytes:
@@ -444,6 +461,31 @@ class People(SnapshotCase):
         self.assertNotIn(b"secret", self.read("asked"))
         self.expect_status(self.snapshot("--users", "absent", "other", "tree"), 2, b"absent: cannot be read\n")
         self.assertFalse(os.path.exists(self.path("other")))
+        self.expect_nothing_left()
+
+    def test_a_slow_service(self) -> None:
+        """Whoever writes ids that nobody has into a list cannot keep the snapshot from ending: asking has a limit of time, and
+        owners and members come first."""
+        text = self.read("commands/facl-snapshot").replace(b"most_seconds=300", b"most_seconds=4")
+        self.write("commands/facl-snapshot", text)
+        ids: lists.Entries = {(lists.USER, number): 4 for number in range(2_000_000_000, 2_000_001_200)}
+        self.lists(ids)
+        self.write("commands/facl-snapshot", text)
+        os.chmod(self.path("commands/facl-snapshot"), 0o755)
+        self.tool("getent", (DIRECTORY.replace(b"for key;", b"[ $# -lt 100 ] || { echo cut:x:7; printf half:x:8:8; exec sleep 1000; }\nfor key;")
+                             % os.fsencode(self.folder)))
+        begin = time.monotonic()
+        done = self.snapshot("new", "tree")
+        self.assertLess(time.monotonic() - begin, 120)
+        self.assertEqual(done.status, 1, done.messages)
+        found = re.search(rb"facl-snapshot: asking for users and groups took more than 4 seconds, so the snapshot lacks some: names and ids "
+                          rb"that were not asked for or not answered: ([0-9]+)\n", done.messages)
+        assert found is not None, done.messages
+        self.assertGreaterEqual(int(found[1]), 1200)
+        self.assertNotIn(b"half", self.read("new/passwd"))
+        self.assertEqual(sorted(os.listdir(self.path("new"))), ["dump", "group", "inodes", "links", "meta", "passwd"])
+        self.write("more", b"".join(b"u%d\n" % number for number in range(71000, 71200)))
+        self.expect_status(self.snapshot("--users", "more", "other", "tree"), 2, b"more: asking for its users took more than 4 seconds\n")
         self.expect_nothing_left()
 
     def test_many(self) -> None:

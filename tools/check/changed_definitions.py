@@ -5,12 +5,13 @@ usage: tools/check/changed_definitions.py [--list] [--jobs N] [--count N] [--rec
 
 A definition that contracts name and the code that equals it, changed alike, pass every proof: only a test notices. So
 each change of changed_definitions.txt is made in a copy of the repository, of the code alone, and the tests of the
-crates that TESTS names for its crate are run without a proof (`rt try --test`), until one fails. For each change it
-prints `seen`, `not seen`, or `no answer` where a test was not over in time or the code was not compiled. Only the
-changes whose crate or description contains one of the words are made, or all; of these, with --count, N that are spread
-evenly; N at a time (--jobs), in a copy each. A change takes a minute of processor time or more, since all crates are
-compiled for it. --list prints the changes, with those that are not to be made any more: their old text has to be once
-in their file. The exit status is 1 where one was not seen, or is not to be made any more, 2 where the words are others.
+crates that TESTS names for its crate are run without a proof (`rt try --test`), then the scripts of commands/tests/rows
+(tools/try_rows.py) and the tests of facl_tests, until one fails. For each change it prints `seen`, `not seen`, or
+`no answer` where a test was not over in time or the code was not compiled. Only the changes whose crate or description
+contains one of the words are made, or all; of these, with --count, N that are spread evenly; N at a time (--jobs), in a
+copy each. A change takes a minute of processor time or more, since all crates are compiled for it. --list prints the
+changes, with those that are not to be made any more: their old text has to be once in their file. The exit status is 1
+where one was not seen, or is not to be made any more, 2 where the words are others.
 """
 from __future__ import annotations
 
@@ -32,7 +33,7 @@ from script import TOP, Failed, run  # noqa: E402
 from session import conclude  # noqa: E402
 
 SECONDS = "300"
-# The crates whose tests are run first for a change in a crate; then come those of whole scripts.
+# The crates whose tests are run first for a change in a crate; then come the rows of scripts, and the tests of the whole.
 TESTS: Dict[str, List[str]] = {
     "acl_entry": ["acl_entry_tests"], "acl_names": ["acl_text_tests", "acl_tree_tests"],
     "path_map": ["path_map_tests", "acl_tree_tests"], "kinds": ["path_map_tests"],
@@ -44,7 +45,8 @@ TESTS: Dict[str, List[str]] = {
     "facl_output": ["facl_words_tests", "acl_rights_tests"],
     "facl": ["facl_words_tests", "acl_rights_tests"],
 }
-WHOLE_SCRIPTS = ["facl_tests"]
+ROWS = "rows"
+OF_ALL = [ROWS, "facl_tests"]
 
 
 class Change:
@@ -107,13 +109,15 @@ class Trial:
         self.is_over = False
 
     def tests_of(self, crate: str, top: str) -> str:
-        """What the tests of a crate show; no answer where the trial was interrupted."""
-        words = ["rt", "try", "--test", "--seconds", SECONDS]
+        """What the tests of a crate show, or the rows; no answer where the trial was interrupted."""
+        words, folder = ["rt", "try", "--test", "--seconds", SECONDS], os.path.join(top, "crates", crate)
+        if crate == ROWS:
+            words, folder = [sys.executable, os.path.join(top, "tools", "try_rows.py"), "--seconds", SECONDS], top
         with self.lock:
             if self.is_over:
                 return "no answer"
-            tests = subprocess.Popen(words, cwd=os.path.join(top, "crates", crate), stdin=subprocess.DEVNULL,
-                                     stdout=subprocess.PIPE, stderr=subprocess.STDOUT, text=True)
+            tests = subprocess.Popen(words, cwd=folder, stdin=subprocess.DEVNULL, stdout=subprocess.PIPE,
+                                     stderr=subprocess.STDOUT, text=True)
             self.running.append(tests)
         printed, _ = tests.communicate()
         with self.lock:
@@ -126,7 +130,7 @@ class Trial:
         """What the tests show of the change: `seen` where one failed, else `no answer` where one was not over."""
         top, found = self.copies.get(), set()
         change.make(top)
-        for crate in TESTS.get(change.crate, []) + WHOLE_SCRIPTS:
+        for crate in TESTS.get(change.crate, []) + OF_ALL:
             found.add(self.tests_of(crate, top))
             if "seen" in found:
                 break

@@ -14,7 +14,6 @@ import contextlib
 import fcntl
 import os
 import random
-import shutil
 import signal
 import subprocess
 import sys
@@ -24,7 +23,7 @@ from typing import Dict, List, Optional
 sys.dont_write_bytecode = True
 sys.path.insert(0, os.path.join(os.path.dirname(os.path.realpath(__file__)), "..", "lib"))
 import script  # noqa: E402
-from live_tree import COMMANDS, MALLORY, Check, Done, become, expect, main, make, mounted, must, remove, run  # noqa: E402
+from live_tree import MALLORY, Check, Done, become, copy, expect, main, make, mounted, must, remove, run  # noqa: E402
 
 LOCK, MADE = "lock.of-facl-daily", "made.by-facl-daily"
 SIGNALS = [signal.SIGKILL] * 6 + [signal.SIGHUP, signal.SIGINT, signal.SIGQUIT, signal.SIGTERM]
@@ -59,7 +58,7 @@ class Daily(Check):
             make(self.name("bin/sendmail"), 0o755, text=SENDMAIL)
             make(self.name("tree/"), 0o755)
             make(self.name("tree/file"), 0o640)
-            self.take_commands(COMMANDS)
+            self.take_commands(self.commands)
         os.chmod(self.name("tree/file"), 0o640)
         self.mails()
 
@@ -148,13 +147,13 @@ class Daily(Check):
 
     def check_kills_alone(self, seed: int) -> None:
         """The same with stand-ins for the commands that it runs, so that most moments are its own."""
-        copy = self.name("commands")
-        if self.commands != copy:
-            shutil.copytree(os.fsdecode(COMMANDS), os.fsdecode(copy))
+        alone = self.name("alone")
+        if self.commands != alone:
+            copy(self.commands, alone)
             for name, text in STUBS.items():
-                os.unlink(os.path.join(copy, name))
-                make(os.path.join(copy, name), 0o755, text=text)
-            self.take_commands(copy)
+                os.unlink(os.path.join(alone, name))
+                make(os.path.join(alone, name), 0o755, text=text)
+            self.take_commands(alone)
         self.check_kills(seed)
 
     def check_full_disk(self, _seed: int) -> None:

@@ -13,6 +13,7 @@ has to be, 2 where the words are others, a tool is not installed or it is not ru
 from __future__ import annotations
 
 import os
+import resource
 import stat
 import subprocess
 import sys
@@ -24,7 +25,8 @@ import script  # noqa: E402
 from damages import BESIDE, damage_file  # noqa: E402
 from live_tree import UNDO, Check, Done, Tree, copy, expect, main, make, remove, word  # noqa: E402
 
-SECONDS = 60
+SECONDS = 600  # By the clock: a command that waits for ever; beside much other work each may wait for minutes.
+PROCESSOR_SECONDS = 60  # A command that works for ever.
 RULES = [b"never ines read %s", b"only ben @staff read %s", b"always mara write %s", b"never others write /",
          b"never @audit write %s", b"# a comment", b""]
 QUESTIONS = b"who r %s\nbelow --reach r %s\nmay ines r\nwhy ben r %s\nindex\ngetfacl -R .\n"
@@ -44,6 +46,11 @@ def content_of(folder: bytes) -> Content:
                     text = file.read()
             found[name] = look.st_mode, look.st_uid, look.st_nlink, look.st_size, look.st_rdev, text
     return found
+
+
+def limit_time() -> None:
+    """Has the system end this process, and each that it starts, after so much processor time."""
+    resource.setrlimit(resource.RLIMIT_CPU, (PROCESSOR_SECONDS, PROCESSOR_SECONDS))
 
 
 # --- the check
@@ -87,7 +94,7 @@ class Damaged(Check):
         """Runs a command, which has to end in time, with one of these statuses, and with a message where it is 2."""
         try:
             ended = subprocess.run(self.words(*words), input=text, capture_output=True, check=False, timeout=SECONDS,
-                                   env={**os.environ, **self.variables()})
+                                   env={**os.environ, **self.variables()}, preexec_fn=limit_time)
         except subprocess.TimeoutExpired as error:
             raise script.Failed(f"{done}: {words} took {SECONDS} seconds") from error
         said = ended.stderr

@@ -25,7 +25,7 @@ sys.dont_write_bytecode = True
 sys.path.insert(0, os.path.join(os.path.dirname(os.path.realpath(__file__)), "..", "lib"))
 import script  # noqa: E402
 from live_tree import (  # noqa: E402
-    CHANGING, COMMANDS, GIDS, LIBRARY, MALLORY, PYTHON, UIDS, UNDO, Call, Check, Done, State, Table, Traced, Tree, child,
+    CHANGING, GIDS, LIBRARY, MALLORY, PYTHON, UIDS, UNDO, Call, Check, Done, State, Table, Traced, Tree, child,
     copy, exchange, expect, held, main, make, make_tree, must, remove, run, state_of, states_of, trace, word,
 )
 
@@ -312,9 +312,10 @@ class Others(Check):
         options = [UNDO] * (seed % 2)
         if options:
             must(self.apply(), 0)
-        number = child(MALLORY, lambda: take_group(down if options else up))
+        number = ready_child(MALLORY, lambda ready: take_group(down if options else up, ready))
         slow = [f"{name}:delay_exit=2000" for name in CHANGING] if seed % 6 < 4 else []
         done = trace(self, self.words(b"facl-apply", *options, self.plan), CHANGING, slow)
+        os.kill(number, signal.SIGTERM)
         status = os.waitstatus_to_exitcode(os.waitpid(number, 0)[1])
         must(run([b"setfacl", b"--restore=-"], self.listed), 0)
         self.forget()
@@ -431,7 +432,7 @@ class Others(Check):
                                     (b"/mnt/own", 2, b"/mnt/own: belongs to "), (b"/mnt/room", 0, b"")):
             self.remove_plans()
             before = os.stat(own).st_mtime_ns  # Which a file that is made and removed changes too.
-            facl_plan = [PYTHON, b"-I", os.path.join(COMMANDS, b"facl-plan"), b"/mnt/before", b"/mnt/edits"]
+            facl_plan = [PYTHON, b"-I", b"/mnt/commands/facl-plan", b"/mnt/before", b"/mnt/edits"]
             words = [b"unshare", b"-m", b"sh", b"-c", FULL, self.work, place, *facl_plan]
             done = run(words, variables={"FACL": self.given.program})
             must(done, status, said=b"no place for files of the command's own: " * (status == 2) + said)
@@ -576,22 +577,37 @@ def attack_for_a_while(hand: bytes, what: str, chance: random.Random) -> None:
         step(hand, what, chance)
 
 
-def take_group(name: bytes) -> None:
-    """What MALLORY does in a race for a group; its process ends with what it got."""
+def ready_child(user: int, what: Callable[[int], None]) -> int:
+    """Starts a process of a user, and returns its id when it has written to the descriptor that it is given."""
+    reader, writer = os.pipe()
+    number = child(user, lambda: what(writer))
+    os.close(writer)
+    os.read(reader, 1)
+    os.close(reader)
+    return number
+
+
+def take_group(name: bytes, ready: int) -> None:
+    """What MALLORY does in a race for a group until SIGTERM, after which it looks a last time; its process ends with what
+    it got."""
     file = os.open(name, os.O_RDONLY)
-    first, end = os.fstat(file), time.monotonic() + 5
-    while os.fstat(file).st_ctime_ns == first.st_ctime_ns:
-        if time.monotonic() > end:
+    first = os.fstat(file).st_ctime_ns
+    ended: List[int] = []
+    signal.signal(signal.SIGTERM, lambda number, _: ended.append(number))
+    os.write(ready, b".")
+    while os.fstat(file).st_ctime_ns == first:
+        if ended:
             os._exit(NO_CHANGE)
     with contextlib.suppress(OSError):
         os.fchmod(file, 0o2740)
-    end = time.monotonic() + 0.3
-    while time.monotonic() < end:
+    while True:
+        is_last = bool(ended)
         look = os.fstat(file)
         if look.st_gid == FOREIGN and look.st_mode & 0o2010 == 0o2010:
             said = run([name, b"-g"]).stdout
             os._exit(TOOK if said == b"%d\n" % FOREIGN else SAW)
-    os._exit(NOT_TAKEN)
+        if is_last:
+            os._exit(NOT_TAKEN)
 
 
 class Watcher:

@@ -9,8 +9,8 @@ import os
 import re
 from typing import Iterator, List, NamedTuple, Optional, Tuple
 
-# What a check of the largest crate takes, seen on 2026-11-28: facl 4.9 GB and acl_rights 3.9, others 1.2 to 3.4.
-GIGABYTES_A_LANE = 4.5
+# Most checks take less; where more is taken, memory_watch.py has one wait.
+GIGABYTES_A_LANE = 3.5
 
 # Of each version of control groups: the folder, the controller in /proc/self/cgroup, and files with a pattern each.
 MEMORY = (

@@ -122,6 +122,14 @@ def copy(folder: bytes, target: bytes) -> None:
     must(run([b"cp", b"-a", b"-T", b"--", folder, target]), 0)
 
 
+def compiled_commands(folder: bytes) -> bytes:
+    """Makes a folder with the commands and their compiled modules, as an installation has them: else each start compiles
+    them again, which is half of its time. Returns the folder."""
+    copy(COMMANDS, folder)
+    must(run([PYTHON, b"-m", b"compileall", b"-q", os.path.join(folder, b"facl_commands")]), 0)
+    return folder
+
+
 def remove(name: bytes) -> None:
     """Removes what is there, of any kind and depth."""
     must(run([b"rm", b"-rf", b"--", name]), 0)
@@ -322,6 +330,22 @@ class Traced(NamedTuple):
         return found
 
 
+def become_alone(user: int) -> None:
+    """Makes this process one of a user, and the first of a process group."""
+    os.setpgid(0, 0)
+    become(user)
+
+
+@contextlib.contextmanager
+def ended_at_faults(group: int) -> Iterator[None]:
+    """Ends a process group where the check fails, or a signal ends it: it would wait for ever for one that is stopped."""
+    try:
+        yield
+    except BaseException:
+        os.killpg(group, signal.SIGKILL)
+        raise
+
+
 def trace(check: Check, words: List[bytes], names: List[str], injected: List[str],
           action: Optional[Callable[[int], None]] = None, user: int = 0) -> Traced:
     """Runs a command under strace. Where a fault that is injected is the signal STOP, the action is called with how
@@ -335,15 +359,16 @@ def trace(check: Check, words: List[bytes], names: List[str], injected: List[str
     with tempfile.TemporaryFile() as said, open(reader, "rb") as trace_of:
         with subprocess.Popen([*map(os.fsencode, options), *words], stdin=subprocess.DEVNULL, stdout=said, stderr=said,
                               pass_fds=[writer], env={**os.environ, **check.variables()},
-                              preexec_fn=lambda: become(user)) as traced:
+                              preexec_fn=lambda: become_alone(user)) as traced:
             os.close(writer)
-            for line in trace_of:
-                lines.append(line)
-                if b"--- stopped by SIGSTOP ---" in line:
-                    assert action is not None
-                    action(stops)
-                    stops += 1
-                    os.kill(int(line.split()[0]), signal.SIGCONT)
+            with ended_at_faults(traced.pid):
+                for line in trace_of:
+                    lines.append(line)
+                    if b"--- stopped by SIGSTOP ---" in line:
+                        assert action is not None
+                        action(stops)
+                        stops += 1
+                        os.kill(int(line.split()[0]), signal.SIGCONT)
         said.seek(0)
         return Traced(traced.returncode, said.read(), lines)
 
@@ -361,6 +386,7 @@ class Check:
         self.given, self.program, self.work = given, os.fsencode(given.program), work
         self.counts: Counter[str] = Counter()
         self.plan = self.name("before.plan")
+        self.commands = compiled_commands(self.name("commands"))
         self.bin = make(self.name("bin/"), 0o755)
         users, groups = {b"root": (0, 0), **USERS}, {b"root": (0, b""), **GROUPS}
         rows = [b"%s:x:%d:%d::/:/bin/sh\n" % (name, *ids) for name, ids in users.items()]
@@ -388,7 +414,7 @@ class Check:
     def words(self, name: bytes, *words: bytes) -> List[bytes]:
         """The words that start a command."""
         start = [] if name == b"facl-snapshot" else [PYTHON, b"-I"]
-        return [*start, os.path.join(COMMANDS, name), *words]
+        return [*start, os.path.join(self.commands, name), *words]
 
     def command(self, name: bytes, *words: bytes, user: int = 0) -> Done:
         """Runs a command, as a user where one is given."""
@@ -483,9 +509,9 @@ def given_of(kind: Type[Check], head: Optional[str]) -> argparse.Namespace:
 
 
 def faults_of(check: Check) -> Iterator[str]:
-    """Tries all parts."""
+    """Tries all parts; each minute it prints how far it is."""
     for part, number in check.given.tries.items():
-        started = time.monotonic()
+        started = said = time.monotonic()
         for seed in range(check.given.seed * 100000, check.given.seed * 100000 + number):
             try:
                 check.begin()
@@ -495,6 +521,10 @@ def faults_of(check: Check) -> Iterator[str]:
                 edits = check.read("edits") if os.path.exists(check.name("edits")) else b""
                 print(f"{found}\n{edits.decode(errors='backslashreplace')}", flush=True)
                 yield found
+            check.count(f"tries of {part}")
+            if time.monotonic() - said > 60:
+                said = time.monotonic()
+                print(f"{said - started:7.1f} seconds: {check.counts['tries of ' + part]} of {number} tries of {part}", flush=True)
         print(f"{time.monotonic() - started:7.1f} seconds of {part}", flush=True)
 
 

@@ -1,4 +1,5 @@
-"""What tools/quick.sh runs: the tests of all crates without a proof, and those of commands and scripts, side by side."""
+"""What tools/quick.sh runs: the tests of all crates and the rows of scripts without a proof, and those of commands and tools,
+side by side."""
 from __future__ import annotations
 
 import os
@@ -33,9 +34,11 @@ class Part(NamedTuple):
 
 
 def parts() -> List[Part]:
-    """All that is run, what takes longest first: crates of tests by their bytes, after the tests of Python."""
+    """All that is run, what takes longest first: crates of tests by their bytes, after the rows and the tests of Python."""
     found = [Part(name, [*PYTHON, name], os.path.join(TOP, "commands", "tests"), 1 << 30) for name in OF_COMMANDS]
     found.append(Part("scripts", [*PYTHON, "discover", "-s", "tools/check/tests"], TOP, 1 << 30))
+    rows = [sys.executable, os.path.join(TOP, "tools", "try_rows.py"), "--seconds", str(LIMIT)]
+    found.append(Part("rows", rows, TOP, 1 << 30))
     for crate in Crates().uses:
         if crate.endswith("_tests"):
             size = sum(os.path.getsize(path) for path in files_of(crate))

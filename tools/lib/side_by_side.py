@@ -5,15 +5,15 @@ import contextlib
 import fcntl
 import functools
 import os
-import signal
 import subprocess
 import sys
 import time
 from pathlib import Path
 from types import FrameType
-from typing import Callable, Dict, Iterable, Iterator, List, NamedTuple, Optional, Set
+from typing import Callable, Dict, Iterable, Iterator, List, Optional, Set
 
 import script
+from processes import end_session
 from script import TOP, say
 from ways import Crates
 
@@ -58,54 +58,6 @@ def ways_up(uses: Dict[str, List[str]], wanted: Set[str]) -> Dict[str, int]:
         return sum(Path(path).read_bytes().count(b"\n") for path in files_of(crate)) + max(above, default=0)
 
     return {crate: way_up(crate) for crate in wanted}
-
-
-class Process(NamedTuple):
-    """A process that has not ended."""
-    number: int
-    name: str
-    parent: int
-    session: int
-
-
-def processes() -> Iterator[Process]:
-    for number in filter(str.isdigit, os.listdir("/proc")):
-        try:
-            with open(f"/proc/{number}/stat", encoding="utf-8", errors="replace") as stat:
-                head, _, rest = stat.read().rpartition(")")
-        except (FileNotFoundError, ProcessLookupError):
-            continue
-        state, parent, _, session = rest.split()[:4]
-        if state != "Z":
-            yield Process(int(number), head.partition("(")[2], int(parent), int(session))
-
-
-def is_running(number: int) -> bool:
-    return any(process.number == number for process in processes())
-
-
-def programs_below(number: int, name: str) -> int:
-    """How many processes of this name were started by a process, or by those that it started."""
-    found = list(processes())
-    below, more = {number}, True
-    while more:
-        new = {process.number for process in found if process.parent in below} - below
-        below, more = below | new, bool(new)
-    return sum(process.name == name and process.number in below for process in found)
-
-
-def members(session: int) -> Iterator[int]:
-    """The processes of this session that are left."""
-    return (process.number for process in processes() if process.session == session)
-
-
-def end_session(session: int) -> None:
-    """Ends all processes of this session, and waits until they are gone."""
-    while left := list(members(session)):
-        for process in left:
-            with contextlib.suppress(ProcessLookupError):
-                os.kill(process, signal.SIGKILL)
-        time.sleep(0.05)
 
 
 class Run:

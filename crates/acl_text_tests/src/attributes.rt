@@ -1,8 +1,6 @@
-//! Attributes: lists both ways, refused ones, one cut and changed at every byte, and the most entries.
+//! Attributes: lists both ways, refused ones, and the most entries.
 use crate::made::Who::{Mask, Other, Owner, OwningGroup, User};
-use crate::made::{Row, cuts_and_changes, expect_same, id, list, push};
-use crate::slow_attr::{Numbers, read};
-use acl_entry::{Acl, Key};
+use crate::made::{Row, expect_same, list, push};
 use acl_text::{FaultKind, TextFault, decode_attr, encode_attr};
 use std::alloc::Global;
 use std::process::Abort;
@@ -150,48 +148,6 @@ fn attributes_are_refused(rt: HostRuntime) {
     for (name, parts, at) in &REFUSED {
         let bytes = joined(&rt, rt.alloc(), parts);
         assert!(rt; length_of(rt.alloc(), &bytes) == Err(bad(*at)), "{name}");
-    }
-}
-
-fn key_of(rt: &impl Abort, row: &Numbers) -> Key {
-    match row.tag {
-        1 => Key::Owner,
-        2 => Key::User(id(rt, row.id)),
-        4 => Key::OwningGroup,
-        8 => Key::Group(id(rt, row.id)),
-        16 => Key::Mask,
-        _ => Key::Other,
-    }
-}
-
-fn number_of(acl: &Acl, key: Key) -> Option<u16> {
-    match acl.get(key) {
-        Some(perm) => Some(u16::from(perm.number())),
-        None => None,
-    }
-}
-
-/// The attribute has these entries.
-fn expect_rows(rt: &impl Abort, alloc: Global, bytes: &[u8], rows: &[Numbers]) {
-    let acl = decode_attr(alloc, bytes).expect(rt, "an attribute");
-    assert!(rt; acl.entries().len() == rows.len());
-    for row in rows {
-        assert!(rt; number_of(&acl, key_of(rt, row)) == Some(row.perm));
-    }
-}
-
-/// The attribute is read as the slow reader reads it.
-fn agrees(rt: &impl Abort, alloc: Global, bytes: &[u8]) {
-    match read(rt, alloc, bytes) {
-        Ok(rows) => expect_rows(rt, alloc, bytes, &rows),
-        Err(at) => assert!(rt; length_of(alloc, bytes) == Err(bad(at))),
-    }
-}
-
-#[test]
-fn every_cut_and_change(rt: HostRuntime) {
-    for bytes in &cuts_and_changes(&rt, rt.alloc(), &WORKED) {
-        agrees(&rt, rt.alloc(), bytes);
     }
 }
 

@@ -1,9 +1,7 @@
-//! Dumps: read and written, faults, some cut and changed at every byte, and the most entries of a list.
-use crate::made::{cuts_and_changes, expect_bytes, expect_fault, expect_same, pieces, push};
+//! Dumps: read and written, faults, and the most entries of a list.
+use crate::made::{expect_bytes, expect_fault, expect_same, pieces, push};
 use crate::people::People;
-use crate::slow_dump::{Slow, read};
-use acl_entry::{Acl, Entry, Id, ListFault};
-use acl_names::Path;
+use acl_entry::ListFault;
 use acl_text::{
     DumpRecord, DumpUse, Effective, FaultKind, Header, Names, NoNames, TextFault, Which,
     append_header, append_list, append_record, read_dump,
@@ -246,102 +244,6 @@ fn headers_are_written_as_they_were(rt: HostRuntime) {
         let mut bytes = Vec::from_slice(rt.alloc(), want).expect(&rt, "memory");
         push(&rt, &mut bytes, b"user::rwx\ngroup::r-x\nother::r-x\n");
         expect_bytes(&rt, at, &headers_of(&rt, rt.alloc(), &bytes), want);
-    }
-}
-
-fn has_entries(acl: &Acl, entries: &[Entry]) -> bool {
-    for entry in entries {
-        if acl.get(entry.key) != Some(entry.perm) {
-            return false;
-        }
-    }
-    acl.entries().len() == entries.len()
-}
-
-fn has_default(record: &DumpRecord, entries: &[Entry]) -> bool {
-    match &record.dacl {
-        Some(dacl) => has_entries(dacl, entries),
-        None => entries.is_empty(),
-    }
-}
-
-/// Whether the path has the components of a name: no empty ones and no `.`.
-fn is_path(rt: &impl Abort, alloc: Global, path: &Path, name: &[u8]) -> bool {
-    let mut rest = path.components();
-    for part in &pieces(rt, alloc, name, b'/') {
-        if part.is_empty() || *part == b".".as_slice() {
-            continue;
-        }
-        match rest.next() {
-            Some(component) if component == *part => {}
-            _ => return false,
-        }
-    }
-    rest.is_empty()
-}
-
-fn number_of(id: Option<Id>) -> Option<u32> {
-    match id {
-        Some(id) => Some(id.number()),
-        None => None,
-    }
-}
-
-fn expect_record(rt: &impl Abort, alloc: Global, record: &DumpRecord, slow: &Slow<'_>) {
-    assert!(rt; record.at == slow.at);
-    assert!(rt; is_path(rt, alloc, &record.path, slow.name));
-    assert!(rt; record.slash == slow.name.ends_with(b"/"));
-    assert!(rt; number_of(record.owner) == slow.owner && number_of(record.group) == slow.group);
-    assert!(rt; record.flags == slow.flags);
-    assert!(rt; has_entries(&record.access, &slow.access) && has_default(record, &slow.dacl));
-}
-
-/// The dump is read as these records.
-fn expect_records(
-    rt: &impl Abort,
-    alloc: Global,
-    bytes: &[u8],
-    dump_use: DumpUse,
-    slow: &[Slow<'_>],
-) {
-    let records = read_dump(alloc, bytes, dump_use, &People).expect(rt, "a dump");
-    assert!(rt; records.len() == slow.len());
-    for (record, other) in records.iter().zip(slow.iter()) {
-        expect_record(rt, alloc, record, other);
-    }
-}
-
-/// The dump is read as the slow reader reads it.
-pub fn agrees(rt: &impl Abort, alloc: Global, bytes: &[u8], dump_use: DumpUse) {
-    match read(rt, alloc, bytes, dump_use) {
-        Ok(slow) => expect_records(rt, alloc, bytes, dump_use, &slow),
-        Err(fault) => assert!(rt; fault_of(alloc, bytes, dump_use) == Some(fault)),
-    }
-}
-
-/// Two records to be restored, whose paths are apart, and what may stand beside.
-const RESTORED: &[u8] =
-    b"# a comment\n# file: a/b\n# owner:  joe \n# group:\tstaff\t\nu::rw\ngroup::r--\nother:-\n\n#file:c/\n #flags: s-t\n u : : x # x\ng::\nm:rw\nlisa:r\no::\nd:u::\nd:g::w\nd:o:\n";
-
-/// Dumps that are read whole.
-static WHOLE: [(&[u8], DumpUse); 4] = [
-    (SOMEDIR, DumpUse::Load),
-    (LISTED, DumpUse::Load),
-    (RESTORED, DumpUse::Restore),
-    (LISTED, DumpUse::Restore),
-];
-
-fn all_agree(rt: &impl Abort, alloc: Global, bytes: &[u8], dump_use: DumpUse) {
-    for changed in &cuts_and_changes(rt, alloc, bytes) {
-        agrees(rt, alloc, changed, dump_use);
-    }
-}
-
-#[test]
-fn every_cut_and_change(rt: HostRuntime) {
-    for (bytes, dump_use) in &WHOLE {
-        assert!(rt; fault_of(rt.alloc(), bytes, *dump_use).is_none());
-        all_agree(&rt, rt.alloc(), bytes, *dump_use);
     }
 }
 

@@ -1,13 +1,11 @@
-//! Tests of all texts: worked examples, their limits, texts cut and changed at every byte, and second readers to
-//! compare with.
+//! Tests of all texts: worked examples and their limits. Texts that are cut and changed at every byte are compared with
+//! second readers in `commands/tests/test_readers.py`.
 #![tactic(auto)]
 
 #[cfg(test)]
 mod attributes;
 #[cfg(test)]
 mod bodies;
-#[cfg(test)]
-mod cut_entries;
 #[cfg(test)]
 mod dumps;
 #[cfg(test)]
@@ -22,14 +20,6 @@ mod names;
 mod people;
 #[cfg(test)]
 mod rows;
-#[cfg(test)]
-mod second_reader;
-#[cfg(test)]
-mod slow_attr;
-#[cfg(test)]
-mod slow_dump;
-#[cfg(test)]
-mod slow_entries;
 #[cfg(test)]
 mod surface;
 #[cfg(test)]

@@ -1,4 +1,4 @@
-//! Keys, permission sets, lists and bytes from what a table can contain, and texts cut and changed.
+//! Keys, permission sets, lists and bytes from what a table can contain.
 
 use acl_entry::{Acl, Entry, Id, Key, Perm};
 use acl_text::TextFault;
@@ -67,42 +67,6 @@ pub fn pieces<'a>(rt: &impl Abort, alloc: Global, text: &'a [u8], separator: u8)
     text.split(|b| *b == separator)
         .collect(alloc)
         .expect(rt, "memory")
-}
-
-/// The bytes that each byte of a text is changed to.
-static CHANGES: [u8; 6] = [0, b'#', b':', b'\\', b'/', 255];
-
-/// Adds the text with the byte at a place changed, to each of them.
-fn push_changes(
-    rt: &impl Abort,
-    alloc: Global,
-    texts: &mut Vec<Vec<u8>>,
-    text: &[u8],
-    place: usize,
-) {
-    for byte in &CHANGES {
-        let mut changed = Vec::from_slice(alloc, text).expect(rt, "memory");
-        if let Some(b) = changed.get_mut(place) {
-            *b = *byte;
-        }
-        texts.push(changed).expect(rt, "memory");
-    }
-}
-
-fn push_text(rt: &impl Abort, alloc: Global, texts: &mut Vec<Vec<u8>>, text: &[u8]) {
-    let copy = Vec::from_slice(alloc, text).expect(rt, "memory");
-    texts.push(copy).expect(rt, "memory");
-}
-
-/// A text whole, cut before each of its bytes, and with each of them changed.
-pub fn cuts_and_changes(rt: &impl Abort, alloc: Global, text: &[u8]) -> Vec<Vec<u8>> {
-    let mut texts = Vec::new(alloc);
-    push_text(rt, alloc, &mut texts, text);
-    for place in 0..text.len() {
-        push_text(rt, alloc, &mut texts, &text[..place]);
-        push_changes(rt, alloc, &mut texts, text, place);
-    }
-    texts
 }
 
 /// The bytes are these.

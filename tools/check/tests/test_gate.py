@@ -4,18 +4,24 @@ from __future__ import annotations
 
 import os
 import shutil
+import signal
 import subprocess
 import sys
 import tempfile
+import time
 import unittest
-from typing import Dict, List, Tuple
+from typing import Dict, List, Optional, Tuple
 
 HERE = os.path.dirname(os.path.realpath(__file__))
 TOP = os.path.realpath(os.path.join(HERE, "..", "..", ".."))
 sys.path[:0] = [os.path.join(TOP, "tools"), os.path.join(TOP, "tools", "lib")]
 
 import lanes  # noqa: E402
+import memory_watch  # noqa: E402
+import processes  # noqa: E402
 from lanes import Room  # noqa: E402
+from memory_watch import Check  # noqa: E402
+from processes import Process  # noqa: E402
 
 LIMITED = 8_000_000_000
 V2 = {
@@ -79,8 +85,8 @@ class Lanes(Case):
         def lanes_of(processors: int, gigabytes: float) -> int:
             return lanes.lanes(Room(processors, int(gigabytes * 1e9), "", ""))
 
-        self.assertEqual([lanes_of(4, each) for each in (0, 4.4, 8.9, 9, 13.4, 13.5, 18, 99)], [1, 1, 1, 2, 2, 3, 4, 4])
-        self.assertEqual([lanes_of(each, 24) for each in (1, 2, 3, 5, 64)], [1, 2, 3, 5, 5])
+        self.assertEqual([lanes_of(4, each) for each in (0, 3.4, 6.9, 7, 10.4, 10.5, 14, 99)], [1, 1, 1, 2, 2, 3, 4, 4])
+        self.assertEqual([lanes_of(each, 24) for each in (1, 2, 3, 6, 64)], [1, 2, 3, 6, 6])
 
     def test_what_a_machine_has(self) -> None:
         self.assertEqual(self.room({}, 20_000_000, 4), (4, 20_480_000_000, "this process may run on", "MemAvailable"))
@@ -95,7 +101,73 @@ class Lanes(Case):
 
     def test_reason(self) -> None:
         self.assertEqual(lanes.reason(Room(2, LIMITED, "cpu.max", "memory.max")),
-                         "1 lane: 2 processors (cpu.max) and 8.0 GB of free memory (memory.max), 4.5 a lane")
+                         "2 lanes: 2 processors (cpu.max) and 8.0 GB of free memory (memory.max), 3.5 a lane")
+
+
+class Memory(unittest.TestCase):
+    """Which check waits where memory is short."""
+
+    def check(self, number: int, held: float, more: float, is_stopped: bool = False) -> Check:
+        return Check(number, int(held * 1e9), int(more * 1e9), is_stopped)
+
+    def wanted(self, free: float, *checks: Check) -> Optional[Tuple[int, int]]:
+        """The check to stop or continue, where this is free beside what is spared."""
+        found = memory_watch.wanted_signal([*checks], int(free * 1e9) + memory_watch.SPARE)
+        return (found[0].number, found[1]) if found else None
+
+    def test_the_smallest_waits(self) -> None:
+        checks = self.check(1, 4.0, 2.2), self.check(2, 1.5, 1.7), self.check(3, 2.0, 1.2)
+        self.assertIsNone(self.wanted(5.2, *checks))
+        self.assertEqual(self.wanted(5.0, *checks), (2, signal.SIGSTOP))
+
+    def test_the_last_that_runs_does_not_wait(self) -> None:
+        self.assertIsNone(self.wanted(0.1, self.check(1, 4.0, 2.2), self.check(2, 1.5, 1.7, is_stopped=True)))
+        self.assertIsNone(self.wanted(0.1, self.check(1, 4.0, 2.2)))
+        self.assertIsNone(self.wanted(0.1))
+
+    def test_one_goes_on(self) -> None:
+        checks = self.check(1, 0.5, 2.0), self.check(2, 1.5, 1.7, is_stopped=True), self.check(3, 2.0, 1.2, is_stopped=True)
+        self.assertIsNone(self.wanted(3.1, *checks))
+        self.assertEqual(self.wanted(3.3, *checks), (3, signal.SIGCONT))
+        self.assertEqual(self.wanted(0.1, *checks[1:]), (3, signal.SIGCONT))
+
+    def test_what_a_crate_may_take(self) -> None:
+        for crate, more in (("facl", 6_100_000_000), ("kinds", 3_100_000_000), ("", 3_100_000_000)):
+            words = ["sh", "-c", "read line", "prover", "--crate-name", crate]
+            program = subprocess.Popen(words, stdin=subprocess.PIPE)
+            try:
+                found = memory_watch.check_of(Process(program.pid, "rattle", 1, 1, 100_000_000, False))
+                self.assertEqual(found, (program.pid, 100_000_000, more, False))
+            finally:
+                program.communicate()
+
+    def test_processes_stop_and_continue(self) -> None:
+        programs = [subprocess.Popen(["sleep", "600"]) for _ in range(2)]
+        watch = memory_watch.MemoryWatch()
+
+        def expect_stopped(wanted: List[bool]) -> None:
+            """A signal takes effect when its process runs next."""
+            found: List[bool] = []
+            for _ in range(600):
+                found = sorted(it.is_stopped for it in processes.programs_below(os.getpid(), "sleep"))
+                if found == wanted:
+                    return
+                time.sleep(0.1)
+            self.assertEqual(found, wanted)
+
+        try:
+            watch.update(processes.programs_below(os.getpid(), "sleep"), 0)
+            expect_stopped([False, True])
+            watch.update(processes.programs_below(os.getpid(), "sleep"), 0)
+            expect_stopped([False, True])
+            self.assertEqual(watch.stops, 1)
+            watch.end()
+            expect_stopped([False, False])
+            self.assertEqual(watch.stopped, set())
+        finally:
+            for program in programs:
+                program.kill()
+                program.wait()
 
 
 # A prover: a function is proved unless its line in src/lib.rt has another word than `right`.
@@ -130,7 +202,7 @@ sys.exit(0 if proved == len(asked) else 1)
 RT = "#!/bin/sh\necho kit\n"
 EDIT = "function: {0}\nfile: src/lib.rt\nold: {0} is right\nnew: {0} is {1}\n"
 OF_EDITS = ("tools/edits.py", "tools/prove.py", "tools/ways.py",
-            *(f"tools/lib/{name}.py" for name in ("kit", "lanes", "script", "side_by_side", "wrong_bodies")))
+            *(f"tools/lib/{name}.py" for name in ("kit", "lanes", "processes", "script", "side_by_side", "wrong_bodies")))
 
 
 class Edits(Case):
@@ -221,7 +293,8 @@ echo '10 passed, 0 failed'
 class Stages(Case):
     def setUp(self) -> None:
         super().setUp()
-        self.copy(".ci/run", "tools/gate.py", "tools/lib/lanes.py", "tools/lib/script.py")
+        self.copy(".ci/run", "tools/gate.py",
+                  *(f"tools/lib/{name}.py" for name in ("lanes", "memory_watch", "processes", "script")))
         checks = LINT.replace("exit", "[ \"$1\" = --lint ] && exit") + STAGE
         self.write({"tools/ways.py": "#!/bin/sh\n", "tools/edits.py": STAGE, "tools/check_commands.sh": checks,
                     "bin/rt": RT_CI}, 0o755)

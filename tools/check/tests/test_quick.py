@@ -7,6 +7,7 @@ import subprocess
 import sys
 import tempfile
 import unittest
+from pathlib import Path
 
 HERE = os.path.dirname(os.path.realpath(__file__))
 TOP = os.path.realpath(os.path.join(HERE, "..", "..", ".."))
@@ -15,8 +16,11 @@ sys.path[:0] = [os.path.join(TOP, "tools"), os.path.join(TOP, "tools", "lib")]
 from quick import numbers  # noqa: E402
 
 RT = """#!/bin/sh
+case " $* " in *" --cases "*) echo "case=row_0 run=ended status=0 runners=1" >&2; exit;; esac
 echo "test result: ${FOUND:-ok. 5 passed; 0 failed}; 0 ignored; 0 filtered out"
 """
+ROW = "= an empty script\nsetup nothing\nscript\nstatus 0\n"
+ROW_FILES = Path(TOP, "commands", "tests", "row_files.py").read_text("utf-8")
 OK = "import unittest\nclass A(unittest.TestCase):\n    def test_a(self):\n        pass\n"
 
 
@@ -35,6 +39,8 @@ class Quick(unittest.TestCase):
             shutil.copytree(os.path.join(TOP, "tools"), os.path.join(top, "tools"),
                             ignore=lambda at, names: {"check"} & {*names})
             for name, text in {"crates.txt": "low:\nlow_tests: low\n", "bin/rt": RT, "crates/low_tests/src/lib.rt": "x",
+                               "crates/facl_cli/src/main.rt": "x", "commands/tests/rows/some.rows": ROW,
+                               "commands/tests/rows/setups": "nothing\n", "commands/tests/row_files.py": ROW_FILES,
                                **{f"commands/tests/{name}.py": OK for name in ("test_completion", "test_snapshot")},
                                "tools/check/tests/test_a.py": OK}.items():
                 os.makedirs(os.path.join(top, os.path.dirname(name)), exist_ok=True)
@@ -42,8 +48,8 @@ class Quick(unittest.TestCase):
                     file.write(text)
             os.chmod(os.path.join(top, "bin", "rt"), 0o755)
             environment = {**os.environ, "PATH": os.path.join(top, "bin") + ":" + os.environ["PATH"]}
-            for found, status, last in (("ok. 5 passed; 0 failed", 0, "8 passed, 0 failed; nothing was proved"),
-                                        ("FAILED. 3 passed; 2 failed", 1, "6 passed, 2 failed; nothing was proved")):
+            for found, status, last in (("ok. 5 passed; 0 failed", 0, "9 passed, 0 failed; nothing was proved"),
+                                        ("FAILED. 3 passed; 2 failed", 1, "7 passed, 2 failed; nothing was proved")):
                 ran = subprocess.run([os.path.join(top, "tools", "quick.sh")], env={**environment, "FOUND": found},
                                      capture_output=True, text=True, check=False)
                 self.assertEqual((ran.returncode, ran.stdout.splitlines()[-1]), (status, last), ran.stdout + ran.stderr)

@@ -1,0 +1,81 @@
+"""Checks of crates that wait while memory is short.
+
+`rt ci` with RT_JOBS does not look at memory, and the checks of the largest crates take more than their lane. So a check is
+stopped while what is free does not hold what those that run may still take, and goes on once it does, or once no other runs.
+A check that is stopped keeps what it holds, so the one that holds least is stopped.
+"""
+from __future__ import annotations
+
+import contextlib
+import os
+import signal
+from pathlib import Path
+from typing import List, NamedTuple, Optional, Set, Tuple
+
+from processes import Process
+
+# The most that a check takes, in bytes; seen on 2026-11-28, rounded up.
+MOST = 3_200_000_000
+MOST_OF = {b"facl": 6_200_000_000, b"acl_rights": 4_600_000_000}
+SPARE = 300_000_000  # What rt and its scripts take.
+
+
+class Check(NamedTuple):
+    """A check: its process, the bytes that it holds, how many more it may take, and whether it is stopped."""
+
+    number: int
+    held: int
+    more: int
+    is_stopped: bool
+
+
+def check_of(process: Process) -> Check:
+    """The check of a process of the prover, by the crate that its words name."""
+    words: List[bytes] = []
+    with contextlib.suppress(OSError):
+        words = Path(f"/proc/{process.number}/cmdline").read_bytes().split(b"\0")
+    crate = next((word for option, word in zip(words, words[1:]) if option == b"--crate-name"), b"")
+    return Check(process.number, process.held, max(MOST_OF.get(crate, MOST) - process.held, 0), process.is_stopped)
+
+
+def wanted_signal(checks: List[Check], free: int) -> Optional[Tuple[Check, int]]:
+    """The check to stop or to continue, with the signal for it, if there is one. `free` is in bytes."""
+    running = [check for check in checks if not check.is_stopped]
+    stopped = [check for check in checks if check.is_stopped]
+    left = free - SPARE - sum(check.more for check in running)
+    if len(running) > 1 and left < 0:
+        return min(running, key=lambda check: check.held), signal.SIGSTOP
+    if stopped:
+        largest = max(stopped, key=lambda check: check.held)
+        if not running or left >= largest.more:
+            return largest, signal.SIGCONT
+    return None
+
+
+class MemoryWatch:
+    """The checks that were stopped, and how often one was."""
+
+    def __init__(self) -> None:
+        self.stopped: Set[int] = set()
+        self.stops = 0
+
+    def update(self, processes: List[Process], free: int) -> None:
+        """Stops or continues at most one of the checks that run now. `free` is the free memory, in bytes."""
+        found = wanted_signal([check_of(process) for process in processes], free)
+        if found:
+            check, number = found
+            self.send(check.number, number)
+
+    def send(self, check: int, number: int) -> None:
+        with contextlib.suppress(ProcessLookupError):
+            os.kill(check, number)
+        if number == signal.SIGSTOP:
+            self.stopped.add(check)
+            self.stops += 1
+        else:
+            self.stopped.discard(check)
+
+    def end(self) -> None:
+        """Continues all checks that it stopped, so that a signal can end them."""
+        for check in [*self.stopped]:
+            self.send(check, signal.SIGCONT)
