@@ -21,7 +21,6 @@ from __future__ import annotations
 
 import argparse
 import os
-import re
 import shutil
 import signal
 import sys
@@ -35,14 +34,13 @@ sys.path.insert(0, os.path.join(os.path.dirname(os.path.realpath(__file__)), "li
 import lanes  # noqa: E402
 import script  # noqa: E402
 import wrong_bodies  # noqa: E402
-from kit import Kit  # noqa: E402
+from kit import Kit, proved  # noqa: E402
 from processes import is_running, programs_below  # noqa: E402
 from prove import KEPT, Kept  # noqa: E402
 from side_by_side import LOGS, Run, folder_of, log_of  # noqa: E402
 from ways import Crates  # noqa: E402
 from wrong_bodies import Fault, WrongBody  # noqa: E402
 
-PROVED = re.compile(r"^rt: (\w+) proved$", re.MULTILINE)
 NICE = 10
 PAUSE = 1.0  # Seconds between two looks at what ended; each reads /proc.
 
@@ -71,7 +69,7 @@ class Beside:
 
     def update(self) -> bool:
         comes = is_running(self.process)
-        for crate in {*PROVED.findall(Path(self.log).read_text(encoding="utf-8", errors="replace"))} - self.crates:
+        for crate in proved(Path(self.log).read_text(encoding="utf-8", errors="replace")) - self.crates:
             made = folder_of(crate, "out", "rlib", crate + ".rlib")
             if os.path.isdir(made):
                 shutil.copytree(made, os.path.join(self.folder, crate + ".rlib"), copy_function=link_or_copy)

@@ -7,7 +7,7 @@ First the ways through crates.txt (tools/ways.py) and tools/check_commands.sh --
 something. Then `rt ci` proves every crate from nothing and runs its tests, in as many lanes as tools/lib/lanes.py finds: with
 two or more they are given by RT_JOBS, and then `rt ci` reserves no memory, but a check waits while memory is short
 (tools/lib/memory_watch.py); with one, or where RT_JOBS is set already, nothing changes. Beside it, tools/edits.py tries the wrong bodies of crates/NAME/wrong/ on lanes that are idle, and once `rt ci` says
-that facl_cli is proved, which it does after it has built it, tools/check_commands.sh tests the commands by it.
+that facl_cli is proved, now or by an earlier run, which it does after it has built it, tools/check_commands.sh tests the commands by it.
 
 What `rt ci` prints is printed as it comes; what the others print, once it has ended. The last line is `N passed, M failed`, of
 all. The exit status is 0 where none failed, 1 where something did, and 128 and the signal's number where it is interrupted.
@@ -28,12 +28,13 @@ sys.dont_write_bytecode = True
 sys.path.insert(0, os.path.join(os.path.dirname(os.path.realpath(__file__)), "lib"))
 import lanes  # noqa: E402
 import script  # noqa: E402
+from kit import proved  # noqa: E402
 from memory_watch import MemoryWatch  # noqa: E402
 from processes import programs_below  # noqa: E402
 from script import TOP  # noqa: E402
+from ways import PROGRAM  # noqa: E402
 
-PROGRAM = "crates/facl_cli/out/facl_cli"
-BUILT = b"\nrt: facl_cli proved\n"
+BUILT = os.path.join("crates", PROGRAM, "out", PROGRAM)
 PAUSE = 0.5  # Seconds between two looks at what ended, and at memory.
 NUMBERS = re.compile(r"(\d+) passed, (\d+) failed")
 
@@ -57,12 +58,12 @@ class Stage:
             self.program = subprocess.Popen(words, cwd=TOP, env=environment, stdin=subprocess.DEVNULL, stdout=out,
                                             stderr=subprocess.STDOUT if keeps_messages else None)
 
-    def text(self) -> bytes:
-        return Path(self.log).read_bytes()
+    def text(self) -> str:
+        return Path(self.log).read_text(encoding="utf-8", errors="replace")
 
     def show(self) -> None:
         """Prints what came since it was last shown."""
-        text = self.text()
+        text = Path(self.log).read_bytes()
         sys.stdout.buffer.write(text[self.shown:])
         sys.stdout.buffer.flush()
         self.shown = len(text)
@@ -71,7 +72,7 @@ class Stage:
         return self.program.poll() is not None
 
     def numbers(self) -> Tuple[int, int]:
-        return numbers(self.program.wait(), self.text().decode(errors="replace"))
+        return numbers(self.program.wait(), self.text())
 
     def end(self) -> None:
         if not self.ended():
@@ -149,13 +150,13 @@ def run(gate: Gate) -> int:
     gate.start("edits", ["tools/edits.py", "--jobs", str(number), "--beside", str(rt.program.pid), "--log", rt.log])
     while not rt.ended():
         rt.show()
-        if "commands" not in gate.stages and BUILT in rt.text():
-            gate.start("commands", ["tools/check_commands.sh", "--no-lint", PROGRAM])
+        if "commands" not in gate.stages and PROGRAM in proved(rt.text()):
+            gate.start("commands", ["tools/check_commands.sh", "--no-lint", BUILT])
         gate.update()
         time.sleep(PAUSE)
     rt.show()
     if "commands" not in gate.stages:
-        gate.start("commands", ["tools/check_commands.sh", "--no-lint", PROGRAM])
+        gate.start("commands", ["tools/check_commands.sh", "--no-lint", BUILT])
     return gate.sum()
 
 

@@ -1,13 +1,22 @@
-"""The kit whose rt is installed, and what its prover is told of a crate."""
+"""The kit whose rt is installed, what its prover is told of a crate, and what `rt ci` says of one."""
 from __future__ import annotations
 
 import os
+import re
 import shutil
 import subprocess
-from typing import List
+from typing import List, Set
 
 import script
 from ways import PROGRAM, Crates
+
+# What `rt ci` says of a crate whose library, or program, then stands in its out/: proved by this run or by an earlier one.
+PROVED = re.compile(r"^rt: (\w+) (?:proved$|is kept: )", re.MULTILINE)
+
+
+def proved(said: str) -> Set[str]:
+    """The crates that are proved by what `rt ci` has said so far."""
+    return {*PROVED.findall(said)}
 
 
 def rt() -> str:

@@ -271,6 +271,8 @@ class Edits(Case):
     def test_libraries(self) -> None:
         self.write({"crates/high/wrong/it.edit": EDIT.format("top", "bad")})
         self.assertEqual(self.run_edits()[0], 0)
+        self.assertEqual(self.run_edits("rt: low is kept: an earlier run proved the same files\n")[0], 0)
+        self.assertEqual(self.run_edits("rt: low: 3 of its 4 edits were tried\n")[0], 1)
         self.assertEqual(self.run_edits("rt: low NOT PROVED\n"),
                          (1, ["wrong body high/it: not tried: low not proved", "0 passed, 1 failed"]))
 
@@ -279,12 +281,15 @@ class Edits(Case):
 
 
 LINT = "#!/bin/sh\necho \"linted $*\"\nexit ${LINT:-0}\n"
+TEST = "[ -e ended ] && echo after >tested || echo beside >tested\n"
 STAGE = "#!/bin/sh\necho \"$(basename \"$0\") $1 begins\"\necho \"${NUMBERS:-2 passed, 0 failed}\"\n"
 RT_CI = """#!/bin/sh
+rm -f ended
 echo "lanes ${RT_JOBS:-none}"
 echo 'rt: low proved'
-[ -n "${BREAKS:-}" ] || echo 'rt: facl_cli proved'
+[ -n "${BREAKS:-}" ] || echo "rt: facl_cli ${VERDICT:-proved}"
 sleep 1
+touch ended
 [ -z "${BREAKS:-}" ] || { echo '1 passed, 3 failed'; exit 1; }
 echo '10 passed, 0 failed'
 """
@@ -293,35 +298,47 @@ echo '10 passed, 0 failed'
 class Stages(Case):
     def setUp(self) -> None:
         super().setUp()
-        self.copy(".ci/run", "tools/gate.py",
-                  *(f"tools/lib/{name}.py" for name in ("lanes", "memory_watch", "processes", "script")))
-        checks = LINT.replace("exit", "[ \"$1\" = --lint ] && exit") + STAGE
-        self.write({"tools/ways.py": "#!/bin/sh\n", "tools/edits.py": STAGE, "tools/check_commands.sh": checks,
-                    "bin/rt": RT_CI}, 0o755)
+        self.copy(".ci/run", "tools/gate.py", "tools/ways.py",
+                  *(f"tools/lib/{name}.py" for name in ("kit", "lanes", "memory_watch", "processes", "script")))
+        checks = LINT.replace("exit", "[ \"$1\" = --lint ] && exit") + TEST + STAGE
+        self.write({"crates.txt": "low:\nfacl_cli: low\n"})
+        self.write({"tools/edits.py": STAGE, "tools/check_commands.sh": checks, "bin/rt": RT_CI}, 0o755)
+
+    def run_gate(self, **environment: str) -> Tuple[int, List[str], str]:
+        """As `run_script`, without the table of ways: a line of heads, and one for each crate."""
+        status, lines, messages = self.run_script(".ci/run", **environment)
+        return status, lines[3:], messages
 
     def test_all_pass(self) -> None:
-        status, lines, messages = self.run_script(".ci/run", RT_JOBS="3")
+        status, lines, messages = self.run_gate(RT_JOBS="3")
         self.assertEqual((status, lines), (0, [
             "linted --lint", "lanes 3", "rt: low proved", "rt: facl_cli proved", "10 passed, 0 failed",
             "edits.py --jobs begins", "2 passed, 0 failed", "linted --no-lint crates/facl_cli/out/facl_cli",
             "check_commands.sh --no-lint begins", "2 passed, 0 failed", "14 passed, 0 failed"]))
         self.assertEqual(messages, "tools/gate.py: RT_JOBS is 3 already\n")
 
+    def test_the_program_is_kept(self) -> None:
+        """The commands are tested beside an `rt ci` that says so: it ends after the commands' tests."""
+        for verdict in ("proved", "is kept: an earlier run proved the same files", "NOT PROVED"):
+            self.run_gate(VERDICT=verdict)
+            with open(os.path.join(self.top, "tested"), encoding="utf-8") as tested:
+                self.assertEqual(tested.read(), "after\n" if verdict == "NOT PROVED" else "beside\n", verdict)
+
     def test_lanes_are_said(self) -> None:
         number, environment = lanes.lanes(lanes.room()), {"RT_JOBS": ""}
-        _, lines, messages = self.run_script(".ci/run", **environment)
+        _, lines, messages = self.run_gate(**environment)
         self.assertIn(f"lanes {number if number > 1 else 'none'}", lines)
         self.assertIn("GB of free memory", messages)
 
     def test_a_linter_ends_it(self) -> None:
-        self.assertEqual(self.run_script(".ci/run", LINT="1"), (1, ["linted --lint", "0 passed, 1 failed"], ""))
+        self.assertEqual(self.run_gate(LINT="1"), (1, ["linted --lint", "0 passed, 1 failed"], ""))
 
     def test_rt_ci_fails(self) -> None:
-        status, lines, _ = self.run_script(".ci/run", BREAKS="1", NUMBERS="0 passed, 1 failed")
+        status, lines, _ = self.run_gate(BREAKS="1", NUMBERS="0 passed, 1 failed")
         self.assertEqual((status, lines[-1]), (1, "1 passed, 5 failed"))
 
     def test_a_stage_without_numbers(self) -> None:
-        status, lines, _ = self.run_script(".ci/run", NUMBERS="broken")
+        status, lines, _ = self.run_gate(NUMBERS="broken")
         self.assertEqual((status, lines[-1]), (1, "10 passed, 2 failed"))
 
 
