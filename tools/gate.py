@@ -111,8 +111,7 @@ class Gate:
         for stage in self.stages.values():
             found.append(stage.numbers())
             stage.show()
-        if self.watch.stops:
-            script.say(f"checks waited for memory {self.watch.stops} times")
+        script.say(self.watch.report())
         failed = sum(each[1] for each in found)
         print(f"{sum(each[0] for each in found)} passed, {failed} failed", flush=True)
         return 1 if failed else 0

@@ -10,20 +10,21 @@ import contextlib
 import os
 import signal
 from pathlib import Path
-from typing import List, NamedTuple, Optional, Set, Tuple
+from typing import Dict, List, NamedTuple, Optional, Set, Tuple
 
 from processes import Process
 
 # The most that a check takes, in bytes; seen on 2026-11-28, rounded up.
 MOST = 3_200_000_000
-MOST_OF = {b"facl": 6_200_000_000, b"acl_rights": 4_600_000_000}
+MOST_OF = {"facl": 6_200_000_000, "acl_rights": 4_600_000_000}
 SPARE = 300_000_000  # What rt and its scripts take.
 
 
 class Check(NamedTuple):
-    """A check: its process, the bytes that it holds, how many more it may take, and whether it is stopped."""
+    """A check: its process and crate, the bytes that it holds, how many more it may take, and whether it is stopped."""
 
     number: int
+    crate: str
     held: int
     more: int
     is_stopped: bool
@@ -34,8 +35,8 @@ def check_of(process: Process) -> Check:
     words: List[bytes] = []
     with contextlib.suppress(OSError):
         words = Path(f"/proc/{process.number}/cmdline").read_bytes().split(b"\0")
-    crate = next((word for option, word in zip(words, words[1:]) if option == b"--crate-name"), b"")
-    return Check(process.number, process.held, max(MOST_OF.get(crate, MOST) - process.held, 0), process.is_stopped)
+    crate = next((word for option, word in zip(words, words[1:]) if option == b"--crate-name"), b"").decode()
+    return Check(process.number, crate, process.held, max(MOST_OF.get(crate, MOST) - process.held, 0), process.is_stopped)
 
 
 def wanted_signal(checks: List[Check], free: int) -> Optional[Tuple[Check, int]]:
@@ -53,15 +54,19 @@ def wanted_signal(checks: List[Check], free: int) -> Optional[Tuple[Check, int]]
 
 
 class MemoryWatch:
-    """The checks that were stopped, and how often one was."""
+    """The checks that were stopped, how often one was, and the most bytes that a check of each crate was seen to hold."""
 
     def __init__(self) -> None:
         self.stopped: Set[int] = set()
         self.stops = 0
+        self.most: Dict[str, int] = {}
 
     def update(self, processes: List[Process], free: int) -> None:
         """Stops or continues at most one of the checks that run now. `free` is the free memory, in bytes."""
-        found = wanted_signal([check_of(process) for process in processes], free)
+        checks = [check_of(process) for process in processes]
+        for check in checks:
+            self.most[check.crate] = max(self.most.get(check.crate, 0), check.held)
+        found = wanted_signal(checks, free)
         if found:
             check, number = found
             self.send(check.number, number)
@@ -74,6 +79,12 @@ class MemoryWatch:
             self.stops += 1
         else:
             self.stopped.discard(check)
+
+    def report(self) -> str:
+        """How often a check waited, and the most that checks held, the largest five."""
+        largest = sorted(self.most.items(), key=lambda each: -each[1])[:5]
+        held = ", ".join(f"{crate} {most / 1e9:.1f} GB" for crate, most in largest)
+        return f"checks waited for memory {self.stops} times; the most that checks of a crate held: {held or 'nothing'}"
 
     def end(self) -> None:
         """Continues all checks that it stopped, so that a signal can end them."""

@@ -108,7 +108,7 @@ class Memory(unittest.TestCase):
     """Which check waits where memory is short."""
 
     def check(self, number: int, held: float, more: float, is_stopped: bool = False) -> Check:
-        return Check(number, int(held * 1e9), int(more * 1e9), is_stopped)
+        return Check(number, "it", int(held * 1e9), int(more * 1e9), is_stopped)
 
     def wanted(self, free: float, *checks: Check) -> Optional[Tuple[int, int]]:
         """The check to stop or continue, where this is free beside what is spared."""
@@ -133,13 +133,23 @@ class Memory(unittest.TestCase):
 
     def test_what_a_crate_may_take(self) -> None:
         for crate, more in (("facl", 6_100_000_000), ("kinds", 3_100_000_000), ("", 3_100_000_000)):
-            words = ["sh", "-c", "read line", "prover", "--crate-name", crate]
-            program = subprocess.Popen(words, stdin=subprocess.PIPE)
+            words = ["sh", "-c", "echo runs; read line", "prover", "--crate-name", crate]
+            program = subprocess.Popen(words, stdin=subprocess.PIPE, stdout=subprocess.PIPE)
             try:
+                assert program.stdout
+                program.stdout.readline()  # Until it runs, the kernel may give no words.
                 found = memory_watch.check_of(Process(program.pid, "rattle", 1, 1, 100_000_000, False))
-                self.assertEqual(found, (program.pid, 100_000_000, more, False))
+                self.assertEqual(found, (program.pid, crate, 100_000_000, more, False))
             finally:
                 program.communicate()
+
+    def test_the_most_is_kept(self) -> None:
+        watch = memory_watch.MemoryWatch()
+        for held in (2_000_000_000, 5_940_000_000, 3_000_000_000):
+            watch.update([Process(os.getpid(), "rattle", 1, 1, held, False)], 9_000_000_000)
+        self.assertEqual(watch.most, {"": 5_940_000_000})
+        watch.most = {crate: number * 1_000_000_000 for number, crate in enumerate("abcdef")}
+        self.assertEqual(watch.report().partition("held: ")[2], "f 5.0 GB, e 4.0 GB, d 3.0 GB, c 2.0 GB, b 1.0 GB")
 
     def test_processes_stop_and_continue(self) -> None:
         programs = [subprocess.Popen(["sleep", "600"]) for _ in range(2)]
@@ -315,7 +325,9 @@ class Stages(Case):
             "linted --lint", "lanes 3", "rt: low proved", "rt: facl_cli proved", "10 passed, 0 failed",
             "edits.py --jobs begins", "2 passed, 0 failed", "linted --no-lint crates/facl_cli/out/facl_cli",
             "check_commands.sh --no-lint begins", "2 passed, 0 failed", "14 passed, 0 failed"]))
-        self.assertEqual(messages, "tools/gate.py: RT_JOBS is 3 already\n")
+        self.assertEqual(messages.splitlines(), [
+            "tools/gate.py: RT_JOBS is 3 already",
+            "tools/gate.py: checks waited for memory 0 times; the most that checks of a crate held: nothing"])
 
     def test_the_program_is_kept(self) -> None:
         """The commands are tested beside an `rt ci` that says so: it ends after the commands' tests."""
