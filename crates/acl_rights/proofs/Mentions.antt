@@ -8,9 +8,6 @@ use Rattle.acl_entry.specs.Mentions.{mentions, meets, is_one_of}
 use Rattle.acl_edit.specs.declared.node.Node.{Node}
 use Rattle.acl_names.specs.Paths.{PathOf}
 use Rattle.acl_tree.specs.Files.{Files}
-use Rattle.acl_tree.specs.declared.user_change.UserChange.{UserChange}
-use Rattle.acl_tree.specs.declared.user_change.UserChange.TheVariants.{Unchanged, Loaded, Memberships, Added, Removed}
-use Rattle.acl_rights.specs.Stages.{moves_looked, most_looked}
 use Rattle.acl_rights.specs.Groups.{mentions_group, mentions_one, mentioning, sum_mentioning}
 
 -- ---- a label mentions one of some groups where it mentions one by itself
@@ -73,14 +70,7 @@ count_same f g same (e ∷ fs) =
     ∙ (let more = count_same f g same fs in λ i. cond (same e i) 1 0 + more i)
     ∙ sym (sum_by-cons (λ x. cond (g x) 1 0) e fs)
 
-looked_le : (groups : List ℕ) (fs : Files) → count_by (mentions_one groups) fs ≤ sum_mentioning groups fs
+pub looked_le : (groups : List ℕ) (fs : Files) → count_by (mentions_one groups) fs ≤ sum_mentioning groups fs
 looked_le groups fs =
     let same = count_same (mentions_one groups) (has_one groups) (λ e. meets-swap (mentions e.1.label) groups) fs in
     omega (arith, same, count_ones groups fs)
-
-pub moves_looked_le : (move : UserChange) (fs : Files) → moves_looked move fs ≤ most_looked move fs
-moves_looked_le Unchanged fs = omega arith
-moves_looked_le Loaded fs = omega arith
-moves_looked_le (Memberships user groups) fs = looked_le groups fs
-moves_looked_le Added fs = omega arith
-moves_looked_le (Removed user) fs = omega arith

@@ -26,14 +26,15 @@ use Rattle.acl_rights.proofs.Maps.{map_filter, map_twice, times_le}
 use Rattle.acl_rights.proofs.Orders.{same_order}
 use Rattle.acl_rights.specs.Rows.{Verdict}
 use Rattle.acl_rights.specs.Groups.{mentions_one}
-use Rattle.acl_rights.specs.Stages.{moves_looked, most_asked}
+use Rattle.acl_rights.specs.Stages.{most_looked, most_asked}
+use Rattle.acl_rights.proofs.Mentions.{looked_le}
 use Rattle.acl_rights.specs.Reach.{moves_refreshed, verdicts_refreshed}
 use Rattle.acl_rights.specs.Lines.{labels_of, AreBefore}
 use Rattle.acl_rights.proofs.Costs.{all_users, within, nothing_changed, moved_cost}
 use Rattle.acl_rights.proofs.RowCounts.{person_same}
 use Rattle.acl_rights.proofs.Goes.{moves, joins, leaves}
 use Rattle.acl_rights.proofs.Refreshing.{count_paths, count_lying, users_refreshed, count_none}
-use Rattle.acl_rights.proofs.Rowed.{rowed_paths, rowed_long, rows_changed, rows_moved, rows_unmoved, rows_joined, rows_left, rows_mentioning, paths_mentioning}
+use Rattle.acl_rights.proofs.Rowed.{rowed_paths, rowed_long, rows_changed, rows_moved, rows_joined, rows_left, rows_mentioning, paths_mentioning}
 
 abbrev paths : {A : Type 0} → List (PathOf × A) → List PathOf
 paths es = map (λ e. e.0) es
@@ -134,8 +135,8 @@ module _ (V : Verdict) (es : RowedPaths) (t : StagedState) (b : AreBefore V es t
     pub looked_cost : count_by (λ (e : PathOf × LabelRow). mentions_any groups e.1) es ≤ most_asked t
     looked_cost = let same = looked_are in let cost = moved_cost t at groups is in omega (arith, same, cost)
 
-    pub looked_moved : (count : ℕ) → count ≡ count_by (λ (e : PathOf × LabelRow). mentions_any groups e.1) es → count ≡ moves_looked t.user_change gs
-    looked_moved count counted = counted ∙ looked_are ∙ ap (λ (c : UserChange). moves_looked c gs) (sym is)
+    pub looked_moved : (count : ℕ) → count ≤ count_by (λ (e : PathOf × LabelRow). mentions_any groups e.1) es → count ≤ most_looked t.user_change gs
+    looked_moved count le = subst (λ (c : UserChange). count ≤ most_looked c gs) (sym is) (let same = looked_are in let few = looked_le groups gs in omega (arith, le, same, few))
 
     pub refreshed_moved : (count : ℕ) → count ≡ count_by (λ (e : PathOf × LabelRow). lies_in (filter (λ (d : PathOf × LabelRow). mentions_any groups d.1) es) e.0) es → count ≡ verdicts_refreshed t
     refreshed_moved count counted =
@@ -148,19 +149,9 @@ module _ (V : Verdict) (es : RowedPaths) (t : StagedState) (b : AreBefore V es t
         ∙ ap (λ (c : UserChange). moves_refreshed c gs) (sym is)
         )
 
-    pub refreshed_unmoved : count_by (λ (e : PathOf × LabelRow). mentions_any groups e.1) es ≡ 0 → 0 ≡ verdicts_refreshed t
-    refreshed_unmoved none =
-        let m = moves V (rows_at es) t b.goes at groups is in
-        let empty : filter (mentions_one groups) gs ≡ [] = no_length (filter (mentions_one groups) gs) (length-filter (mentions_one groups) gs ∙ sym looked_are ∙ none) in
-        users_refreshed t 0 (nothing_changed V (rows_at es) t b.goes n m.0)
-        (sym (ap (λ (l : Files). count_by (λ (e : PathOf × Node). lies_in l e.0) gs) empty ∙ count_none gs) ∙ ap (λ (c : UserChange). moves_refreshed c gs) (sym is))
-
     module _ (local : (u w : Person) (f : Label) → AgreeOnMentions u w f → V u f ≡ V w f) (u : Person) (next : slice_get us at ≡ Some u) where
       pub rows_after_move : each_row (with_again V at u groups) es ≡ rowed V us gs
       rows_after_move = rows_moved V before us at groups (moves V (rows_at es) t b.goes at groups is).1 local u next es gs es_here
-
-      pub rows_unchanged : count_by (λ (e : PathOf × LabelRow). mentions_any groups e.1) es ≡ 0 → es ≡ rowed V us gs
-      rows_unchanged none = sym (rows_unmoved V at u groups es none) ∙ rows_after_move
 
   -- ---- a user is added
 
@@ -183,9 +174,6 @@ module _ (V : Verdict) (es : RowedPaths) (t : StagedState) (b : AreBefore V es t
         let last : us ≡ before ++ u ∷ [] = l.1.0 ∙ ap (λ (u : Person). before ++ u ∷ []) (person_same l.0 u (sym l.1.1 ∙ got)) in
         rows_joined V before u es gs (same_files (joins V (rows_at es) t b.goes is).0) ∙ ap (λ (l : List Person). rowed V l gs) (sym last)
 
-    pub looked_joined : 0 ≡ moves_looked t.user_change gs
-    looked_joined = ap (λ (c : UserChange). moves_looked c gs) (sym is)
-
     pub refreshed_joined : (count : ℕ) → count ≡ length es → count ≡ verdicts_refreshed t
     refreshed_joined count long =
         users_refreshed t count (nothing_changed V (rows_at es) t b.goes n (joins V (rows_at es) t b.goes is).0) (long ∙ joined_long ∙ ap (λ (c : UserChange). moves_refreshed c gs) (sym is))
@@ -197,9 +185,6 @@ module _ (V : Verdict) (es : RowedPaths) (t : StagedState) (b : AreBefore V es t
     rows_after_leave =
         let l = leaves V (rows_at es) t b.goes at is in
         rows_left V before at l.1.was es gs (same_files l.0) ∙ ap (λ (l : List Person). rowed V l gs) (sym l.1.becomes)
-
-    pub looked_left : 0 ≡ moves_looked t.user_change gs
-    looked_left = ap (λ (c : UserChange). moves_looked c gs) (sym is)
 
     pub refreshed_left : 0 ≡ verdicts_refreshed t
     refreshed_left = users_refreshed t 0 (nothing_changed V (rows_at es) t b.goes n (leaves V (rows_at es) t b.goes at is).0) (ap (λ (c : UserChange). moves_refreshed c gs) (sym is))

@@ -51,9 +51,9 @@ pub count_lying : {A B : Type 0} (tops : List (PathOf × A)) (es : List (PathOf 
 count_lying tops es others fs same paths =
     count_paths (lies_in tops) es fs paths ∙ count_alike (λ (e : PathOf × Node). lies_in tops e.0) (λ (e : PathOf × Node). lies_in others e.0) (λ e. lies_paths tops others same e.0) fs
 
-pub count_none : (fs : Files) → count_by (λ (e : PathOf × Node). false) fs ≡ 0
+pub count_none : {A : Type 0} (fs : List (PathOf × A)) → count_by (λ (e : PathOf × A). false) fs ≡ 0
 count_none [] = refl
-count_none (f ∷ fs) = sum_by-cons (λ (e : PathOf × Node). 0) f fs ∙ ap (λ n. 0 + n) (count_none fs)
+count_none {A} (f ∷ fs) = sum_by-cons (λ (e : PathOf × A). 0) f fs ∙ ap (λ n. 0 + n) (count_none fs)
 
 module _ (t : StagedState) where
   -- files change

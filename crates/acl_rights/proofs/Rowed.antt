@@ -178,19 +178,3 @@ module _ (V : Verdict) (us : List Person) (groups : List ℕ) (es : RowedPaths) 
   paths_mentioning =
       ap (λ (l : RowedPaths). map (λ (e : PathOf × LabelRow). e.0) (filter (λ (e : PathOf × LabelRow). mentions_any groups e.1) l)) are
       ∙ filter_seen (λ (f : PathOf × Node). (f.0, label_row V us f.1.label)) (λ (e : PathOf × LabelRow). e.0) (λ (e : PathOf × LabelRow). mentions_any groups e.1) fs
-
--- where no label mentions one of the groups, no row changes
-pub rows_unmoved : (V : Verdict) (at : ℕ) (u : Person) (groups : List ℕ) (es : RowedPaths)
-    → count_by (λ (e : PathOf × LabelRow). mentions_any groups e.1) es ≡ 0 → each_row (with_again V at u groups) es ≡ es
-rows_unmoved V at u groups [] none = refl
-rows_unmoved V at u groups (e ∷ es) none = by (mentions_any groups e.1) refl
-    (sym (sum_by-cons (λ (x : PathOf × LabelRow). cond (mentions_any groups x.1) 1 0) e es) ∙ none) (rows_unmoved V at u groups es)
-  where
-    by : (b : Bool) → mentions_any groups e.1 ≡ b → cond b 1 0 + count_by (λ (x : PathOf × LabelRow). mentions_any groups x.1) es ≡ 0
-        → (count_by (λ (x : PathOf × LabelRow). mentions_any groups x.1) es ≡ 0 → each_row (with_again V at u groups) es ≡ es)
-        → each_row (with_again V at u groups) (e ∷ es) ≡ e ∷ es
-    by true is some more = absurd (omega (arith, some))
-    by false is rest more =
-        let none : count_by (λ (x : PathOf × LabelRow). mentions_any groups x.1) es ≡ 0 = omega (arith, rest) in
-        let kept = more none in
-        λ i. (e.0, if is i && nat_lt at (length e.1.row) then with_cells e.1.label (set e.1.row at (V u e.1.label)) else e.1) ∷ kept i

@@ -1,5 +1,5 @@
 -- For inner functions: the rows of a state from which a line goes, and those after the line.
-use Rattle.std.specs.Prelude.{◌≡◌, ℕ, List, map}
+use Rattle.std.specs.Prelude.{◌≡◌, ◌≤◌, ℕ, List, map}
 use Rattle.acl_entry.specs.declared.label.Label.{Label}
 use Rattle.kinds.specs.Numbered.{entries_in}
 use Rattle.acl_people.specs.KnownPeople.{persons}
@@ -10,7 +10,7 @@ use Rattle.acl_rights.specs.KindRows.{RowedPaths, rowed, rows_at}
 use Rattle.acl_rights.specs.declared.kind_rows.KindRows.{KindRows}
 use Rattle.acl_rights.specs.Rows.{Verdict}
 use Rattle.acl_rights.specs.Tables.{VerdictTable}
-use Rattle.acl_rights.specs.Stages.{moves_looked}
+use Rattle.acl_rights.specs.Stages.{most_looked}
 use Rattle.acl_rights.specs.Reach.{verdicts_refreshed}
 use Rattle.acl_rights.specs.Kept.{GoesFrom}
 use Rattle.acl_rights.specs.declared.stage.NextRows.{NextRows}
@@ -32,9 +32,9 @@ pub record AreBefore (V : Verdict) (es : RowedPaths) (t : StagedState) : Type 0 
   pub goes : GoesFrom V (rows_at es) t
   pub are : es ≡ rowed V (persons goes.state.people) goes.state.tree.files
 
--- the rows are those of the state after the line; with the labels that the users' move fetches, and the verdicts along paths
+-- the rows are those of the state after the line; with no more labels fetched than it may, and the verdicts along paths
 -- that may be other ones
 pub record IsAfter (V : Verdict) (t : StagedState) (new : NextRows) : Type 0 where
   pub rows : entries_in new.rows.rows ≡ rowed V (persons t.state.people) t.state.tree.files
-  pub looked : new.looked ≡ moves_looked t.user_change t.state.tree.files
+  pub looked : new.looked ≤ most_looked t.user_change t.state.tree.files
   pub refreshed : new.refreshed ≡ verdicts_refreshed t

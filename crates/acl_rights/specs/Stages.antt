@@ -27,14 +27,6 @@ moves_asked (Removed user) fs = 0
 abbrev pub most_asked : StagedState → ℕ
 most_asked t = length t.changed * length t.state.people.users + moves_asked t.user_change t.state.tree.files
 
--- the labels that are fetched as users move: those of the files that mention a group that joined or left, each once
-abbrev pub moves_looked : UserChange → Files → ℕ
-moves_looked Unchanged fs = 0
-moves_looked Loaded fs = 0
-moves_looked (Memberships user groups) fs = count_by (mentions_one groups) fs
-moves_looked Added fs = 0
-moves_looked (Removed user) fs = 0
-
 -- the most labels that are fetched as users move: as many as the lists of these groups have entries
 abbrev pub most_looked : UserChange → Files → ℕ
 most_looked Unchanged fs = 0

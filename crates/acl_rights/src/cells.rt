@@ -2,6 +2,7 @@
 
 ghost use Rattle.std.specs.Prelude.{◌≡◌, ◌↔◌, ◌+◌, ◌*◌, ◌++◌, ◌∷◌, [], ◌<◌, ◌≤◌, ◌^◌, true, length, IfOk, slice_set, slice_get, Some, if◌then◌else◌, ℕ, List};
 ghost use Rattle.std.specs.List.{remove};
+ghost use Rattle.std.specs.Option.{option_map_or};
 ghost use Rattle.acl_rights.specs.Rows.{row_of, Asks};
 ghost use Rattle.acl_rights.specs.ReachedRows.{execute};
 ghost use Rattle.acl_rights.specs.Walks.{lets, cut_from};
@@ -128,25 +129,29 @@ pub(crate) fn judged<J: Judge>(
     Cells::new_or_shared(alloc, requests, other)
 }
 
-/// The verdicts with that of one user asked for again. Fails only if memory runs out.
-pub(crate) fn judged_at<J: Judge>(
+/// The verdicts with that of one user asked for again, if it is another one. Fails only if memory runs out.
+pub(crate) fn judged_again<J: Judge>(
     alloc: Global,
     judge: &mut J,
     cells: &Cells,
     at: usize,
     user: &Subject,
     label: &Label,
-) -> Result<Cells, AllocError>
+) -> Result<Option<Cells>, AllocError>
     requires room { J.asked_of judge.old + 1 < 2 ^ 64 }
     requires at { at < length cells.now }
-    ensures cells { IfOk result (λ new. new ≡ slice_set cells.now at (J.verdict_of user.now label.now)) }
+    ensures cells { IfOk result (λ some. option_map_or (λ new. new) some cells.now ≡ slice_set cells.now at (J.verdict_of user.now label.now)) }
     ensures at_most { J.asked_of judge.new ≤ J.asked_of judge.old + 1 }
 {
     let old = cells.as_slice();
-    let mut new = Vec::with_capacity(alloc, old.len())?;
-    new.extend_from_slice(old)?;
-    new[at] = judge.verdict(user, label);
-    Cells::new_or_shared(alloc, new, Some(cells))
+    let verdict = judge.verdict(user, label);
+    if old[at].bits() == verdict.bits() {
+        return Ok(None);
+    }
+    let mut new = Vec::from_slice(alloc, old)?;
+    new[at] = verdict;
+    let row = Cells::new(alloc, new)?;
+    Ok(Some(row))
 }
 
 /// The verdicts with that of one user more, the last. Fails only if memory runs out.

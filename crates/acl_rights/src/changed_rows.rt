@@ -15,7 +15,7 @@ use crate::kind_rows::{KindRows, LabelRow, with_row};
 use acl_entry::Label;
 use acl_names::Path;
 use acl_people::Subjects;
-use kinds::{GivenNode, KindMap};
+use kinds::{GivenNode, KindMap, PlacedMap, push_found};
 use std::alloc::{AllocError, Global};
 use std::collections::BTreeMap;
 use std::rc::Rc;
@@ -195,7 +195,7 @@ impl KindRows {
             ≡ merged (rowed_labels J.verdict_of users.now (map with_label changed.now)) (map seen gone.now) (entries_in self.now.rows)) }
         ensures at_most { J.asked_of judge.new ≤ J.asked_of judge.old + length changed.now * length users.now }
     {
-        let left = self.rows.without_all(alloc, gone)?;
+        let (left, gone_found) = self.rows.map().without_found(alloc, gone)?;
         let new = places_of(alloc, changed)?;
         let LabelPlaces {
             labels,
@@ -204,8 +204,16 @@ impl KindRows {
         } = new;
         let nodes = given_rows(alloc, judge, users, &left, &self.hints, &labels)?;
         let put = left.put_placed(alloc, &places, &nodes)?;
-        let (rows, numbers) = put;
+        let PlacedMap {
+            map,
+            numbers,
+            found,
+        } = put;
         let hints = self.hints.with(alloc, &by_hash, &numbers)?;
+        let mut changed_numbers = numbers;
+        push_found(&mut changed_numbers, &gone_found)?;
+        push_found(&mut changed_numbers, &found)?;
+        let rows = self.rows.after(alloc, map, changed_numbers)?;
         Ok(KindRows { rows, hints })
     }
 }

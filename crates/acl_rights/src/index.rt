@@ -134,7 +134,7 @@ fn all_rows<J: Judge>(
 
 impl<J: Judge> Index<J> {
     ghost use Rattle.acl_rights.specs.Tables.{IsWhole};
-    ghost use Rattle.acl_rights.specs.Stages.{CanStage, most_asked, most_looked, moves_looked, moves_groups};
+    ghost use Rattle.acl_rights.specs.Stages.{CanStage, most_asked, most_looked, moves_groups};
     ghost use Rattle.acl_rights.specs.Reach.{verdicts_refreshed, unlike};
 
     /// The table of a state: a verdict is asked for on every user and every file. Fails only if memory runs out.
@@ -164,7 +164,6 @@ impl<J: Judge> Index<J> {
         ensures whole { IfOk result (λ rows. IsWhole J.verdict_of staged.now.state rows.table) }
         ensures at_most { J.asked_of judge.new ≤ J.asked_of judge.old + most_asked staged.now }
         ensures bounded { J.asked_of judge.new ≤ J.asked_of judge.old + all_pairs staged.now.state }
-        ensures looked { IfOk result (λ rows. rows.looked ≡ moves_looked staged.now.user_change staged.now.state.tree.files) }
         ensures looked_most { IfOk result (λ rows. rows.looked ≤ most_looked staged.now.user_change staged.now.state.tree.files) }
         ensures looked_least { IfOk result (λ rows. moves_groups staged.now.user_change ≡ true → J.asked_of judge.new ≤ J.asked_of judge.old + rows.looked) }
         ensures refreshed { IfOk result (λ rows. rows.refreshed ≡ verdicts_refreshed staged.now) }

@@ -1,15 +1,15 @@
 //! Rows of verdicts by kinds: for each file its label with the verdicts of all users on it. Files of one kind share them.
 
-ghost use Rattle.std.specs.Prelude.{◌≡◌, ◌+◌, ◌*◌, ◌<◌, ◌≤◌, ◌^◌, true, false, length, count_by, IfOk, OnOk, [], nat_lt, if◌then◌else◌};
+ghost use Rattle.std.specs.Prelude.{◌≡◌, ◌+◌, ◌*◌, ◌++◌, ◌<◌, ◌≤◌, ◌^◌, true, false, length, count_by, IfOk, OnOk, [], nat_lt, if◌then◌else◌};
 ghost use Rattle.std.specs.List.{remove};
 ghost use Rattle.std.specs.Option.{option_copied};
 ghost use Rattle.std.specs.FinMap.{find};
 ghost use Rattle.acl_names.specs.Paths.{path_cmp};
+ghost use Rattle.acl_entry.specs.Mentions.{mentions};
 ghost use Rattle.kinds.specs.Numbered.{entries_in};
-ghost use Rattle.kinds.specs.Renewed.{one_where};
 ghost use Rattle.acl_rights.specs.KindRows.{rows_at, label_row, rowed, each_row, with_last, without_at, with_again, asked_again, mentions_any};
 
-use crate::cells::{Cells, judged, judged_at, judged_last, without};
+use crate::cells::{Cells, judged, judged_again, judged_last, without};
 use crate::hash::hash_of;
 use crate::hints::{FIRST_HINTS, Hint, Hints};
 use crate::judge::Judge;
@@ -18,7 +18,7 @@ use acl_entry::{Id, Label, Subject};
 use acl_names::Path;
 use acl_people::Subjects;
 use acl_tree::Files;
-use kinds::{KindMap, KindTest, Renewal};
+use kinds::{KindMap, KindTest, NodeChange, Renewal, Tagged, TaggedMap};
 use std::alloc::{AllocError, Global};
 
 /// A label, and what each user may do with a file of this label, in the order of the users.
@@ -28,11 +28,33 @@ pub struct LabelRow {
     pub row: Cells,
 }
 
-/// For each file its label and row; and hints at the numbers of labels.
+impl Tagged for LabelRow {
+    ghost tags_of = { λ row. mentions row.label };
+
+    /// Adds the groups that the label mentions.
+    fn push_tags(&self, alloc: Global, new: &mut Vec<usize>) -> Result<(), AllocError> {
+        let ids = self.label.mentions(alloc)?;
+        push_groups(new, &ids)?;
+        Ok(())
+    }
+}
+
+/// For each file its label and row, and for each group the numbers of the labels that mention it; and hints at the numbers of
+/// labels.
 #[derive(Drop)]
 pub struct KindRows {
-    pub rows: KindMap<LabelRow>,
+    pub rows: TaggedMap<LabelRow>,
     pub(crate) hints: Hints,
+}
+
+/// Adds the numbers of groups.
+fn push_groups(new: &mut Vec<usize>, ids: &[Id]) -> Result<(), AllocError>
+    ensures { OnOk result (new.new.items ≡ new.old.items ++ ids.now) }
+{
+    for id in ids {
+        new.push(id.number() as usize)?;
+    }
+    Ok(())
 }
 
 /// A copy of a label. Fails only if memory runs out.
@@ -189,29 +211,26 @@ struct MovedUser<'a> {
     user: &'a Subject,
 }
 
-impl<'a, J: Judge> Renewal<LabelRow, LabelRow, J> for MovedUser<'a> {
-    ghost renewed = { λ moved row. asked_again J.verdict_of moved.at moved.user.now row };
+impl<'a, J: Judge> NodeChange<LabelRow, J> for MovedUser<'a> {
+    ghost changed = { λ moved row. asked_again J.verdict_of moved.at moved.user.now row };
 
     ghost counted = { J.asked_of };
 
-    ghost weight = { λ moved row. 1 };
-
-    ghost is_exact = { false };
-
-    fn renew(
+    fn change(
         &self,
         alloc: Global,
         judge: &mut J,
         node: &LabelRow,
-        _paths: usize,
-    ) -> Result<LabelRow, AllocError> {
+    ) -> Result<Option<LabelRow>, AllocError> {
         if self.at >= node.row.as_slice().len() {
-            let new = with_row(alloc, &node.label, node.row.share()?)?;
-            return Ok(new);
+            return Ok(None);
         }
-        let row = judged_at(alloc, judge, &node.row, self.at, self.user, &node.label)?;
+        let some = judged_again(alloc, judge, &node.row, self.at, self.user, &node.label)?;
+        let Some(row) = some else {
+            return Ok(None);
+        };
         let new = with_row(alloc, &node.label, row)?;
-        Ok(new)
+        Ok(Some(new))
     }
 }
 
@@ -221,7 +240,7 @@ impl KindRows {
         ensures { IfOk result (λ none. entries_in none.rows ≡ []) }
     {
         Ok(KindRows {
-            rows: KindMap::new(alloc)?,
+            rows: TaggedMap::new(alloc)?,
             hints: Hints::new(alloc),
         })
     }
@@ -260,8 +279,9 @@ impl KindRows {
         ensures at_most { J.asked_of judge.new ≤ J.asked_of judge.old + length files.now.files * length users.now }
     {
         let all = AllUsers { users };
-        let rows = files.files_by_path().renewed(alloc, judge, &all)?;
-        let hints = hints_of(alloc, &rows)?;
+        let map = files.files_by_path().renewed(alloc, judge, &all)?;
+        let hints = hints_of(alloc, &map)?;
+        let rows = TaggedMap::of(alloc, map)?;
         Ok(KindRows { rows, hints })
     }
 
@@ -292,16 +312,9 @@ impl KindRows {
         Ok(KindRows { rows, hints })
     }
 
-    /// How many files have a label that mentions one of some groups. Allocates nothing.
-    pub fn count_mentioning(&self, groups: &[Id]) -> usize
-        requires few { length (entries_in self.now.rows) < 18446744073709551616 }
-        ensures { result ≡ count_by (λ e. mentions_any groups.now e.1) (entries_in self.now.rows) }
-    {
-        self.rows.count_where(&Mentioning { groups })
-    }
-
     /// The rows with a user's verdict asked for again where the label mentions one of some groups, which the user joined or
-    /// left: at most once for each kind. The rows of other labels are shared. Fails only if memory runs out.
+    /// left: once for each kind; and how many labels were fetched for that. The rows of other labels are shared, and none of
+    /// them is looked at. Fails only if memory, or the numbers, run out.
     pub fn with_user_updated<J: Judge>(
         &self,
         alloc: Global,
@@ -309,15 +322,19 @@ impl KindRows {
         groups: &[Id],
         at: usize,
         user: &Subject,
-    ) -> Result<KindRows, AllocError>
+    ) -> Result<(KindRows, usize), AllocError>
         requires room { J.asked_of judge.old + count_by (λ e. mentions_any groups.now e.1) (entries_in self.now.rows) < 2 ^ 64 }
-        ensures rows { IfOk result (λ new. entries_in new.rows ≡ each_row (with_again J.verdict_of at user.now groups.now) (entries_in self.now.rows)) }
+        ensures rows { IfOk result (λ new. entries_in new.0.rows ≡ each_row (with_again J.verdict_of at user.now groups.now) (entries_in self.now.rows)) }
+        ensures few { IfOk result (λ new. new.1 ≤ count_by (λ e. mentions_any groups.now e.1) (entries_in self.now.rows)) }
+        ensures none { IfOk result (λ new. new.1 ≡ 0 → count_by (λ e. mentions_any groups.now e.1) (entries_in self.now.rows) ≡ 0) }
+        ensures looked { IfOk result (λ new. J.asked_of judge.new ≤ J.asked_of judge.old + new.1) }
         ensures at_most { J.asked_of judge.new ≤ J.asked_of judge.old + count_by (λ e. mentions_any groups.now e.1) (entries_in self.now.rows) }
     {
         let hints = self.hints.share()?;
-        let some = Mentioning { groups };
+        let mut tags = Vec::new(alloc);
+        push_groups(&mut tags, groups)?;
         let moved = MovedUser { at, user };
-        let rows = self.rows.renewed_where(alloc, judge, &some, &moved)?;
-        Ok(KindRows { rows, hints })
+        let (rows, looked) = self.rows.with_tagged(alloc, judge, &tags, &moved)?;
+        Ok((KindRows { rows, hints }, looked))
     }
 }

@@ -4,17 +4,21 @@
 //! grants. A file has the number of its kind, so a million files of twenty kinds have twenty rows:
 //!
 //! ```text
-//! path    number        number  label            joe  ann
-//! .       0             0       root:root 755    r-x  r-x
-//! home    0             1       joe:adm   640    rw-  r--
+//! path    number        number  label            joe  ann        group  numbers
+//! .       0             0       root:root 755    r-x  r-x        root   0
+//! home    0             1       joe:adm   640    rw-  r--        adm    1
 //! home/f  1
 //! ```
 //!
-//! Nothing is kept along paths, and no list of the files of a group.
+//! For each group the numbers of the rows whose label mentions it are kept, as pairs of numbers in one ordered set. Nothing is
+//! kept along paths.
 //!
 //! - A line that changes files: each different label of a changed file that hints do not find is judged once, for all users
 //!   (more often where hashes collide), and the changed files get the number of their new row. All other files keep theirs.
-//! - A membership: for each row whose label mentions one of the groups, the verdict of the one user is asked for again.
+//!   The groups that the label of each number that files got or lost mentions are compared before and after the line, and the
+//!   pairs that differ are taken out or put in.
+//! - A membership: the lists of the groups give the rows whose label mentions one of them. For each of these the verdict of the
+//!   one user is asked for again; no other row is looked at.
 //! - A user more: each row is one verdict longer. A user fewer: one shorter.
 //! - A question on a file is a look-up of its row; one on all files is a walk over them in path order.
 //! - A question along paths looks at the rows of the directories above the file too: a verdict counts only where each of

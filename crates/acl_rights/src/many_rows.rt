@@ -173,10 +173,11 @@ impl KindRows {
         ensures at_most { J.asked_of judge.new ≤ J.asked_of judge.old + length files.now.0.0 * length users.now }
     {
         let _kinds = files.kinds();
-        let known = known_rows(alloc, &self.rows)?;
+        let known = known_rows(alloc, self.rows.map())?;
         let nodes = rows_of_numbers(alloc, judge, users, known, files)?;
-        let rows = files.with_nodes(alloc, &nodes)?;
-        let hints = hints_of(alloc, &rows)?;
+        let map = files.with_nodes(alloc, &nodes)?;
+        let hints = hints_of(alloc, &map)?;
+        let rows = self.rows.replaced(alloc, map)?;
         Ok(KindRows { rows, hints })
     }
 }

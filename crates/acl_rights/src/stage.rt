@@ -1,17 +1,18 @@
 //! The rows of verdicts after a line, by how the line moves the users.
 
-ghost use Rattle.std.specs.Prelude.{◌≡◌, ◌+◌, ◌-◌, ◌<◌, ◌≤◌, ◌^◌, true, Some, length, map, slice_get, IfOk, MatchOption};
+ghost use Rattle.std.specs.Prelude.{◌≡◌, ◌+◌, ◌-◌, ◌<◌, ◌≤◌, ◌^◌, true, Some, count_by, filter, length, map, slice_get, IfOk, MatchOption};
 ghost use Rattle.acl_tree.specs.Files.{Files};
 ghost use Rattle.kinds.specs.Numbered.{entries_in};
 ghost use Rattle.acl_people.specs.KnownPeople.{persons};
-ghost use Rattle.acl_rights.specs.KindRows.{rowed, with_label};
+ghost use Rattle.path_map.specs.Below.{lies_in};
+ghost use Rattle.acl_rights.specs.KindRows.{mentions_any, rowed, with_label};
 ghost use Rattle.acl_rights.specs.Costs.{all_pairs};
 ghost use Rattle.acl_rights.specs.Stages.{most_asked, moves_groups};
 ghost use Rattle.acl_rights.specs.Lines.{labels_of, AreBefore, IsAfter};
 
 use crate::judge::Judge;
 use crate::kind_rows::KindRows;
-use acl_entry::{Label, Subject};
+use acl_entry::{Id, Label, Subject};
 use acl_names::Path;
 use acl_tree::{Differences, GroupIds, Staged, UserChange};
 use std::alloc::{AllocError, Global};
@@ -165,8 +166,26 @@ fn moved_user<'a, J: Judge>(
     }
 }
 
+/// How many files lie at one whose label mentions one of some groups, or below it. Where no label was fetched, none does, and no
+/// path is walked over.
+fn count_refreshed(
+    alloc: Global,
+    rows: &KindRows,
+    groups: &[Id],
+    looked: usize,
+) -> Result<u64, AllocError>
+    requires none { looked ≡ 0 → count_by (λ e. mentions_any groups.now e.1) (entries_in rows.now.rows) ≡ 0 }
+    requires few { length (entries_in rows.now.rows) < 2 ^ 64 }
+    ensures { IfOk result (λ count. count ≡ count_by (λ e. lies_in (filter (λ d. mentions_any groups.now d.1) (entries_in rows.now.rows)) e.0) (entries_in rows.now.rows)) }
+{
+    if looked == 0 {
+        return Ok(0);
+    }
+    rows.count_below_mentioning(alloc, groups)
+}
+
 /// The rows after a user joined or left groups: the user's verdict is asked for again where a label mentions one of these
-/// groups. Where no label does, the rows stay as they are.
+/// groups, and nowhere else.
 fn after_move<J: Judge>(
     alloc: Global,
     judge: &mut J,
@@ -186,16 +205,8 @@ fn after_move<J: Judge>(
     rows.rows.order_law();
     let user = moved_user::<J>(rows, staged, at, groups);
     let groups = groups.as_slice();
-    let looked = rows.count_mentioning(groups);
-    if looked == 0 {
-        return Ok(NextRows {
-            rows: rows.share()?,
-            looked: 0,
-            refreshed: 0,
-        });
-    }
-    let refreshed = rows.count_below_mentioning(alloc, groups)?;
-    let new = rows.with_user_updated(alloc, judge, groups, at, user)?;
+    let (new, looked) = rows.with_user_updated(alloc, judge, groups, at, user)?;
+    let refreshed = count_refreshed(alloc, rows, groups, looked)?;
     Ok(NextRows {
         rows: new,
         looked: looked as u64,

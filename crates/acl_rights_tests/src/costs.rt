@@ -4,7 +4,8 @@ ghost use Rattle.acl_rights.specs.Tables.{IsWhole};
 
 use crate::cost_rows::{FILES_ALONE, FOUR_LABELS, LIKE_ANOTHER, SEARCH, SETUP};
 use crate::people_rows::{
-    COMES_AND_GOES, COMES_BACK, MEMBERSHIPS, NAMED, NOBODY_IS_LEFT, NOBODY_IS_LOADED, PRIMARY,
+    COMES_AND_GOES, COMES_BACK, LISTED, MEMBERSHIPS, NAMED, NOBODY_IS_LEFT, NOBODY_IS_LOADED,
+    PRIMARY,
 };
 use crate::world::{Row, World, asked_by_build, first_wrong, nothing};
 use std::alloc::Global;
@@ -49,6 +50,7 @@ fn lines_on_people_cost_what_they_change(rt: HostRuntime) {
             &MEMBERSHIPS,
             &PRIMARY,
             &NAMED,
+            &LISTED,
             &COMES_AND_GOES,
             &COMES_BACK,
             &NOBODY_IS_LEFT,

@@ -125,11 +125,11 @@ static ALL_FILES: [Row; 5] = [
         verdicts: &[],
         reach: &[],
     },
-    // Each label mentions adm.
+    // Each label mentions adm, and the files have three.
     Row {
         line: Line::Join(b"ann", b"adm"),
         asked: (1, 3),
-        looked: 11,
+        looked: 3,
         refreshed: 11,
         verdicts: &[Verdict {
             user: ANN,

@@ -80,7 +80,8 @@ pub static MEMBERSHIPS: [Row; 6] = [
     },
 ];
 
-/// Users is left and staff joined.
+/// Users is left and staff joined. Four files mention one of them: no two are of one kind, since a directory has the label of
+/// another file.
 pub static PRIMARY: [Row; 1] = [Row {
     line: Line::Usermod(b"joe", b"staff"),
     asked: (0, 4),
@@ -108,6 +109,63 @@ pub static NAMED: [Row; 2] = [
         asked: (0, 4),
         looked: 4,
         refreshed: 5,
+        verdicts: &[],
+        reach: &[],
+    },
+];
+
+/// The label of a file mentions adm, then another group too, and then the file goes: each time adm's list has the labels that
+/// are there.
+pub static LISTED: [Row; 6] = [
+    Row {
+        line: Line::Setfacl(b"g:adm:r", false, b"f"),
+        asked: (0, 3),
+        looked: 0,
+        refreshed: 3,
+        verdicts: &[],
+        reach: &[],
+    },
+    Row {
+        line: Line::Join(b"joe", b"adm"),
+        asked: (3, 3),
+        looked: 3,
+        refreshed: 3,
+        verdicts: &[Verdict {
+            user: JOE,
+            path: b"f",
+            byte: 0x11,
+        }],
+        reach: &[],
+    },
+    Row {
+        line: Line::Setfacl(b"g:cool:r", false, b"f"),
+        asked: (0, 3),
+        looked: 0,
+        refreshed: 3,
+        verdicts: &[],
+        reach: &[],
+    },
+    Row {
+        line: Line::Join(b"ann", b"cool"),
+        asked: (1, 1),
+        looked: 1,
+        refreshed: 1,
+        verdicts: &[],
+        reach: &[],
+    },
+    Row {
+        line: Line::Rm(b"f"),
+        asked: (0, 0),
+        looked: 0,
+        refreshed: 0,
+        verdicts: &[],
+        reach: &[],
+    },
+    Row {
+        line: Line::Leave(b"joe", b"adm"),
+        asked: (2, 2),
+        looked: 2,
+        refreshed: 2,
         verdicts: &[],
         reach: &[],
     },

@@ -10,3 +10,6 @@ pub mod Placed
 pub mod Given
 pub mod Passing
 pub mod Counted
+pub mod PairSets
+pub mod PairParts
+pub mod Tagged

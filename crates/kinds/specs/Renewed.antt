@@ -1,5 +1,5 @@
 -- Maps of the same paths whose kinds have other nodes.
-use Rattle.std.specs.Prelude.{◌≡◌, ◌<◌, ◌≤◌, ◌+◌, ◌*◌, ◌++◌, ℕ, zero, suc, nat_lt, Bool, List, [], ◌∷◌, map, Option, Some, None, option_map, if◌then◌else◌}
+use Rattle.std.specs.Prelude.{◌≡◌, ◌<◌, ◌+◌, ◌*◌, ◌++◌, ℕ, zero, suc, nat_lt, Bool, List, [], ◌∷◌, map, Option, Some, None, option_map, if◌then◌else◌}
 use Rattle.std.specs.List.{sum_by}
 use Rattle.std.specs.Option.{option_map_or}
 use Rattle.acl_names.specs.Paths.{PathOf}
@@ -20,10 +20,6 @@ one_where test x = if test x then 1 else 0
 -- what a node becomes that passes a test; another one stays
 abbrev pub changed_where : {N : Type 0} → (N → Bool) → (N → N) → N → N
 changed_where test f x = if test x then f x else x
-
--- what counts for a node that passes a test; for another one nothing
-abbrev pub weight_where : {N : Type 0} → (N → Bool) → (N → ℕ) → N → ℕ
-weight_where test w x = if test x then w x else 0
 
 -- ---- by numbers; for inner functions
 
@@ -54,10 +50,4 @@ weight_before w k (suc n) = weight_before w k n + weight_at w k n
 -- numbers that paths have, have what their nodes become; counts are the same
 pub record Renews {N M : Type 0} (f : N → M) (old : KindsOf N) (new : KindsOf M) : Type 0 where
   pub nodes : (n : ℕ) → 0 < count_at old n → node_at new n ≡ option_map f (node_at old n)
-  pub counts : (n : ℕ) → count_at new n ≡ count_at old n
-
--- the first numbers that paths have, have what their nodes become; the others have their nodes; counts are the same
-pub record RenewsBefore {N : Type 0} (f : N → N) (old : KindsOf N) (m : ℕ) (new : KindsOf N) : Type 0 where
-  pub before : (n : ℕ) → n < m → 0 < count_at old n → node_at new n ≡ option_map f (node_at old n)
-  pub after : (n : ℕ) → m ≤ n → node_at new n ≡ node_at old n
   pub counts : (n : ℕ) → count_at new n ≡ count_at old n

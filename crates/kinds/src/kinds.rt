@@ -2,12 +2,12 @@
 
 ghost use Rattle.std.specs.Prelude.{◌≡◌, ◌+◌, ◌-◌, ◌<◌, ◌≤◌, ◌^◌, [], ℕ, List, Option, Some, None, true, length, IfOk, OnOk, option_map, slice_get, slice_set, IfSome};
 ghost use Rattle.std.specs.Option.{option_copied};
-ghost use Rattle.kinds.specs.Renewed.{one_where, changed_where, weight_where, renewed_if, weight_at, weight_before, Renews, RenewsBefore};
+ghost use Rattle.kinds.specs.Renewed.{renewed_if, weight_at, weight_before, Renews};
 ghost use Rattle.kinds.specs.Kinds.{KindsOf, kinds_of, node_at, count_at, IsNode, Adds, Grants, Releases};
 
 use crate::blocks::Same;
 use crate::list::SharedList;
-use crate::renew::{KindTest, Renewal};
+use crate::renew::Renewal;
 use std::alloc::{AllocError, Global};
 use std::clone::Clone;
 use std::marker::Model;
@@ -255,28 +255,6 @@ impl<N> Kinds<N> {
         }
     }
 
-    /// How many paths have a number, if its node passes a test; else none.
-    fn passing<T: KindTest<N>>(&self, test: &T, number: usize) -> usize
-        ensures { result ≡ weight_at (one_where (T.passes test.now)) self.now number }
-    {
-        match self.get(number) {
-            Some(node) if test.passes(node) => count_in(&self.slots, number),
-            _ => 0,
-        }
-    }
-
-    /// How many paths have a node that passes a test. Allocates nothing.
-    pub(crate) fn count_where<T: KindTest<N>>(&self, test: &T) -> usize
-        requires { weight_before (one_where (T.passes test.now)) self.now (length self.now.0) < 18446744073709551616 }
-        ensures { result ≡ weight_before (one_where (T.passes test.now)) self.now (length self.now.0) }
-    {
-        let mut count = 0;
-        for number in 0..self.slots.len() {
-            count += self.passing(test, number);
-        }
-        count
-    }
-
     /// The number after a free one.
     pub(crate) fn next_of(&self, number: usize) -> usize {
         match self.slots.get(number) {
@@ -306,54 +284,6 @@ impl<N> Kinds<N> {
             slots,
             free: self.free,
         })
-    }
-}
-
-impl<N: Drop> Kinds<N> {
-    /// Slots with what the node of a number becomes, if it passes a test and a path has it; all others are shared.
-    fn slots_renewed<S, T: KindTest<N>, R: Renewal<N, N, S>>(
-        &self,
-        alloc: Global,
-        state: &mut S,
-        test: &T,
-        renewal: &R,
-        slots: SharedList<Slot<N>>,
-        number: usize,
-    ) -> Result<SharedList<Slot<N>>, AllocError>
-        requires room { R.counted state.old + weight_at (weight_where (T.passes test.now) (R.weight renewal.now)) self.now number < 2 ^ 64 }
-        requires before { RenewsBefore (changed_where (T.passes test.now) (R.renewed renewal.now)) self.now number (kinds_of slots) }
-        ensures renews { IfOk result (λ new. RenewsBefore (changed_where (T.passes test.now) (R.renewed renewal.now)) self.now (number + 1) (kinds_of new)) }
-        ensures exact { OnOk result (R.is_exact ≡ true → R.counted state.new ≡ R.counted state.old + weight_at (weight_where (T.passes test.now) (R.weight renewal.now)) self.now number) }
-        ensures at_most { R.counted state.new ≤ R.counted state.old + weight_at (weight_where (T.passes test.now) (R.weight renewal.now)) self.now number }
-    {
-        if self.passing(test, number) == 0 {
-            return Ok(slots);
-        }
-        let slot = self.renewed_slot(alloc, state, renewal, number)?;
-        let slots = slots.with(number, slot)?;
-        Ok(slots)
-    }
-
-    /// For each number that paths have, and whose node passes a test, what its node becomes; the slots of other numbers are
-    /// shared. The counts are the same. Fails only if memory runs out.
-    pub(crate) fn renewed_where<S, T: KindTest<N>, R: Renewal<N, N, S>>(
-        &self,
-        alloc: Global,
-        state: &mut S,
-        test: &T,
-        renewal: &R,
-    ) -> Result<Kinds<N>, AllocError>
-        requires room { R.counted state.old + weight_before (weight_where (T.passes test.now) (R.weight renewal.now)) self.now (length self.now.0) < 2 ^ 64 }
-        ensures renews { IfOk result (λ new. Renews (changed_where (T.passes test.now) (R.renewed renewal.now)) self.now new) }
-        ensures exact { OnOk result (R.is_exact ≡ true → R.counted state.new ≡ R.counted state.old + weight_before (weight_where (T.passes test.now) (R.weight renewal.now)) self.now (length self.now.0)) }
-        ensures at_most { R.counted state.new ≤ R.counted state.old + weight_before (weight_where (T.passes test.now) (R.weight renewal.now)) self.now (length self.now.0) }
-    {
-        let mut slots = self.slots.share()?;
-        for number in 0..self.slots.len() {
-            slots = self.slots_renewed(alloc, state, test, renewal, slots, number)?;
-        }
-        let free = self.free;
-        Ok(Kinds { slots, free })
     }
 }
 

@@ -1,10 +1,12 @@
 //! A persistent map from paths to nodes that keeps what many paths have in common once: for each path a number, and for
-//! each number a node with the count of its paths. A map and its copies share what did not change.
+//! each number a node with the count of its paths. A map and its copies share what did not change. A map with tags keeps for
+//! each tag the numbers of the nodes that have it too.
 #![tactic(auto)]
 
 mod above;
 mod blocks;
 mod builder;
+mod changed;
 mod counted;
 mod edit;
 mod finder;
@@ -15,14 +17,18 @@ mod list;
 mod map;
 mod memo;
 mod numbering;
+mod pairs;
 mod passing;
 mod placed;
 mod put;
 mod release;
 mod renew;
+mod tagged;
+mod tagged_reads;
 
 pub use blocks::{BlockList, Same};
 pub use builder::KindMapBuilder;
+pub use changed::NodeChange;
 pub use edit::{EditedMap, KindEdit, Stop};
 pub use finder::KindsFinder;
 pub use iter::KindsIter;
@@ -31,6 +37,9 @@ pub use list::SharedList;
 pub use map::KindMap;
 pub use memo::{Memo, Met};
 pub use numbering::Likeness;
-pub use placed::GivenNode;
+pub use pairs::pair::Pair;
+pub use pairs::set::PairSet;
+pub use placed::{GivenNode, PlacedMap};
 pub use put::KindPuts;
 pub use renew::{KindTest, Renewal};
+pub use tagged::{Tagged, TaggedMap, push_found};

@@ -13,6 +13,7 @@ ghost use Rattle.kinds.specs.Numbered.{AreSound, entries_in};
 ghost use Rattle.kinds.specs.Kinds.{node_at};
 ghost use Rattle.kinds.specs.Placed.{IsOfEntry};
 ghost use Rattle.kinds.specs.Given.{used_at};
+ghost use Rattle.kinds.specs.Tagged.{SameBut, numbers_found};
 
 use crate::iter::KindsIter;
 use crate::kinds::Kinds;
@@ -164,6 +165,24 @@ impl<N: Drop> KindMap<N> {
         })
     }
 
+    /// The map without the paths of some entries, in path order, and the numbers that these had: all other numbers are as
+    /// before. This map stays as it is. Fails only if memory runs out.
+    pub fn without_found<W>(
+        &self,
+        alloc: Global,
+        gone: &[(&Path, W)],
+    ) -> Result<(KindMap<N>, Vec<Option<usize>>), AllocError>
+        requires { IsInOrder (map seen gone.now) }
+        ensures entries { IfOk result (λ new. entries_in new.0 ≡ without_all (map seen gone.now) (entries_in self.now)) }
+        ensures same { IfOk result (λ new. SameBut (numbers_found new.1.items) self.now.0 new.0.0) }
+    {
+        let found = self.numbers().get_all(alloc, gone)?;
+        let numbers = self.numbers().without_all(alloc, gone)?;
+        let kinds = release_all(alloc, self.kinds().share()?, &found)?;
+        let map = KindMap::of(alloc, kinds, numbers)?;
+        Ok((map, found))
+    }
+
     /// The map without the paths of some entries, in path order. This map stays as it is. Fails only if memory runs
     /// out.
     pub fn without_all<W>(
@@ -174,10 +193,7 @@ impl<N: Drop> KindMap<N> {
         requires { IsInOrder (map seen gone.now) }
         ensures { IfOk result (λ new. entries_in new ≡ without_all (map seen gone.now) (entries_in self.now)) }
     {
-        let found = self.numbers().get_all(alloc, gone)?;
-        let numbers = self.numbers().without_all(alloc, gone)?;
-        let kinds = release_all(alloc, self.kinds().share()?, &found)?;
-        let map = KindMap::of(alloc, kinds, numbers)?;
+        let (map, _found) = self.without_found(alloc, gone)?;
         Ok(map)
     }
 }

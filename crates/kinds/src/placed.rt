@@ -1,10 +1,12 @@
 //! Entries put among those of a map, whose nodes are at places of a list: each of these nodes gets one number.
 
-ghost use Rattle.std.specs.Prelude.{◌≡◌, ◌<◌, ◌++◌, ◌∷◌, [], Option, Some, List, ℕ, length, map, get_or, IfOk};
+ghost use Rattle.std.specs.Prelude.{◌≡◌, ◌<◌, ◌++◌, ◌∷◌, [], Option, Some, List, ℕ, false, length, map, get_or, IfOk};
 ghost use Rattle.path_map.specs.Entries.{IsInOrder, seen};
 ghost use Rattle.path_map.specs.Merged.{put_all};
 ghost use Rattle.kinds.specs.Kinds.{KindsOf};
 ghost use Rattle.kinds.specs.Numbered.{entries_in};
+ghost use Rattle.kinds.specs.Given.{used_at};
+ghost use Rattle.kinds.specs.Tagged.{is_one, numbers_found};
 ghost use Rattle.kinds.specs.Placed.{placed, given, AreGiven, ArePlaces, by_place, AddsNodes};
 
 use crate::kinds::Kinds;
@@ -19,6 +21,14 @@ use std::rc::Rc;
 pub enum GivenNode<N> {
     New(Rc<N>),
     Known(usize),
+}
+
+/// A map with entries put, the numbers of their nodes, and those that their paths had.
+#[derive(Drop)]
+pub struct PlacedMap<N> {
+    pub map: KindMap<N>,
+    pub numbers: Vec<usize>,
+    pub found: Vec<Option<usize>>,
 }
 
 /// The number of a node that is given; a new one is added. Fails only if memory, or the numbers, run out.
@@ -83,22 +93,28 @@ fn entries_numbered<'a>(
 
 impl<N: Drop> KindMap<N> {
     /// The map with entries put, which are in path order and whose nodes are at places of a list; all entries of a place have
-    /// one kind, which may be one that paths of the map have. The numbers of the nodes are returned too. This map stays as it is, and where each path is there already both share all paths. Fails only if memory,
-    /// or the numbers, run out, or if paths are more than can be counted.
+    /// one kind, which may be one that paths of the map have. The numbers of the nodes are returned too, and those that the
+    /// paths had: all other numbers are as before. This map stays as it is, and where each path is there already both share
+    /// all paths. Fails only if memory, or the numbers, run out, or if paths are more than can be counted.
     pub fn put_placed(
         &self,
         alloc: Global,
         entries: &[(&Path, usize)],
         nodes: &[GivenNode<N>],
-    ) -> Result<(KindMap<N>, Vec<usize>), AllocError>
+    ) -> Result<PlacedMap<N>, AllocError>
         requires order { IsInOrder (map seen entries.now) }
         requires given { AreGiven self.now.0 nodes.now }
         requires places { ArePlaces (length nodes.now) (map seen entries.now) }
-        ensures { IfOk result (λ new. entries_in new.0 ≡ put_all (placed (map (given self.now.0) nodes.now) (map seen entries.now)) (entries_in self.now)) }
+        ensures entries { IfOk result (λ new. entries_in new.map ≡ put_all (placed (map (given self.now.0) nodes.now) (map seen entries.now)) (entries_in self.now)) }
+        ensures same { IfOk result (λ new. (n : ℕ) → is_one n new.numbers.items ≡ false → is_one n (numbers_found new.found.items) ≡ false → used_at new.map.0 n ≡ used_at self.now.0 n) }
     {
         let (kinds, numbers) = add_nodes(alloc, self.kinds().share()?, nodes)?;
         let entries = entries_numbered(alloc, &numbers, entries)?;
-        let map = put_numbered(alloc, self, kinds, &entries)?;
-        Ok((map, numbers))
+        let (map, found) = put_numbered(alloc, self, kinds, &entries)?;
+        Ok(PlacedMap {
+            map,
+            numbers,
+            found,
+        })
     }
 }

@@ -1,10 +1,12 @@
 //! Entries put among those of a map: of those that are put, nodes that are the same get one number.
 
-ghost use Rattle.std.specs.Prelude.{◌≡◌, ◌++◌, ◌∷◌, [], true, is_some, map, IfOk};
+ghost use Rattle.std.specs.Prelude.{◌≡◌, ◌++◌, ◌∷◌, [], ℕ, true, false, is_some, map, IfOk};
 ghost use Rattle.std.specs.List.{AllByRecursion};
 ghost use Rattle.path_map.specs.Entries.{IsInOrder, seen, found};
 ghost use Rattle.path_map.specs.Merged.{put_all};
-ghost use Rattle.kinds.specs.Numbered.{entries_in, entries_by};
+ghost use Rattle.kinds.specs.Numbered.{entries_in, entries_by, paths_with};
+ghost use Rattle.kinds.specs.Given.{used_at};
+ghost use Rattle.kinds.specs.Tagged.{is_one, numbers_found};
 ghost use Rattle.kinds.specs.Counted.{AddsUncounted};
 
 use crate::counted::count_entries;
@@ -94,22 +96,24 @@ fn numbers_with(
     numbers_put(alloc, numbers, entries)
 }
 
-/// A map with entries put by their numbers, of which none is counted. Where each path is there already, both share all paths.
+/// A map with entries put by their numbers, of which none is counted; and the numbers that their paths had. Where each path is
+/// there already, both share all paths.
 pub(crate) fn put_numbered<N: Drop>(
     alloc: Global,
     before: &KindMap<N>,
     kinds: Kinds<N>,
     entries: &[(&Path, usize)],
-) -> Result<KindMap<N>, AllocError>
+) -> Result<(KindMap<N>, Vec<Option<usize>>), AllocError>
     requires added { AddsUncounted before.now.0 kinds (map seen entries.now) }
     requires order { IsInOrder (entries_by kinds (map seen entries.now)) }
-    ensures { IfOk result (λ new. entries_in new ≡ put_all (entries_by kinds (map seen entries.now)) (entries_in before.now)) }
+    ensures entries { IfOk result (λ new. entries_in new.0 ≡ put_all (entries_by kinds (map seen entries.now)) (entries_in before.now)) }
+    ensures same { IfOk result (λ new. (n : ℕ) → paths_with n (map seen entries.now) ≡ 0 → is_one n (numbers_found new.1.items) ≡ false → used_at new.0.0 n ≡ used_at before.now.0 n) }
 {
     let kinds = count_entries(alloc, kinds, entries)?;
     let (numbers, found) = numbers_with(alloc, before.numbers(), entries)?;
     let kinds = release_all(alloc, kinds, &found)?;
     let map = KindMap::of(alloc, kinds, numbers)?;
-    Ok(map)
+    Ok((map, found))
 }
 
 impl<'a, N: Drop> KindPuts<'a, N> {
@@ -160,7 +164,7 @@ impl<'a, N: Drop> KindPuts<'a, N> {
             numbering,
             entries,
         } = self;
-        let map = put_numbered(alloc, before, numbering.into_kinds(), &entries)?;
+        let (map, _found) = put_numbered(alloc, before, numbering.into_kinds(), &entries)?;
         Ok(map)
     }
 }

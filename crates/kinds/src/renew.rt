@@ -1,8 +1,8 @@
 //! Maps of the same paths whose kinds have other nodes, which may be of another type.
 
-ghost use Rattle.std.specs.Prelude.{◌≡◌, ◌+◌, ◌*◌, ◌<◌, ◌≤◌, ◌^◌, ℕ, Bool, true, length, count_by, IfOk, OnOk};
+ghost use Rattle.std.specs.Prelude.{◌≡◌, ◌+◌, ◌*◌, ◌<◌, ◌≤◌, ◌^◌, ℕ, Bool, true, IfOk, OnOk};
 ghost use Rattle.kinds.specs.Numbered.{entries_in};
-ghost use Rattle.kinds.specs.Renewed.{renewed, weight_of, changed_where, weight_where};
+ghost use Rattle.kinds.specs.Renewed.{renewed, weight_of, Renews};
 
 use crate::map::KindMap;
 use std::alloc::{AllocError, Global};
@@ -40,16 +40,6 @@ pub trait KindTest<N> {
         ensures { result ≡ passes self.now node.now };
 }
 
-impl<N> KindMap<N> {
-    /// How many paths have a node that passes a test: each kind is tested once. Allocates nothing.
-    pub fn count_where<T: KindTest<N>>(&self, test: &T) -> usize
-        requires few { length (entries_in self.now) < 18446744073709551616 }
-        ensures { result ≡ count_by (λ e. T.passes test.now e.1) (entries_in self.now) }
-    {
-        self.kinds().count_where(test)
-    }
-}
-
 impl<N: Drop> KindMap<N> {
     /// The map of the same paths with what their nodes become. Each kind is renewed once, and both maps share the paths
     /// and their numbers. Fails only if memory runs out.
@@ -61,31 +51,11 @@ impl<N: Drop> KindMap<N> {
     ) -> Result<KindMap<M>, AllocError>
         requires room { R.counted state.old + weight_of (R.weight renewal.now) (entries_in self.now) < 2 ^ 64 }
         ensures entries { IfOk result (λ new. entries_in new ≡ renewed (R.renewed renewal.now) (entries_in self.now)) }
+        ensures kinds { IfOk result (λ new. Renews (R.renewed renewal.now) self.now.0 new.0) }
         ensures exact { OnOk result (R.is_exact ≡ true → R.counted state.new ≡ R.counted state.old + weight_of (R.weight renewal.now) (entries_in self.now)) }
         ensures at_most { R.counted state.new ≤ R.counted state.old + weight_of (R.weight renewal.now) (entries_in self.now) }
     {
         let kinds = self.kinds().renewed(alloc, state, renewal)?;
-        let numbers = self.numbers().share()?;
-        let map = KindMap::of(alloc, kinds, numbers)?;
-        Ok(map)
-    }
-
-    /// The map of the same paths with what their nodes become where they pass a test: each kind is tested once, and renewed
-    /// once if it passes. Both maps share the paths, their numbers and all nodes that do not pass. Fails only if memory runs
-    /// out.
-    pub fn renewed_where<S, T: KindTest<N>, R: Renewal<N, N, S>>(
-        &self,
-        alloc: Global,
-        state: &mut S,
-        test: &T,
-        renewal: &R,
-    ) -> Result<KindMap<N>, AllocError>
-        requires room { R.counted state.old + weight_of (weight_where (T.passes test.now) (R.weight renewal.now)) (entries_in self.now) < 2 ^ 64 }
-        ensures entries { IfOk result (λ new. entries_in new ≡ renewed (changed_where (T.passes test.now) (R.renewed renewal.now)) (entries_in self.now)) }
-        ensures exact { OnOk result (R.is_exact ≡ true → R.counted state.new ≡ R.counted state.old + weight_of (weight_where (T.passes test.now) (R.weight renewal.now)) (entries_in self.now)) }
-        ensures at_most { R.counted state.new ≤ R.counted state.old + weight_of (weight_where (T.passes test.now) (R.weight renewal.now)) (entries_in self.now) }
-    {
-        let kinds = self.kinds().renewed_where(alloc, state, test, renewal)?;
         let numbers = self.numbers().share()?;
         let map = KindMap::of(alloc, kinds, numbers)?;
         Ok(map)

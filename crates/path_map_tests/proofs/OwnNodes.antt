@@ -1,5 +1,5 @@
 -- Nodes of a map that become themselves, and what counts where nothing does.
-use Rattle.std.proofs.Common.{◌≡◌, ℕ, suc, ◌+◌, Bool, true, false, cond, List, [], ◌∷◌, ◌++◌, Option, Some, None, refl, sym, ap, subst, ◌∙◌, arith, length}
+use Rattle.std.proofs.Common.{◌≡◌, ℕ, suc, ◌+◌, List, [], ◌∷◌, ◌++◌, Option, Some, None, refl, sym, ap, subst, ◌∙◌, arith, length}
 use Rattle.std.specs.Prelude.{option_map}
 use Rattle.std.specs.declared.rc.Rc.{Rc}
 use Rattle.std.specs.List.{sum_by}
@@ -7,7 +7,7 @@ use Rattle.std.proofs.lemmas.List.{map-append, length-map}
 use Rattle.std.proofs.lemmas.List.Sums.{sum_by-cons}
 use Rattle.kinds.specs.Kinds.{KindsOf}
 use Rattle.kinds.specs.Numbered.{Numbers, AreSound}
-use Rattle.kinds.specs.Renewed.{renewed_before, weight_where}
+use Rattle.kinds.specs.Renewed.{renewed_before}
 use Rattle.kinds.specs.Given.{used_at, shared_nodes, HaveNodes}
 use Rattle.kinds.proofs.Renewals.{length-renewed}
 use Rattle.kinds.proofs.GivenNodes.{used_renewed, renewed_have}
@@ -26,16 +26,9 @@ nodes_more k n nodes new node made so_far is =
     ∙ (λ i. so_far i ++ (is ∙ sym (itself (used_at k n)) ∙ sym (used_renewed (λ x. x) k n)) i ∷ [])
     ∙ ap (renewed_before (λ x. x) k) next
 
-pub weighs_nothing : {A N : Type 0} (test : N → Bool) (es : List (A × N)) → sum_by (λ e. weight_where test (λ x. 0) e.1) es ≡ 0
-weighs_nothing test [] = refl
-weighs_nothing test (e ∷ es) = sum_by-cons (λ e. weight_where test (λ x. 0) e.1) e es ∙ (let rest = weighs_nothing test es in let here = by (test e.1) in omega (arith, rest, here))
-  where
-    none : ℕ
-    none = 0
-
-    by : (b : Bool) → cond b none none ≡ none
-    by true = refl
-    by false = refl
+pub weighs_nothing : {A : Type 0} (es : List A) → sum_by (λ (e : A). 0) es ≡ 0
+weighs_nothing [] = refl
+weighs_nothing {A} (e ∷ es) = sum_by-cons (λ (x : A). 0) e es ∙ (let rest = weighs_nothing es in omega (arith, rest))
 
 module _ {N Z : Type 0} (k : KindsOf N) (ns : Numbers) (nodes : List (Option (Rc N Z))) (sound : AreSound k ns) (are : shared_nodes nodes ≡ renewed_before (λ x. x) k (length k.0)) where
   pub nodes_long : length nodes ≡ length k.0

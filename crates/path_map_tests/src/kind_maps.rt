@@ -223,11 +223,11 @@ fn put_at_both(
 ) -> KindMap<u32> {
     assert!(rt; first.order(second).is_lt());
     let node = Rc::new(alloc, node).expect(rt, "memory");
-    let (new, numbers) = map
+    let new = map
         .put_placed(alloc, &[(first, 0), (second, 0)], &[GivenNode::New(node)])
         .expect(rt, "memory");
-    assert!(rt; numbers.len() == 1);
-    new
+    assert!(rt; new.numbers.len() == 1);
+    new.map
 }
 
 #[test]

@@ -1,6 +1,6 @@
 //! Each public call of `path_map` once, on a map with two names that begin alike, and on one of several branches. Of `kinds`:
-//! lists in shared blocks, numbers of nodes that are given back and given again, maps that are built and put into, and maps of
-//! the same paths with other nodes.
+//! lists in shared blocks, numbers of nodes that are given back and given again, maps that are built and put into, maps of
+//! the same paths with other nodes, and sets of pairs of numbers.
 //!
 //! They are apart from `path_map` and `kinds`, since a crate with tests is proved twice. Edits of maps by kinds are tested by
 //! the commands of `acl_tree`.
@@ -22,3 +22,5 @@ mod maps;
 mod nodes;
 #[cfg(test)]
 mod numbers;
+#[cfg(test)]
+mod pairs;

@@ -66,11 +66,11 @@ fn with_its_nodes(rt: &impl Abort, alloc: Global, map: &KindMap<u32>) -> KindMap
     map.with_nodes(alloc, &nodes).expect(rt, "memory")
 }
 
-/// The map where each node above 5 becomes 9, and how many nodes were renewed.
+/// The map where each node becomes 9, and how many nodes were renewed.
 fn with_nines(rt: &impl Abort, alloc: Global, map: &KindMap<u32>) -> (KindMap<u32>, u64) {
     let mut count = Count { nodes: 0 };
     let new = map
-        .renewed_where(alloc, &mut count, &Above { node: 5 }, &Becomes { node: 9 })
+        .renewed(alloc, &mut count, &Becomes { node: 9 })
         .expect(rt, "memory");
     (new, count.nodes)
 }
@@ -105,17 +105,17 @@ fn a_node_that_two_paths_have_is_renewed_once(rt: HostRuntime) {
     let (new, renewed) = with_nines(&rt, rt.alloc(), &map);
     expect_entry(&rt, rt.alloc(), &map, b"a", 6, 0);
     drop(map);
-    assert!(rt; renewed == 1);
+    assert!(rt; renewed == 2);
     expect_entry(&rt, rt.alloc(), &new, b"a", 9, 0);
-    expect_entry(&rt, rt.alloc(), &new, b"b", 5, 1);
+    expect_entry(&rt, rt.alloc(), &new, b"b", 9, 1);
     expect_entry(&rt, rt.alloc(), &new, b"c", 9, 0);
 }
 
 #[test]
 fn a_node_that_no_path_has_is_not_renewed(rt: HostRuntime) {
     let (new, renewed) = with_nines(&rt, rt.alloc(), &b_freed(&rt, rt.alloc()));
-    assert!(rt; renewed == 0);
-    expect_given_again(&rt, rt.alloc(), &new);
+    assert!(rt; renewed == 1);
+    assert!(rt; new.used(1).is_none());
 }
 
 #[test]

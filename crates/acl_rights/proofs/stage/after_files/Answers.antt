@@ -5,8 +5,6 @@ use Rattle.path_map.specs.Below.{lies_in}
 use Rattle.kinds.specs.Numbered.{entries_in}
 use Rattle.acl_people.specs.KnownPeople.{KnownPeople, persons}
 use Rattle.acl_tree.specs.Files.{Files, Recorded, max_files}
-use Rattle.acl_tree.specs.declared.user_change.UserChange.{UserChange}
-use Rattle.acl_rights.specs.Stages.{moves_looked}
 use Rattle.acl_rights.proofs.NextRows.{order_changed, walked_after}
 use Rattle.acl_rights.proofs.Refreshing.{files_refreshed, files_fit}
 use Rattle.acl_rights.proofs.Rowed.{rowed_long}
@@ -50,6 +48,6 @@ returns-clause-after g c =
     let users = c.users.ensures ∙ ap (λ (r : KnownPeople). length r.users) c.people.ensures in
     record {
       rows = c.in_ok-new.ensures.rows;
-      looked = sym (ap (λ (m : UserChange). moves_looked m t.state.tree.files) c.requires.moved);
+      looked = omega arith;
       refreshed = files_refreshed t c.count_below-files.result c.users.result c.requires.moved walked users;
     }

@@ -1,28 +1,10 @@
-use Rattle.std.proofs.Common.{ℕ, List, sym, ap, subst, ◌∙◌, arith}
+use Rattle.std.proofs.Common.{ℕ, List, length, sym, ap, subst, ◌∙◌, arith}
 use Rattle.path_map.specs.Entries.{IsInOrder}
-use Rattle.kinds.specs.Numbered.{Kept, entries_in}
+use Rattle.kinds.specs.Numbered.{entries_in}
 use Rattle.acl_tree.specs.Files.{Recorded}
 use Rattle.acl_tree.specs.declared.user_change.UserChange.TheVariants.{Memberships}
-use Rattle.acl_rights.specs.declared.kind_rows.LabelRow.{LabelRow}
-use Rattle.acl_rights.proofs.NextRows.{looked_cost, looked_moved, refreshed_moved, refreshed_unmoved, rows_after_move, rows_unchanged}
+use Rattle.acl_rights.proofs.NextRows.{looked_cost, looked_moved, refreshed_moved, rows_after_move}
 use Rattle.acl_rights.proofs.stage.after_move.Goals as goal
-
-pub returns-then-looked-eq0-clause-after : goal.returns-then-looked-eq0-clause-after
-returns-then-looked-eq0-clause-after g c =
-    let V = g.J.Judge.verdict_of in
-    let t = c.args.staged.now in
-    let es = entries_in c.args.rows.now.rows in
-    let order = subst (λ (r : Recorded). IsInOrder r.files) c.tree.ensures c.soundness_law.ensures.order in
-    let groups = c.as_slice-groups.result.now in
-    let is = c.requires.moved ∙ ap (λ (ids : List ℕ). Memberships c.args.at ids) (sym c.as_slice-groups.ensures) in
-    let none = sym c.count_mentioning-looked.ensures ∙ c.if-looked-eq0.true in
-    record {
-      rows =
-          ap (λ (kept : Kept LabelRow). entries_in kept) c.in_ok-share.ensures
-          ∙ rows_unchanged V es t c.requires.before c.order_law.ensures order c.args.at groups is g.met.J.Judge.local c.moved_user-user.result.now c.moved_user-user.ensures none;
-      looked = looked_moved V es t c.requires.before c.order_law.ensures order c.args.at groups is 0 (sym none);
-      refreshed = refreshed_unmoved V es t c.requires.before c.order_law.ensures order c.args.at groups is none;
-    }
 
 pub with_user_updated-requires : goal.with_user_updated-requires
 with_user_updated-requires g c =
@@ -47,6 +29,6 @@ returns-clause-after g c =
       rows =
           c.in_ok-new.ensures.rows
           ∙ rows_after_move V es t c.requires.before c.order_law.ensures order c.args.at groups is g.met.J.Judge.local c.moved_user-user.result.now c.moved_user-user.ensures;
-      looked = looked_moved V es t c.requires.before c.order_law.ensures order c.args.at groups is c.count_mentioning-looked.result c.count_mentioning-looked.ensures;
+      looked = looked_moved V es t c.requires.before c.order_law.ensures order c.args.at groups is c.in_ok-new.looked c.in_ok-new.ensures.few;
       refreshed = refreshed_moved V es t c.requires.before c.order_law.ensures order c.args.at groups is c.in_ok-refreshed.refreshed c.in_ok-refreshed.ensures;
     }

@@ -12,7 +12,6 @@ use Rattle.acl_rights.specs.Reach.{unlike}
 use Rattle.acl_rights.specs.Kept.{GoesFrom}
 use Rattle.acl_rights.specs.Lines.{HaveLabels}
 use Rattle.acl_rights.proofs.Costs.{most_le}
-use Rattle.acl_rights.proofs.Mentions.{moves_looked_le}
 use Rattle.acl_rights.proofs.Refreshed.{line_most}
 use Rattle.acl_rights.proofs.Rowed.{rowed_is, rowed_rows, rowed_labels_are}
 use Rattle.acl_rights.proofs.index.Index.stage.Goals as goal
@@ -90,6 +89,4 @@ pub returns-in_err-table-clause-at_most : goal.returns-in_err-table-clause-at_mo
 returns-in_err-table-clause-at_most g c = c.after_line.ensures.at_most
 
 pub returns-clause-looked_most : goal.returns-clause-looked_most
-returns-clause-looked_most g c =
-    let t = c.args.staged.now in
-    omega (arith, c.in_ok-new.ensures.after.looked, moves_looked_le t.user_change t.state.tree.files)
+returns-clause-looked_most g c = c.in_ok-new.ensures.after.looked

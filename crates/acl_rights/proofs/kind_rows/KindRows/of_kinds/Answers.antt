@@ -1,13 +1,17 @@
-use Rattle.std.proofs.Common.{ap, ◌∙◌}
-use Rattle.kinds.specs.Numbered.{entries_in}
+use Rattle.std.proofs.Common.{ap, subst, ◌∙◌}
+use Rattle.kinds.specs.Numbered.{Kept, entries_in}
+use Rattle.acl_rights.specs.declared.kind_rows.LabelRow.{LabelRow}
 use Rattle.kinds.specs.Given.{shared_nodes}
-use Rattle.acl_rights.specs.KindRows.{shared_rows}
+use Rattle.acl_rights.specs.KindRows.{shared_rows, AreOfEntries}
 use Rattle.acl_rights.proofs.RowsOfNumbers.{rows_of_entries, rows_long, rows_have, rows_rowed}
 use Rattle.acl_rights.proofs.kind_rows.KindRows.of_kinds.Goals as goal
 
 pub rows_of_numbers-requires-clause-known : goal.rows_of_numbers-requires-clause-known
 rows_of_numbers-requires-clause-known g c =
-    rows_of_entries g.J.Judge.verdict_of c.args.users.now (shared_rows c.in_ok-known.known.rows.items) (entries_in c.args.self.now.rows) c.in_ok-known.ensures c.requires.known
+    rows_of_entries g.J.Judge.verdict_of c.args.users.now (shared_rows c.in_ok-known.known.rows.items) (entries_in c.args.self.now.rows)
+    (subst (λ (kept : Kept LabelRow). AreOfEntries (shared_rows c.in_ok-known.known.rows.items) (entries_in kept)) c.map.ensures
+    c.in_ok-known.ensures)
+    c.requires.known
 
 pub with_nodes-requires-clause-long : goal.with_nodes-requires-clause-long
 with_nodes-requires-clause-long g c =
@@ -21,6 +25,7 @@ with_nodes-requires-clause-used g c =
 
 pub returns-clause-rows : goal.returns-clause-rows
 returns-clause-rows g c =
-    c.in_ok-rows.ensures
+    ap (λ (kept : Kept LabelRow). entries_in kept) c.in_ok-rows.ensures
+    ∙ c.in_ok-map.ensures
     ∙ rows_rowed g.J.Judge.verdict_of c.args.users.now c.args.files.now.0 c.args.files.now.1 c.deref.result.now c.kinds-kinds.ensures.sound
     (ap (λ l. shared_nodes l) c.deref.ensures.value ∙ c.in_ok-nodes.ensures.rows)

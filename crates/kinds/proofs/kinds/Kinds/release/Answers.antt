@@ -1,4 +1,4 @@
-use Rattle.std.proofs.Common.{◌≡◌, ◌-◌, ◌≤◌, None, set, get_or, sym, ap, subst, ◌∙◌, arith}
+use Rattle.std.proofs.Common.{◌≡◌, ◌≤◌, None, set, get_or, sym, ap, subst, ◌∙◌, arith}
 use Rattle.kinds.specs.Kinds.{KindsOf, kinds_of, Releases}
 use Rattle.kinds.proofs.Numbers.{freed, freed_at}
 use Rattle.kinds.proofs.kinds.Kinds.release.Goals as goal

@@ -5,7 +5,8 @@ use Rattle.acl_names.specs.Paths.{PathOf}
 use Rattle.path_map.specs.Entries.{seen}
 use Rattle.path_map.specs.Merged.{put_all}
 use Rattle.kinds.specs.Kinds.{KindsOf, IsNode}
-use Rattle.kinds.specs.Numbered.{Numbers, entries_by, entries_in}
+use Rattle.kinds.specs.Numbered.{Numbers, entries_by, entries_in, paths_with}
+use Rattle.kinds.proofs.SameNodes.{none_placed}
 use Rattle.kinds.specs.Placed.{placed, given, ArePlaces, by_place, AddsNodes}
 use Rattle.kinds.specs.Counted.{AddsUncounted}
 use Rattle.kinds.proofs.PlacedNodes.{all_given, nodes_used, placed_entries, placed_order}
@@ -45,8 +46,8 @@ put_numbered-requires-clause-order g c =
     let same : map (seen {V = ℕ}) c.deref-2.result.now ≡ by_place c.deref.result.now asked = ap (map (seen {V = ℕ})) c.deref-2.ensures.value ∙ c.in_ok-entries.ensures in
     placed_order k1 c.deref.result.now asked (map seen c.deref-2.result.now) (put_numbered-requires-clause-added g c).used same c.requires.order
 
-pub returns : goal.returns
-returns g c =
+pub returns-clause-entries : goal.returns-clause-entries
+returns-clause-entries g c =
     let k0 : KindsOf g.row.N.Denot = c.args.self.now.0 in
     let k1 = c.in_ok-kinds.kinds in
     let numbers = c.in_ok-kinds.numbers.items in
@@ -60,5 +61,19 @@ returns g c =
     ap (λ (es : Numbers). entries_by k1 es) same
     ∙ placed_entries k0 k1 nodes (all_given k0 c.args.nodes.now c.requires.given) numbers adds asked
     (subst (λ m. ArePlaces m asked) (sym (length-map c.args.nodes.now (given k0))) c.requires.places) in
-    c.in_ok-map.ensures
+    c.in_ok-map.ensures.entries
     ∙ ap (λ (es : List (PathOf × g.row.N.Denot)). put_all es (entries_in c.args.self.now)) puts
+
+pub returns-clause-same : goal.returns-clause-same
+returns-clause-same g c n other found =
+    let k0 : KindsOf g.row.N.Denot = c.args.self.now.0 in
+    let k1 = c.in_ok-kinds.kinds in
+    let numbers = c.in_ok-kinds.numbers.items in
+    let nodes = map (given k0) c.args.nodes.now in
+    let asked : Numbers = map seen c.args.entries.now in
+    let adds : AddsNodes k0 nodes numbers k1 = subst (λ (k : KindsOf g.row.N.Denot). AddsNodes k (map (given k) c.args.nodes.now) numbers k1)
+    (c.in_ok-share.ensures ∙ c.kinds.ensures.all) c.in_ok-kinds.ensures in
+    let long : length c.args.nodes.now ≡ length numbers = sym (length-map c.args.nodes.now (given k0)) ∙ sym adds.long in
+    let same : map (seen {V = ℕ}) c.deref-2.result.now ≡ by_place numbers asked =
+    ap (map (seen {V = ℕ})) c.deref-2.ensures.value ∙ c.in_ok-entries.ensures ∙ ap (λ (ns : List ℕ). by_place ns asked) c.deref.ensures.value in
+    c.in_ok-map.ensures.same n (ap (paths_with n) same ∙ none_placed n numbers asked (subst (λ m. ArePlaces m asked) long c.requires.places) other) found

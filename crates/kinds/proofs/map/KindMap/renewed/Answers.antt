@@ -1,7 +1,7 @@
 use Rattle.std.proofs.Common.{◌≡◌, length, sym, ap, subst, ◌∙◌, arith}
 use Rattle.kinds.specs.Kinds.{KindsOf}
 use Rattle.kinds.specs.Numbered.{Numbers, Kept, AreSound, entries_by, entries_in}
-use Rattle.kinds.specs.Renewed.{renewed, weight_before, Renews}
+use Rattle.kinds.specs.Renewed.{weight_before, Renews}
 use Rattle.kinds.proofs.Renewals.{weight_all, renewed_entries, renewed_sound}
 use Rattle.kinds.proofs.map.KindMap.renewed.Goals as goal
 
@@ -65,3 +65,10 @@ returns-clause-at_most g c =
     let kept : Kept g.row.N.Denot = c.args.self.now in
     let all = ap (λ (k : KindsOf g.row.N.Denot). weight_before w k (length k.0)) c.kinds.ensures.all ∙ weight_all w kept.0 kept.1 c.kinds.ensures.sound in
     omega (arith, all, c.in_ok-kinds.ensures.at_most)
+
+pub returns-clause-kinds : goal.returns-clause-kinds
+returns-clause-kinds g c =
+    let f = g.R.Renewal.renewed c.args.renewal.now in
+    let kept : Kept g.row.N.Denot = c.args.self.now in
+    let renews : Renews f kept.0 c.in_ok-kinds.kinds = subst (λ (k : KindsOf g.row.N.Denot). Renews f k c.in_ok-kinds.kinds) c.kinds.ensures.all c.in_ok-kinds.ensures.renews in
+    subst (λ (m : Kept g.row.M.Denot). Renews f kept.0 m.0) (sym c.in_ok-map.ensures) renews

@@ -24,7 +24,7 @@ put_numbered-requires-clause-order g c =
 pub returns : goal.returns
 returns g c =
     let was = c.self.inside.numbering in
-    c.in_ok-map.ensures
+    c.in_ok-map.ensures.entries
     ∙ ap (λ (k : KindsOf g.row.N.Denot). put_all (entries_by k (map seen c.deref.result.now)) (entries_in c.self.inside.before.now)) c.into_kinds.ensures
     ∙ ap (λ (es : Numbers). put_all (entries_by was.kinds es) (entries_in c.self.inside.before.now)) (ap (map seen) c.deref.ensures.value)
     ∙ ap (λ (s : List (PathOf × g.row.N.Denot) × List (PathOf × g.row.N.Denot)). put_all s.1 s.0) c.self.view_is

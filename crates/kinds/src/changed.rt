@@ -1,0 +1,128 @@
+//! Nodes of some numbers that become others.
+
+ghost use Rattle.std.specs.Prelude.{◌≡◌, ◌+◌, ◌++◌, ◌∷◌, ◌<◌, ◌≤◌, ◌^◌, [], ℕ, List, length, option_map, IfOk, MatchOption};
+ghost use Rattle.std.specs.Option.{option_map_or};
+ghost use Rattle.kinds.specs.Kinds.{kinds_of, node_at, count_at, IsNode};
+ghost use Rattle.kinds.specs.Tagged.{ChangesEach};
+
+use crate::kinds::{Kinds, NONE, Slot};
+use crate::list::SharedList;
+use crate::map::KindMap;
+use std::alloc::{AllocError, Global};
+use std::rc::Rc;
+
+/// Makes of a node another one. That counts in a state at most once, as a verdict of a judge.
+pub trait NodeChange<N, S> {
+    /// What a node becomes.
+    ghost changed: { Self → N → N };
+
+    /// What was counted.
+    ghost counted: { S → ℕ };
+
+    /// What a node becomes, if that is another node. Fails only if memory runs out.
+    fn change(&self, alloc: Global, state: &mut S, node: &N) -> Result<Option<N>, AllocError>
+        requires room { counted state.old + 1 < 2 ^ 64 }
+        ensures node { IfOk result (λ new. option_map_or (λ x. x) new node.now ≡ changed self.now node.now) }
+        ensures at_most { counted state.new ≤ counted state.old + 1 };
+}
+
+impl<N: Drop> Kinds<N> {
+    /// The slot of a number with what its node becomes, if that is another node.
+    fn changed_slot<S, C: NodeChange<N, S>>(
+        &self,
+        alloc: Global,
+        state: &mut S,
+        change: &C,
+        number: usize,
+    ) -> Result<Option<Slot<N>>, AllocError>
+        requires room { C.counted state.old + 1 < 2 ^ 64 }
+        ensures slot { IfOk result (λ some. MatchOption some
+            (option_map (C.changed change.now) (node_at self.now number) ≡ node_at self.now number)
+            (λ slot. IsNode self.now number × (slot ≡ (option_map (C.changed change.now) (node_at self.now number), count_at self.now number)))) }
+        ensures at_most { C.counted state.new ≤ C.counted state.old + 1 }
+    {
+        let Some(node) = self.get(number) else {
+            return Ok(None);
+        };
+        let some = change.change(alloc, state, node)?;
+        let Some(new) = some else {
+            return Ok(None);
+        };
+        Ok(Some(Slot {
+            node: Some(Rc::new(alloc, new)?),
+            count: self.count(number),
+            next: NONE,
+        }))
+    }
+
+    /// Slots with that of a number changed, if its node becomes another one; all others are shared.
+    fn slots_changed<S, C: NodeChange<N, S>>(
+        &self,
+        alloc: Global,
+        state: &mut S,
+        change: &C,
+        slots: SharedList<Slot<N>>,
+        number: usize,
+    ) -> Result<SharedList<Slot<N>>, AllocError>
+        requires room { C.counted state.old + 1 < 2 ^ 64 }
+        ensures slots { IfOk result (λ new. (done : List ℕ) → ChangesEach (C.changed change.now) done self.now (kinds_of slots)
+            → ChangesEach (C.changed change.now) (done ++ number ∷ []) self.now (kinds_of new)) }
+        ensures at_most { C.counted state.new ≤ C.counted state.old + 1 }
+    {
+        let some = self.changed_slot(alloc, state, change, number)?;
+        match some {
+            Some(slot) => {
+                let slots = slots.with(number, slot)?;
+                Ok(slots)
+            }
+            None => Ok(slots),
+        }
+    }
+
+    /// For some numbers what their nodes become, and how many nodes were fetched for that; the slots of other numbers are
+    /// shared. Fails only if memory runs out.
+    pub(crate) fn changed_at<S, C: NodeChange<N, S>>(
+        &self,
+        alloc: Global,
+        state: &mut S,
+        change: &C,
+        numbers: &[usize],
+    ) -> Result<(Kinds<N>, usize), AllocError>
+        requires room { C.counted state.old + length numbers.now < 2 ^ 64 }
+        ensures kinds { IfOk result (λ new. ChangesEach (C.changed change.now) numbers.now self.now new.0) }
+        ensures fetched { IfOk result (λ new. new.1 ≡ length numbers.now) }
+        ensures at_most { C.counted state.new ≤ C.counted state.old + length numbers.now }
+    {
+        let mut slots = self.slots.share()?;
+        let mut fetched = 0;
+        for number in numbers {
+            slots = self.slots_changed(alloc, state, change, slots, *number)?;
+            fetched += 1;
+        }
+        let free = self.free;
+        Ok((Kinds { slots, free }, fetched))
+    }
+}
+
+impl<N: Drop> KindMap<N> {
+    /// The map of the same paths with what the nodes of some numbers become, and how many nodes were fetched for that. Both
+    /// maps share the paths, their numbers and all other nodes. Fails only if memory runs out.
+    pub(crate) fn changed_at<S, C: NodeChange<N, S>>(
+        &self,
+        alloc: Global,
+        state: &mut S,
+        change: &C,
+        numbers: &[usize],
+    ) -> Result<(KindMap<N>, usize), AllocError>
+        requires room { C.counted state.old + length numbers.now < 2 ^ 64 }
+        ensures kinds { IfOk result (λ new. ChangesEach (C.changed change.now) numbers.now self.now.0 new.0.0) }
+        ensures paths { IfOk result (λ new. new.0.1 ≡ self.now.1) }
+        ensures fetched { IfOk result (λ new. new.1 ≡ length numbers.now) }
+        ensures at_most { C.counted state.new ≤ C.counted state.old + length numbers.now }
+    {
+        let (kinds, fetched) = self.kinds().changed_at(alloc, state, change, numbers)?;
+        let paths = self.numbers().share()?;
+        let map = KindMap::of(alloc, kinds, paths)?;
+        Ok((map, fetched))
+    }
+}

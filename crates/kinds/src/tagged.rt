@@ -1,0 +1,283 @@
+//! A map by kinds that keeps for each tag the numbers of the nodes that have it.
+
+ghost use Rattle.std.specs.Prelude.{◌≡◌, ◌+◌, ◌++◌, ◌∷◌, ◌<◌, ◌≤◌, ◌^◌, [], ℕ, List, map, length, count_by, true, IfOk, OnOk};
+ghost use Rattle.std.specs.List.Sorted.{IsStrictlyIncreasing};
+ghost use Rattle.kinds.specs.declared.pairs.pair.Pair.{Pair};
+ghost use Rattle.kinds.specs.PairSets.{tagged_pairs};
+ghost use Rattle.kinds.specs.Numbered.{entries_in};
+ghost use Rattle.kinds.specs.Renewed.{renewed, weight_of, changed_where};
+ghost use Rattle.kinds.specs.Tagged.{is_one, meets, tags_at, AreTagsOf, SameBut, AreSettled, numbers_found};
+
+use crate::changed::NodeChange;
+use crate::map::KindMap;
+use crate::pairs::pair::Pair;
+use crate::pairs::set::PairSet;
+use crate::renew::Renewal;
+use std::alloc::{AllocError, Global};
+use std::marker::Model;
+
+/// What has tags, numbers by which it is found.
+pub trait Tagged {
+    /// The tags. One may be there more than once.
+    ghost tags_of: { Self → List ℕ };
+
+    /// Adds the tags. Fails only if memory runs out.
+    fn push_tags(&self, alloc: Global, new: &mut Vec<usize>) -> Result<(), AllocError>
+        ensures { OnOk result (new.new.items ≡ new.old.items ++ tags_of self.now) };
+}
+
+/// A map by kinds, and for each tag the numbers of the nodes that have it, of those numbers that paths have. To a contract it
+/// is the map.
+#[derive(Drop)]
+pub struct TaggedMap<N: Tagged> {
+    map: KindMap<N>,
+    pairs: PairSet,
+}
+
+impl<N: Tagged> Model for TaggedMap<N> {
+    ghost use Rattle.kinds.specs.Numbered.{Kept};
+    ghost use Rattle.kinds.specs.Tagged.{AreTagsOf};
+
+    ghost Value = { Kept N };
+
+    ghost view = { λ t. t.map };
+
+    ghost invariant = { λ t. AreTagsOf N.tags_of t.map.0 t.pairs };
+}
+
+/// Numbers in order, each once.
+fn rising_numbers(numbers: Vec<usize>) -> Vec<usize>
+    ensures rising { IsStrictlyIncreasing result.items }
+    ensures same { (n : ℕ) → is_one n result.items ≡ is_one n numbers.items }
+{
+    let mut rising = numbers;
+    rising.sort_unstable();
+    rising.dedup();
+    rising
+}
+
+/// The numbers before one.
+fn numbers_before(alloc: Global, end: usize) -> Result<Vec<usize>, AllocError>
+    ensures { IfOk result (λ numbers. (n : ℕ) → n < end → is_one n numbers.items ≡ true) }
+{
+    let mut numbers = Vec::with_capacity(alloc, end)?;
+    for number in 0..end {
+        numbers.push(number)?;
+    }
+    Ok(numbers)
+}
+
+/// Adds a number, if it was found.
+fn push_if(new: &mut Vec<usize>, found: Option<usize>) -> Result<(), AllocError>
+    ensures { OnOk result (new.new.items ≡ new.old.items ++ numbers_found (found ∷ [])) }
+{
+    if let Some(number) = found {
+        new.push(number)?;
+    }
+    Ok(())
+}
+
+/// Adds the numbers that were found. Fails only if memory runs out.
+pub fn push_found(new: &mut Vec<usize>, found: &[Option<usize>]) -> Result<(), AllocError>
+    ensures { OnOk result (new.new.items ≡ new.old.items ++ numbers_found found.now) }
+{
+    for one in found {
+        push_if(new, *one)?;
+    }
+    Ok(())
+}
+
+/// The tags of the node of a number, if a path has the number.
+fn tags_at<N: Tagged>(
+    alloc: Global,
+    map: &KindMap<N>,
+    number: usize,
+) -> Result<Vec<usize>, AllocError>
+    ensures { IfOk result (λ tags. tags.items ≡ tags_at N.tags_of map.now.0 number) }
+{
+    let mut tags = Vec::new(alloc);
+    if let Some(node) = map.used(number) {
+        node.push_tags(alloc, &mut tags)?;
+    }
+    Ok(tags)
+}
+
+/// Adds the pairs of some tags and a number.
+fn push_pairs(pairs: &mut Vec<Pair>, tags: &[usize], number: usize) -> Result<(), AllocError>
+    ensures { OnOk result (pairs.new.items ≡ pairs.old.items ++ tagged_pairs tags.now number) }
+{
+    for tag in tags {
+        pairs.push(Pair::of(*tag, number)?)?;
+    }
+    Ok(())
+}
+
+/// Adds the pairs of a number that a set loses as the tags of the number's node change, and those that it gets.
+fn push_changed<N: Tagged>(
+    alloc: Global,
+    gone: &mut Vec<Pair>,
+    new: &mut Vec<Pair>,
+    before: &KindMap<N>,
+    after: &KindMap<N>,
+    number: usize,
+) -> Result<(), AllocError>
+    ensures { OnOk result ((done : List ℕ) → AreSettled N.tags_of before.now.0 after.now.0 done gone.old.items new.old.items
+        → AreSettled N.tags_of before.now.0 after.now.0 (done ++ number ∷ []) gone.new.items new.new.items) }
+{
+    let old_tags = tags_at(alloc, before, number)?;
+    let new_tags = tags_at(alloc, after, number)?;
+    if old_tags.as_slice() == new_tags.as_slice() {
+        return Ok(());
+    }
+    push_pairs(gone, &old_tags, number)?;
+    push_pairs(new, &new_tags, number)?;
+    Ok(())
+}
+
+/// The pairs that a set loses as the tags of the nodes of some numbers change, and those that it gets.
+fn changed_pairs<N: Tagged>(
+    alloc: Global,
+    before: &KindMap<N>,
+    after: &KindMap<N>,
+    numbers: &[usize],
+) -> Result<(Vec<Pair>, Vec<Pair>), AllocError>
+    ensures { IfOk result (λ pairs. AreSettled N.tags_of before.now.0 after.now.0 numbers.now pairs.0.items pairs.1.items) }
+{
+    let mut gone = Vec::new(alloc);
+    let mut new = Vec::new(alloc);
+    for number in numbers {
+        push_changed(alloc, &mut gone, &mut new, before, after, *number)?;
+    }
+    Ok((gone, new))
+}
+
+impl<N: Tagged> TaggedMap<N> {
+    /// The map.
+    pub fn map(&self) -> &KindMap<N>
+        ensures { result.now ≡ self.now }
+    {
+        &self.map
+    }
+
+    /// The pairs of a tag and a number.
+    fn pairs(&self) -> &PairSet
+        ensures { AreTagsOf N.tags_of self.now.0 result.now }
+    {
+        &self.pairs
+    }
+
+    /// The numbers that paths have and whose nodes have one of some tags, rising.
+    fn numbers_tagged(&self, alloc: Global, tags: &[usize]) -> Result<Vec<usize>, AllocError>
+        ensures rising { IfOk result (λ numbers. IsStrictlyIncreasing numbers.items) }
+        ensures exact { IfOk result (λ numbers. (n : ℕ) → is_one n numbers.items ≡ meets (tags_at N.tags_of self.now.0 n) tags.now) }
+    {
+        let pairs = self.pairs();
+        let mut numbers = Vec::new(alloc);
+        for tag in tags {
+            pairs.push_seconds(&mut numbers, *tag)?;
+        }
+        Ok(rising_numbers(numbers))
+    }
+}
+
+impl<N: Tagged + Drop> TaggedMap<N> {
+    /// No entries. Fails only if memory runs out.
+    pub fn new(alloc: Global) -> Result<TaggedMap<N>, AllocError>
+        ensures { IfOk result (λ map. entries_in map ≡ []) }
+    {
+        let map = KindMap::new(alloc)?;
+        let _kinds = map.kinds();
+        let pairs = PairSet::new(alloc);
+        Ok(TaggedMap { map, pairs })
+    }
+
+    /// A map with its tags: one sort. Fails only if memory, or the numbers, run out.
+    pub fn of(alloc: Global, map: KindMap<N>) -> Result<TaggedMap<N>, AllocError>
+        ensures { IfOk result (λ new. new ≡ map) }
+    {
+        let none = TaggedMap::new(alloc)?;
+        let new = none.replaced(alloc, map)?;
+        Ok(new)
+    }
+
+    /// A copy that shares the entries. Fails only if memory runs out.
+    pub fn share(&self) -> Result<TaggedMap<N>, AllocError>
+        ensures { IfOk result (λ same. same ≡ self.now) }
+    {
+        Ok(TaggedMap {
+            map: self.map.share()?,
+            pairs: self.pairs.share()?,
+        })
+    }
+
+    /// A map in place of this one, whose nodes may differ at some numbers alone. Only the tags of these are compared. Fails
+    /// only if memory, or the numbers, run out.
+    pub fn after(
+        &self,
+        alloc: Global,
+        map: KindMap<N>,
+        numbers: Vec<usize>,
+    ) -> Result<TaggedMap<N>, AllocError>
+        requires { SameBut numbers.items self.now.0 map.0 }
+        ensures { IfOk result (λ new. new ≡ map) }
+    {
+        let numbers = rising_numbers(numbers);
+        let (gone, new) = changed_pairs(alloc, self.map(), &map, &numbers)?;
+        let left = self.pairs().with_pairs(alloc, gone, false)?;
+        let pairs = left.with_pairs(alloc, new, true)?;
+        Ok(TaggedMap { map, pairs })
+    }
+
+    /// A map in place of this one. The tags are compared number by number. Fails only if memory, or the numbers, run out.
+    pub fn replaced(&self, alloc: Global, map: KindMap<N>) -> Result<TaggedMap<N>, AllocError>
+        ensures { IfOk result (λ new. new ≡ map) }
+    {
+        let end = self.map().numbers_len().max(map.numbers_len());
+        let numbers = numbers_before(alloc, end)?;
+        let new = self.after(alloc, map, numbers)?;
+        Ok(new)
+    }
+
+    /// The map of the same paths with what their nodes become, which have the same tags. Fails only if memory runs out.
+    pub fn renewed<S, R: Renewal<N, N, S>>(
+        &self,
+        alloc: Global,
+        state: &mut S,
+        renewal: &R,
+    ) -> Result<TaggedMap<N>, AllocError>
+        requires room { R.counted state.old + weight_of (R.weight renewal.now) (entries_in self.now) < 2 ^ 64 }
+        requires tags { (x : N) → N.tags_of (R.renewed renewal.now x) ≡ N.tags_of x }
+        ensures entries { IfOk result (λ new. entries_in new ≡ renewed (R.renewed renewal.now) (entries_in self.now)) }
+        ensures at_most { R.counted state.new ≤ R.counted state.old + weight_of (R.weight renewal.now) (entries_in self.now) }
+    {
+        let map = self.map().renewed(alloc, state, renewal)?;
+        let pairs = self.pairs().share()?;
+        Ok(TaggedMap { map, pairs })
+    }
+
+    /// The map of the same paths with what the nodes that have one of some tags become, which have the same tags; and how many
+    /// nodes were fetched for that. All other nodes are shared, and none of them is looked at. Fails only if memory, or the
+    /// numbers, run out.
+    pub fn with_tagged<S, C: NodeChange<N, S>>(
+        &self,
+        alloc: Global,
+        state: &mut S,
+        tags: &[usize],
+        change: &C,
+    ) -> Result<(TaggedMap<N>, usize), AllocError>
+        requires room { C.counted state.old + count_by (λ e. meets (N.tags_of e.1) tags.now) (entries_in self.now) < 2 ^ 64 }
+        requires tags { (x : N) → N.tags_of (C.changed change.now x) ≡ N.tags_of x }
+        ensures entries { IfOk result (λ new. entries_in new.0 ≡ renewed (changed_where (λ x. meets (N.tags_of x) tags.now) (C.changed change.now)) (entries_in self.now)) }
+        ensures few { IfOk result (λ new. new.1 ≤ count_by (λ e. meets (N.tags_of e.1) tags.now) (entries_in self.now)) }
+        ensures none { IfOk result (λ new. new.1 ≡ 0 → count_by (λ e. meets (N.tags_of e.1) tags.now) (entries_in self.now) ≡ 0) }
+        ensures counted { IfOk result (λ new. C.counted state.new ≤ C.counted state.old + new.1) }
+        ensures at_most { C.counted state.new ≤ C.counted state.old + count_by (λ e. meets (N.tags_of e.1) tags.now) (entries_in self.now) }
+    {
+        let before = self.map();
+        let _kinds = before.kinds();
+        let numbers = self.numbers_tagged(alloc, tags)?;
+        let (map, fetched) = before.changed_at(alloc, state, change, &numbers)?;
+        let pairs = self.pairs().share()?;
+        Ok((TaggedMap { map, pairs }, fetched))
+    }
+}

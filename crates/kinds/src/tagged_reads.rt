@@ -1,0 +1,102 @@
+//! What a map with tags is asked: all of that is the map's.
+
+ghost use Rattle.std.specs.Prelude.{◌≡◌, ◌<◌, false, map, filter, length, option_map, IfOk};
+ghost use Rattle.std.specs.Option.{option_copied};
+ghost use Rattle.std.specs.FinMap.{find};
+ghost use Rattle.acl_names.specs.Paths.{path_cmp};
+ghost use Rattle.path_map.specs.Entries.{IsInOrder};
+ghost use Rattle.path_map.specs.Below.{from, nearest_above};
+ghost use Rattle.kinds.specs.Numbered.{AreSound, entries_in};
+ghost use Rattle.kinds.specs.Passing.{passed};
+ghost use Rattle.kinds.specs.Puts.{borrowed};
+
+use crate::iter::KindsIter;
+use crate::kinds::Kinds;
+use crate::renew::KindTest;
+use crate::tagged::{Tagged, TaggedMap};
+use acl_names::Path;
+use path_map::PathMap;
+use std::alloc::{AllocError, Global};
+
+impl<N: Tagged> TaggedMap<N> {
+    /// The nodes by their numbers.
+    pub fn kinds(&self) -> &Kinds<N>
+        ensures all { result.now ≡ self.now.0 }
+        ensures sound { AreSound self.now.0 self.now.1 }
+    {
+        self.map().kinds()
+    }
+
+    /// The paths with their numbers.
+    pub fn numbers(&self) -> &PathMap<usize>
+        ensures all { result.now ≡ self.now.1 }
+        ensures sound { AreSound self.now.0 self.now.1 }
+    {
+        self.map().numbers()
+    }
+
+    /// Proof only: the entries are in path order, each path once.
+    pub fn order_law(&self)
+        ensures { IsInOrder (entries_in self.now) }
+    {
+        self.map().order_law();
+    }
+
+    /// How many entries there are. Allocates nothing.
+    pub fn len(&self) -> usize
+        requires few { length (entries_in self.now) < 18446744073709551616 }
+        ensures { result ≡ length (entries_in self.now) }
+    {
+        self.map().len()
+    }
+
+    /// The node of a path, if it has one. Allocates nothing.
+    pub fn get(&self, path: &Path) -> Option<&N>
+        ensures { option_copied result ≡ find path_cmp path.now (entries_in self.now) }
+    {
+        self.map().get(path)
+    }
+
+    /// The entries in path order. Allocates nothing.
+    pub fn iter(&self) -> KindsIter<'_, N>
+        ensures { result ≡ entries_in self.now }
+    {
+        self.map().iter()
+    }
+
+    /// The entries that are not before a path. Allocates nothing.
+    pub fn from(&self, path: &Path) -> KindsIter<'_, N>
+        ensures { result ≡ from path.now (entries_in self.now) }
+    {
+        self.map().from(path)
+    }
+
+    /// The nearest entry above a path, if there is one: a search for each entry between. Allocates nothing.
+    pub fn nearest_above(&self, path: &Path) -> Option<(&Path, &N)>
+        ensures { option_map borrowed result ≡ nearest_above path.now (entries_in self.now) }
+    {
+        self.map().nearest_above(path)
+    }
+
+    /// For each number whether it has a node that passes a test: each kind is tested once. Fails only if memory runs out.
+    pub fn table_where<T: KindTest<N>>(
+        &self,
+        alloc: Global,
+        test: &T,
+    ) -> Result<Vec<bool>, AllocError>
+        ensures { IfOk result (λ table. table.items ≡ map (passed (T.passes test.now)) self.now.0.0) }
+    {
+        self.map().table_where(alloc, test)
+    }
+
+    /// The paths whose nodes pass a test, in path order: each kind is tested once. Fails only if memory runs out.
+    pub fn paths_where<T: KindTest<N>>(
+        &self,
+        alloc: Global,
+        test: &T,
+    ) -> Result<Vec<&Path>, AllocError>
+        ensures { IfOk result (λ paths. map (λ p. p.now) paths.items ≡ map (λ e. e.0) (filter (λ e. T.passes test.now e.1) (entries_in self.now))) }
+    {
+        self.map().paths_where(alloc, test)
+    }
+}
