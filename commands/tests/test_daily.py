@@ -101,7 +101,7 @@ class Daily(Case):
 
     def plain(self, text: bytes) -> str:
         """A text with its parts that are others each day."""
-        for word, name in ((os.uname().nodename, "HOST"), (self.folder, "TOP"), (self.folder.strip("/"), "PATH"),
+        for word, name in ((self.folder, "TOP"), (self.folder.strip("/"), "PATH"), (os.uname().nodename, "HOST"),
                            (time.strftime("%Y-%m-%d") + "T", "DAYT"), (time.strftime("%Y-%m-%d"), "DAY")):
             text = text.replace(word.encode(), name.encode())
         found = re.sub(r"DAYT[\d:]+Z", "TIME", text.decode())
