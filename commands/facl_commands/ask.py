@@ -100,7 +100,7 @@ def take_script(script: str) -> None:
         os.read(descriptor, 0)  # A folder cannot be read.
     except OSError as error:
         raise Failure(os.fsencode(script) + b": " + reason(error)) from error
-    if os.fstat(descriptor).st_size > MOST_WRITTEN:  # The program ends at so many of another one, as of a device.
+    if os.fstat(descriptor).st_size > MOST_WRITTEN:  # The program ends at as many of a device.
         raise too_large(os.fsencode(script), MOST_WRITTEN)
     os.dup2(descriptor, 0)
 

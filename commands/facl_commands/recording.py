@@ -232,7 +232,7 @@ def part_of(nodes: List[Node], start: int, count: int) -> Tuple[List[Node], int]
 
 
 def record_parts(recorder: Recorder, nodes: List[Node], made: bytes, count: int, complaints: Complaints) -> None:
-    """Writes snapshots of at most so many files. One whose dump is too large is written once more, of fewer files, so that
+    """Writes snapshots of at most `count` files. One whose dump is too large is written once more, of fewer files, so that
     nobody keeps a snapshot from being made by long names and lists."""
     start, number, size = 0, 1, count
     while start < len(nodes):

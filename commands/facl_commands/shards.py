@@ -203,7 +203,7 @@ def superusers_of(parts: List[Part], with_root: bool) -> Superusers:
 
 def run_parts(hosts: Dict[bytes, List[bytes]], options: List[bytes], script: bytes, work: str,
               seconds: int) -> List[Part]:
-    """The answers of all snapshots, of which those of another machine have so many seconds."""
+    """The answers of all snapshots, of which those of another machine end after `seconds`."""
     parts: List[Part] = []
     for host, outcome in run_hosts(hosts, options, script, work, seconds).items():
         if isinstance(outcome, Failure):

@@ -132,7 +132,7 @@ def start(words: List[bytes], work: str, limits: Optional[Limits]) -> Run:
 
 def run_hosts(hosts: Dict[bytes, List[bytes]], options: List[bytes], script: bytes, work: str,
               seconds: int = SECONDS) -> Dict[bytes, Outcome]:
-    """Runs all snapshots side by side, and reads what they wrote; by machine. Another one than this has so many seconds."""
+    """Runs all snapshots side by side, and reads what they wrote; by machine. Another one than this ends after `seconds`."""
     with open(os.path.join(work, "script"), "wb") as file:
         file.write(script + b"\n")
     numbers = [unit.number for unit in read_script(b"", script)]
