@@ -9,7 +9,7 @@ use crate::lines::{Line, command, path, paths};
 use acl_entry::Perm;
 use acl_rights::{IndexedState, Judge, Posix, Verdicts};
 use acl_tree::{Staged, State};
-use facl::{files_asked, write_changes, write_index, write_may, write_who, write_why};
+use facl_answers::{files_asked, write_changes, write_index, write_may, write_who, write_why};
 use std::alloc::Global;
 use std::mem;
 use std::process::Abort;

@@ -1,6 +1,6 @@
 //! The line of the requests that are granted.
 use acl_entry::{Perm, Requests};
-use facl::append_requests;
+use facl_answers::append_requests;
 use std::alloc::Global;
 use std::process::Abort;
 

@@ -1,7 +1,7 @@
 -- Listings and questions are refused for their first part at fault.
 use Rattle.std.proofs.Common.{◌≡◌, ◌≤◌, ℕ, List, [], ◌∷◌, slice_get, Option, Some, None, option_map, option_and_then, Result, Ok, Err, refl, sym, subst, arith}
 use Rattle.std.specs.FinMap.{find}
-use Rattle.facl.specs.Requests.{requests_line}
+use Rattle.facl_answers.specs.Requests.{requests_line}
 use Rattle.acl_edit.specs.declared.node.Node.{Node}
 use Rattle.acl_entry.specs.Person.{Person}
 use Rattle.acl_tree.specs.declared.fault.TreeFault.TheVariants.{NoSuchFile, NoSuchUser}

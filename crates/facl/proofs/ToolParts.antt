@@ -7,7 +7,7 @@ use Rattle.acl_tree.specs.declared.command.Command.TheVariants as commands
 use Rattle.acl_names.specs.Paths.{PathOf}
 use Rattle.acl_tree.specs.Found.{files_found}
 use Rattle.acl_tree.specs.State.{State}
-use Rattle.facl.specs.Answers.{index_text, user_line, file_line, all_files}
+use Rattle.facl_answers.specs.Answers.{index_text, user_line, file_line, all_files}
 use Rattle.acl_rights.specs.Verdicts.{granted}
 use Rattle.acl_entry.specs.Check.{has}
 use Rattle.acl_entry.specs.Perms.{Perms}
@@ -16,10 +16,10 @@ use Rattle.acl_text.specs.declared.rows.PasswdRow.{PasswdRow}
 use Rattle.std.specs.Prelude.{filter}
 use Rattle.std.specs.List.{flat_map}
 use Rattle.facl_output.specs.AttrListings.{attr_listing}
-use Rattle.facl.specs.BelowText.{below_text}
-use Rattle.facl.specs.ChangesText.{changes_text}
-use Rattle.facl.specs.GainsText.{gains_text}
-use Rattle.facl.specs.WhyText.{files_asked}
+use Rattle.facl_answers.specs.BelowText.{below_text}
+use Rattle.facl_answers.specs.ChangesText.{changes_text}
+use Rattle.facl_answers.specs.GainsText.{gains_text}
+use Rattle.facl_answers.specs.WhyText.{files_asked}
 use Rattle.facl_script.specs.Forms.{Text}
 use Rattle.facl_output.specs.declared.fault.LineFault.{LineFault}
 use Rattle.facl_output.specs.declared.fault.Source.TheVariants.{Entry, DefaultEntry}

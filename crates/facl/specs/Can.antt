@@ -2,7 +2,7 @@
 use Rattle.std.specs.Prelude.{ℕ, [], ◌∷◌, Bool, codes, refl, Option, Some, Result, Ok}
 use Rattle.acl_rights.specs.Verdicts.{can_requests}
 use Rattle.facl.specs.Asked.{has, operand}
-use Rattle.facl.specs.Requests.{requests_line}
+use Rattle.facl_answers.specs.Requests.{requests_line}
 use Rattle.acl_tree.specs.declared.fault.TreeFault.TheVariants.{NoSuchFile}
 use Rattle.acl_names.specs.Paths.{PathOf}
 use Rattle.acl_tree.specs.State.{State}

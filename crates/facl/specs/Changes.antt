@@ -1,7 +1,7 @@
 -- changes: what the script has changed so far in who may do what. The state stays as it is.
 use Rattle.std.specs.Prelude.{[], ◌∷◌, codes, refl, Result, Ok}
 use Rattle.facl.specs.Asked.{has}
-use Rattle.facl.specs.ChangesText.{changes_text}
+use Rattle.facl_answers.specs.ChangesText.{changes_text}
 use Rattle.acl_tree.specs.State.{State}
 use Rattle.acl_rights.specs.Rows.{Verdict}
 use Rattle.facl_script.specs.Syntax.{Syntax, by_name}

@@ -1,6 +1,6 @@
 -- index: what each user may do with each file. The state stays as it is.
 use Rattle.std.specs.Prelude.{[], Result, Ok}
-use Rattle.facl.specs.Answers.{index_text}
+use Rattle.facl_answers.specs.Answers.{index_text}
 use Rattle.acl_tree.specs.State.{State}
 use Rattle.acl_rights.specs.Rows.{Verdict}
 use Rattle.facl_script.specs.Syntax.{Syntax}

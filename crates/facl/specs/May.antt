@@ -1,7 +1,7 @@
 -- may: the files with which a user may do something. The state stays as it is.
 use Rattle.std.specs.Prelude.{[], ◌∷◌, Bool, codes, refl, Option, Some, option_and_then, Result}
 use Rattle.facl.specs.Asked.{has, operand}
-use Rattle.facl.specs.Answers.{may_text}
+use Rattle.facl_answers.specs.Answers.{may_text}
 use Rattle.acl_entry.specs.Perms.{Perms}
 use Rattle.acl_tree.specs.declared.fault.TreeFault.TheVariants.{NoSuchUser}
 use Rattle.acl_people.specs.KnownPeople.{users_of}

@@ -1,7 +1,7 @@
 -- who: the users who may do something with a file. The state stays as it is.
 use Rattle.std.specs.Prelude.{[], ◌∷◌, Bool, codes, refl, Option, Some, Result}
 use Rattle.facl.specs.Asked.{has, operand}
-use Rattle.facl.specs.Answers.{who_text}
+use Rattle.facl_answers.specs.Answers.{who_text}
 use Rattle.acl_entry.specs.Perms.{Perms}
 use Rattle.acl_tree.specs.declared.fault.TreeFault.TheVariants.{NoSuchFile}
 use Rattle.acl_names.specs.Paths.{PathOf}

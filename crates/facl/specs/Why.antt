@@ -1,7 +1,7 @@
 -- why: the entries that decide on a user. The state stays as it is.
 use Rattle.std.specs.Prelude.{List, [], ◌∷◌, Bool, codes, refl, Option, Some, option_and_then, Result}
 use Rattle.facl.specs.Asked.{has, operand, operands_from}
-use Rattle.facl.specs.WhyText.{files_asked, why_text}
+use Rattle.facl_answers.specs.WhyText.{files_asked, why_text}
 use Rattle.acl_entry.specs.Person.{Person}
 use Rattle.acl_tree.specs.declared.fault.TreeFault.TheVariants.{NoSuchUser}
 use Rattle.acl_people.specs.KnownPeople.{KnownPeople, users_of, subject, naming_of}

@@ -7,12 +7,9 @@
 //! Each tool has one file below `tools`: its syntax, its reader from the words of a line to a value of its
 //! own type (`None`: usage), and what it does at a state. `tool_line` reads a line's words and does it; its effect is
 //! what is printed, and the state that is to replace the present one. It changes nothing; the session puts the effect
-//! in place. [`read_words`] uses the same readers. Below `answers` is what the questions print: that of `can`, `who`,
-//! `may`, `below`, `index`, `changes` and `gains` comes from the index of the state, without a new verdict; that of `why`
-//! from the lists alone.
+//! in place. [`read_words`] uses the same readers. What the questions print is in `facl_answers`.
 #![tactic(auto)]
 
-mod answers;
 mod laws;
 mod line;
 mod program;
@@ -22,19 +19,6 @@ mod status;
 mod tools;
 mod words;
 
-pub use answers::below::write_below;
-pub use answers::changes::write_changes;
-pub use answers::gains::write_gains;
-pub use answers::index::write_index;
-pub use answers::laws::{
-    below_counts_what_may_lists, changes_print_all_that_differs, changes_tell_gains_from_losses,
-    deciding_entries_are_the_check, deciding_entries_are_the_reach, gains_count_each_change_once,
-    gains_print_all_that_changes,
-};
-pub use answers::may::write_may;
-pub use answers::requests::append_requests;
-pub use answers::who::write_who;
-pub use answers::why::{files_asked, write_why};
 pub use laws::lines_are_refused_for_their_first_fault;
 pub use program::{run, run_judged};
 pub use setup::Setup;
@@ -49,6 +33,13 @@ pub use tools::round_trips::{
 pub use tools::{Tool, read_words, syntax_of};
 pub use words::read_args;
 
+// The answers to questions, and laws of them.
+pub use facl_answers::{
+    append_requests, below_counts_what_may_lists, changes_print_all_that_differs,
+    changes_tell_gains_from_losses, deciding_entries_are_the_check, deciding_entries_are_the_reach,
+    files_asked, gains_count_each_change_once, gains_print_all_that_changes, write_below,
+    write_changes, write_gains, write_index, write_may, write_who, write_why,
+};
 // The public calls take and give these values of the crates below.
 pub use acl_entry::{Label, Perm, Requests, Subject};
 pub use acl_rights::{IndexedState, Judge, Verdicts};

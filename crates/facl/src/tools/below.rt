@@ -4,13 +4,13 @@ ghost use Rattle.std.specs.Prelude.{◌≡◌};
 ghost use Rattle.facl.specs.Below.{answered, read};
 ghost use Rattle.facl.specs.Replies.{Replies};
 
-use crate::answers::below::write_below;
 use crate::tools::effect::Effect;
 use crate::tools::operands::paths_of;
 use crate::tools::syntax::{by_name, one, some};
 use acl_entry::Perm;
 use acl_rights::{IndexedState, Judge};
 use acl_text::read_perms;
+use facl_answers::write_below;
 use facl_output::LineFault;
 use facl_script::{LineFiles, OperandRow, OptionRow, Syntax, Words};
 use std::alloc::Global;

@@ -5,10 +5,10 @@ ghost use Rattle.acl_rights.specs.States.{loaded_state};
 ghost use Rattle.facl.specs.Changes.{answered, read};
 ghost use Rattle.facl.specs.Replies.{Replies};
 
-use crate::answers::changes::write_changes_within;
 use crate::tools::effect::Effect;
 use crate::tools::syntax::by_name;
 use acl_rights::{IndexedStates, Judge};
+use facl_answers::write_changes_within;
 use facl_output::LineFault;
 use facl_script::{OptionRow, Syntax, Words};
 use std::alloc::Global;

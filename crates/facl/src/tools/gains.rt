@@ -4,10 +4,10 @@ ghost use Rattle.std.specs.Prelude.{◌≡◌};
 ghost use Rattle.facl.specs.Gains.{answered, read};
 ghost use Rattle.facl.specs.Replies.{Replies};
 
-use crate::answers::gains::write_gains;
 use crate::tools::effect::Effect;
 use crate::tools::syntax::by_name;
 use acl_rights::{IndexedState, Judge};
+use facl_answers::write_gains;
 use facl_output::LineFault;
 use facl_script::{OptionRow, Syntax, Words};
 use std::alloc::Global;

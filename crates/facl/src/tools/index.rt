@@ -3,9 +3,9 @@
 ghost use Rattle.facl.specs.Index.{answered};
 ghost use Rattle.facl.specs.Replies.{Replies};
 
-use crate::answers::index::write_index;
 use crate::tools::effect::Effect;
 use acl_rights::{IndexedState, Judge};
+use facl_answers::write_index;
 use facl_output::LineFault;
 use facl_script::Syntax;
 use std::alloc::Global;

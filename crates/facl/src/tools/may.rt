@@ -4,7 +4,6 @@ ghost use Rattle.std.specs.Prelude.{◌≡◌, IfOk, option_map};
 ghost use Rattle.facl.specs.May.{answered, may_of, may_text_of, read};
 ghost use Rattle.facl.specs.Replies.{Gives, Replies};
 
-use crate::answers::may::write_may;
 use crate::tools::effect::Effect;
 use crate::tools::operands::name_meant;
 use crate::tools::syntax::{by_name, one};
@@ -13,6 +12,7 @@ use acl_names::Name;
 use acl_rights::{IndexedState, Judge, Verdicts};
 use acl_text::read_perms;
 use acl_tree::TreeFault;
+use facl_answers::write_may;
 use facl_output::LineFault;
 use facl_script::{OperandRow, OptionRow, Syntax, WordRef, Words};
 use std::alloc::{AllocError, Global};

@@ -4,7 +4,6 @@ ghost use Rattle.std.specs.Prelude.{◌≡◌};
 ghost use Rattle.facl.specs.Replies.{Gives, Replies};
 ghost use Rattle.facl.specs.Who.{answered, read, who_at, who_of};
 
-use crate::answers::who::write_who;
 use crate::tools::effect::Effect;
 use crate::tools::operands::path_at;
 use crate::tools::syntax::{by_name, one};
@@ -13,6 +12,7 @@ use acl_names::Path;
 use acl_rights::{IndexedState, Judge, Verdicts};
 use acl_text::read_perms;
 use acl_tree::TreeFault;
+use facl_answers::write_who;
 use facl_output::LineFault;
 use facl_script::{OperandRow, OptionRow, Syntax, WordRef, Words};
 use std::alloc::Global;

@@ -1,6 +1,0 @@
-use Rattle.std.proofs.Common.{◌≡◌, ◌++◌, take}
-use Rattle.facl.specs.Inner.{lines_between}
-use Rattle.facl.proofs.answers.change_lines.push_rows.Given as goal
-
-abbrev pub invariant-loop-user : goal.invariant-loop-user
-invariant-loop-user l = l.text.items ≡ l.initial.text.items ++ lines_between (take l.user-index l.users) l.path l.before l.after

@@ -1,5 +1,0 @@
-use Rattle.facl.proofs.PartLines.{same_outside_root}
-use Rattle.facl.proofs.answers.changes.write_changes.Goals as goal
-
-pub write_changes_within-requires : goal.write_changes_within-requires
-write_changes_within-requires g c = same_outside_root g.J.Judge.verdict_of c.root-root.result c.args.loaded.now c.args.verdicts.now.state.now c.root-root.ensures

@@ -1,8 +1,0 @@
-use Rattle.std.proofs.Common.{◌≡◌, ◌++◌, take}
-use Rattle.std.specs.List.{flat_map}
-use Rattle.facl.specs.InnerGains.{lines_of_user}
-use Rattle.facl.specs.PathTexts.{text_in}
-use Rattle.facl.proofs.answers.gains.push_users.Given as goal
-
-abbrev pub invariant-loop-gains : goal.invariant-loop-gains
-invariant-loop-gains l = l.text.items ≡ l.initial.text.items ++ flat_map (lines_of_user (text_in l.loaded l.now)) (take l.gains-index l.users)

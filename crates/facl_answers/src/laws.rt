@@ -1,0 +1,109 @@
+//! Laws of what `why`, `below`, `changes` and `gains` print, each proved as the contract of a function that only looks.
+
+ghost use Rattle.std.specs.Prelude.{◌≡◌, ◌↔◌, ℕ, [], List, Bool, false, true, Some, codes, filter, length};
+ghost use Rattle.std.specs.FinMap.{find};
+ghost use Rattle.std.specs.List.{AllByRecursion, sum_by};
+ghost use Rattle.acl_edit.specs.declared.node.Node.{Node};
+ghost use Rattle.acl_entry.specs.Check.{check, has};
+ghost use Rattle.acl_entry.specs.Perms.{Perms};
+ghost use Rattle.acl_names.specs.Names.{escaped};
+ghost use Rattle.acl_names.specs.Paths.{path_cmp, PathOf};
+ghost use Rattle.acl_rights.specs.Rows.{Verdict};
+ghost use Rattle.acl_rights.specs.Verdicts.{granted};
+ghost use Rattle.acl_text.specs.declared.rows.PasswdRow.{PasswdRow};
+ghost use Rattle.acl_tree.specs.Operands.{is_file};
+ghost use Rattle.acl_tree.specs.State.{State as StateOf};
+ghost use Rattle.facl_answers.specs.Answers.{all_files};
+ghost use Rattle.facl_answers.specs.BelowText.{below_line, granted_below};
+ghost use Rattle.facl_answers.specs.ChangesText.{change_line, change_lines, changes_text, granted_to, users_of_both, IsUnchanged};
+ghost use Rattle.facl_answers.specs.GainsLaws.{AreBytes, IsWithoutChange, changed_files, changed_pairs, counted, is_changed};
+ghost use Rattle.facl_answers.specs.GainsText.{gains_text, is_kept};
+ghost use Rattle.facl_answers.specs.Inner.{HasValidList};
+ghost use Rattle.facl_answers.specs.Requests.{requests_granted};
+ghost use Rattle.facl_answers.specs.WhyText.{some_decides, IsDecidedAlong};
+
+use acl_edit::Node;
+use acl_entry::{Label, Subject};
+use acl_names::Path;
+use acl_tree::{State, Tree};
+
+/// Proof only: the check of acl(5) grants a user a request on a file exactly if one of the entries that `why` prints
+/// contains it: of an entry of the group class what the mask leaves.
+pub fn deciding_entries_are_the_check(subject: &Subject, label: &Label)
+    ensures { (q : Perms) → check subject.now label.now q ≡ some_decides subject.now label.now q }
+{
+    let _entries = label.acl.entries();
+}
+
+/// Proof only: the access list of a file is a valid one.
+fn list_is_valid(path: &Path, node: &Node)
+    ensures { HasValidList (path.now, node.now) }
+{
+    let _entries = node.label.acl.entries();
+}
+
+/// Proof only: the access list of each file is a valid one.
+fn lists_are_valid(tree: &Tree)
+    ensures { AllByRecursion HasValidList tree.now.files }
+{
+    let mut files = tree.iter();
+    while let Some(file) = files.next() {
+        list_is_valid(file.0, file.1);
+    }
+}
+
+/// Proof only: with search along the path a user is granted a request on a file exactly if, of the entries that
+/// `why --reach` prints for this file alone, one of the file's contains it and one of each directory's contains
+/// search.
+pub fn deciding_entries_are_the_reach(subject: &Subject, tree: &Tree)
+    ensures { (q : Perms) (p : PathOf) (n : Node) → find path_cmp p tree.now.files ≡ Some n → IsDecidedAlong subject.now tree.now.files q (p, n) }
+{
+    tree.soundness_law();
+    lists_are_valid(tree);
+    let _subject = subject;
+}
+
+/// Proof only: `changes` prints nothing exactly where each user, by name, is granted the same requests other than none on
+/// each path in both states. A user or a file that is not there is granted nothing, so one that came or went counts as
+/// unchanged where it is granted nothing.
+pub fn changes_print_all_that_differs(loaded: &State, state: &State)
+    ensures silent { (V : Verdict) (along : Bool) → IsUnchanged V along loaded.now state.now → changes_text V along loaded.now state.now ≡ [] }
+    ensures complete { (V : Verdict) (along : Bool) → changes_text V along loaded.now state.now ≡ [] → IsUnchanged V along loaded.now state.now }
+{
+    let _same = loaded;
+    state.tree().soundness_law();
+}
+
+/// Proof only: where nothing was granted before, `changes` prints that a user gains all requests other than none that are
+/// granted after; where nothing is granted after, that the user loses all those that were granted before.
+pub fn changes_tell_gains_from_losses()
+    ensures gains { (path user : List ℕ) (after : ℕ) → change_lines path user 0 after ≡ change_line path user (codes "gains") (requests_granted after) }
+    ensures loses { (path user : List ℕ) (before : ℕ) → change_lines path user before 0 ≡ change_line path user (codes "loses") (requests_granted before) }
+{}
+
+/// Proof only: the files that `below` counts for a user are those of the files that `may` lists which are at or below one
+/// of the paths; so the user has a line exactly where `may` lists such a file.
+pub fn below_counts_what_may_lists()
+    ensures files { (V : Verdict) (along : Bool) (s : StateOf) (q : Perms) (paths : List PathOf) (row : PasswdRow)
+        → granted_below V along s q paths row ≡ filter (λ file. is_file true paths file.path) (filter (λ file. has (granted V along s row (file.path, file.node)) q) (all_files s)) }
+    ensures lines { (V : Verdict) (along : Bool) (s : StateOf) (q : Perms) (paths : List PathOf) (row : PasswdRow)
+        → (below_line (escaped row.name) (granted_below V along s q paths row) ≡ [])
+        ↔ (filter (λ file. is_file true paths file.path) (filter (λ file. has (granted V along s row (file.path, file.node)) q) (all_files s)) ≡ []) }
+{}
+
+/// Proof only: `gains` prints nothing exactly where no file of both states is a change for a user of both, if each verdict is
+/// a byte. A file that is there before and after is a change exactly where `changes` has a line of it and the user.
+pub fn gains_print_all_that_changes()
+    ensures silent { (V : Verdict) (along : Bool) (loaded now : StateOf) → IsWithoutChange V along loaded now → gains_text V along loaded now ≡ [] }
+    ensures complete { (V : Verdict) (along : Bool) (loaded now : StateOf) → AreBytes V → gains_text V along loaded now ≡ [] → IsWithoutChange V along loaded now }
+    ensures kept { (V : Verdict) (along : Bool) (loaded now : StateOf) (name path : List ℕ) (p : PathOf) → is_kept V along loaded now p ≡ true
+        → (change_lines path (escaped name) (granted_to V along loaded name p) (granted_to V along now name p) ≡ []) ↔ (is_changed V along loaded now name p ≡ false) }
+{}
+
+/// Proof only: what the lines of `gains` count for a user is together the number of files that are a change for the user, and
+/// what all lines count is the number of pairs of a user and such a file, if each verdict is a byte.
+pub fn gains_count_each_change_once()
+    ensures user { (V : Verdict) (along : Bool) (loaded now : StateOf) (name : List ℕ) → AreBytes V → counted V along loaded now name ≡ length (changed_files V along loaded now name) }
+    ensures all { (V : Verdict) (along : Bool) (loaded now : StateOf) → AreBytes V
+        → sum_by (λ row. counted V along loaded now row.name) (users_of_both loaded now) ≡ length (changed_pairs V along loaded now) }
+{}
