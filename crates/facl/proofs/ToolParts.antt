@@ -16,9 +16,9 @@ use Rattle.acl_text.specs.declared.rows.PasswdRow.{PasswdRow}
 use Rattle.std.specs.Prelude.{filter}
 use Rattle.std.specs.List.{flat_map}
 use Rattle.facl_output.specs.AttrListings.{attr_listing}
-use Rattle.facl_answers.specs.BelowText.{below_text}
+use Rattle.facl_counts.specs.BelowText.{below_text}
 use Rattle.facl_answers.specs.ChangesText.{changes_text}
-use Rattle.facl_answers.specs.GainsText.{gains_text}
+use Rattle.facl_counts.specs.GainsText.{gains_text}
 use Rattle.facl_answers.specs.WhyText.{files_asked}
 use Rattle.facl_script.specs.Forms.{Text}
 use Rattle.facl_output.specs.declared.fault.LineFault.{LineFault}

@@ -1,7 +1,7 @@
 -- below: the users who may do something with a file at or below some paths. The state stays as it is.
 use Rattle.std.specs.Prelude.{[], ◌∷◌, codes, refl, Option, Some, Result}
 use Rattle.facl.specs.Asked.{has, operand, operands_from}
-use Rattle.facl_answers.specs.BelowText.{below_text}
+use Rattle.facl_counts.specs.BelowText.{below_text}
 use Rattle.acl_tree.specs.Operands.{first_missing}
 use Rattle.acl_tree.specs.State.{State}
 use Rattle.acl_rights.specs.Rows.{Verdict}

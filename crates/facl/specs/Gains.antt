@@ -1,7 +1,7 @@
 -- gains: what each user has gained and lost so far, on how many files. The state stays as it is.
 use Rattle.std.specs.Prelude.{[], ◌∷◌, codes, refl, Result, Ok}
 use Rattle.facl.specs.Asked.{has}
-use Rattle.facl_answers.specs.GainsText.{gains_text}
+use Rattle.facl_counts.specs.GainsText.{gains_text}
 use Rattle.acl_tree.specs.State.{State}
 use Rattle.acl_rights.specs.Rows.{Verdict}
 use Rattle.facl_script.specs.Syntax.{Syntax, by_name}

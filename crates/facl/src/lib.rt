@@ -7,7 +7,8 @@
 //! Each tool has one file below `tools`: its syntax, its reader from the words of a line to a value of its
 //! own type (`None`: usage), and what it does at a state. `tool_line` reads a line's words and does it; its effect is
 //! what is printed, and the state that is to replace the present one. It changes nothing; the session puts the effect
-//! in place. [`read_words`] uses the same readers. What the questions print is in `facl_answers`.
+//! in place. [`read_words`] uses the same readers. What the questions print is in `facl_answers` and
+//! `facl_counts`.
 #![tactic(auto)]
 
 mod laws;
@@ -35,10 +36,13 @@ pub use words::read_args;
 
 // The answers to questions, and laws of them.
 pub use facl_answers::{
-    append_requests, below_counts_what_may_lists, changes_print_all_that_differs,
-    changes_tell_gains_from_losses, deciding_entries_are_the_check, deciding_entries_are_the_reach,
-    files_asked, gains_count_each_change_once, gains_print_all_that_changes, write_below,
-    write_changes, write_gains, write_index, write_may, write_who, write_why,
+    append_requests, changes_print_all_that_differs, changes_tell_gains_from_losses,
+    deciding_entries_are_the_check, deciding_entries_are_the_reach, files_asked, write_changes,
+    write_index, write_may, write_who, write_why,
+};
+pub use facl_counts::{
+    below_counts_what_may_lists, gains_count_each_change_once, gains_print_all_that_changes,
+    write_below, write_gains,
 };
 // The public calls take and give these values of the crates below.
 pub use acl_entry::{Label, Perm, Requests, Subject};

@@ -1,16 +1,6 @@
 pub mod Answers
-pub mod BelowText
 pub mod ChangesText
-pub mod CountTexts
-pub mod Counting
-pub mod GainsLaws
-pub mod GainsText
 pub mod Inner
-pub mod InnerGains
-pub mod PathTexts
 pub mod Requests
-pub mod SumLists
-pub mod Sums
-pub mod Tallies
 pub mod WhyText
 pub mod PartWalks

@@ -19,7 +19,7 @@ use std::alloc::{AllocError, Global};
 const DIGITS: [u8; 16] = *b"0123456789abcdef";
 
 /// Adds a byte as two hex digits.
-pub(crate) fn push_hex(text: &mut Vec<u8>, byte: u8) -> Result<(), AllocError>
+pub fn push_hex(text: &mut Vec<u8>, byte: u8) -> Result<(), AllocError>
     ensures { Appends result text.old text.new (hex_digits byte) }
 {
     text.push(DIGITS[(byte / 16) as usize])?;
@@ -66,7 +66,7 @@ fn push_row(
 }
 
 /// The path of a found file as it is printed.
-pub(crate) fn path_shown(alloc: Global, file: &FoundFile<'_>) -> Result<Vec<u8>, AllocError>
+pub fn path_shown(alloc: Global, file: &FoundFile<'_>) -> Result<Vec<u8>, AllocError>
     ensures { IfOk result (λ path. path.items ≡ path_shown file.now) }
 {
     let mut path = Vec::new(alloc);
@@ -112,7 +112,7 @@ fn push_files(
 }
 
 /// The names of all users, as they are printed.
-pub(crate) fn written_names(alloc: Global, people: &People) -> Result<Vec<Vec<u8>>, AllocError>
+pub fn written_names(alloc: Global, people: &People) -> Result<Vec<Vec<u8>>, AllocError>
     ensures { IfOk result (λ names. map (λ n. n.items) names.items ≡ map (λ row. escaped row.name) people.now.users) }
 {
     let mut names = Vec::new(alloc);

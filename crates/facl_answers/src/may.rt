@@ -28,7 +28,7 @@ fn is_first(paths: &[&Path], path: &Path) -> bool
 }
 
 /// Adds the line of a file.
-pub(crate) fn push_file(text: &mut Vec<u8>, file: &FoundFile<'_>) -> Result<(), AllocError>
+pub fn push_file(text: &mut Vec<u8>, file: &FoundFile<'_>) -> Result<(), AllocError>
     ensures { Appends result text.old text.new (file_line file.now) }
 {
     push_path_shown(text, file)?;

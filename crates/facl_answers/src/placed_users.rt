@@ -12,7 +12,7 @@ use std::alloc::{AllocError, Global};
 
 /// A user of either state: the name as it is printed, and the places of the user's rows in both.
 #[derive(Drop)]
-pub(crate) struct PlacedUser {
+pub struct PlacedUser {
     pub name: Vec<u8>,
     pub before: Option<usize>,
     pub after: Option<usize>,
@@ -87,7 +87,7 @@ fn add_gone(
 }
 
 /// The users of both states, by their names.
-pub(crate) fn users_of_both(
+pub fn users_of_both(
     alloc: Global,
     loaded: &People,
     now: &People,
@@ -101,7 +101,7 @@ pub(crate) fn users_of_both(
 }
 
 /// Whether a user has the same place in both states, or none in both.
-pub(crate) fn same_place(before: Option<usize>, after: Option<usize>) -> bool
+pub fn same_place(before: Option<usize>, after: Option<usize>) -> bool
     ensures { result ≡ same_place before after }
 {
     match before {

@@ -10,7 +10,7 @@ use crate::tools::syntax::{by_name, one, some};
 use acl_entry::Perm;
 use acl_rights::{IndexedState, Judge};
 use acl_text::read_perms;
-use facl_answers::write_below;
+use facl_counts::write_below;
 use facl_output::LineFault;
 use facl_script::{LineFiles, OperandRow, OptionRow, Syntax, Words};
 use std::alloc::Global;

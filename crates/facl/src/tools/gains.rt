@@ -7,7 +7,7 @@ ghost use Rattle.facl.specs.Replies.{Replies};
 use crate::tools::effect::Effect;
 use crate::tools::syntax::by_name;
 use acl_rights::{IndexedState, Judge};
-use facl_answers::write_gains;
+use facl_counts::write_gains;
 use facl_output::LineFault;
 use facl_script::{OptionRow, Syntax, Words};
 use std::alloc::Global;

@@ -1,8 +1,0 @@
-use Rattle.std.proofs.Common.{◌≡◌, ◌++◌, take}
-use Rattle.std.specs.List.{flat_map}
-use Rattle.facl_answers.specs.InnerGains.{lines_of_user}
-use Rattle.facl_answers.specs.PathTexts.{text_in}
-use Rattle.facl_answers.proofs.gains.push_users.Given as goal
-
-abbrev pub invariant-loop-gains : goal.invariant-loop-gains
-invariant-loop-gains l = l.text.items ≡ l.initial.text.items ++ flat_map (lines_of_user (text_in l.loaded l.now)) (take l.gains-index l.users)

@@ -1,6 +1,0 @@
-use Rattle.std.proofs.Common.{◌≡◌, ◌||◌, drop}
-use Rattle.facl_answers.specs.SumLists.{grants_one}
-use Rattle.facl_answers.proofs.sums.grants_one.Given as goal
-
-abbrev pub invariant-loop-at : goal.invariant-loop-at
-invariant-loop-at l = (l.found || grants_one l.request (drop l.at l.row) (drop l.at l.waits)) ≡ grants_one l.request l.row l.waits

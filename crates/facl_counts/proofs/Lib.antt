@@ -1,0 +1,13 @@
+pub mod BelowLines
+pub mod BothRows
+pub mod ClassFiles
+pub mod GainLines
+pub mod PathShown
+pub mod Rekeyed
+pub mod SideSums
+pub mod SilentGains
+pub mod StateGains
+pub mod Summing
+pub mod SumsApart
+pub mod Tallying
+pub mod UserChanges

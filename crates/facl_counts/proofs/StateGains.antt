@@ -1,0 +1,358 @@
+-- The lines of the counts of all users are those of the changes between two states.
+use Rattle.std.proofs.Common.{◌≡◌, ℕ, suc, ◌+◌, arith, Bool, true, false, not, cond, List, [], ◌∷◌, ◌++◌, append_assoc, map, filter, length, take, drop, Option, Some, None, is_some}
+use Rattle.std.proofs.Common.{Less, refl, sym, ap, subst, ◌∙◌}
+use Rattle.std.specs.Prelude.{◌&&◌, option_map, option_and_then, unwrap_or, decimal}
+use Rattle.std.specs.List.{flat_map}
+use Rattle.std.specs.List as lists
+use Rattle.std.specs.Ordering.{is_eq}
+use Rattle.std.specs.FinMap.{find, put, is_sorted}
+use Rattle.std.specs.FinMap.Entries.{is_sorted-put}
+use Rattle.std.proofs.lemmas.Cmp.{tied_itself}
+use Rattle.std.proofs.Math.Seq.{take-append_seam}
+use Rattle.acl_names.specs.Names.{escaped}
+use Rattle.acl_names.specs.Paths.{PathOf, path_cmp}
+use Rattle.acl_names.proofs.PathOrder.{path_total}
+use Rattle.acl_names.proofs.Basics.{from_T, to_T}
+use Rattle.acl_people.specs.KnownPeople.{KnownPeople, users_of}
+use Rattle.acl_people.specs.NameTables.{has_name}
+use Rattle.acl_text.specs.declared.rows.PasswdRow.{PasswdRow}
+use Rattle.acl_tree.specs.State.{State}
+use Rattle.acl_rights.specs.Rows.{Verdict, Rows}
+use Rattle.acl_rights.specs.Verdicts.{can_requests, rows_granted}
+use Rattle.path_map.specs.Entries.{IsInOrder}
+use Rattle.path_map.specs.Inner.{After}
+use Rattle.path_map.specs.Merged.{put_all}
+use Rattle.path_map.proofs.Merges.{later_after}
+use Rattle.path_map.proofs.Places.{above}
+use Rattle.path_map.proofs.Rows.{find_put_all}
+use Rattle.facl_answers.specs.Answers.{line}
+use Rattle.facl_answers.specs.ChangesText.{users_of_both, shown_files, files_of_both, place_of}
+use Rattle.facl_counts.specs.GainsText.{is_change, is_same, side_of, side_text, number_of_sides, lines_up_to, lines_by_sides, gain_line, granted_in, sides_of, is_kept, has_change, files_with}
+use Rattle.facl_counts.specs.GainsText.{gain_lines, gains_text}
+use Rattle.facl_answers.specs.Inner.{Placed, placed_of, placed_in}
+use Rattle.facl_counts.specs.InnerGains.{AllOfBoth, AreCounted, AreKeysOf, ArePassed, BothClassed, Gained, IsClassOf, IsPassed, RowsOfFile}
+use Rattle.facl_counts.specs.InnerGains.{verdict_given, cells_of_both, change_of, count_line, counted_line, gained_of, keyed, lines_of_user, rekeyed}
+use Rattle.facl_counts.specs.InnerGains.{row_of_class, rows_of_both, rows_of_key, tally_line}
+use Rattle.facl_counts.specs.PathTexts.{text_in}
+use Rattle.facl_counts.specs.Tallies.{Tallied, Sides, SaysAs, one, count_where, first_where}
+use Rattle.facl_answers.specs.declared.placed_users.PlacedUser.{PlacedUser}
+use Rattle.facl_counts.specs.declared.user_gains.UserGains.{UserGains}
+use Rattle.facl_answers.proofs.AfterPaths.{rest_in_order}
+use Rattle.facl_answers.proofs.ChangeLines.{paths, order_by_paths, part_put_all, table_of, whole_table, rows_paths, cell_along}
+use Rattle.facl_counts.proofs.GainLines.{lines_same, same_line}
+use Rattle.facl_counts.proofs.Rekeyed.{says_rekeyed}
+use Rattle.facl_counts.proofs.Tallying.{says_both}
+use Rattle.facl_answers.proofs.Unchanged.{shown_paths}
+
+-- ---- counts of files by their rows
+
+class_row : (rows : List (List ℕ)) (class : Option ℕ) (row : Option (List ℕ)) → IsClassOf rows class row → row_of_class rows class ≡ row
+class_row rows None None h = refl
+class_row rows None (Some row) h = absurd h
+class_row rows (Some class) None h = absurd h
+class_row rows (Some class) (Some row) h = h
+
+module _ (places : Sides) where
+  -- each file with the change that it is
+  abbrev pub ones_of : List (PathOf × RowsOfFile) → List (Tallied Sides)
+  ones_of [] = []
+  ones_of (file ∷ files) = keyed (change_of places file.1) 1 file.0 ++ ones_of files
+
+  ones_counted : (both : BothClassed) (keys : List (Tallied Sides)) (files : List (PathOf × RowsOfFile)) → AreKeysOf both.0.0 both.1.0 keys files
+      → rekeyed (λ key. change_of places (rows_of_key both key)) keys ≡ ones_of files
+  ones_counted both [] [] h = refl
+  ones_counted both [] (file ∷ files) h = absurd h
+  ones_counted both (key ∷ keys) [] h = absurd h
+  ones_counted both (key ∷ keys) (file ∷ files) h =
+      let before = class_row both.0.0 key.key.0 file.1.0 h.0.1.0 in
+      let after = class_row both.1.0 key.key.1 file.1.1 h.0.1.1 in
+      let counted : key.count ≡ 1 = ap (λ (t : Tallied Sides). t.count) h.0.0 in
+      let first : key.first ≡ file.0 = ap (λ (t : Tallied Sides). t.first) h.0.0 in
+      let more = ones_counted both keys files h.1 in
+      λ i. keyed (change_of places (before i, after i)) (counted i) (first i) ++ more i
+
+  pub says_ones : (both : BothClassed) (ts : List (Tallied Sides)) (files : List (PathOf × RowsOfFile)) → AreCounted both ts files
+      → SaysAs (rekeyed (λ key. change_of places (rows_of_key both key)) ts) (ones_of files)
+  says_ones both ts files at =
+      subst (λ l. SaysAs (rekeyed (λ key. change_of places (rows_of_key both key)) ts) l) (ones_counted both at.keys files at.are)
+      (says_rekeyed (λ key. change_of places (rows_of_key both key)) ts at.keys at.says)
+
+-- ---- the first of some entries that pass a test
+
+order_put_all : {V : Type 0} (ps es : List (PathOf × V)) → IsInOrder es → IsInOrder (put_all ps es)
+order_put_all [] es h = h
+order_put_all (p ∷ ps) es h =
+    order_put_all ps (put path_cmp p.0 p.1 es) (from_T (is_sorted path_cmp (put path_cmp p.0 p.1 es)) (is_sorted-put path_cmp path_total p.0 p.1 es (to_T (is_sorted path_cmp es) h)))
+
+module _ {V : Type 0} (test : PathOf × V → Bool) where
+  passing_after : (q : PathOf) (es : List (PathOf × V)) (e : PathOf × V) (rest : List (PathOf × V)) → After q es → filter test es ≡ e ∷ rest → path_cmp q e.0 ≡ Less
+  passing_after q [] e rest h is = absurd (cc is)
+  passing_after q (x ∷ es) e rest h is = by (test x) is (passing_after q es e rest h.1)
+    where
+      by : (b : Bool) → cond b (x ∷ filter test es) (filter test es) ≡ e ∷ rest → (filter test es ≡ e ∷ rest → path_cmp q e.0 ≡ Less) → path_cmp q e.0 ≡ Less
+      by true is more = let same : x ≡ e = cc in subst (λ (y : PathOf × V). path_cmp q y.0 ≡ Less) same h.0
+      by false is more = more is
+
+  found_passing : (es : List (PathOf × V)) (e : PathOf × V) (rest : List (PathOf × V)) → IsInOrder es → filter test es ≡ e ∷ rest → find path_cmp e.0 es ≡ Some e.1
+  found_passing [] e rest order is = absurd (cc is)
+  found_passing (x ∷ es) e rest order is = by (test x) is (found_passing es e rest (rest_in_order x es order))
+    where
+      by : (b : Bool) → cond b (x ∷ filter test es) (filter test es) ≡ e ∷ rest → (filter test es ≡ e ∷ rest → find path_cmp e.0 es ≡ Some e.1) → find path_cmp e.0 (x ∷ es) ≡ Some e.1
+      by true is more =
+          let same : x ≡ e = cc in
+          subst (λ (y : PathOf × V). find path_cmp y.0 (x ∷ es) ≡ Some y.1) same (ap (λ o. cond (is_eq o) (Some x.1) (find path_cmp x.0 es)) (tied_itself path_total x.0))
+      by false is more =
+          ap (λ o. cond (is_eq o) (Some x.1) (find path_cmp e.0 es)) (above x.0 e.0 (passing_after x.0 es e rest (later_after x es order) is))
+          ∙ more is
+
+-- ---- a line by the files that have a change
+
+nested : (a b n user path : List ℕ) → ((a ++ 32 ∷ []) ++ (b ++ 32 ∷ [])) ++ (((n ++ 32 ∷ []) ++ (user ++ 32 ∷ [])) ++ path) ≡ a ++ (32 ∷ (b ++ (32 ∷ (n ++ (32 ∷ (user ++ (32 ∷ path)))))))
+nested a b n user path =
+    ap (λ l. ((a ++ 32 ∷ []) ++ (b ++ 32 ∷ [])) ++ l) (append_assoc (n ++ 32 ∷ []) (user ++ 32 ∷ []) path)
+    ∙ append_assoc (a ++ 32 ∷ []) (b ++ 32 ∷ []) ((n ++ 32 ∷ []) ++ ((user ++ 32 ∷ []) ++ path))
+    ∙ append_assoc a (32 ∷ []) ((b ++ 32 ∷ []) ++ ((n ++ 32 ∷ []) ++ ((user ++ 32 ∷ []) ++ path)))
+    ∙ ap (λ l. a ++ (32 ∷ l))
+    (append_assoc b (32 ∷ []) ((n ++ 32 ∷ []) ++ ((user ++ 32 ∷ []) ++ path))
+    ∙ ap (λ l. b ++ (32 ∷ l)) (append_assoc n (32 ∷ []) ((user ++ 32 ∷ []) ++ path) ∙ ap (λ l. n ++ (32 ∷ l)) (append_assoc user (32 ∷ []) path)))
+
+-- the first file's path
+abbrev first_path : List (PathOf × List ℕ) → Option PathOf
+first_path [] = None
+first_path (file ∷ files) = Some file.0
+
+line_of_files : (text_of : PathOf → List ℕ) (user : List ℕ) (sides : Sides) (files : List (PathOf × List ℕ))
+    → ((file : PathOf × List ℕ) (more : List (PathOf × List ℕ)) → files ≡ file ∷ more → text_of file.0 ≡ file.1)
+    → counted_line text_of user sides (length files) (first_path files) ≡ gain_line user sides files
+line_of_files text_of user sides [] shown = refl
+line_of_files text_of user sides (file ∷ files) shown =
+    let many : suc (length files) ≡ 1 + length files = omega arith in
+    (λ i. count_line sides (many i) user (shown file files refl i))
+    ∙ nested (side_text sides.0) (side_text sides.1) (decimal (1 + length files)) user (line file.1)
+
+-- a user before anything is counted
+abbrev at_start : (loaded now : State) → PasswdRow → Gained
+at_start loaded now row = (placed_in loaded.people now.people row.name, [])
+
+-- ---- of two states
+
+module _ (V : Verdict) (along : Bool) (loaded now : State) (before_order : IsInOrder loaded.tree.files) (after_order : IsInOrder now.tree.files) where
+  abbrev rows_before : Rows
+  rows_before = rows_granted V along loaded
+
+  abbrev rows_after : Rows
+  rows_after = rows_granted V along now
+
+  abbrev all_shown : List (PathOf × List ℕ)
+  all_shown = files_of_both loaded now
+
+  -- ---- the paths
+
+  abbrev bare : {A : Type 0} → PathOf × A → PathOf × Bool
+  bare e = (e.0, true)
+
+  bare_paths : {A B : Type 0} (xs : List (PathOf × A)) (ys : List (PathOf × B)) → paths xs ≡ paths ys → map bare xs ≡ map bare ys
+  bare_paths [] [] h = refl
+  bare_paths [] (y ∷ ys) h = absurd (cc h)
+  bare_paths (x ∷ xs) [] h = absurd (cc h)
+  bare_paths (x ∷ xs) (y ∷ ys) h =
+      let here : x.0 ≡ y.0 = cc in
+      let later : paths xs ≡ paths ys = cc in
+      λ i. (here i, true) ∷ bare_paths xs ys later i
+
+  paths_bare : {A : Type 0} (xs : List (PathOf × A)) → paths (map bare xs) ≡ paths xs
+  paths_bare [] = refl
+  paths_bare (x ∷ xs) = ap (λ l. x.0 ∷ l) (paths_bare xs)
+
+  rows_shown : (s : State) → paths (rows_granted V along s) ≡ paths (shown_files s)
+  rows_shown s = rows_paths V along s (table_of V s) (whole_table V s) ∙ sym (shown_paths s.tree.files s.tree.files)
+
+  shown_order : (s : State) → IsInOrder s.tree.files → IsInOrder (shown_files s)
+  shown_order s order = subst (λ b. b ≡ true) (sym (order_by_paths (shown_files s) s.tree.files (shown_paths s.tree.files s.tree.files))) order
+
+  all_order : IsInOrder all_shown
+  all_order = order_put_all (shown_files now) (shown_files loaded) (shown_order loaded before_order)
+
+  both_paths : paths (put_all rows_after rows_before) ≡ paths all_shown
+  both_paths =
+      sym (paths_bare (put_all rows_after rows_before))
+      ∙ ap paths
+      (part_put_all (λ _. true) rows_after rows_before
+      ∙ (λ i. put_all (bare_paths rows_after (shown_files now) (rows_shown now) i) (bare_paths rows_before (shown_files loaded) (rows_shown loaded) i))
+      ∙ sym (part_put_all (λ _. true) (shown_files now) (shown_files loaded)))
+      ∙ paths_bare all_shown
+
+  -- ---- a file of a user
+
+  some_by_paths : {A B : Type 0} (p : PathOf) (xs : List (PathOf × A)) (ys : List (PathOf × B)) → paths xs ≡ paths ys → is_some (find path_cmp p xs) ≡ is_some (find path_cmp p ys)
+  some_by_paths p [] [] h = refl
+  some_by_paths p [] (y ∷ ys) h = absurd (cc h)
+  some_by_paths p (x ∷ xs) [] h = absurd (cc h)
+  some_by_paths p (x ∷ xs) (y ∷ ys) h =
+      let here : x.0 ≡ y.0 = cc in
+      let later : paths xs ≡ paths ys = cc in
+      by (is_eq (path_cmp p x.0)) (some_by_paths p xs ys later)
+      ∙ ap (λ q. is_some (cond (is_eq (path_cmp p q)) (Some y.1) (find path_cmp p ys))) here
+    where
+      by : (b : Bool) → is_some (find path_cmp p xs) ≡ is_some (find path_cmp p ys) → is_some (cond b (Some x.1) (find path_cmp p xs)) ≡ is_some (cond b (Some y.1) (find path_cmp p ys))
+      by true more = refl
+      by false more = more
+
+  cell_is : (s : State) (name : List ℕ) (p : PathOf) → verdict_given (find path_cmp p (rows_granted V along s)) (place_of s name) ≡ granted_in V along loaded now s name p
+  cell_is s name p = by (place_of s name)
+    where
+      nobody : (row : Option (List ℕ)) → verdict_given row None ≡ None
+      nobody None = refl
+      nobody (Some row) = refl
+
+      by : (place : Option ℕ) → verdict_given (find path_cmp p (rows_granted V along s)) place ≡ option_and_then (λ user. can_requests V along s user p) place
+      by None = nobody (find path_cmp p (rows_granted V along s))
+      by (Some user) = cell_along V along s (table_of V s) (whole_table V s) user p
+
+  module _ (name : List ℕ) where
+    abbrev places : Sides
+    places = (place_of loaded name, place_of now name)
+
+    abbrev rows_at : PathOf → RowsOfFile
+    rows_at p = (find path_cmp p rows_before, find path_cmp p rows_after)
+
+    -- the change that a file is
+    change_at : (p : PathOf) → change_of places (rows_at p) ≡ cond (is_change (is_kept V along loaded now p) (sides_of V along loaded now name p)) (Some (sides_of V along loaded now name p)) None
+    change_at p =
+        let cells : cells_of_both places (rows_at p) ≡ sides_of V along loaded now name p = λ i. (cell_is loaded name p i, cell_is now name p i) in
+        let was = some_by_paths p rows_before loaded.tree.files (rows_paths V along loaded (table_of V loaded) (whole_table V loaded)) in
+        let is = some_by_paths p rows_after now.tree.files (rows_paths V along now (table_of V now) (whole_table V now)) in
+        λ i. cond (is_change (was i && is i) (cells i)) (Some (cells i)) None
+
+    abbrev at_paths : List PathOf → List (Tallied Sides)
+    at_paths [] = []
+    at_paths (p ∷ ps) = keyed (change_of places (rows_at p)) 1 p ++ at_paths ps
+
+    ones_by_paths : (rows : Rows) → ones_of places (map (λ row. (row.0, rows_at row.0)) rows) ≡ at_paths (paths rows)
+    ones_by_paths [] = refl
+    ones_by_paths (row ∷ rows) = ap (λ l. keyed (change_of places (rows_at row.0)) 1 row.0 ++ l) (ones_by_paths rows)
+
+    module _ (sides : Sides) where
+      abbrev has_it : PathOf × List ℕ → Bool
+      has_it file = has_change V along loaded now name sides file.0
+
+      abbrev sides_at : PathOf → Sides
+      sides_at p = sides_of V along loaded now name p
+
+      abbrev changed_at : PathOf → Bool
+      changed_at p = is_change (is_kept V along loaded now p) (sides_at p)
+
+      counts : (files : List (PathOf × List ℕ)) → count_where (is_same sides) (at_paths (paths files)) ≡ length (filter has_it files)
+      counts [] = refl
+      counts (file ∷ files) =
+          ap (λ o. count_where (is_same sides) (keyed o 1 file.0 ++ at_paths (paths files))) (change_at file.0)
+          ∙ by (changed_at file.0) (is_same sides (sides_at file.0)) refl (counts files)
+        where
+          by : (a b : Bool) → is_same sides (sides_at file.0) ≡ b → count_where (is_same sides) (at_paths (paths files)) ≡ length (filter has_it files)
+              → count_where (is_same sides) (keyed (cond a (Some (sides_at file.0)) None) 1 file.0 ++ at_paths (paths files))
+              ≡ length (cond (a && b) (file ∷ filter has_it files) (filter has_it files))
+          by true true is more =
+              let one : 1 + length (filter has_it files) ≡ suc (length (filter has_it files)) = omega arith in
+              (λ i. cond (is i) 1 0 + more i) ∙ one
+          by true false is more =
+              let none : 0 + length (filter has_it files) ≡ length (filter has_it files) = omega arith in
+              (λ i. cond (is i) 1 0 + more i) ∙ none
+          by false b is more = more
+
+      firsts : (files : List (PathOf × List ℕ)) → first_where (is_same sides) (at_paths (paths files)) ≡ first_path (filter has_it files)
+      firsts [] = refl
+      firsts (file ∷ files) =
+          ap (λ o. first_where (is_same sides) (keyed o 1 file.0 ++ at_paths (paths files))) (change_at file.0)
+          ∙ by (changed_at file.0) (is_same sides (sides_at file.0)) refl (firsts files)
+        where
+          picked : Bool → Option PathOf
+          picked b = option_map (λ (t : Tallied Sides). t.first) (cond b (Some (one (sides_at file.0) file.0)) (lists.find (λ (t : Tallied Sides). is_same sides t.key) (at_paths (paths files))))
+
+          by : (a b : Bool) → is_same sides (sides_at file.0) ≡ b → first_where (is_same sides) (at_paths (paths files)) ≡ first_path (filter has_it files)
+              → first_where (is_same sides) (keyed (cond a (Some (sides_at file.0)) None) 1 file.0 ++ at_paths (paths files))
+              ≡ first_path (cond (a && b) (file ∷ filter has_it files) (filter has_it files))
+          by true true is more = ap picked is
+          by true false is more = ap picked is ∙ more
+          by false b is more = more
+
+      -- the text of a path
+      text_found : (p : PathOf) → text_in loaded.tree now.tree p ≡ unwrap_or (find path_cmp p all_shown) []
+      text_found p = ap (λ o. unwrap_or o []) (sym (find_put_all p (shown_files now) (shown_files loaded) (shown_order now after_order)))
+
+      line_is : tally_line (text_in loaded.tree now.tree) (escaped name) (at_paths (paths all_shown)) sides ≡ gain_line (escaped name) sides (files_with V along loaded now name sides)
+      line_is =
+          (λ i. counted_line (text_in loaded.tree now.tree) (escaped name) sides (counts all_shown i) (firsts all_shown i))
+          ∙ line_of_files (text_in loaded.tree now.tree) (escaped name) sides (filter has_it all_shown)
+          (λ file more is. text_found file.0 ∙ ap (λ o. unwrap_or o []) (found_passing has_it all_shown file more all_order is))
+
+    -- ---- a user
+
+    pub user_is : (both : BothClassed) (ts : List (Tallied Sides)) (gained : List (Tallied Sides)) → AreCounted both ts (rows_of_both rows_before rows_after)
+        → SaysAs gained (rekeyed (λ key. change_of places (rows_of_key both key)) ts)
+        → lines_by_sides (tally_line (text_in loaded.tree now.tree) (escaped name) gained) ≡ gain_lines V along loaded now name
+    user_is both ts gained at says =
+        let all = says_both gained (rekeyed (λ key. change_of places (rows_of_key both key)) ts) (ones_of places (rows_of_both rows_before rows_after)) says
+        (says_ones places both ts (rows_of_both rows_before rows_after) at) in
+        let ones : ones_of places (rows_of_both rows_before rows_after) ≡ at_paths (paths all_shown) = ones_by_paths (put_all rows_after rows_before) ∙ ap at_paths both_paths in
+        let of_side : (sides : Sides) → tally_line (text_in loaded.tree now.tree) (escaped name) gained sides ≡ gain_line (escaped name) sides (files_with V along loaded now name sides) =
+        λ sides.
+        same_line (text_in loaded.tree now.tree) (escaped name) gained (ones_of places (rows_of_both rows_before rows_after)) all sides
+        ∙ ap (λ l. tally_line (text_in loaded.tree now.tree) (escaped name) l sides) ones
+        ∙ line_is sides
+        in
+        lines_same (λ b. lines_up_to (λ a. tally_line (text_in loaded.tree now.tree) (escaped name) gained (side_of b, side_of a)) number_of_sides)
+        (λ b. lines_up_to (λ a. gain_line (escaped name) (side_of b, side_of a) (files_with V along loaded now name (side_of b, side_of a))) number_of_sides) number_of_sides
+        (λ b. lines_same (λ a. tally_line (text_in loaded.tree now.tree) (escaped name) gained (side_of b, side_of a))
+        (λ a. gain_line (escaped name) (side_of b, side_of a) (files_with V along loaded now name (side_of b, side_of a))) number_of_sides (λ a. of_side (side_of b, side_of a)))
+
+  -- ---- all users
+
+  pub users_are : (both : BothClassed) (ts : List (Tallied Sides)) → AreCounted both ts (rows_of_both rows_before rows_after)
+      → (rows : List PasswdRow) (users : List UserGains) → AllOfBoth (IsPassed both ts) (map (at_start loaded now) rows) (map gained_of users)
+      → flat_map (lines_of_user (text_in loaded.tree now.tree)) users ≡ flat_map (λ row. gain_lines V along loaded now row.name) rows
+  users_are both ts at [] [] h = refl
+  users_are both ts at [] (user ∷ users) h = absurd h
+  users_are both ts at (row ∷ rows) [] h = absurd h
+  users_are both ts at (row ∷ rows) (user ∷ users) h =
+      let name : user.user.name.items ≡ escaped row.name = ap (λ (p : Placed). p.0) h.0.0 in
+      let says = h.0.1 [] (record { counts = λ test. refl; firsts = λ test. refl }) in
+      let here = ap (λ n. lines_by_sides (tally_line (text_in loaded.tree now.tree) n user.tallies)) name ∙ user_is row.name both ts user.tallies at says in
+      let more = users_are both ts at rows users h.1 in
+      λ i. here i ++ more i
+
+-- the rows of a state are in order
+pub rows_order : (V : Verdict) (along : Bool) (s : State) → IsInOrder s.tree.files → IsInOrder (rows_granted V along s)
+rows_order V along s order = subst (λ b. b ≡ true) (sym (order_by_paths (rows_granted V along s) s.tree.files (rows_paths V along s (table_of V s) (whole_table V s)))) order
+
+beside_none : {A : Type 0} (f : A → Placed) (xs : List A) → map {B = Gained} (λ x. (f x, [])) xs ≡ map {B = Gained} (λ (p : Placed). (p, [])) (map f xs)
+beside_none f [] = refl
+beside_none f (x ∷ xs) = let here : Gained = (f x, []) in ap (λ l. here ∷ l) (beside_none f xs)
+
+-- the lines of all users, out of what was found
+pub all_gains : (V : Verdict) (along : Bool) (loaded now : State) → IsInOrder loaded.tree.files → IsInOrder now.tree.files
+    → (were are : KnownPeople) → were ≡ loaded.people → are ≡ now.people
+    → (placed : List PlacedUser) → map placed_of placed ≡ map (λ row. placed_in were are row.name) (are.users ++ filter (λ row. not (has_name row.name (users_of are))) were.users)
+    → (before after : Rows) → before ≡ rows_granted V along loaded → after ≡ rows_granted V along now
+    → (both : BothClassed) (ts : List (Tallied Sides)) → AreCounted both ts (rows_of_both before after)
+    → (tallies : List (Tallied Sides)) → tallies ≡ ts
+    → (started ended : List UserGains) → map gained_of started ≡ map {B = Gained} (λ user. (placed_of user, [])) placed → ArePassed both tallies started ended
+    → flat_map (lines_of_user (text_in loaded.tree now.tree)) ended ≡ gains_text V along loaded now
+all_gains V along loaded now before_order after_order were are p q placed known before after b a both ts counted tallies same started ended start passed =
+    let rows = users_of_both loaded now in
+    let placed_rows : map placed_of placed ≡ map (λ row. placed_in loaded.people now.people row.name) rows =
+    known ∙ (λ i. map (λ row. placed_in (p i) (q i) row.name) ((q i).users ++ filter (λ row. not (has_name row.name (users_of (q i)))) (p i).users)) in
+    let at : map gained_of started ≡ map (at_start loaded now) rows =
+    start ∙ beside_none placed_of placed ∙ ap (map {B = Gained} (λ (u : Placed). (u, []))) placed_rows ∙ sym (beside_none (λ row. placed_in loaded.people now.people row.name) rows) in
+    users_are V along loaded now before_order after_order both ts (subst (AreCounted both ts) (λ i. rows_of_both (b i) (a i)) counted) rows ended
+    (subst (λ l. AllOfBoth (IsPassed both ts) l (map gained_of ended)) at (subst (λ l. ArePassed both l started ended) same passed))
+
+-- what is written back over a whole list
+pub written_back : {A : Type 0} (n : ℕ) (items new : List A) → n ≡ length new → take n (new ++ drop (length new) items) ≡ new
+written_back n items new long = ap (λ k. take k (new ++ drop (length new) items)) long ∙ take-append_seam new (drop (length new) items)
+
+-- users are as many as they were
+pub as_many : (both : BothClassed) (ts : List (Tallied Sides)) (xs ys : List UserGains) → ArePassed both ts xs ys → length xs ≡ length ys
+as_many both ts [] [] h = refl
+as_many both ts [] (y ∷ ys) h = absurd h
+as_many both ts (x ∷ xs) [] h = absurd h
+as_many both ts (x ∷ xs) (y ∷ ys) h = ap suc (as_many both ts xs ys h.1)

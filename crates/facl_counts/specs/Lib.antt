@@ -1,0 +1,10 @@
+pub mod BelowText
+pub mod CountTexts
+pub mod Counting
+pub mod GainsLaws
+pub mod GainsText
+pub mod InnerGains
+pub mod PathTexts
+pub mod SumLists
+pub mod Sums
+pub mod Tallies

@@ -1,0 +1,93 @@
+-- For inner functions of `below`: what is added to each user's sum, row by row.
+use Rattle.std.specs.Prelude.{◌≡◌, ℕ, ◌+◌, true, false, if◌then◌else◌, List, [], ◌∷◌, ◌++◌, map, filter, slice_get, count_by, zip, Option, Some, None, option_map, option_and_then}
+use Rattle.std.specs.Option.{option_map_or, option_or}
+use Rattle.std.specs.List.{AllByRecursion, find, flat_map}
+use Rattle.acl_entry.specs.Check.{has}
+use Rattle.acl_entry.specs.Perms.{Perms}
+use Rattle.acl_names.specs.Below.{encloses}
+use Rattle.acl_names.specs.Paths.{PathOf}
+use Rattle.acl_rights.specs.Classes.{Classed, IsFileTaken}
+use Rattle.acl_rights.specs.Rows.{Rows, grants_to}
+use Rattle.acl_tree.specs.Found.{files_found}
+use Rattle.acl_tree.specs.Files.{Files}
+use Rattle.acl_tree.specs.Operands.{is_file}
+use Rattle.facl_answers.specs.Answers.{file_line}
+use Rattle.facl_counts.specs.CountTexts.{count_text}
+use Rattle.facl_answers.specs.PartWalks.{front}
+use Rattle.facl_counts.specs.declared.sums.UserSum.{UserSum}
+use Rattle.facl_counts.specs.Tallies.{Tallied, Sides, SaysAs, one}
+
+-- how many files, and the first of them, if there is one
+abbrev pub Sum : Type 0
+Sum = ℕ × Option PathOf
+
+abbrev pub no_sum : {A : Type 0} → A → Sum
+no_sum a = (0, None)
+
+-- a sum as it is kept
+abbrev pub sum_of : UserSum → Sum
+sum_of s = (s.count, option_map (λ p. p.now) s.first)
+
+-- so many files more, which come later
+abbrev pub added : Tallied Sides → Sum → Sum
+added t s = (s.0 + t.count, option_or s.1 (Some t.first))
+
+-- the sums of users, where these files are added to those of the users to whom a row grants a request
+abbrev pub after_row : Perms → Tallied Sides → List ℕ → List Sum → List Sum
+after_row q t row [] = []
+after_row q t [] (s ∷ sums) = s ∷ sums
+after_row q t (c ∷ row) (s ∷ sums) = (if has c q then added t s else s) ∷ after_row q t row sums
+
+module _ (classes : List (List ℕ)) where
+  -- the row of the class that a key has after
+  abbrev pub row_of : Sides → Option (List ℕ)
+  row_of key = option_and_then (slice_get classes) key.1
+
+  abbrev pub after_tally : Perms → Tallied Sides → List Sum → List Sum
+  after_tally q t sums = option_map_or (λ row. after_row q t row sums) (row_of t.key) sums
+
+  abbrev pub after_tallies : Perms → List (Tallied Sides) → List Sum → List Sum
+  after_tallies q [] sums = sums
+  after_tallies q (t ∷ ts) sums = after_tallies q ts (after_tally q t sums)
+
+-- a file with its row, and the key by which it is counted
+abbrev pub Keyed : Type 0
+Keyed = Sides × (PathOf × List ℕ)
+
+abbrev pub one_of : Keyed → Tallied Sides
+one_of k = one k.0 k.1.0
+
+-- counts by classes say the same as these files, of which each has the row of its class
+pub record AreCounted (classes : List (List ℕ)) (rows : Rows) (ts : List (Tallied Sides)) : Type 0 where
+  pub files : List Keyed
+  pub says : SaysAs ts (map one_of files)
+  pub are : map (λ k. k.1) files ≡ rows
+  pub have : AllByRecursion (λ k. row_of classes k.0 ≡ Some k.1.1) files
+
+-- the first file that was to come is taken, if it is at a path or below it
+abbrev pub TakesWithin : PathOf → Classed → Option (PathOf × ℕ) → Classed → Type 0
+TakesWithin top old None new = (front top old.1 ≡ []) × (new ≡ old)
+TakesWithin top old (Some file) new = (encloses top file.0 ≡ true) × IsFileTaken old file new
+
+-- after some files at or below a path, the counts are of those of them that are at or below some paths
+pub record IsCounting (top : PathOf) (paths : List PathOf) (all : Rows) (left : Classed) (ts : List (Tallied Sides)) : Type 0 where
+  pub seen : Rows
+  pub whole : seen ++ front top left.1 ≡ all
+  pub counted : AreCounted left.0 (filter (λ row. is_file true paths row.0) seen) ts
+
+-- on how many of some files a user is granted a request, and the first of them
+abbrev pub sum_in : Perms → ℕ → Rows → Sum
+sum_in q user rows = (count_by (grants_to q user) rows, option_map (λ r. r.0) (find (grants_to q user) rows))
+
+-- some sums are those of users on these files
+abbrev pub AreSums : {A : Type 0} → Perms → Rows → List A → List Sum → Type 0
+AreSums q rows users sums = (user : ℕ) → slice_get sums user ≡ option_map (λ _. sum_in q user rows) (slice_get users user)
+
+-- ---- lines
+
+-- the line of a user, where there is a file
+abbrev pub sum_line : Files → List ℕ → Sum → List ℕ
+sum_line t name sum = option_map_or (λ p. count_text sum.0 name ++ flat_map file_line (files_found false (p ∷ []) t)) sum.1 []
+
+abbrev pub sum_lines : Files → List (List ℕ) → List Sum → List ℕ
+sum_lines t names sums = flat_map (λ x. sum_line t x.0 x.1) (zip names sums)

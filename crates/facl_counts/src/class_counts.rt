@@ -1,0 +1,146 @@
+//! Files at or below some paths, counted by their classes, and what they add to the sums of users.
+
+ghost use Rattle.std.specs.Prelude.{◌≡◌, ◌++◌, ◌∷◌, [], List, None, Some, true, map, filter, option_map, IfOk, OnOk};
+ghost use Rattle.std.specs.Option.{option_copied};
+ghost use Rattle.path_map.specs.Entries.{seen};
+ghost use Rattle.acl_tree.specs.Operands.{is_file};
+ghost use Rattle.facl_counts.specs.Counting.{tallied};
+ghost use Rattle.facl_answers.specs.PartWalks.{front};
+ghost use Rattle.facl_counts.specs.Sums.{row_of, after_tally, after_tallies, AreCounted, TakesWithin};
+ghost use Rattle.facl_counts.specs.Tallies.{Tallied, Sides, SaysAs, one};
+
+use crate::sums::UserSums;
+use crate::tallies::{Key, Tallies, Tally};
+use acl_entry::{Perm, Requests};
+use acl_names::Path;
+use acl_rights::FileClasses;
+use std::alloc::{AllocError, Global};
+
+/// Counts of files by their classes, and for each class a hint at the place of its count.
+#[derive(Drop)]
+struct Counter<'a> {
+    tallies: Tallies<'a>,
+    hints: Vec<usize>,
+}
+
+impl<'a> Counter<'a> {
+    /// None. Allocates nothing.
+    fn new(alloc: Global) -> Counter<'a>
+        ensures { result.tallies ≡ [] }
+    {
+        Counter {
+            tallies: Tallies::new(alloc),
+            hints: Vec::new(alloc),
+        }
+    }
+
+    /// The place where the count of a class is expected.
+    fn hint(&self, class: usize) -> usize {
+        match self.hints.get(class) {
+            Some(at) => *at,
+            None => 0,
+        }
+    }
+
+    /// The count of a class is expected at a place from now on.
+    fn expect(&mut self, class: usize, at: usize) -> Result<(), AllocError>
+        ensures { self.new.tallies ≡ self.old.tallies }
+    {
+        if class >= self.hints.len() {
+            self.hints.resize(class.saturating_add(1), 0)?;
+        }
+        if let Some(hint) = self.hints.get_mut(class) {
+            *hint = at;
+        }
+        Ok(())
+    }
+
+    /// One file more has a class. Fails only if memory, or the numbers, run out.
+    fn count(&mut self, class: usize, path: &'a Path) -> Result<(), AllocError>
+        ensures { OnOk result ((others : List (Tallied Sides)) → SaysAs self.old.tallies others
+            → SaysAs self.new.tallies (others ++ one (None, Some class) path.now ∷ [])) }
+    {
+        let hint = self.hint(class);
+        let at = self.tallies.add(hint, (None, Some(class)), 1, path)?;
+        self.expect(class, at)
+    }
+}
+
+/// Whether a file is at one of some paths, or below one.
+fn lies_in(paths: &[Path], path: &Path) -> bool
+    ensures { result ≡ is_file true paths.now path.now }
+{
+    paths.iter().any(|top| path.is_within(top))
+}
+
+/// The next file with its class, if it is at a path or below it.
+fn next_within<'a>(
+    alloc: Global,
+    classes: &mut FileClasses<'a>,
+    top: &Path,
+) -> Result<Option<(&'a Path, usize)>, AllocError>
+    ensures { IfOk result (λ found. TakesWithin top.now classes.old (option_map seen found) classes.new) }
+{
+    match classes.path() {
+        Some(path) if path.is_within(top) => classes.next(alloc),
+        _ => Ok(None),
+    }
+}
+
+/// Counts the files at or below some paths by their classes, of those that come first and are at a path or below it.
+pub(crate) fn count_files<'a>(
+    alloc: Global,
+    classes: &mut FileClasses<'a>,
+    top: &Path,
+    paths: &[Path],
+) -> Result<Tallies<'a>, AllocError>
+    ensures { IfOk result (λ tallies. AreCounted classes.new.0 (filter (λ row. is_file true paths.now row.0) (front top.now classes.old.1)) tallies) }
+{
+    let mut counter = Counter::new(alloc);
+    while let Some((path, class)) = next_within(alloc, classes, top)? {
+        if lies_in(paths, path) {
+            counter.count(class, path)?;
+        }
+    }
+    Ok(counter.tallies)
+}
+
+/// The row of the class of a key, if there is one.
+fn row_of<'a>(classes: &'a FileClasses<'_>, key: &Key) -> Option<&'a [Requests]>
+    ensures { option_copied result ≡ row_of classes.now.0 key.now }
+{
+    match key.1 {
+        Some(class) => classes.row(class),
+        None => None,
+    }
+}
+
+/// Adds files of a class to the sums.
+fn add_tally<'a>(
+    sums: &mut UserSums<'a>,
+    classes: &FileClasses<'a>,
+    request: Perm,
+    tally: &Tally<'a>,
+) -> Result<(), AllocError>
+    ensures { OnOk result (sums.new ≡ after_tally classes.now.0 request (tallied tally.now) sums.old) }
+{
+    match row_of(classes, &tally.key) {
+        Some(row) => sums.add_row(row, request, tally),
+        None => Ok(()),
+    }
+}
+
+/// Adds all counted files to the sums.
+pub(crate) fn add_tallies<'a>(
+    sums: &mut UserSums<'a>,
+    classes: &FileClasses<'a>,
+    request: Perm,
+    tallies: &[Tally<'a>],
+) -> Result<(), AllocError>
+    ensures { OnOk result (sums.new ≡ after_tallies classes.now.0 request (map tallied tallies.now) sums.old) }
+{
+    for tally in tallies {
+        add_tally(sums, classes, request, tally)?;
+    }
+    Ok(())
+}

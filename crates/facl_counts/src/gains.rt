@@ -1,0 +1,305 @@
+//! What `gains` prints: for each user and each change of what the user is granted, on how many files, and on which first.
+
+ghost use Rattle.std.specs.Prelude.{◌≡◌, [], ◌<◌, ◌+◌, ◌++◌, if◌then◌else◌, IfOk, map, option_map};
+ghost use Rattle.std.specs.List.{flat_map, list_any};
+ghost use Rattle.acl_names.specs.Appends.{Appends};
+ghost use Rattle.path_map.specs.Entries.{IsInOrder};
+ghost use Rattle.acl_rights.specs.Verdicts.{rows_granted};
+ghost use Rattle.facl_answers.specs.Answers.{line};
+ghost use Rattle.facl_counts.specs.CountTexts.{count_text, spaced};
+ghost use Rattle.facl_counts.specs.Counting.{tallied};
+ghost use Rattle.facl_counts.specs.GainsText.{gains_text, is_same, is_same_side, side_of, side_text};
+ghost use Rattle.facl_counts.specs.InnerGains.{count_line, is_before, lines_after, lines_of_user, tally_line, tally_lines};
+ghost use Rattle.facl_counts.specs.PathTexts.{text_in};
+ghost use Rattle.facl_counts.specs.Tallies.{count_where, first_where};
+
+use crate::both_classes::BothClasses;
+use crate::count_texts::{push_count, push_path};
+use crate::path_texts::text_of;
+use crate::tallies::{Key, Tally, together};
+use crate::user_gains::{UserGains, count_changes, without_counts};
+use acl_names::Path;
+use acl_rights::{FileClasses, IndexedState, Judge, Verdicts};
+use acl_tree::Tree;
+use facl_answers::{push_hex, users_of_both};
+use std::alloc::{AllocError, Global};
+
+/// The number of sides: not there, or one of 256 bytes.
+const SIDES: usize = 257;
+
+/// What is granted before and after; none where the user or the file is not there.
+type Granted = (Option<u8>, Option<u8>);
+
+/// The side of a number: first the one that is not there.
+fn side_of(number: usize) -> Option<u8>
+    requires { number < 257 }
+    ensures { result ≡ side_of number }
+{
+    if number == 0 {
+        None
+    } else {
+        Some((number - 1) as u8)
+    }
+}
+
+/// Whether a side of a key is this one.
+fn is_same_side(side: Option<u8>, other: Option<usize>) -> bool
+    ensures { result ≡ is_same_side side other }
+{
+    match side {
+        None => other.is_none(),
+        Some(side) => match other {
+            Some(other) => side as usize == other,
+            None => false,
+        },
+    }
+}
+
+/// Whether a key is this one.
+fn is_same(granted: Granted, key: Key) -> bool
+    ensures { result ≡ is_same granted key }
+{
+    is_same_side(granted.0, key.0) && is_same_side(granted.1, key.1)
+}
+
+/// Adds what is granted: two hex digits, or `--` where the user or the file is not there.
+fn push_side(text: &mut Vec<u8>, side: Option<u8>) -> Result<(), AllocError>
+    ensures { Appends result text.old text.new (side_text side) }
+{
+    match side {
+        Some(granted) => push_hex(text, granted),
+        None => {
+            text.extend_from_slice(b"--")?;
+            Ok(())
+        }
+    }
+}
+
+/// Adds what is granted, and a space.
+fn push_spaced_side(text: &mut Vec<u8>, side: Option<u8>) -> Result<(), AllocError>
+    ensures { Appends result text.old text.new (spaced (side_text side)) }
+{
+    push_side(text, side)?;
+    text.push(b' ')?;
+    Ok(())
+}
+
+/// Adds what is granted before and after.
+fn push_sides(text: &mut Vec<u8>, granted: Granted) -> Result<(), AllocError>
+    ensures { Appends result text.old text.new (spaced (side_text granted.0) ++ spaced (side_text granted.1)) }
+{
+    push_spaced_side(text, granted.0)?;
+    push_spaced_side(text, granted.1)
+}
+
+/// Adds how many files there are, a user and a path.
+fn push_counted(text: &mut Vec<u8>, count: u64, user: &[u8], path: &[u8]) -> Result<(), AllocError>
+    ensures { Appends result text.old text.new (count_text count user.now ++ line path.now) }
+{
+    push_count(text, count, user)?;
+    push_path(text, path)
+}
+
+/// Adds a line.
+fn push_line(
+    text: &mut Vec<u8>,
+    granted: Granted,
+    count: u64,
+    user: &[u8],
+    path: &[u8],
+) -> Result<(), AllocError>
+    ensures { Appends result text.old text.new (count_line granted count user.now path.now) }
+{
+    push_sides(text, granted)?;
+    push_counted(text, count, user, path)
+}
+
+/// A sum with a count, where it counts. Fails only if the numbers run out.
+fn with_count(sum: u64, counts: bool, count: u64) -> Result<u64, AllocError>
+    ensures { IfOk result (λ new. new ≡ sum + (if counts then count else 0)) }
+{
+    if !counts {
+        return Ok(sum);
+    }
+    together(sum, count)
+}
+
+/// How many files have a key. Fails only if the numbers run out.
+fn count_of(tallies: &[Tally<'_>], granted: Granted) -> Result<u64, AllocError>
+    ensures { IfOk result (λ count. count ≡ count_where (is_same granted) (map tallied tallies.now)) }
+{
+    let mut sum: u64 = 0;
+    for tally in tallies {
+        let more = with_count(sum, is_same(granted, tally.key), tally.count)?;
+        sum = more;
+    }
+    Ok(sum)
+}
+
+/// The first file that has a key.
+fn first_of<'a>(tallies: &[Tally<'a>], granted: Granted) -> Option<&'a Path>
+    ensures { option_map (λ path. path.now) result ≡ first_where (is_same granted) (map tallied tallies.now) }
+{
+    for tally in tallies {
+        if is_same(granted, tally.key) {
+            return Some(tally.first);
+        }
+    }
+    None
+}
+
+/// Whether some count has a key with this side before.
+fn has_before(tallies: &[Tally<'_>], before: Option<u8>) -> bool
+    ensures { result ≡ list_any (is_before before) tallies.now }
+{
+    tallies
+        .iter()
+        .any(|tally| is_same_side(before, tally.key.0))
+}
+
+/// Adds a user's line of a change, if there is one.
+#[tactic(auto, using(crate::proofs::GainLines::line_of_first, crate::proofs::GainLines::line_of_none))]
+fn push_change(
+    alloc: Global,
+    text: &mut Vec<u8>,
+    loaded: &Tree,
+    now: &Tree,
+    user: &[u8],
+    tallies: &[Tally<'_>],
+    granted: Granted,
+) -> Result<(), AllocError>
+    ensures { Appends result text.old text.new (tally_line (text_in loaded.now now.now) user.now (map tallied tallies.now) granted) }
+{
+    let Some(first) = first_of(tallies, granted) else {
+        return Ok(());
+    };
+    let count = count_of(tallies, granted)?;
+    let path = text_of(alloc, loaded, now, first)?;
+    push_line(text, granted, count, user, &path)
+}
+
+/// Adds a user's lines of the changes with this side before.
+fn push_after(
+    alloc: Global,
+    text: &mut Vec<u8>,
+    loaded: &Tree,
+    now: &Tree,
+    user: &[u8],
+    tallies: &[Tally<'_>],
+    before: Option<u8>,
+) -> Result<(), AllocError>
+    ensures { Appends result text.old text.new (lines_after (text_in loaded.now now.now) user.now (map tallied tallies.now) before) }
+{
+    for after in 0..SIDES {
+        let granted = (before, side_of(after));
+        push_change(alloc, text, loaded, now, user, tallies, granted)?;
+    }
+    Ok(())
+}
+
+/// Adds a user's lines of the changes with this side before. No file has one where no count has the side.
+fn push_before(
+    alloc: Global,
+    text: &mut Vec<u8>,
+    loaded: &Tree,
+    now: &Tree,
+    user: &[u8],
+    tallies: &[Tally<'_>],
+    before: Option<u8>,
+) -> Result<(), AllocError>
+    ensures { Appends result text.old text.new (lines_after (text_in loaded.now now.now) user.now (map tallied tallies.now) before) }
+{
+    if !has_before(tallies, before) {
+        return Ok(());
+    }
+    push_after(alloc, text, loaded, now, user, tallies, before)
+}
+
+/// Adds a user's lines.
+fn push_user(
+    alloc: Global,
+    text: &mut Vec<u8>,
+    loaded: &Tree,
+    now: &Tree,
+    user: &[u8],
+    tallies: &[Tally<'_>],
+) -> Result<(), AllocError>
+    ensures { Appends result text.old text.new (tally_lines (text_in loaded.now now.now) user.now (map tallied tallies.now)) }
+{
+    for before in 0..SIDES {
+        push_before(alloc, text, loaded, now, user, tallies, side_of(before))?;
+    }
+    Ok(())
+}
+
+/// Adds the lines of users.
+fn push_users(
+    alloc: Global,
+    text: &mut Vec<u8>,
+    loaded: &Tree,
+    now: &Tree,
+    users: &[UserGains<'_>],
+) -> Result<(), AllocError>
+    ensures { Appends result text.old text.new (flat_map (lines_of_user (text_in loaded.now now.now)) users.now) }
+{
+    for gains in users {
+        push_user(
+            alloc,
+            text,
+            loaded,
+            now,
+            &gains.user.name,
+            gains.tallies.as_slice(),
+        )?;
+    }
+    Ok(())
+}
+
+/// All files of a state by classes.
+fn classes_of<'a, J: Judge>(alloc: Global, verdicts: &Verdicts<'a, J>) -> FileClasses<'a>
+    ensures all { result ≡ ([], rows_granted J.verdict_of verdicts.now.along verdicts.now.state.now) }
+    ensures order { IsInOrder result.1 }
+    ensures tree { IsInOrder verdicts.now.state.now.tree.files }
+{
+    verdicts.state.state().tree().soundness_law();
+    verdicts.classes(alloc)
+}
+
+/// The users of both states, with their changes counted.
+fn gains_of_users<'x, J: Judge>(
+    alloc: Global,
+    loaded: &'x IndexedState<J>,
+    verdicts: &Verdicts<'x, J>,
+) -> Result<Vec<UserGains<'x>>, AllocError>
+    ensures { IfOk result (λ users. flat_map (lines_of_user (text_in loaded.now.tree verdicts.now.state.now.tree)) users.items
+        ≡ gains_text J.verdict_of verdicts.now.along loaded.now verdicts.now.state.now) }
+{
+    let people = verdicts.state.state().people();
+    let placed = users_of_both(alloc, loaded.state().people(), people)?;
+    let verdicts_before = loaded.verdicts(verdicts.along);
+    let mut both = BothClasses {
+        before: classes_of(alloc, &verdicts_before),
+        after: classes_of(alloc, verdicts),
+    };
+    let tallies = both.count_all(alloc)?;
+    let mut users = without_counts(alloc, placed)?;
+    count_changes(&mut users, &both, tallies.as_slice())?;
+    Ok(users)
+}
+
+/// What `gains` prints: for each user of either state and each change of what the user is granted, how many files have
+/// it, and the first of them; with those verdicts that are asked of the present state, on the files alone or along their
+/// paths. It is one walk over both states' files. Fails only if memory runs out.
+pub fn write_gains<'x, J: Judge>(
+    alloc: Global,
+    loaded: &'x IndexedState<J>,
+    verdicts: &Verdicts<'x, J>,
+) -> Result<Vec<u8>, AllocError>
+    ensures { IfOk result (λ text. text.items ≡ gains_text J.verdict_of verdicts.now.along loaded.now verdicts.now.state.now) }
+{
+    let users = gains_of_users(alloc, loaded, verdicts)?;
+    let now = verdicts.state.state().tree();
+    let mut text = Vec::new(alloc);
+    push_users(alloc, &mut text, loaded.state().tree(), now, &users)?;
+    Ok(text)
+}

@@ -1,0 +1,23 @@
+//! What `below` and `gains` print: for each user on how many files a request is granted or changes, and the first of them.
+//!
+//! The files are counted once for all users, by classes of files that have the same row of the index, without a new
+//! verdict.
+#![tactic(auto)]
+
+mod below;
+mod both_classes;
+mod class_counts;
+mod count_texts;
+mod gains;
+mod laws;
+mod path_texts;
+mod sums;
+mod tallies;
+mod two_paths;
+mod user_gains;
+
+pub use below::write_below;
+pub use gains::write_gains;
+pub use laws::{
+    below_counts_what_may_lists, gains_count_each_change_once, gains_print_all_that_changes,
+};

@@ -1,0 +1,94 @@
+//! Counts of files by keys: for each key how many files have it, and which is the first of them.
+
+ghost use Rattle.std.specs.Prelude.{◌≡◌, ◌+◌, ◌++◌, ◌∷◌, [], List, true, IfOk, map};
+ghost use Rattle.facl_counts.specs.Counting.{tallied, HasKey};
+ghost use Rattle.facl_counts.specs.Tallies.{Tallied, Sides, SaysAs};
+
+use acl_names::Path;
+use facl_answers::same_place;
+use std::alloc::{AllocError, Global};
+use std::marker::Model;
+
+/// What is there before and after, by numbers: classes of files, or requests that are granted. `None` on the side where it is
+/// not there.
+pub(crate) type Key = (Option<usize>, Option<usize>);
+
+/// How many files have a key, and the first of them.
+#[derive(Drop)]
+pub(crate) struct Tally<'a> {
+    pub key: Key,
+    pub count: u64,
+    pub first: &'a Path,
+}
+
+/// Two counts together. Fails only if the number does not fit.
+pub(crate) fn together(count: u64, more: u64) -> Result<u64, AllocError>
+    ensures { IfOk result (λ sum. sum ≡ count + more) }
+{
+    match count.checked_add(more) {
+        Some(sum) => Ok(sum),
+        None => Err(AllocError),
+    }
+}
+
+/// Counts of files by keys.
+#[derive(Drop)]
+pub(crate) struct Tallies<'a> {
+    list: Vec<Tally<'a>>,
+}
+
+impl<'a> Model for Tallies<'a> {
+    ghost Value = { List (Tallied Sides) };
+
+    ghost view = { λ t. map (λ tally. record { key = tally.key; count = tally.count; first = tally.first.now }) t.list.items };
+}
+
+impl<'a> Tallies<'a> {
+    /// None. Allocates nothing.
+    pub fn new(alloc: Global) -> Tallies<'a>
+        ensures { result ≡ [] }
+    {
+        Tallies {
+            list: Vec::new(alloc),
+        }
+    }
+
+    /// The counts. Allocates nothing.
+    pub fn as_slice(&self) -> &[Tally<'a>]
+        ensures { map tallied result.now ≡ self.now }
+    {
+        &self.list
+    }
+
+    /// Whether the count at a place has a key.
+    fn has(&self, at: usize, key: Key) -> bool
+        ensures { result ≡ true → HasKey self.now at key }
+    {
+        match self.list.get(at) {
+            Some(tally) => same_place(tally.key.0, key.0) && same_place(tally.key.1, key.1),
+            None => false,
+        }
+    }
+
+    /// So many files more have a key, of which one is the first: they are counted at a place where the key is expected, or
+    /// anew. Returns the place. Fails only if memory, or the numbers, run out.
+    pub fn add(
+        &mut self,
+        at: usize,
+        key: Key,
+        count: u64,
+        first: &'a Path,
+    ) -> Result<usize, AllocError>
+        ensures { IfOk result (λ _. (others : List (Tallied Sides)) → SaysAs self.old others
+            → SaysAs self.new (others ++ record { key = key; count = count; first = first.now } ∷ [])) }
+    {
+        if self.has(at, key) {
+            let tally = &mut self.list[at];
+            tally.count = together(tally.count, count)?;
+            return Ok(at);
+        }
+        let at = self.list.len();
+        self.list.push(Tally { key, count, first })?;
+        Ok(at)
+    }
+}

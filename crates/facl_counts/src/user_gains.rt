@@ -1,0 +1,265 @@
+//! For each user how many files have each change of what the user is granted, and which is the first.
+
+ghost use Rattle.std.specs.Prelude.{◌≡◌, ◌<◌, [], true, IfOk, OnOk, map, unwrap_or};
+ghost use Rattle.std.specs.Option.{option_copied};
+ghost use Rattle.std.specs.List.{list_all};
+ghost use Rattle.facl_counts.specs.Counting.{tallied};
+ghost use Rattle.facl_counts.specs.GainsText.{is_change, is_gained};
+ghost use Rattle.facl_answers.specs.Inner.{placed_of};
+ghost use Rattle.facl_counts.specs.InnerGains.{AreCountedFor, ArePassed, IsCountedFor, RowStays, both_of, verdict_given, change_of, gained_of, is_gained_by, keeps, row_given, rows_of_key};
+
+use crate::both_classes::BothClasses;
+use crate::tallies::{Key, Tallies, Tally};
+use acl_entry::{Perm, Requests};
+use acl_names::Path;
+use acl_rights::same_row;
+use facl_answers::{PlacedUser, same_place};
+use std::alloc::{AllocError, Global};
+
+/// A user of either state, with counts of the files that have a change.
+#[derive(Drop)]
+pub(crate) struct UserGains<'a> {
+    pub user: PlacedUser,
+    pub tallies: Tallies<'a>,
+}
+
+/// The row of a file, if the file is there.
+#[derive(Clone, Copy)]
+pub(crate) struct GivenRow<'r> {
+    pub is_there: bool,
+    pub row: &'r [Requests],
+}
+
+/// A row, if there is one.
+fn given(row: Option<&[Requests]>) -> GivenRow<'_>
+    ensures { row_given result ≡ option_copied row.entry }
+{
+    match row {
+        Some(row) => GivenRow {
+            is_there: true,
+            row,
+        },
+        None => GivenRow {
+            is_there: false,
+            row: &[],
+        },
+    }
+}
+
+/// What a row grants the user at a place, if both are there.
+fn cell(given: &GivenRow<'_>, place: Option<usize>) -> Option<Requests>
+    ensures { result ≡ verdict_given (row_given given.now) place }
+{
+    if !given.is_there {
+        return None;
+    }
+    let Some(place) = place else {
+        return None;
+    };
+    match given.row.get(place) {
+        Some(requests) => Some(*requests),
+        None => None,
+    }
+}
+
+/// What is granted; nothing where the user or the file is not there.
+fn or_none(granted: Option<Requests>) -> Requests
+    ensures { result ≡ unwrap_or granted 0 }
+{
+    match granted {
+        Some(requests) => requests,
+        None => Requests::none(),
+    }
+}
+
+/// Whether the request of a number is granted after, and was not before.
+fn is_gained_by(before: Requests, after: Requests, number: u8) -> bool
+    requires { number < 8 }
+    ensures { result ≡ is_gained_by before after number }
+{
+    match Perm::from_number(number) {
+        Some(request) => after.has(request) && !before.has(request),
+        None => false,
+    }
+}
+
+/// Whether some request other than none is granted after, and was not before.
+fn is_gained(before: Requests, after: Requests) -> bool
+    ensures { result ≡ is_gained before after }
+{
+    is_gained_by(before, after, 1)
+        || is_gained_by(before, after, 2)
+        || is_gained_by(before, after, 3)
+        || is_gained_by(before, after, 4)
+        || is_gained_by(before, after, 5)
+        || is_gained_by(before, after, 6)
+        || is_gained_by(before, after, 7)
+}
+
+/// Whether it is a change that these requests are granted before and after.
+fn is_change(is_kept: bool, before: Option<Requests>, after: Option<Requests>) -> bool
+    ensures { result ≡ is_change is_kept (before, after) }
+{
+    if !is_kept {
+        return before.is_some() || after.is_some();
+    }
+    let had = or_none(before);
+    let has = or_none(after);
+    is_gained(had, has) || is_gained(has, had)
+}
+
+/// What is granted, as a number.
+fn side(granted: Option<Requests>) -> Option<usize>
+    ensures { result ≡ granted }
+{
+    match granted {
+        Some(requests) => Some(requests.bits() as usize),
+        None => None,
+    }
+}
+
+/// The change of a file with these rows for a user, if it is one.
+fn change_of(user: &PlacedUser, before: &GivenRow<'_>, after: &GivenRow<'_>) -> Option<Key>
+    ensures { result ≡ change_of (placed_of user.now).1 (row_given before.now, row_given after.now) }
+{
+    let had = cell(before, user.before);
+    let has = cell(after, user.after);
+    if is_change(before.is_there && after.is_there, had, has) {
+        Some((side(had), side(has)))
+    } else {
+        None
+    }
+}
+
+/// The place of the count of a key, if there is one.
+fn place_of(tallies: &[Tally<'_>], key: Key) -> usize {
+    let mut place = tallies.len();
+    for at in 0..tallies.len() {
+        if same_place(tallies[at].key.0, key.0) && same_place(tallies[at].key.1, key.1) {
+            place = at;
+        }
+    }
+    place
+}
+
+impl<'a> UserGains<'a> {
+    /// Counts so many files more with these rows, of which one is the first.
+    fn count(
+        &mut self,
+        before: &GivenRow<'_>,
+        after: &GivenRow<'_>,
+        count: u64,
+        first: &'a Path,
+    ) -> Result<(), AllocError>
+        ensures { OnOk result (IsCountedFor (row_given before.now, row_given after.now) count first.now (gained_of self.old) (gained_of self.new)) }
+    {
+        if let Some(key) = change_of(&self.user, before, after) {
+            let at = place_of(self.tallies.as_slice(), key);
+            let _place = self.tallies.add(at, key, count, first)?;
+        }
+        Ok(())
+    }
+}
+
+/// Counts so many files more with these rows for each user.
+fn count_for_each<'a>(
+    users: &mut [UserGains<'a>],
+    before: &GivenRow<'_>,
+    after: &GivenRow<'_>,
+    count: u64,
+    first: &'a Path,
+) -> Result<(), AllocError>
+    ensures { OnOk result (AreCountedFor (row_given before.now, row_given after.now) count first.now users.old users.new) }
+{
+    for user in users.iter_mut() {
+        user.count(before, after, count, first)?;
+    }
+    Ok(())
+}
+
+/// Whether a file is there before and after, with the same row.
+fn row_stays(before: &GivenRow<'_>, after: &GivenRow<'_>) -> bool
+    ensures { result ≡ true → RowStays (row_given before.now, row_given after.now) }
+{
+    if before.is_there {
+        if after.is_there {
+            return same_row(before.row, after.row);
+        }
+    }
+    false
+}
+
+/// Whether each user has the same place in both states, or none in both.
+fn keep_places(users: &[UserGains<'_>]) -> bool
+    ensures { result ≡ list_all keeps users.now }
+{
+    users
+        .iter()
+        .all(|entry| same_place(entry.user.before, entry.user.after))
+}
+
+/// Counts so many files more with these rows for each user, who all keep their places or may not. There is no change where
+/// the rows and the users are the same.
+fn count_rows<'a>(
+    users: &mut [UserGains<'a>],
+    is_kept: bool,
+    before: &GivenRow<'_>,
+    after: &GivenRow<'_>,
+    count: u64,
+    first: &'a Path,
+) -> Result<(), AllocError>
+    requires kept { is_kept ≡ true → list_all keeps users.old ≡ true }
+    ensures { OnOk result (AreCountedFor (row_given before.now, row_given after.now) count first.now users.old users.new) }
+{
+    if is_kept && row_stays(before, after) {
+        return Ok(());
+    }
+    count_for_each(users, before, after, count, first)
+}
+
+/// Counts so many files more with the rows of a key for each user, who all keep their places or may not.
+fn count_tally<'a>(
+    users: &mut [UserGains<'a>],
+    is_kept: bool,
+    both: &BothClasses<'_>,
+    tally: &Tally<'a>,
+) -> Result<(), AllocError>
+    requires kept { is_kept ≡ true → list_all keeps users.old ≡ true }
+    ensures { OnOk result (AreCountedFor (rows_of_key (both_of both.now) tally.now.key) tally.now.count tally.now.first.now users.old users.new) }
+{
+    let before = given(both.row_before(tally.key.0));
+    let after = given(both.row_after(tally.key.1));
+    count_rows(users, is_kept, &before, &after, tally.count, tally.first)
+}
+
+/// Counts the changes of each user, out of counts of files by classes.
+pub(crate) fn count_changes<'a>(
+    users: &mut [UserGains<'a>],
+    both: &BothClasses<'_>,
+    tallies: &[Tally<'a>],
+) -> Result<(), AllocError>
+    ensures { OnOk result (ArePassed (both_of both.now) (map tallied tallies.now) users.old users.new) }
+{
+    let is_kept = keep_places(users);
+    for tally in tallies {
+        count_tally(users, is_kept, both, tally)?;
+    }
+    Ok(())
+}
+
+/// The users, with no file counted.
+pub(crate) fn without_counts<'a>(
+    alloc: Global,
+    users: Vec<PlacedUser>,
+) -> Result<Vec<UserGains<'a>>, AllocError>
+    ensures { IfOk result (λ all. map gained_of all.items ≡ map (λ user. (placed_of user, [])) users.items) }
+{
+    let mut all = Vec::new(alloc);
+    for user in users {
+        all.push(UserGains {
+            user,
+            tallies: Tallies::new(alloc),
+        })?;
+    }
+    Ok(all)
+}
