@@ -3,11 +3,11 @@
 
 usage: tools/ways.py [CRATES.TXT]
 
-Before and after its work, rt asks for each crate below whether it is built. For that it reads all files of that crate
-and of all below it, once for each way of edges that leads there, and keeps no answer. So what a command with nothing to
-do takes grows with the ways, and not with the crates: it is below six seconds in each crate of the program while there
-are at most MAX_WAYS ways from one crate. A crate of tests, which nothing waits for, may have twice as many. A chain is
-the most crates that one way has, which are proved one after another.
+Before and after its work, rt asks for each crate below whether it is built. For that it goes to all crates below that
+crate, once for each way of edges that leads there. It reads the files of a crate once, so what a command with nothing to
+do takes is below a second while there are at most MAX_WAYS ways from one crate; a kit that reads them once for each way
+takes minutes. A crate of tests, which nothing waits for, may have twice as many. A chain is the most crates that one way
+has, which are proved one after another.
 
 Prints for each crate how many crates it lists, how many are below it, its longest chain, and the ways from it. The exit
 status is 1 where a crate has more ways than that, or a longer chain than MAX_CHAIN, and 2 where the words are others.
@@ -27,8 +27,8 @@ import script  # noqa: E402
 
 PROGRAM = "facl_cli"
 ROWS = os.path.join(script.TOP, "crates.txt")
-MAX_WAYS = 160
-MAX_CHAIN = 8
+MAX_WAYS = 640
+MAX_CHAIN = 9
 
 
 class Crates:

@@ -43,7 +43,9 @@ TESTS: Dict[str, List[str]] = {
     "acl_tree": ["acl_tree_tests"],
     "acl_rights": ["acl_rights_tests"], "facl_script": ["facl_script_tests", "facl_words_tests"],
     "facl_output": ["facl_words_tests", "acl_rights_tests"],
-    "facl": ["facl_words_tests", "acl_rights_tests"],
+    "facl_tools": ["facl_words_tests"],
+    "facl_answers": ["acl_rights_tests", "facl_words_tests"], "facl_counts": ["facl_words_tests"],
+    "facl": ["facl_words_tests"],
 }
 ROWS = "rows"
 OF_ALL = [ROWS, "facl_tests"]

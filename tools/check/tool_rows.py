@@ -81,13 +81,19 @@ def tools_of_causes(text: str) -> Iterator[str]:
                 yield from words[:1] if call.func.id == "row" else words
 
 
+def file_of_tool(top: str, name: str) -> str:
+    """The file that has the syntax of a tool: that of a question is in facl, any other in facl_tools."""
+    question = f"crates/facl/src/tools/{name}.rt"
+    return question if os.path.exists(os.path.join(top, question)) else f"crates/facl_tools/src/{name}.rt"
+
+
 class ToolRows:
     """The checks of a repository."""
 
     def __init__(self, top: str) -> None:
         self.top = top
         names = NAMED.findall(text_of(top, "crates/facl/src/tools.rt"))
-        self.tools = {name: switches_of(text_of(top, f"crates/facl/src/tools/{name}.rt")) for name in names}
+        self.tools = {name: switches_of(text_of(top, file_of_tool(top, name))) for name in names}
         self.program = {f"--{name}" for _, _, name, _ in SWITCH.findall(text_of(top, "crates/facl_script/src/args.rt"))}
 
     def all_faults(self) -> Iterator[Fault]:

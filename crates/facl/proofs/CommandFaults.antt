@@ -11,7 +11,7 @@ use Rattle.acl_tree.specs.Step.{step}
 use Rattle.facl_output.specs.Faults.{line_fault_of_tree}
 use Rattle.facl_output.specs.declared.fault.LineFault.{LineFault}
 use Rattle.facl.specs.CommandFaults.{IsFirstOf, IsRefusedAs}
-use Rattle.facl.specs.Replies.{done, replied}
+use Rattle.facl_tools.specs.Replies.{done, replied}
 use Rattle.facl.proofs.Outcomes.{err_eq}
 
 -- a reply is refused exactly where the state cannot be made

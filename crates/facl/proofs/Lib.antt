@@ -3,17 +3,12 @@ pub mod Ending
 pub mod FirstPart
 pub mod HasWords
 pub mod LineParts
-pub mod Listed
-pub mod Modes
 pub mod NoPaths
 pub mod Outcomes
 pub mod Parts
 pub mod PartsOfLines
 pub mod PartsOfQuestions
 pub mod Refusing
-pub mod RoundTrips
-pub mod SameEntries
-pub mod StillThere
 pub mod ToolLines
 pub mod ToolParts
 pub mod ToolTable

@@ -16,7 +16,7 @@ use Rattle.facl_script.specs.Forms.{Text}
 use Rattle.facl.specs.ToolParts as requests
 use Rattle.facl.specs.ToolParts.{Part, in_first_text, in_second_text, in_third_text, in_two_texts, in_operand, in_user, in_file, in_command}
 use Rattle.facl.specs.FirstPart.{IsNotAfter, IsFirst, IsRefusedForFirst}
-use Rattle.facl.specs.Replies.{Reply, after, or_fault}
+use Rattle.facl_tools.specs.Replies.{Reply, after, or_fault}
 use Rattle.facl.specs.Tools as tools
 use Rattle.acl_rights.specs.Rows.{Verdict}
 use Rattle.facl.specs.Tools.{tool_named, tool_line}

@@ -5,8 +5,8 @@ use Rattle.acl_names.proofs.Basics.{none_is_not_some, ok_is_not_err}
 use Rattle.facl_output.specs.declared.fault.LineFault.{LineFault}
 use Rattle.facl_script.specs.Forms.{Text}
 use Rattle.facl.specs.ToolParts.{IsNoPath}
-use Rattle.facl.specs.Operands.{bad_operand, path_at, paths_from}
-use Rattle.facl.specs.Replies.{after, or_fault}
+use Rattle.facl_tools.specs.Operands.{bad_operand, path_at, paths_from}
+use Rattle.facl_tools.specs.Replies.{after, or_fault}
 use Rattle.facl.proofs.Outcomes.{err_eq, err_before, no_value}
 
 -- the first of some operands that is no path, where the first of them has this place

@@ -2,7 +2,7 @@
 use Rattle.std.proofs.Common.{◌≡◌, Option, Some, None, Result, Ok, Err, refl, sym, ap}
 use Rattle.std.specs.Prelude.{IsErr}
 use Rattle.acl_names.proofs.Basics.{ok_is_not_err}
-use Rattle.facl.specs.Replies.{after, or_fault}
+use Rattle.facl_tools.specs.Replies.{after, or_fault}
 
 pub ok_eq : {A E : Type 0} (r : Result A E) (a b : A) → r ≡ Ok a → r ≡ Ok b → a ≡ b
 ok_eq r a b h k = cc

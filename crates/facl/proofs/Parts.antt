@@ -7,7 +7,7 @@ use Rattle.facl_output.specs.declared.fault.LineFault.{LineFault}
 use Rattle.facl_script.specs.Forms.{Text}
 use Rattle.facl.specs.FirstPart.{IsRefusedForFirst}
 use Rattle.facl.specs.ToolParts.{Part, in_first_text, in_second_text, in_third_text, in_two_texts, in_operand, in_user, in_file, in_command, rank, place, IsBadOperand, IsUnrecorded}
-use Rattle.facl.specs.Replies.{Reply, after}
+use Rattle.facl_tools.specs.Replies.{Reply, after}
 use Rattle.facl.proofs.FirstPart.{accepted, refused_at}
 use Rattle.facl.proofs.NoPaths.{IsFirstBad, Reads}
 use Rattle.facl.proofs.Unrecorded.{IsFirstUnrecorded, one_unrecorded}

@@ -10,11 +10,11 @@ use Rattle.facl_output.specs.declared.fault.LineFault.TheVariants.{Both}
 use Rattle.facl_script.specs.Forms.{Text}
 use Rattle.facl.specs.ToolParts.{Part, in_first_text, in_second_text, in_third_text, in_two_texts, in_operand, in_user, in_file, in_command, rank, OfCommand}
 use Rattle.facl.specs.ToolParts.{OfPaths, OfText, OfTextAndFiles, OfTwoTextsAndFiles, OfChange, both_of, entries_put}
-use Rattle.facl.specs.Operands.{paths_from}
-use Rattle.facl.specs.Replies.{Reply, after}
-use Rattle.facl.specs.Setfacl.{entries_given, entries_of_line, both_at, unless_both, change_files, change_line, drops, with_warning_if}
-use Rattle.facl.specs.declared.tools.setfacl.ChangeLine.{ChangeLine}
-use Rattle.facl.specs.declared.tools.setfacl_entries.ChangeEntries.{ChangeEntries}
+use Rattle.facl_tools.specs.Operands.{paths_from}
+use Rattle.facl_tools.specs.Replies.{Reply, after}
+use Rattle.facl_tools.specs.Setfacl.{entries_given, entries_of_line, both_at, unless_both, change_files, change_line, drops, with_warning_if}
+use Rattle.facl_tools.specs.declared.setfacl.ChangeLine.{ChangeLine}
+use Rattle.facl_tools.specs.declared.setfacl_entries.ChangeEntries.{ChangeEntries}
 use Rattle.facl.proofs.NoPaths.{Reads, reads_files}
 use Rattle.facl.proofs.Outcomes.{ok_eq, err_eq, err_before, same_two, same_three, same_found}
 use Rattle.facl.proofs.Parts.{Refused, from_zero, refused_in, step, operands, last}

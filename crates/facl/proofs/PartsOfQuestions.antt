@@ -17,8 +17,8 @@ use Rattle.facl_output.specs.declared.fault.LineFault.{LineFault}
 use Rattle.facl_output.specs.declared.fault.LineFault.TheVariants.{Tree}
 use Rattle.facl_script.specs.Forms.{Text}
 use Rattle.facl.specs.ToolParts.{Part, in_operand, in_user, in_file, rank, place, OfListing, OfUser, OfUserAndFiles, IsUnrecorded}
-use Rattle.facl.specs.Operands.{path_at, paths_from, name_meant, user_or_fault, recorded_or_fault}
-use Rattle.facl.specs.Replies.{Reply, after, or_fault, printed, printed_or_fault}
+use Rattle.facl_tools.specs.Operands.{path_at, paths_from, name_meant, user_or_fault, recorded_or_fault}
+use Rattle.facl_tools.specs.Replies.{Reply, after, or_fault, printed, printed_or_fault}
 use Rattle.facl.specs.Why.{person_named}
 use Rattle.facl.proofs.FirstPart.{accepted}
 use Rattle.facl.proofs.NoPaths.{Reads, reads_files, reads_file}

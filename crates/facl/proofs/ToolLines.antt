@@ -5,7 +5,7 @@ use Rattle.facl_output.specs.declared.fault.LineFault.TheVariants.{Usage}
 use Rattle.facl_script.specs.Forms.{Text}
 use Rattle.facl_script.specs.ToolWords.{words_by}
 use Rattle.facl_script.specs.declared.tool_words.Words.{Words}
-use Rattle.facl.specs.Replies.{after, or_fault}
+use Rattle.facl_tools.specs.Replies.{after, or_fault}
 use Rattle.acl_rights.specs.Rows.{Verdict}
 use Rattle.facl.specs.Tools.{syntax_of, read_line, words_of, line_or_fault, answered, tool_line}
 use Rattle.facl.specs.declared.tools.Tool.{Tool}

@@ -23,34 +23,34 @@ use Rattle.facl_answers.specs.WhyText.{files_asked}
 use Rattle.facl_script.specs.Forms.{Text}
 use Rattle.facl_output.specs.declared.fault.LineFault.{LineFault}
 use Rattle.facl_output.specs.declared.fault.Source.TheVariants.{Entry, DefaultEntry}
-use Rattle.facl.specs.Chacl as chacl
+use Rattle.facl_tools.specs.Chacl as chacl
 use Rattle.facl.specs.Can as can
-use Rattle.facl.specs.Creat as creat
+use Rattle.facl_tools.specs.Creat as creat
 use Rattle.facl.specs.ToolParts.{rank, place, OfNothing, OfPaths, OfListing, OfUser, OfUserAndFiles, OfSetfacl, OfTask, IsAtFault, file_at}
 use Rattle.facl.specs.FirstPart.{IsRefusedForFirst}
-use Rattle.facl.specs.Getfacl as getfacl
-use Rattle.facl.specs.Lists.{list_of_text}
-use Rattle.facl.specs.Load as load
+use Rattle.facl_tools.specs.Getfacl as getfacl
+use Rattle.facl_tools.specs.Lists.{list_of_text}
+use Rattle.facl_tools.specs.Load as load
 use Rattle.facl.specs.May as may
-use Rattle.facl.specs.Operands.{path_at, paths_from, name_meant}
-use Rattle.facl.specs.Replies.{Reply, after, done, printed}
-use Rattle.facl.specs.Setattr as setattr
-use Rattle.facl.specs.Setfacl as setfacl_line
-use Rattle.facl.specs.Setfacl.{records_or_fault, done_or_tested}
+use Rattle.facl_tools.specs.Operands.{path_at, paths_from, name_meant}
+use Rattle.facl_tools.specs.Replies.{Reply, after, done, printed}
+use Rattle.facl_tools.specs.Setattr as setattr
+use Rattle.facl_tools.specs.Setfacl as setfacl_line
+use Rattle.facl_tools.specs.Setfacl.{records_or_fault, done_or_tested}
 use Rattle.acl_rights.specs.Rows.{Verdict}
 use Rattle.facl.specs.Tools.{answered}
-use Rattle.facl.specs.Useradd.{new_user}
+use Rattle.facl_tools.specs.Useradd.{new_user}
 use Rattle.facl.specs.Who as who
 use Rattle.facl.specs.Who.{who_at}
 use Rattle.facl.specs.Why as why
 use Rattle.facl.specs.Why.{named_why}
 use Rattle.facl.specs.declared.tools.can.CanLine.{CanLine}
-use Rattle.facl.specs.declared.tools.chacl.Task.{Task}
-use Rattle.facl.specs.declared.tools.chacl.Task.TheVariants as tasks
-use Rattle.facl.specs.declared.tools.creat.CreatLine.{CreatLine}
+use Rattle.facl_tools.specs.declared.chacl.Task.{Task}
+use Rattle.facl_tools.specs.declared.chacl.Task.TheVariants as tasks
+use Rattle.facl_tools.specs.declared.creat.CreatLine.{CreatLine}
 use Rattle.facl.specs.declared.tools.may.MayLine.{MayLine}
-use Rattle.facl.specs.declared.tools.setfacl.SetfaclLine.{SetfaclLine}
-use Rattle.facl.specs.declared.tools.setfacl.SetfaclLine.TheVariants as setfacl
+use Rattle.facl_tools.specs.declared.setfacl.SetfaclLine.{SetfaclLine}
+use Rattle.facl_tools.specs.declared.setfacl.SetfaclLine.TheVariants as setfacl
 use Rattle.facl.specs.declared.tools.ToolLine.{ToolLine}
 use Rattle.facl.specs.declared.tools.ToolLine.TheVariants as lines
 use Rattle.facl.specs.declared.tools.who.WhoLine.{WhoLine}

@@ -20,8 +20,8 @@ use Rattle.facl_output.specs.declared.fault.LineFault.{LineFault}
 use Rattle.facl_output.specs.declared.fault.LineFault.TheVariants.{Tree}
 use Rattle.facl_script.specs.Forms.{Text}
 use Rattle.facl.specs.ToolParts.{IsUnrecorded, IsNoUser}
-use Rattle.facl.specs.Operands.{bad_operand, path_at, paths_from, name_meant, user_or_fault}
-use Rattle.facl.specs.Replies.{after, or_fault}
+use Rattle.facl_tools.specs.Operands.{bad_operand, path_at, paths_from, name_meant, user_or_fault}
+use Rattle.facl_tools.specs.Replies.{after, or_fault}
 use Rattle.facl.specs.Why.{person_named}
 use Rattle.facl.proofs.Outcomes.{ok_eq, err_eq, was_there}
 

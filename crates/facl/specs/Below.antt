@@ -1,6 +1,6 @@
 -- below: the users who may do something with a file at or below some paths. The state stays as it is.
 use Rattle.std.specs.Prelude.{[], ◌∷◌, codes, refl, Option, Some, Result}
-use Rattle.facl.specs.Asked.{has, operand, operands_from}
+use Rattle.facl_tools.specs.Asked.{has, operand, operands_from}
 use Rattle.facl_counts.specs.BelowText.{below_text}
 use Rattle.acl_tree.specs.Operands.{first_missing}
 use Rattle.acl_tree.specs.State.{State}
@@ -9,9 +9,9 @@ use Rattle.facl_script.specs.Forms.{files_of}
 use Rattle.facl_script.specs.Syntax.{Syntax, by_name, one, some}
 use Rattle.facl_script.specs.declared.tool_words.Words.{Words}
 use Rattle.facl_output.specs.declared.fault.LineFault.{LineFault}
-use Rattle.facl.specs.Operands.{paths_from, recorded_or_fault}
-use Rattle.facl.specs.Readers.{and_then, permissions_of}
-use Rattle.facl.specs.Replies.{Reply, after, printed}
+use Rattle.facl_tools.specs.Operands.{paths_from, recorded_or_fault}
+use Rattle.facl_tools.specs.Readers.{and_then, permissions_of}
+use Rattle.facl_tools.specs.Replies.{Reply, after, printed}
 use Rattle.facl.specs.declared.tools.below.BelowLine.{BelowLine}
 
 abbrev pub syntax : Syntax

@@ -1,7 +1,7 @@
 -- can: what a user may do with a file. The state stays as it is.
 use Rattle.std.specs.Prelude.{ℕ, [], ◌∷◌, Bool, codes, refl, Option, Some, Result, Ok}
 use Rattle.acl_rights.specs.Verdicts.{can_requests}
-use Rattle.facl.specs.Asked.{has, operand}
+use Rattle.facl_tools.specs.Asked.{has, operand}
 use Rattle.facl_answers.specs.Requests.{requests_line}
 use Rattle.acl_tree.specs.declared.fault.TreeFault.TheVariants.{NoSuchFile}
 use Rattle.acl_names.specs.Paths.{PathOf}
@@ -12,9 +12,9 @@ use Rattle.facl_script.specs.Syntax.{Syntax, by_name, one}
 use Rattle.facl_script.specs.declared.tool_words.Words.{Words}
 use Rattle.facl_output.specs.declared.fault.LineFault.{LineFault}
 use Rattle.facl_output.specs.declared.fault.LineFault.TheVariants.{Tree}
-use Rattle.facl.specs.Operands.{path_at, name_meant, user_or_fault}
-use Rattle.facl.specs.Readers.{and_then}
-use Rattle.facl.specs.Replies.{Reply, after, or_fault, printed_or_fault}
+use Rattle.facl_tools.specs.Operands.{path_at, name_meant, user_or_fault}
+use Rattle.facl_tools.specs.Readers.{and_then}
+use Rattle.facl_tools.specs.Replies.{Reply, after, or_fault, printed_or_fault}
 use Rattle.facl.specs.declared.tools.can.CanLine.{CanLine}
 
 abbrev pub syntax : Syntax

@@ -1,13 +1,13 @@
 -- changes: what the script has changed so far in who may do what. The state stays as it is.
 use Rattle.std.specs.Prelude.{[], ◌∷◌, codes, refl, Result, Ok}
-use Rattle.facl.specs.Asked.{has}
+use Rattle.facl_tools.specs.Asked.{has}
 use Rattle.facl_answers.specs.ChangesText.{changes_text}
 use Rattle.acl_tree.specs.State.{State}
 use Rattle.acl_rights.specs.Rows.{Verdict}
 use Rattle.facl_script.specs.Syntax.{Syntax, by_name}
 use Rattle.facl_script.specs.declared.tool_words.Words.{Words}
 use Rattle.facl_output.specs.declared.fault.LineFault.{LineFault}
-use Rattle.facl.specs.Replies.{Reply, printed}
+use Rattle.facl_tools.specs.Replies.{Reply, printed}
 use Rattle.facl.specs.declared.tools.changes.ChangesLine.{ChangesLine}
 
 abbrev pub syntax : Syntax

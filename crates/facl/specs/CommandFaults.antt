@@ -6,7 +6,7 @@ use Rattle.acl_tree.specs.Refusals.{IsFirst}
 use Rattle.acl_tree.specs.State.{State}
 use Rattle.facl_output.specs.Faults.{line_fault_of_tree}
 use Rattle.facl_output.specs.declared.fault.LineFault.{LineFault}
-use Rattle.facl.specs.Replies.{Reply}
+use Rattle.facl_tools.specs.Replies.{Reply}
 
 -- a line's fault is the first of those that apply to a command
 pub record IsFirstOf (s : State) (c : Command) (fault : LineFault) : Type 0 where

@@ -1,13 +1,13 @@
 -- gains: what each user has gained and lost so far, on how many files. The state stays as it is.
 use Rattle.std.specs.Prelude.{[], ◌∷◌, codes, refl, Result, Ok}
-use Rattle.facl.specs.Asked.{has}
+use Rattle.facl_tools.specs.Asked.{has}
 use Rattle.facl_counts.specs.GainsText.{gains_text}
 use Rattle.acl_tree.specs.State.{State}
 use Rattle.acl_rights.specs.Rows.{Verdict}
 use Rattle.facl_script.specs.Syntax.{Syntax, by_name}
 use Rattle.facl_script.specs.declared.tool_words.Words.{Words}
 use Rattle.facl_output.specs.declared.fault.LineFault.{LineFault}
-use Rattle.facl.specs.Replies.{Reply, printed}
+use Rattle.facl_tools.specs.Replies.{Reply, printed}
 use Rattle.facl.specs.declared.tools.gains.GainsLine.{GainsLine}
 
 abbrev pub syntax : Syntax

@@ -5,7 +5,7 @@ use Rattle.acl_tree.specs.State.{State}
 use Rattle.acl_rights.specs.Rows.{Verdict}
 use Rattle.facl_script.specs.Syntax.{Syntax}
 use Rattle.facl_output.specs.declared.fault.LineFault.{LineFault}
-use Rattle.facl.specs.Replies.{Reply, printed}
+use Rattle.facl_tools.specs.Replies.{Reply, printed}
 
 -- it takes no words
 abbrev pub syntax : Syntax

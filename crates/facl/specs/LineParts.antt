@@ -10,7 +10,7 @@ use Rattle.facl_script.specs.Forms.{Text}
 use Rattle.facl_script.specs.ToolWords.{words_by}
 use Rattle.facl.specs.ToolParts as requests
 use Rattle.facl.specs.FirstPart.{IsRefusedForFirst}
-use Rattle.facl.specs.Replies.{Reply, after}
+use Rattle.facl_tools.specs.Replies.{Reply, after}
 use Rattle.acl_rights.specs.Rows.{Verdict}
 use Rattle.facl.specs.Tools.{syntax_of, read_line, tool_named}
 use Rattle.facl.specs.declared.tools.Tool.{Tool}

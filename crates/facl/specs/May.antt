@@ -1,6 +1,6 @@
 -- may: the files with which a user may do something. The state stays as it is.
 use Rattle.std.specs.Prelude.{[], ◌∷◌, Bool, codes, refl, Option, Some, option_and_then, Result}
-use Rattle.facl.specs.Asked.{has, operand}
+use Rattle.facl_tools.specs.Asked.{has, operand}
 use Rattle.facl_answers.specs.Answers.{may_text}
 use Rattle.acl_entry.specs.Perms.{Perms}
 use Rattle.acl_tree.specs.declared.fault.TreeFault.TheVariants.{NoSuchUser}
@@ -13,9 +13,9 @@ use Rattle.facl_script.specs.Syntax.{Syntax, by_name, one}
 use Rattle.facl_script.specs.declared.tool_words.Words.{Words}
 use Rattle.facl_output.specs.declared.fault.LineFault.{LineFault}
 use Rattle.facl_output.specs.declared.fault.LineFault.TheVariants.{Tree}
-use Rattle.facl.specs.Operands.{name_meant}
-use Rattle.facl.specs.Readers.{and_then, permissions_of}
-use Rattle.facl.specs.Replies.{Reply, or_fault, printed_or_fault}
+use Rattle.facl_tools.specs.Operands.{name_meant}
+use Rattle.facl_tools.specs.Readers.{and_then, permissions_of}
+use Rattle.facl_tools.specs.Replies.{Reply, or_fault, printed_or_fault}
 use Rattle.facl.specs.declared.tools.may.MayLine.{MayLine}
 
 abbrev pub syntax : Syntax

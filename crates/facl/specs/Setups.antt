@@ -8,7 +8,7 @@ use Rattle.acl_tree.specs.Loads.{load}
 use Rattle.facl_output.specs.declared.fault.RunFault.{RunFault}
 use Rattle.facl_output.specs.declared.fault.RunFault.TheVariants as runs
 use Rattle.facl.specs.declared.setup.Setup.{Setup}
-use Rattle.facl.specs.Replies.{after}
+use Rattle.facl_tools.specs.Replies.{after}
 
 abbrev pub set_up : Table → Result State TreeFault → Result State RunFault
 set_up which (Ok s) = Ok s

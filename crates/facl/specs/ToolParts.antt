@@ -18,20 +18,20 @@ use Rattle.facl_script.specs.Forms.{Text}
 use Rattle.facl_output.specs.declared.fault.LineFault.{LineFault}
 use Rattle.facl_output.specs.declared.fault.LineFault.TheVariants as faults
 use Rattle.facl_output.specs.declared.fault.Source.TheVariants.{Entry, DefaultEntry}
-use Rattle.facl.specs.Lists.{list_of_text}
-use Rattle.facl.specs.Load as load
-use Rattle.facl.specs.Operands.{bad_operand, path_at, paths_from, name_meant}
-use Rattle.facl.specs.Replies.{Reply, done}
-use Rattle.facl.specs.Setattr as setattr
-use Rattle.facl.specs.Setfacl.{entries_given, entries_of_line, both_at, edit_of, done_or_tested, records_or_fault}
-use Rattle.facl.specs.Useradd.{new_user}
-use Rattle.facl.specs.declared.tools.chacl.Task.{Task}
-use Rattle.facl.specs.declared.tools.chacl.Task.TheVariants as tasks
-use Rattle.facl.specs.declared.tools.creat.CreatLine.{CreatLine}
-use Rattle.facl.specs.declared.tools.setfacl.ChangeLine.{ChangeLine}
-use Rattle.facl.specs.declared.tools.setfacl.SetfaclLine.{SetfaclLine}
-use Rattle.facl.specs.declared.tools.setfacl.SetfaclLine.TheVariants as setfacl
-use Rattle.facl.specs.declared.tools.setfacl_entries.ChangeEntries.{ChangeEntries}
+use Rattle.facl_tools.specs.Lists.{list_of_text}
+use Rattle.facl_tools.specs.Load as load
+use Rattle.facl_tools.specs.Operands.{bad_operand, path_at, paths_from, name_meant}
+use Rattle.facl_tools.specs.Replies.{Reply, done}
+use Rattle.facl_tools.specs.Setattr as setattr
+use Rattle.facl_tools.specs.Setfacl.{entries_given, entries_of_line, both_at, edit_of, done_or_tested, records_or_fault}
+use Rattle.facl_tools.specs.Useradd.{new_user}
+use Rattle.facl_tools.specs.declared.chacl.Task.{Task}
+use Rattle.facl_tools.specs.declared.chacl.Task.TheVariants as tasks
+use Rattle.facl_tools.specs.declared.creat.CreatLine.{CreatLine}
+use Rattle.facl_tools.specs.declared.setfacl.ChangeLine.{ChangeLine}
+use Rattle.facl_tools.specs.declared.setfacl.SetfaclLine.{SetfaclLine}
+use Rattle.facl_tools.specs.declared.setfacl.SetfaclLine.TheVariants as setfacl
+use Rattle.facl_tools.specs.declared.setfacl_entries.ChangeEntries.{ChangeEntries}
 use Rattle.facl.specs.declared.tools.ToolLine.{ToolLine}
 use Rattle.facl.specs.declared.tools.ToolLine.TheVariants as lines
 

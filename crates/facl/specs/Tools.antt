@@ -11,27 +11,27 @@ use Rattle.facl_script.specs.ToolWords.{words_by}
 use Rattle.facl_script.specs.declared.tool_words.Words.{Words}
 use Rattle.facl_output.specs.declared.fault.LineFault.{LineFault}
 use Rattle.facl_output.specs.declared.fault.LineFault.TheVariants.{Usage}
-use Rattle.facl.specs.Replies.{Reply, after, or_fault}
-use Rattle.facl.specs.Attr as attr
+use Rattle.facl_tools.specs.Replies.{Reply, after, or_fault}
+use Rattle.facl_tools.specs.Attr as attr
 use Rattle.facl.specs.Below as below
 use Rattle.facl.specs.Can as can
-use Rattle.facl.specs.Chacl as chacl
+use Rattle.facl_tools.specs.Chacl as chacl
 use Rattle.facl.specs.Changes as changes
-use Rattle.facl.specs.Chmod as chmod
-use Rattle.facl.specs.Creat as creat
+use Rattle.facl_tools.specs.Chmod as chmod
+use Rattle.facl_tools.specs.Creat as creat
 use Rattle.facl.specs.Gains as gains
-use Rattle.facl.specs.Getfacl as getfacl
-use Rattle.facl.specs.Gpasswd as gpasswd
+use Rattle.facl_tools.specs.Getfacl as getfacl
+use Rattle.facl_tools.specs.Gpasswd as gpasswd
 use Rattle.facl.specs.Index as index
-use Rattle.facl.specs.Load as load
+use Rattle.facl_tools.specs.Load as load
 use Rattle.facl.specs.May as may
-use Rattle.facl.specs.Rm as rm
-use Rattle.facl.specs.Setattr as setattr
-use Rattle.facl.specs.Setfacl as setfacl
-use Rattle.facl.specs.SetfaclLine as setfacl_line
-use Rattle.facl.specs.Useradd as useradd
-use Rattle.facl.specs.Userdel as userdel
-use Rattle.facl.specs.Usermod as usermod
+use Rattle.facl_tools.specs.Rm as rm
+use Rattle.facl_tools.specs.Setattr as setattr
+use Rattle.facl_tools.specs.Setfacl as setfacl
+use Rattle.facl_tools.specs.SetfaclLine as setfacl_line
+use Rattle.facl_tools.specs.Useradd as useradd
+use Rattle.facl_tools.specs.Userdel as userdel
+use Rattle.facl_tools.specs.Usermod as usermod
 use Rattle.facl.specs.Who as who
 use Rattle.facl.specs.Why as why
 use Rattle.facl.specs.declared.tools.Tool.{Tool}

@@ -11,7 +11,7 @@ use Rattle.facl_output.specs.Faults.{line_fault_of_split}
 use Rattle.facl_output.specs.Messages.{message, warning}
 use Rattle.facl_output.specs.declared.fault.LineFault.{LineFault}
 use Rattle.facl_output.specs.declared.fault.LineFault.TheVariants.{LineTooLong, UnknownTool, UnendedText, TextLineTooLong, Usage, NoMemory}
-use Rattle.facl.specs.Replies.{Reply, after, or_fault, printed}
+use Rattle.facl_tools.specs.Replies.{Reply, after, or_fault, printed}
 use Rattle.acl_rights.specs.Rows.{Verdict}
 use Rattle.facl.specs.Tools.{loads, tool_line, tool_named}
 use Rattle.facl.specs.declared.tools.Tool.{Tool}

@@ -1,6 +1,6 @@
 -- who: the users who may do something with a file. The state stays as it is.
 use Rattle.std.specs.Prelude.{[], ◌∷◌, Bool, codes, refl, Option, Some, Result}
-use Rattle.facl.specs.Asked.{has, operand}
+use Rattle.facl_tools.specs.Asked.{has, operand}
 use Rattle.facl_answers.specs.Answers.{who_text}
 use Rattle.acl_entry.specs.Perms.{Perms}
 use Rattle.acl_tree.specs.declared.fault.TreeFault.TheVariants.{NoSuchFile}
@@ -12,9 +12,9 @@ use Rattle.facl_script.specs.Syntax.{Syntax, by_name, one}
 use Rattle.facl_script.specs.declared.tool_words.Words.{Words}
 use Rattle.facl_output.specs.declared.fault.LineFault.{LineFault}
 use Rattle.facl_output.specs.declared.fault.LineFault.TheVariants.{Tree}
-use Rattle.facl.specs.Operands.{path_at}
-use Rattle.facl.specs.Readers.{and_then, permissions_of}
-use Rattle.facl.specs.Replies.{Reply, after, or_fault, printed_or_fault}
+use Rattle.facl_tools.specs.Operands.{path_at}
+use Rattle.facl_tools.specs.Readers.{and_then, permissions_of}
+use Rattle.facl_tools.specs.Replies.{Reply, after, or_fault, printed_or_fault}
 use Rattle.facl.specs.declared.tools.who.WhoLine.{WhoLine}
 
 abbrev pub syntax : Syntax

@@ -1,6 +1,6 @@
 -- why: the entries that decide on a user. The state stays as it is.
 use Rattle.std.specs.Prelude.{List, [], ◌∷◌, Bool, codes, refl, Option, Some, option_and_then, Result}
-use Rattle.facl.specs.Asked.{has, operand, operands_from}
+use Rattle.facl_tools.specs.Asked.{has, operand, operands_from}
 use Rattle.facl_answers.specs.WhyText.{files_asked, why_text}
 use Rattle.acl_entry.specs.Person.{Person}
 use Rattle.acl_tree.specs.declared.fault.TreeFault.TheVariants.{NoSuchUser}
@@ -15,9 +15,9 @@ use Rattle.facl_script.specs.Syntax.{Syntax, by_name, one, some}
 use Rattle.facl_script.specs.declared.tool_words.Words.{Words}
 use Rattle.facl_output.specs.declared.fault.LineFault.{LineFault}
 use Rattle.facl_output.specs.declared.fault.LineFault.TheVariants.{Tree}
-use Rattle.facl.specs.Operands.{paths_from, name_meant, recorded_or_fault}
-use Rattle.facl.specs.Readers.{and_then}
-use Rattle.facl.specs.Replies.{Reply, after, or_fault, printed_or_fault}
+use Rattle.facl_tools.specs.Operands.{paths_from, name_meant, recorded_or_fault}
+use Rattle.facl_tools.specs.Readers.{and_then}
+use Rattle.facl_tools.specs.Replies.{Reply, after, or_fault, printed_or_fault}
 use Rattle.facl.specs.declared.tools.why.WhyLine.{WhyLine}
 
 abbrev pub syntax : Syntax

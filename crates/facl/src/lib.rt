@@ -28,9 +28,6 @@ pub use tools::laws::{
     each_tool_has_its_row, lines_are_refused_for_the_first_fault_of_their_command,
     tool_lines_are_refused_for_their_first_fault,
 };
-pub use tools::round_trips::{
-    chacl_reads_what_it_lists, set_reads_what_test_prints, setattr_reads_what_attr_prints,
-};
 pub use tools::{Tool, read_words, syntax_of};
 pub use words::read_args;
 
@@ -43,6 +40,10 @@ pub use facl_answers::{
 pub use facl_counts::{
     below_counts_what_may_lists, gains_count_each_change_once, gains_print_all_that_changes,
     write_below, write_gains,
+};
+// Laws of what tools print and read.
+pub use facl_tools::{
+    chacl_reads_what_it_lists, set_reads_what_test_prints, setattr_reads_what_attr_prints,
 };
 // The public calls take and give these values of the crates below.
 pub use acl_entry::{Label, Perm, Requests, Subject};

@@ -4,15 +4,15 @@ ghost use Rattle.std.specs.Prelude.{◌≡◌, ℕ, List, Option, Err, IfOk, map
 ghost use Rattle.facl_script.specs.Units.{UnitText};
 ghost use Rattle.facl_script.specs.Held.{IsLineHeld, IsTextHeld};
 ghost use Rattle.acl_rights.specs.States.{IsPrepared, loaded_state, states_in};
-ghost use Rattle.facl.specs.Replies.{Gives, Replies};
+ghost use Rattle.facl_tools.specs.Replies.{Gives, Replies};
 ghost use Rattle.facl.specs.Tools.{tool_line};
 ghost use Rattle.facl.specs.Units.{is_silent, words_of_line, text_or_fault, tool_reply};
 
-use crate::tools::effect::Effect;
 use crate::tools::{Tool, tool_line};
 use acl_rights::{IndexedStates, Judge};
 use facl_output::LineFault;
 use facl_script::{HeldLine, HeldText, split_words};
+use facl_tools::Effect;
 use std::alloc::Global;
 
 /// Whether a line within the limit is blank or a comment.

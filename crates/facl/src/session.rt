@@ -7,7 +7,7 @@ ghost use Rattle.facl_script.specs.Held.{IsTextHeld, IsUnitHeld};
 ghost use Rattle.facl_script.specs.TextWords.{line_asks};
 ghost use Rattle.acl_rights.specs.Costs.{all_pairs};
 ghost use Rattle.acl_rights.specs.States.{IsPrepared, from_start};
-ghost use Rattle.facl.specs.Replies.{reply_of};
+ghost use Rattle.facl_tools.specs.Replies.{reply_of};
 ghost use Rattle.facl.specs.Costs.{IsReady, IsReadyAfter};
 ghost use Rattle.facl.specs.Tools.{tool_named};
 ghost use Rattle.facl.specs.Units.{accepted, refused, words_of_line, answer_of, answer_of_words, reply, tool_reply, tool_word, warning_if, answered};
@@ -16,11 +16,11 @@ ghost use Rattle.facl.specs.Sessions.{states_of, out_of, err_of, ran_out_of_memo
 
 use crate::line::{is_silent, tool_reply, words_of_line};
 use crate::tools::Tool;
-use crate::tools::effect::Effect;
 use acl_rights::{IndexedStates, Judge, States};
 use acl_tree::State;
 use facl_output::{LineFault, ReservedMessage, push_message, push_warning};
 use facl_script::{HeldLine, HeldUnit, Session, asks_for_text};
+use facl_tools::Effect;
 use std::alloc::{AllocError, Global};
 
 /// The states of a script with their indexes, and the output and the message of its last line.

@@ -1,35 +1,13 @@
 //! The tools of a script: a row for each, with its name and the words that it takes; the line that these give; and what
 //! it does.
 
-mod attr;
 mod below;
 mod can;
-mod chacl;
 mod changes;
-mod chmod;
-mod creat;
-mod edits;
-pub(crate) mod effect;
 mod gains;
-mod getfacl;
-mod gpasswd;
 mod index;
 pub(crate) mod laws;
-mod lists;
-mod load;
 mod may;
-mod mode;
-mod operands;
-mod rm;
-pub(crate) mod round_trips;
-mod setattr;
-mod setfacl;
-mod setfacl_entries;
-mod syntax;
-mod tested;
-mod useradd;
-mod userdel;
-mod usermod;
 mod who;
 mod why;
 
@@ -38,14 +16,17 @@ ghost use Rattle.std.specs.List.{find};
 ghost use Rattle.std.specs.Str.{bytes_eq};
 ghost use Rattle.acl_rights.specs.States.{loaded_state};
 ghost use Rattle.facl_script.specs.Rows.{syntax_view};
-ghost use Rattle.facl.specs.Replies.{Gives, Replies, after};
+ghost use Rattle.facl_tools.specs.Replies.{Gives, Replies, after};
 ghost use Rattle.facl.specs.Tools.{answered, line_or_fault, loads, read_line, row_of, row_view, syntax_of, table, tool_line, tool_name, tool_named, words_of, words_or_fault};
 ghost use Rattle.facl.specs.contracts.tools.ToolPartialEq.TheImpl.{ghosts as equality};
 
-use crate::tools::effect::Effect;
 use acl_rights::{IndexedStates, Judge};
 use facl_output::LineFault;
 use facl_script::{Syntax, Words, read_by};
+use facl_tools::{
+    Effect, attr, chacl, chmod, creat, getfacl, gpasswd, load, rm, setattr, setfacl, useradd,
+    userdel, usermod,
+};
 use std::alloc::{AllocError, Global};
 
 /// A tool that a line of a script may name.

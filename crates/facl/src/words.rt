@@ -1,7 +1,7 @@
 //! The words of the program, with the faults of a line.
 
 ghost use Rattle.std.specs.Prelude.{map, option_map, string_bytes};
-ghost use Rattle.facl.specs.Replies.{Gives};
+ghost use Rattle.facl_tools.specs.Replies.{Gives};
 ghost use Rattle.facl.specs.Units.{args_or_fault};
 
 use facl_output::LineFault;

@@ -207,8 +207,9 @@ FAULTS: Dict[str, List[Tuple[str, ...]]] = {
 
 
 # What the check of tools and options reads.
-OF_TOOLS = ("crates/facl/src/tools.rt", "crates/facl/src/tools", "crates/facl_script/src/args.rt", "README.md",
-            "commands/facl_commands", "docs/SPECIFICATION.md", "docs/facl.1", "docs/facl-commands.1")
+OF_TOOLS = ("crates/facl/src/tools.rt", "crates/facl/src/tools", "crates/facl_tools/src",
+            "crates/facl_script/src/args.rt", "README.md", "commands/facl_commands", "docs/SPECIFICATION.md",
+            "docs/facl.1", "docs/facl-commands.1")
 RECORDS_PATH, CAUSES = "commands/facl_commands/tools.py", "commands/facl_commands/cause_rows.py"
 RULES, PAGE_PATH = "docs/SPECIFICATION.md", "docs/facl.1"
 
@@ -266,7 +267,7 @@ class Tools(Case):
                       for path in (RECORDS_PATH, CAUSES, "README.md", RULES, PAGE_PATH)))
 
     def test_an_option_that_the_program_gets(self) -> None:
-        self.change("crates/facl/src/tools/chmod.rt", "options: &[]", "options: &[both!('z', \"zap\")]")
+        self.change("crates/facl_tools/src/chmod.rt", "options: &[]", "options: &[both!('z', \"zap\")]")
         self.expect((RECORDS_PATH, "chmod has no -z --zap here"), (RULES, "chmod has no -z --zap here"),
                     (PAGE_PATH, "chmod has no -z here"), (PAGE_PATH, "chmod has no --zap here"))
 

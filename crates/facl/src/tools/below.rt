@@ -2,17 +2,15 @@
 
 ghost use Rattle.std.specs.Prelude.{◌≡◌};
 ghost use Rattle.facl.specs.Below.{answered, read};
-ghost use Rattle.facl.specs.Replies.{Replies};
+ghost use Rattle.facl_tools.specs.Replies.{Replies};
 
-use crate::tools::effect::Effect;
-use crate::tools::operands::paths_of;
-use crate::tools::syntax::{by_name, one, some};
 use acl_entry::Perm;
 use acl_rights::{IndexedState, Judge};
 use acl_text::read_perms;
 use facl_counts::write_below;
 use facl_output::LineFault;
 use facl_script::{LineFiles, OperandRow, OptionRow, Syntax, Words};
+use facl_tools::{Effect, by_name, one, paths_of, some};
 use std::alloc::Global;
 
 /// The words of the tool.

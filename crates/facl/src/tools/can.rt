@@ -2,17 +2,15 @@
 
 ghost use Rattle.std.specs.Prelude.{◌≡◌};
 ghost use Rattle.facl.specs.Can.{answered, can_of, read, requests_at};
-ghost use Rattle.facl.specs.Replies.{Gives, Replies};
+ghost use Rattle.facl_tools.specs.Replies.{Gives, Replies};
 
-use crate::tools::effect::Effect;
-use crate::tools::operands::{path_at, user_at};
-use crate::tools::syntax::{by_name, one};
 use acl_names::Path;
 use acl_rights::{IndexedState, Judge, Verdicts};
 use acl_tree::TreeFault;
 use facl_answers::append_requests;
 use facl_output::LineFault;
 use facl_script::{OperandRow, OptionRow, Syntax, WordRef, Words};
+use facl_tools::{Effect, by_name, one, path_at, user_at};
 use std::alloc::Global;
 
 /// The words of the tool.

@@ -3,14 +3,13 @@
 ghost use Rattle.std.specs.Prelude.{◌≡◌};
 ghost use Rattle.acl_rights.specs.States.{loaded_state};
 ghost use Rattle.facl.specs.Changes.{answered, read};
-ghost use Rattle.facl.specs.Replies.{Replies};
+ghost use Rattle.facl_tools.specs.Replies.{Replies};
 
-use crate::tools::effect::Effect;
-use crate::tools::syntax::by_name;
 use acl_rights::{IndexedStates, Judge};
 use facl_answers::write_changes_within;
 use facl_output::LineFault;
 use facl_script::{OptionRow, Syntax, Words};
+use facl_tools::{Effect, by_name};
 use std::alloc::Global;
 
 /// The words of the tool.

@@ -2,14 +2,13 @@
 
 ghost use Rattle.std.specs.Prelude.{◌≡◌};
 ghost use Rattle.facl.specs.Gains.{answered, read};
-ghost use Rattle.facl.specs.Replies.{Replies};
+ghost use Rattle.facl_tools.specs.Replies.{Replies};
 
-use crate::tools::effect::Effect;
-use crate::tools::syntax::by_name;
 use acl_rights::{IndexedState, Judge};
 use facl_counts::write_gains;
 use facl_output::LineFault;
 use facl_script::{OptionRow, Syntax, Words};
+use facl_tools::{Effect, by_name};
 use std::alloc::Global;
 
 /// The words of the tool.

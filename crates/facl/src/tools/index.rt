@@ -1,13 +1,13 @@
 //! The tool `index`: what each user may do with each file.
 
 ghost use Rattle.facl.specs.Index.{answered};
-ghost use Rattle.facl.specs.Replies.{Replies};
+ghost use Rattle.facl_tools.specs.Replies.{Replies};
 
-use crate::tools::effect::Effect;
 use acl_rights::{IndexedState, Judge};
 use facl_answers::write_index;
 use facl_output::LineFault;
 use facl_script::Syntax;
+use facl_tools::Effect;
 use std::alloc::Global;
 
 /// The tool takes no words.

@@ -2,11 +2,8 @@
 
 ghost use Rattle.std.specs.Prelude.{◌≡◌, IfOk, option_map};
 ghost use Rattle.facl.specs.May.{answered, may_of, may_text_of, read};
-ghost use Rattle.facl.specs.Replies.{Gives, Replies};
+ghost use Rattle.facl_tools.specs.Replies.{Gives, Replies};
 
-use crate::tools::effect::Effect;
-use crate::tools::operands::name_meant;
-use crate::tools::syntax::{by_name, one};
 use acl_entry::Perm;
 use acl_names::Name;
 use acl_rights::{IndexedState, Judge, Verdicts};
@@ -15,6 +12,7 @@ use acl_tree::TreeFault;
 use facl_answers::write_may;
 use facl_output::LineFault;
 use facl_script::{OperandRow, OptionRow, Syntax, WordRef, Words};
+use facl_tools::{Effect, by_name, name_meant, one};
 use std::alloc::{AllocError, Global};
 
 /// The words of the tool.

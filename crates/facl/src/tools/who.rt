@@ -1,12 +1,9 @@
 //! The tool `who`: the users who may do something with a file.
 
 ghost use Rattle.std.specs.Prelude.{◌≡◌};
-ghost use Rattle.facl.specs.Replies.{Gives, Replies};
+ghost use Rattle.facl_tools.specs.Replies.{Gives, Replies};
 ghost use Rattle.facl.specs.Who.{answered, read, who_at, who_of};
 
-use crate::tools::effect::Effect;
-use crate::tools::operands::path_at;
-use crate::tools::syntax::{by_name, one};
 use acl_entry::Perm;
 use acl_names::Path;
 use acl_rights::{IndexedState, Judge, Verdicts};
@@ -15,6 +12,7 @@ use acl_tree::TreeFault;
 use facl_answers::write_who;
 use facl_output::LineFault;
 use facl_script::{OperandRow, OptionRow, Syntax, WordRef, Words};
+use facl_tools::{Effect, by_name, one, path_at};
 use std::alloc::Global;
 
 /// The words of the tool.

@@ -2,12 +2,9 @@
 
 ghost use Rattle.std.specs.Prelude.{◌≡◌};
 ghost use Rattle.std.specs.Option.{option_copied};
-ghost use Rattle.facl.specs.Replies.{Gives, Replies};
+ghost use Rattle.facl_tools.specs.Replies.{Gives, Replies};
 ghost use Rattle.facl.specs.Why.{answered, person_named, read, why_at, why_of};
 
-use crate::tools::effect::Effect;
-use crate::tools::operands::{name_meant, paths_of};
-use crate::tools::syntax::{by_name, one, some};
 use acl_entry::Subject;
 use acl_names::Name;
 use acl_people::People;
@@ -15,6 +12,7 @@ use acl_tree::{Paths, State, TreeFault};
 use facl_answers::{files_asked, write_why};
 use facl_output::LineFault;
 use facl_script::{LineFiles, OperandRow, OptionRow, Syntax, WordRef, Words};
+use facl_tools::{Effect, by_name, name_meant, one, paths_of, some};
 use std::alloc::Global;
 
 /// The words of the tool.

@@ -1,6 +1,6 @@
 use Rattle.std.proofs.Common.{sym, subst, ◌∙◌}
 use Rattle.acl_rights.specs.States.{loaded_state}
-use Rattle.facl.specs.Replies.{Replies}
+use Rattle.facl_tools.specs.Replies.{Replies}
 use Rattle.facl.specs.Tools.{answered}
 use Rattle.facl.proofs.tools.answer.Goals as goal
 

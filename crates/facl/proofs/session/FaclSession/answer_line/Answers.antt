@@ -1,5 +1,5 @@
 use Rattle.std.proofs.Common.{subst, map, string_bytes}
-use Rattle.facl.specs.Replies.{Gives}
+use Rattle.facl_tools.specs.Replies.{Gives}
 use Rattle.facl.specs.Sessions.{states_of, out_of, err_of, ran_out_of_memory}
 use Rattle.facl.specs.Units.{words_of_line}
 use Rattle.facl.proofs.Refusing.{refused_line}

@@ -1,5 +1,5 @@
 use Rattle.std.proofs.Common.{◌≡◌, ◌∙◌, None, true, map, string_bytes, subst, sym}
-use Rattle.facl.specs.Replies.{after, or_fault}
+use Rattle.facl_tools.specs.Replies.{after, or_fault}
 use Rattle.facl.specs.Tools.{tool_named}
 use Rattle.facl_output.specs.declared.fault.LineFault.TheVariants.{UnknownTool}
 use Rattle.facl.specs.Sessions.{states_of, Answers}

@@ -1,5 +1,5 @@
 use Rattle.std.proofs.Common.{ap, map, string_bytes, subst}
-use Rattle.facl.specs.Replies.{Replies}
+use Rattle.facl_tools.specs.Replies.{Replies}
 use Rattle.facl.specs.Sessions.{states_of, out_of, err_of, ran_out_of_memory}
 use Rattle.facl.specs.Units.{answer_of, tool_reply}
 use Rattle.facl.proofs.Refusing.{refused_as}

@@ -3,8 +3,8 @@ use Rattle.std.proofs.lemmas.Grind.{common_steps}
 use Rattle.std.specs.Option.{option_copied}
 use Rattle.acl_tree.specs.declared.fault.TreeFault.TheVariants.{NoSuchUser}
 use Rattle.facl_output.specs.declared.fault.LineFault.TheVariants.{Tree}
-use Rattle.facl.specs.Operands.{name_meant}
-use Rattle.facl.specs.Replies.{Gives, after, or_fault}
+use Rattle.facl_tools.specs.Operands.{name_meant}
+use Rattle.facl_tools.specs.Replies.{Gives, after, or_fault}
 use Rattle.facl.specs.Why.{person_named, why_at}
 use Rattle.facl.proofs.tools.why.why_of.Goals as goal
 

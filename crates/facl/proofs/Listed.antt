@@ -1,9 +1,0 @@
--- The paths of operands, one after another.
-use Rattle.std.proofs.Common.{List, ◌++◌, Result, Ok}
-use Rattle.acl_names.specs.Paths.{PathOf}
-use Rattle.facl_output.specs.declared.fault.LineFault.{LineFault}
-use Rattle.facl.specs.Replies.{after}
-
--- these paths, and those that come after them
-abbrev pub after_those : List PathOf → Result (List PathOf) LineFault → Result (List PathOf) LineFault
-after_those done r = after r (λ paths. Ok (done ++ paths))

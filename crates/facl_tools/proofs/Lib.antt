@@ -1,0 +1,5 @@
+pub mod Listed
+pub mod Modes
+pub mod RoundTrips
+pub mod SameEntries
+pub mod StillThere

@@ -1,0 +1,151 @@
+-- What a line of setfacl(1) does.
+use Rattle.std.specs.Prelude.{ℕ, List, Bool, false, not, ◌&&◌, ◌||◌, [], Option, Some, None, Result, Ok, Err, option_map, if◌then◌else◌}
+use Rattle.std.specs.Bool.{beq}
+use Rattle.std.specs.List.{find, list_any}
+use Rattle.acl_entry.specs.Keys.{same_key}
+use Rattle.acl_text.specs.Entries.{entries_of}
+use Rattle.acl_text.specs.declared.entries.Sep.{Sep}
+use Rattle.acl_text.specs.declared.entries.Sep.TheVariants.{Comma, Line}
+use Rattle.acl_text.specs.declared.entries.Spec.{Spec}
+use Rattle.acl_text.specs.declared.entries.Want.{Want}
+use Rattle.acl_text.specs.declared.entries.Want.TheVariants.{WithPerms, WithoutPerms}
+use Rattle.acl_text.specs.Records.{dump_of}
+use Rattle.acl_text.specs.declared.record.DumpRecord.{DumpRecord}
+use Rattle.acl_text.specs.declared.record.DumpUse.TheVariants as uses
+use Rattle.acl_edit.specs.declared.edit.Edit.{Edit as FileEdit}
+use Rattle.acl_edit.specs.declared.edit.Edit.TheVariants as edits
+use Rattle.acl_people.specs.KnownPeople.{KnownPeople, naming_of}
+use Rattle.acl_tree.specs.Files.{Files}
+use Rattle.acl_tree.specs.Found.{FoundFile, files_found}
+use Rattle.acl_tree.specs.Restoring.{paths_of}
+use Rattle.acl_tree.specs.State.{State}
+use Rattle.acl_tree.specs.Step.{step}
+use Rattle.acl_tree.specs.declared.command.Command.{Command}
+use Rattle.acl_tree.specs.declared.command.Command.TheVariants.{Chmod, Creat, Edit, Gpasswd, Load, Restore, Rm, Useradd, Userdel, Usermod}
+use Rattle.acl_tree.specs.declared.fault.TreeFault.{TreeFault}
+use Rattle.facl_output.specs.Faults.{line_fault_of_tree}
+use Rattle.facl_output.specs.declared.fault.LineFault.{LineFault}
+use Rattle.facl_output.specs.declared.fault.LineFault.TheVariants as faults
+use Rattle.facl_output.specs.declared.fault.Source.TheVariants.{Entry, TextLine}
+use Rattle.facl_output.specs.TestListing.{test_listing}
+use Rattle.facl_tools.specs.Replies.{Reply, after, done, printed}
+use Rattle.facl_tools.specs.Operands.{paths_from}
+use Rattle.facl_tools.specs.Lists.{at_source}
+use Rattle.facl_tools.specs.declared.setfacl.ChangeFlags.{ChangeFlags}
+use Rattle.facl_tools.specs.declared.setfacl.ChangeLine.{ChangeLine}
+use Rattle.facl_tools.specs.declared.setfacl.EntrySource.{EntrySource}
+use Rattle.facl_tools.specs.declared.setfacl.EntrySource.TheVariants.{InText, InWord}
+use Rattle.facl_tools.specs.declared.setfacl.SetfaclLine.{SetfaclLine}
+use Rattle.facl_tools.specs.declared.setfacl.SetfaclLine.TheVariants as lines
+use Rattle.facl_tools.specs.declared.setfacl_entries.ChangeEntries.{ChangeEntries}
+
+-- ---- entry texts
+
+-- the entries of a text
+abbrev pub entries_in : KnownPeople → Want → Sep → List ℕ → Result (List Spec) LineFault
+entries_in known want sep text =
+    at_source Entry (entries_of (naming_of known) sep want text)
+
+-- the entries of an option, if it is given: in a word they are separated by commas, in the text after the line each has
+-- a line
+abbrev pub entries_given : KnownPeople → Want → Option EntrySource → List ℕ → Result (List Spec) LineFault
+entries_given known want None text = Ok []
+entries_given known want (Some (InWord word)) text = entries_in known want Comma word
+entries_given known want (Some InText) text = entries_in known want Line text
+
+-- the entries of a line: the first fault is that of the removed ones, then of the modified ones, then of the set ones
+abbrev pub entries_of_line : KnownPeople → ChangeLine → List ℕ → Result ChangeEntries LineFault
+entries_of_line known line text =
+    after (entries_given known WithoutPerms line.removed text)
+    (λ removed. after (entries_given known WithPerms line.modified text)
+    (λ modified. after (entries_given known WithPerms line.set text)
+    (λ set. Ok (record { remove = removed; modify = modified; set = set }))))
+
+-- two entries of one list with one key; `-d` drops default entries
+abbrev pub is_same_entry : Bool → Spec → Spec → Bool
+is_same_entry as_default a b = not (as_default && a.dflt) && (beq a.dflt b.dflt && same_key a.key b.key)
+
+-- the first modified entry that is removed too
+abbrev pub both_at : Bool → ChangeEntries → Option ℕ
+both_at as_default entries =
+    option_map (λ m. m.at) (find (λ m. list_any (λ r. is_same_entry as_default m r) entries.remove) entries.modify)
+
+-- this, where no entry is both removed and modified
+abbrev pub unless_both : {A : Type 0} → Option ℕ → Result A LineFault → Result A LineFault
+unless_both None r = r
+unless_both (Some at) r = Err (faults.Both at)
+
+abbrev pub has_default : List Spec → Bool
+has_default specs = list_any (λ s. s.dflt) specs
+
+-- `-d` drops a default entry of one of the texts
+abbrev pub drops : Bool → ChangeEntries → Bool
+drops as_default entries = as_default && (has_default entries.remove || (has_default entries.modify || has_default entries.set))
+
+-- ---- what is done
+
+-- the files of a command, as they are among these
+abbrev pub command_files : Command → Files → List FoundFile
+command_files (Edit paths e recursive) files = files_found recursive paths files
+command_files (Restore records) files = files_found false (paths_of records) files
+command_files (Load which bytes) files = []
+command_files (Chmod paths mode recursive) files = []
+command_files (Creat new) files = []
+command_files (Rm paths recursive) files = []
+command_files (Gpasswd user group change) files = []
+command_files (Usermod user group) files = []
+command_files (Useradd new) files = []
+command_files (Userdel user) files = []
+
+-- ids print as the names that these people have
+abbrev pub named_test_listing : KnownPeople → List FoundFile → List ℕ
+named_test_listing known files = test_listing (naming_of known) files
+
+-- what `--test` prints of a command, from the files after it
+abbrev pub tested : Command → State → List ℕ
+tested command s = named_test_listing s.people (command_files command s.tree.files)
+
+-- with `--test` the state stays
+abbrev pub tested_or_fault : State → Command → Result State TreeFault → Result Reply LineFault
+tested_or_fault s command (Ok new) = Ok (printed s (tested command new))
+tested_or_fault s command (Err fault) = Err (line_fault_of_tree fault)
+
+-- a command is done, or tried out
+abbrev pub done_or_tested : Bool → State → Command → Result Reply LineFault
+done_or_tested test s command = if test then tested_or_fault s command (step s command) else done s command
+
+-- the same, with a warning
+abbrev pub with_warning_if : Bool → Result Reply LineFault → Result Reply LineFault
+with_warning_if warns r = after r (λ reply. Ok (record reply { warns = warns }))
+
+-- ---- lists are changed
+
+-- what a line does with the lists of a file: its options, and its entries
+abbrev pub edit_of : ChangeFlags → ChangeEntries → FileEdit
+edit_of flags entries =
+    edits.Change flags.strip flags.drop_default flags.as_default flags.no_mask flags.remask entries.remove entries.set entries.modify
+
+-- these entries are put into the files
+abbrev pub change_files : State → ChangeLine → ChangeEntries → Result Reply LineFault
+change_files s line entries =
+    after (paths_from 1 line.files)
+    (λ paths. with_warning_if (drops line.flags.as_default entries) (done_or_tested line.test s (Edit paths (edit_of line.flags entries) line.recursive)))
+
+abbrev pub change_line : State → ChangeLine → List ℕ → Result Reply LineFault
+change_line s line text =
+    after (entries_of_line s.people line text) (λ entries. unless_both (both_at line.flags.as_default entries) (change_files s line entries))
+
+-- ---- a dump is restored
+
+-- the records of a dump, of which none needs an owner or a group
+unfoldable pub records_or_fault : KnownPeople → List ℕ → Result (List DumpRecord) LineFault
+records_or_fault known text = at_source TextLine (dump_of (naming_of known) uses.Restore text)
+
+abbrev pub restore_line : State → Bool → List ℕ → Result Reply LineFault
+restore_line s test text = after (records_or_fault s.people text) (λ records. done_or_tested test s (Restore records))
+
+-- ---- the line
+
+abbrev pub answered : State → SetfaclLine → List ℕ → Result Reply LineFault
+answered s (lines.Change line) text = change_line s line text
+answered s (lines.Restore test) text = restore_line s test text

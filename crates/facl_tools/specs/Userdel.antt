@@ -1,0 +1,22 @@
+-- userdel(8): a user is removed.
+use Rattle.std.specs.Prelude.{[], ◌∷◌, codes, refl, Result}
+use Rattle.acl_tree.specs.Accounts.{userdel}
+use Rattle.acl_tree.specs.State.{State}
+use Rattle.facl_script.specs.Syntax.{Syntax, one}
+use Rattle.facl_script.specs.declared.tool_words.Words.{Words}
+use Rattle.facl_output.specs.declared.fault.LineFault.{LineFault}
+use Rattle.facl_tools.specs.Asked.{operand}
+use Rattle.facl_tools.specs.Operands.{name_meant}
+use Rattle.facl_tools.specs.Replies.{Reply, replied_removal}
+use Rattle.facl_tools.specs.declared.userdel.UserdelLine.{UserdelLine}
+
+abbrev pub syntax : Syntax
+syntax = record { flags = []; options = []; operands = one (codes "user") ∷ [] }
+
+-- the line that words give
+abbrev pub read : Words → UserdelLine
+read w = record { user = operand syntax w (codes "user") refl }
+
+-- the user is removed
+abbrev pub answered : State → UserdelLine → Result Reply LineFault
+answered s line = replied_removal s (userdel (name_meant line.user) s.people)
