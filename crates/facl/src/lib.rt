@@ -4,11 +4,11 @@
 //! [`run`] loads three texts, answers a script line by line, and writes what each line prints. Its contract is the
 //! whole: what is written are the bytes of a session made from scratch.
 //!
-//! Each tool has one file below `tools`: its syntax, its reader from the words of a line to a value of its
-//! own type (`None`: usage), and what it does at a state. `tool_line` reads a line's words and does it; its effect is
-//! what is printed, and the state that is to replace the present one. It changes nothing; the session puts the effect
-//! in place. [`read_words`] uses the same readers. What the questions print is in `facl_answers` and
-//! `facl_counts`.
+//! Each tool has one file, in `facl_tools` or, where it asks who may do what, below `tools`: its syntax, its reader from
+//! the words of a line to a value of its own type (`None`: usage), and what it does at a state. `tool_line` reads a
+//! line's words and does it; its effect is what is printed, and the state that is to replace the present one. It changes
+//! nothing; the session puts the effect in place. [`read_words`] uses the same readers. What the questions print is in
+//! `facl_answers` and `facl_counts`.
 #![tactic(auto)]
 
 mod laws;
