@@ -132,7 +132,7 @@ class Memory(unittest.TestCase):
         self.assertEqual(self.wanted(0.1, *checks[1:]), (3, signal.SIGCONT))
 
     def test_what_a_crate_may_take(self) -> None:
-        for crate, more in (("facl", 6_100_000_000), ("kinds", 3_100_000_000), ("", 3_100_000_000)):
+        for crate, more in (("acl_rights", 4_500_000_000), ("kinds", 3_100_000_000), ("", 3_100_000_000)):
             words = ["sh", "-c", "echo runs; read line", "prover", "--crate-name", crate]
             program = subprocess.Popen(words, stdin=subprocess.PIPE, stdout=subprocess.PIPE)
             try:
