@@ -28,3 +28,7 @@ pub mod Deduped
 pub mod Tags
 pub mod ChangedNodes
 pub mod SameNodes
+pub mod TagCounts
+pub mod OtherNumbers
+pub mod CountedPuts
+pub mod Outside

@@ -4,7 +4,7 @@ use Rattle.std.specs.List.{AllByRecursion}
 use Rattle.kinds.specs.declared.pairs.pair.Pair.{Pair}
 use Rattle.kinds.specs.PairSets.{is_before, is_same, AreAfter, AreRising, has}
 use Rattle.kinds.specs.PairParts.{AreBefore, AreFrom}
-use Rattle.kinds.proofs.PairOrder.{before_later, not_after, not_itself, same_pair, is_same-false, is_same-later}
+use Rattle.kinds.proofs.PairOrder.{before_later, not_after, not_itself, same_pair}
 
 module _ {A : Type 0} (P : A → Type 0) where
   pub all_join : (xs ys : List A) → AllByRecursion P xs → AllByRecursion P ys → AllByRecursion P (xs ++ ys)

@@ -13,7 +13,7 @@ use Rattle.kinds.specs.Tagged.{is_one, numbers_found, SameBut}
 use Rattle.kinds.proofs.ByNumber.{used_number}
 use Rattle.kinds.proofs.GivenNodes.{used_some, used_none}
 
-neither : (a b : Bool) → (a || b) ≡ false → (a ≡ false) × (b ≡ false)
+pub neither : (a b : Bool) → (a || b) ≡ false → (a ≡ false) × (b ≡ false)
 neither true b h = absurd (true≢false h)
 neither false b h = (refl, h)
 

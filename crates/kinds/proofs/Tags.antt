@@ -13,11 +13,11 @@ use Rattle.std.proofs.lemmas.Map.Keys.{sorted_from_strictly_increasing}
 use Rattle.acl_names.proofs.Basics.{times_one, times_none}
 use Rattle.kinds.specs.declared.pairs.pair.Pair.{Pair}
 use Rattle.kinds.specs.PairSets.{has, seconds_of, tagged_pairs}
-use Rattle.kinds.specs.Kinds.{KindsOf, node_at, count_at}
+use Rattle.kinds.specs.Kinds.{KindsOf, node_at, count_at, IsNode}
 use Rattle.kinds.specs.Given.{used_at}
 use Rattle.kinds.specs.Numbered.{Numbers, entries_by, AreSound}
 use Rattle.kinds.specs.Renewed.{one_where, changed_where, weight_at, weight_before, Renews}
-use Rattle.kinds.specs.Tagged.{is_one, meets, tags_at, AreTagsOf, SameBut, IsSettled, AreSettled, ChangesEach}
+use Rattle.kinds.specs.Tagged.{is_one, meets, tags_at, AreTagsOf, SameBut, SameTagsBut, IsSettled, AreSettled, ChangesEach, ChangesTagged}
 use Rattle.kinds.proofs.Numbers.{eq_true, eq_swap, node_within}
 use Rattle.kinds.proofs.EntriesBy.{all_weaker, entry_first}
 use Rattle.kinds.proofs.GivenNodes.{used_some, used_none}
@@ -203,7 +203,7 @@ module _ {N : Type 0} (tags_of : N → List ℕ) (old k : KindsOf N) where
       (settle (is_one p.second done) (m == p.second) (has p new) (has p gone) (is_one p.first (tags_at tags_of old p.second)) (is_one p.first (tags_at tags_of k p.second)) (s p))))
 
   -- the pairs after the change
-  pub settled_all : (numbers : List ℕ) (gone new ps left all : List Pair) → AreTagsOf tags_of old ps → SameBut numbers old k → AreSettled tags_of old k numbers gone new
+  pub settled_all : (numbers : List ℕ) (gone new ps left all : List Pair) → AreTagsOf tags_of old ps → SameTagsBut tags_of numbers old k → AreSettled tags_of old k numbers gone new
       → ((p : Pair) → has p left ≡ cond (has p gone) false (has p ps)) → ((p : Pair) → has p all ≡ cond (has p new) true (has p left)) → AreTagsOf tags_of k all
   settled_all numbers gone new ps left all are same s is_left is_all = λ p.
       is_all p ∙ ap (λ b. cond (has p new) true b) (is_left p ∙ ap (λ b. cond (has p gone) false b) (are p))
@@ -215,11 +215,15 @@ module _ {N : Type 0} (tags_of : N → List ℕ) (old k : KindsOf N) where
       by p true e t = t
       by p false e t =
           (λ i. cond (t.0 i) true (cond (t.1 i) false (is_one p.first (tags_at tags_of old p.second))))
-          ∙ ap (λ o. is_one p.first (option_map_or tags_of o [])) (sym (same p.second e))
+          ∙ ap (is_one p.first) (sym (same p.second e))
 
 -- ---- nodes that become others with the same tags
 
 module _ {N : Type 0} (tags_of : N → List ℕ) where
+  -- the same nodes have the same tags
+  pub same_tags : (numbers : List ℕ) (old k : KindsOf N) → SameBut numbers old k → SameTagsBut tags_of numbers old k
+  same_tags numbers old k same = λ n other. ap (λ o. option_map_or tags_of o []) (same n other)
+
   kept_tags : (g : N → N) → ((x : N) → tags_of (g x) ≡ tags_of x) → (o : Option N) → option_map_or tags_of (option_map g o) [] ≡ option_map_or tags_of o []
   kept_tags g same None = refl
   kept_tags g same (Some x) = same x
@@ -270,6 +274,12 @@ module _ {N : Type 0} (tags_of : N → List ℕ) where
           by : (o : Option N) → cond (meets (option_map_or tags_of o []) wanted) (option_map f o) o ≡ option_map (changed_where wants f) o
           by None = refl
           by (Some x) = either x (wants x)
+
+      pub changes_tagged : (f : N → N) (new : KindsOf N) → ChangesEach f numbers k new → ChangesTagged f tags_of wanted k new
+      changes_tagged f new h = record {
+        nodes = λ n. h.nodes n ∙ ap (λ b. cond b (option_map f (node_at k n)) (node_at k n)) (exact n);
+        counts = h.counts;
+      }
 
       weighs : (o : Option N) (c : ℕ) (b : Bool) → nat_lt 0 c ≡ b → meets (option_map_or tags_of (cond b o None) []) wanted ≡ true → 0 < c * option_map_or (one_where wants) o 0
       weighs None c true is h = absurd (true≢false (sym h))
@@ -340,6 +350,14 @@ module _ {N : Type 0} (tags_of : N → List ℕ) where
 
         pub no_files : length numbers ≡ 0 → count_by (λ (e : PathOf × N). wants e.1) (entries_by k ns) ≡ 0
         no_files none = sym counts_all ∙ tagged_none none
+
+  -- a number that had a node has one, as some nodes become others
+  pub node_tagged : (f : N → N) (wanted : List ℕ) (old new : KindsOf N) → ChangesTagged f tags_of wanted old new → (n : ℕ) → IsNode old n → IsNode new n
+  node_tagged f wanted old new h n there = by (meets (tags_at tags_of old n) wanted) (h.nodes n)
+    where
+      by : (b : Bool) → node_at new n ≡ cond b (option_map f (node_at old n)) (node_at old n) → IsNode new n
+      by true is = (f there.0, is ∙ ap (option_map f) there.1)
+      by false is = (there.0, is ∙ there.1)
 
   -- where no path is, there are no pairs
   pub no_pairs : (k : KindsOf N) (ns : Numbers) → AreSound k ns → entries_by k ns ≡ [] → AreTagsOf tags_of k []

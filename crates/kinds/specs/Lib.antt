@@ -13,3 +13,4 @@ pub mod Counted
 pub mod PairSets
 pub mod PairParts
 pub mod Tagged
+pub mod Renumbered

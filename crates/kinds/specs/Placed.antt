@@ -29,11 +29,11 @@ IsOfEntry x es = (at : ℕ) × (slice_get (map (λ e. e.1) es) at ≡ Some x)
 abbrev pub ArePlaces : ℕ → Numbers → Type 0
 ArePlaces n es = AllByRecursion (λ e. e.1 < n) es
 
--- ---- for inner functions
-
 -- paths with the numbers at their places
 abbrev pub by_place : List ℕ → Numbers → Numbers
 by_place numbers es = map (λ e. (e.0, get_or numbers e.1 0)) es
+
+-- ---- for inner functions
 
 -- each node of a list has a number; no path more is counted
 pub record AddsNodes {N : Type 0} (old : KindsOf N) (nodes : List (Option N)) (numbers : List ℕ) (new : KindsOf N) : Type 0 where

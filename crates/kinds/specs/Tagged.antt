@@ -27,6 +27,19 @@ AreTagsOf tags k ps = (p : Pair) → has p ps ≡ is_one p.first (tags_at tags k
 abbrev pub SameBut : {N : Type 0} → List ℕ → KindsOf N → KindsOf N → Type 0
 SameBut ns old new = (n : ℕ) → is_one n ns ≡ false → used_at new n ≡ used_at old n
 
+-- the tags of the nodes that paths have are the same, but for those of some numbers
+abbrev pub SameTagsBut : {N : Type 0} → (N → List ℕ) → List ℕ → KindsOf N → KindsOf N → Type 0
+SameTagsBut tags ns old new = (n : ℕ) → is_one n ns ≡ false → tags_at tags new n ≡ tags_at tags old n
+
+-- a number that had a node has one with the same tags
+abbrev pub KeepsTags : {N : Type 0} → (N → List ℕ) → KindsOf N → KindsOf N → Type 0
+KeepsTags {N} tags old new = (n : ℕ) (x : N) → node_at old n ≡ Some x → (y : N) × ((node_at new n ≡ Some y) × (tags y ≡ tags x))
+
+-- nodes that paths have and that have one of some tags became others; counts are the same
+pub record ChangesTagged {N : Type 0} (f : N → N) (tags : N → List ℕ) (wanted : List ℕ) (old new : KindsOf N) : Type 0 where
+  pub nodes : (n : ℕ) → node_at new n ≡ (if meets (tags_at tags old n) wanted then option_map f (node_at old n) else node_at old n)
+  pub counts : (n : ℕ) → count_at new n ≡ count_at old n
+
 -- the numbers that were found
 abbrev pub numbers_found : List (Option ℕ) → List ℕ
 numbers_found [] = []

@@ -104,7 +104,7 @@ impl<N> Kinds<N> {
     }
 
     /// How many paths have a number. Allocates nothing.
-    pub(crate) fn count(&self, number: usize) -> usize
+    pub fn count(&self, number: usize) -> usize
         ensures { result ≡ count_at self.now number }
     {
         count_in(&self.slots, number)

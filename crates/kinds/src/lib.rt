@@ -23,7 +23,9 @@ mod placed;
 mod put;
 mod release;
 mod renew;
+mod renumber;
 mod tagged;
+mod tagged_puts;
 mod tagged_reads;
 
 pub use blocks::{BlockList, Same};

@@ -1,6 +1,6 @@
 //! The map by kinds.
 
-ghost use Rattle.std.specs.Prelude.{◌≡◌, ◌<◌, ◌∷◌, [], Some, length, map, IfOk, IfSome};
+ghost use Rattle.std.specs.Prelude.{◌≡◌, ◌<◌, ◌∷◌, [], ℕ, Some, length, map, IfOk, IfSome};
 ghost use Rattle.std.specs.Option.{option_copied};
 ghost use Rattle.std.specs.FinMap.{find};
 ghost use Rattle.acl_names.specs.Paths.{path_cmp};
@@ -10,7 +10,7 @@ ghost use Rattle.acl_names.specs.Below.{encloses};
 ghost use Rattle.path_map.specs.Below.{from, within};
 ghost use Rattle.path_map.specs.Merged.{without_all};
 ghost use Rattle.kinds.specs.Numbered.{AreSound, entries_in};
-ghost use Rattle.kinds.specs.Kinds.{node_at};
+ghost use Rattle.kinds.specs.Kinds.{node_at, count_at};
 ghost use Rattle.kinds.specs.Placed.{IsOfEntry};
 ghost use Rattle.kinds.specs.Given.{used_at};
 ghost use Rattle.kinds.specs.Tagged.{SameBut, numbers_found};
@@ -175,6 +175,8 @@ impl<N: Drop> KindMap<N> {
         requires { IsInOrder (map seen gone.now) }
         ensures entries { IfOk result (λ new. entries_in new.0 ≡ without_all (map seen gone.now) (entries_in self.now)) }
         ensures same { IfOk result (λ new. SameBut (numbers_found new.1.items) self.now.0 new.0.0) }
+        ensures numbers { IfOk result (λ new. new.0.1 ≡ without_all (map seen gone.now) self.now.1) }
+        ensures nodes { IfOk result (λ new. (n : ℕ) → 0 < count_at new.0.0 n → node_at new.0.0 n ≡ node_at self.now.0 n) }
     {
         let found = self.numbers().get_all(alloc, gone)?;
         let numbers = self.numbers().without_all(alloc, gone)?;

@@ -3,7 +3,7 @@
 ghost use Rattle.std.specs.Prelude.{◌≡◌, ◌<◌, ◌++◌, ◌∷◌, [], Option, Some, List, ℕ, false, length, map, get_or, IfOk};
 ghost use Rattle.path_map.specs.Entries.{IsInOrder, seen};
 ghost use Rattle.path_map.specs.Merged.{put_all};
-ghost use Rattle.kinds.specs.Kinds.{KindsOf};
+ghost use Rattle.kinds.specs.Kinds.{KindsOf, node_at, count_at};
 ghost use Rattle.kinds.specs.Numbered.{entries_in};
 ghost use Rattle.kinds.specs.Given.{used_at};
 ghost use Rattle.kinds.specs.Tagged.{is_one, numbers_found};
@@ -106,6 +106,8 @@ impl<N: Drop> KindMap<N> {
         requires given { AreGiven self.now.0 nodes.now }
         requires places { ArePlaces (length nodes.now) (map seen entries.now) }
         ensures entries { IfOk result (λ new. entries_in new.map ≡ put_all (placed (map (given self.now.0) nodes.now) (map seen entries.now)) (entries_in self.now)) }
+        ensures numbers { IfOk result (λ new. new.map.1 ≡ put_all (by_place new.numbers.items (map seen entries.now)) self.now.1) }
+        ensures nodes { IfOk result (λ new. (n : ℕ) (x : N) → node_at self.now.0 n ≡ Some x → 0 < count_at new.map.0 n → node_at new.map.0 n ≡ Some x) }
         ensures same { IfOk result (λ new. (n : ℕ) → is_one n new.numbers.items ≡ false → is_one n (numbers_found new.found.items) ≡ false → used_at new.map.0 n ≡ used_at self.now.0 n) }
     {
         let (kinds, numbers) = add_nodes(alloc, self.kinds().share()?, nodes)?;

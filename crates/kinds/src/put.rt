@@ -1,9 +1,10 @@
 //! Entries put among those of a map: of those that are put, nodes that are the same get one number.
 
-ghost use Rattle.std.specs.Prelude.{◌≡◌, ◌++◌, ◌∷◌, [], ℕ, true, false, is_some, map, IfOk};
+ghost use Rattle.std.specs.Prelude.{◌≡◌, ◌<◌, ◌++◌, ◌∷◌, [], ℕ, Some, true, false, is_some, map, IfOk};
 ghost use Rattle.std.specs.List.{AllByRecursion};
 ghost use Rattle.path_map.specs.Entries.{IsInOrder, seen, found};
 ghost use Rattle.path_map.specs.Merged.{put_all};
+ghost use Rattle.kinds.specs.Kinds.{node_at, count_at};
 ghost use Rattle.kinds.specs.Numbered.{entries_in, entries_by, paths_with};
 ghost use Rattle.kinds.specs.Given.{used_at};
 ghost use Rattle.kinds.specs.Tagged.{is_one, numbers_found};
@@ -77,7 +78,7 @@ fn numbers_put(
 }
 
 /// Numbers with others put, and the numbers that their paths had. Where each path is there already, both share all paths.
-fn numbers_with(
+pub(crate) fn numbers_with(
     alloc: Global,
     numbers: &PathMap<usize>,
     entries: &[(&Path, usize)],
@@ -107,6 +108,8 @@ pub(crate) fn put_numbered<N: Drop>(
     requires added { AddsUncounted before.now.0 kinds (map seen entries.now) }
     requires order { IsInOrder (entries_by kinds (map seen entries.now)) }
     ensures entries { IfOk result (λ new. entries_in new.0 ≡ put_all (entries_by kinds (map seen entries.now)) (entries_in before.now)) }
+    ensures numbers { IfOk result (λ new. new.0.1 ≡ put_all (map seen entries.now) before.now.1) }
+    ensures nodes { IfOk result (λ new. (n : ℕ) (x : N) → node_at before.now.0 n ≡ Some x → 0 < count_at new.0.0 n → node_at new.0.0 n ≡ Some x) }
     ensures same { IfOk result (λ new. (n : ℕ) → paths_with n (map seen entries.now) ≡ 0 → is_one n (numbers_found new.1.items) ≡ false → used_at new.0.0 n ≡ used_at before.now.0 n) }
 {
     let kinds = count_entries(alloc, kinds, entries)?;

@@ -52,6 +52,7 @@ impl<N: Drop> KindMap<N> {
         requires room { R.counted state.old + weight_of (R.weight renewal.now) (entries_in self.now) < 2 ^ 64 }
         ensures entries { IfOk result (λ new. entries_in new ≡ renewed (R.renewed renewal.now) (entries_in self.now)) }
         ensures kinds { IfOk result (λ new. Renews (R.renewed renewal.now) self.now.0 new.0) }
+        ensures paths { IfOk result (λ new. new.1 ≡ self.now.1) }
         ensures exact { OnOk result (R.is_exact ≡ true → R.counted state.new ≡ R.counted state.old + weight_of (R.weight renewal.now) (entries_in self.now)) }
         ensures at_most { R.counted state.new ≤ R.counted state.old + weight_of (R.weight renewal.now) (entries_in self.now) }
     {

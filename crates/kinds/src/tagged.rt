@@ -1,14 +1,17 @@
 //! A map by kinds that keeps for each tag the numbers of the nodes that have it.
 
 ghost use Rattle.std.specs.Prelude.{◌≡◌, ◌+◌, ◌++◌, ◌∷◌, ◌<◌, ◌≤◌, ◌^◌, [], ℕ, List, map, length, count_by, true, IfOk, OnOk};
+ghost use Rattle.std.specs.List.{sum_by};
+ghost use Rattle.kinds.specs.Kinds.{count_at};
 ghost use Rattle.std.specs.List.Sorted.{IsStrictlyIncreasing};
 ghost use Rattle.kinds.specs.declared.pairs.pair.Pair.{Pair};
 ghost use Rattle.kinds.specs.PairSets.{tagged_pairs};
 ghost use Rattle.kinds.specs.Numbered.{entries_in};
-ghost use Rattle.kinds.specs.Renewed.{renewed, weight_of, changed_where};
-ghost use Rattle.kinds.specs.Tagged.{is_one, meets, tags_at, AreTagsOf, SameBut, AreSettled, numbers_found};
+ghost use Rattle.kinds.specs.Renewed.{renewed, weight_of, changed_where, Renews};
+ghost use Rattle.kinds.specs.Tagged.{is_one, meets, tags_at, AreTagsOf, SameBut, SameTagsBut, AreSettled, ChangesTagged, numbers_found};
 
 use crate::changed::NodeChange;
+use crate::kinds::Kinds;
 use crate::map::KindMap;
 use crate::pairs::pair::Pair;
 use crate::pairs::set::PairSet;
@@ -151,6 +154,20 @@ fn changed_pairs<N: Tagged>(
     Ok((gone, new))
 }
 
+/// How many paths have some numbers. Fails, as if memory ran out, if they are more than can be counted.
+fn paths_of<N>(kinds: &Kinds<N>, numbers: &[usize]) -> Result<usize, AllocError>
+    ensures { IfOk result (λ count. count ≡ sum_by (count_at kinds.now) numbers.now) }
+{
+    let mut count = 0usize;
+    for number in numbers {
+        let Some(more) = count.checked_add(kinds.count(*number)) else {
+            return Err(AllocError);
+        };
+        count = more;
+    }
+    Ok(count)
+}
+
 impl<N: Tagged> TaggedMap<N> {
     /// The map.
     pub fn map(&self) -> &KindMap<N>
@@ -166,8 +183,8 @@ impl<N: Tagged> TaggedMap<N> {
         &self.pairs
     }
 
-    /// The numbers that paths have and whose nodes have one of some tags, rising.
-    fn numbers_tagged(&self, alloc: Global, tags: &[usize]) -> Result<Vec<usize>, AllocError>
+    /// The numbers that paths have and whose nodes have one of some tags, rising. Fails only if memory, or the numbers, run out.
+    pub fn numbers_tagged(&self, alloc: Global, tags: &[usize]) -> Result<Vec<usize>, AllocError>
         ensures rising { IfOk result (λ numbers. IsStrictlyIncreasing numbers.items) }
         ensures exact { IfOk result (λ numbers. (n : ℕ) → is_one n numbers.items ≡ meets (tags_at N.tags_of self.now.0 n) tags.now) }
     {
@@ -177,6 +194,16 @@ impl<N: Tagged> TaggedMap<N> {
             pairs.push_seconds(&mut numbers, *tag)?;
         }
         Ok(rising_numbers(numbers))
+    }
+
+    /// How many paths have nodes with one of some tags. Fails only if memory, or the numbers, run out.
+    pub fn paths_tagged(&self, alloc: Global, tags: &[usize]) -> Result<usize, AllocError>
+        ensures { IfOk result (λ count. count ≡ count_by (λ e. meets (N.tags_of e.1) tags.now) (entries_in self.now)) }
+    {
+        let kinds = self.map().kinds();
+        let numbers = self.numbers_tagged(alloc, tags)?;
+        let count = paths_of(kinds, &numbers)?;
+        Ok(count)
     }
 }
 
@@ -210,6 +237,24 @@ impl<N: Tagged + Drop> TaggedMap<N> {
         })
     }
 
+    /// A map in place of this one, where the tags of nodes may differ at some numbers alone. Only these are compared. Fails only
+    /// if memory, or the numbers, run out.
+    pub(crate) fn after_tags(
+        &self,
+        alloc: Global,
+        map: KindMap<N>,
+        numbers: Vec<usize>,
+    ) -> Result<TaggedMap<N>, AllocError>
+        requires { SameTagsBut N.tags_of numbers.items self.now.0 map.0 }
+        ensures { IfOk result (λ new. new ≡ map) }
+    {
+        let numbers = rising_numbers(numbers);
+        let (gone, new) = changed_pairs(alloc, self.map(), &map, &numbers)?;
+        let left = self.pairs().with_pairs(alloc, gone, false)?;
+        let pairs = left.with_pairs(alloc, new, true)?;
+        Ok(TaggedMap { map, pairs })
+    }
+
     /// A map in place of this one, whose nodes may differ at some numbers alone. Only the tags of these are compared. Fails
     /// only if memory, or the numbers, run out.
     pub fn after(
@@ -221,11 +266,8 @@ impl<N: Tagged + Drop> TaggedMap<N> {
         requires { SameBut numbers.items self.now.0 map.0 }
         ensures { IfOk result (λ new. new ≡ map) }
     {
-        let numbers = rising_numbers(numbers);
-        let (gone, new) = changed_pairs(alloc, self.map(), &map, &numbers)?;
-        let left = self.pairs().with_pairs(alloc, gone, false)?;
-        let pairs = left.with_pairs(alloc, new, true)?;
-        Ok(TaggedMap { map, pairs })
+        let new = self.after_tags(alloc, map, numbers)?;
+        Ok(new)
     }
 
     /// A map in place of this one. The tags are compared number by number. Fails only if memory, or the numbers, run out.
@@ -238,6 +280,15 @@ impl<N: Tagged + Drop> TaggedMap<N> {
         Ok(new)
     }
 
+    /// A map in place of this one, where each number has the same tags: both share these. Fails only if memory runs out.
+    pub fn with_same_tags(&self, map: KindMap<N>) -> Result<TaggedMap<N>, AllocError>
+        requires { (n : ℕ) → tags_at N.tags_of map.0 n ≡ tags_at N.tags_of self.now.0 n }
+        ensures { IfOk result (λ new. new ≡ map) }
+    {
+        let pairs = self.pairs().share()?;
+        Ok(TaggedMap { map, pairs })
+    }
+
     /// The map of the same paths with what their nodes become, which have the same tags. Fails only if memory runs out.
     pub fn renewed<S, R: Renewal<N, N, S>>(
         &self,
@@ -248,6 +299,8 @@ impl<N: Tagged + Drop> TaggedMap<N> {
         requires room { R.counted state.old + weight_of (R.weight renewal.now) (entries_in self.now) < 2 ^ 64 }
         requires tags { (x : N) → N.tags_of (R.renewed renewal.now x) ≡ N.tags_of x }
         ensures entries { IfOk result (λ new. entries_in new ≡ renewed (R.renewed renewal.now) (entries_in self.now)) }
+        ensures kinds { IfOk result (λ new. Renews (R.renewed renewal.now) self.now.0 new.0) }
+        ensures paths { IfOk result (λ new. new.1 ≡ self.now.1) }
         ensures at_most { R.counted state.new ≤ R.counted state.old + weight_of (R.weight renewal.now) (entries_in self.now) }
     {
         let map = self.map().renewed(alloc, state, renewal)?;
@@ -268,6 +321,8 @@ impl<N: Tagged + Drop> TaggedMap<N> {
         requires room { C.counted state.old + count_by (λ e. meets (N.tags_of e.1) tags.now) (entries_in self.now) < 2 ^ 64 }
         requires tags { (x : N) → N.tags_of (C.changed change.now x) ≡ N.tags_of x }
         ensures entries { IfOk result (λ new. entries_in new.0 ≡ renewed (changed_where (λ x. meets (N.tags_of x) tags.now) (C.changed change.now)) (entries_in self.now)) }
+        ensures kinds { IfOk result (λ new. ChangesTagged (C.changed change.now) N.tags_of tags.now self.now.0 new.0.0) }
+        ensures paths { IfOk result (λ new. new.0.1 ≡ self.now.1) }
         ensures few { IfOk result (λ new. new.1 ≤ count_by (λ e. meets (N.tags_of e.1) tags.now) (entries_in self.now)) }
         ensures none { IfOk result (λ new. new.1 ≡ 0 → count_by (λ e. meets (N.tags_of e.1) tags.now) (entries_in self.now) ≡ 0) }
         ensures counted { IfOk result (λ new. C.counted state.new ≤ C.counted state.old + new.1) }

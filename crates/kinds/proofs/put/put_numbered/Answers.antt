@@ -1,7 +1,8 @@
-use Rattle.std.proofs.Common.{◌≡◌, ℕ, List, Option, map, sym, ap, subst, ◌∙◌}
+use Rattle.std.proofs.Common.{◌≡◌, ℕ, ◌<◌, List, Option, map, sym, ap, subst, ◌∙◌}
 use Rattle.acl_names.specs.Paths.{PathOf}
 use Rattle.path_map.specs.Entries.{seen, found}
 use Rattle.path_map.specs.Merged.{put_all}
+use Rattle.kinds.specs.Kinds.{KindsOf, node_at, count_at}
 use Rattle.kinds.specs.Numbered.{Numbers, Kept, AreSound, entries_by, entries_in}
 use Rattle.kinds.specs.Inner.{AddsAll, ReleasesAll}
 use Rattle.kinds.proofs.InTurn.{adds_order}
@@ -68,3 +69,16 @@ returns-clause-same g c n none other =
     let adds : AddsAll k0 puts k1 es = adds_counted k0 was k1 es c.requires.added c.in_ok-kinds.ensures in
     let releases : ReleasesAll k1 c.in_ok-numbers.found.items k2 = subst (λ (os : List (Option ℕ)). ReleasesAll k1 os k2) c.deref.ensures.value c.in_ok-kinds-2.ensures in
     ap (λ (m : Kept g.row.N.Denot). used_at m.0 n) c.in_ok-map.ensures ∙ same_put k0 k1 k2 ns es puts c.in_ok-numbers.found.items c.numbers.ensures.sound adds releases n none other
+
+pub returns-clause-numbers : goal.returns-clause-numbers
+returns-clause-numbers g c =
+    let es : Numbers = map seen c.args.entries.now in
+    ap (λ (m : Kept g.row.N.Denot). m.1) c.in_ok-map.ensures ∙ c.in_ok-numbers.ensures.new ∙ ap (put_all es) c.numbers.ensures.all
+
+pub returns-clause-nodes : goal.returns-clause-nodes
+returns-clause-nodes g c n x is some =
+    let same : c.in_ok-map.map.0 ≡ c.in_ok-kinds-2.kinds = ap (λ (m : Kept g.row.N.Denot). m.0) c.in_ok-map.ensures in
+    ap (λ (k : KindsOf g.row.N.Denot). node_at k n) same
+    ∙ c.in_ok-kinds-2.ensures.nodes n (subst (λ (k : KindsOf g.row.N.Denot). 0 < count_at k n) same some)
+    ∙ c.in_ok-kinds.ensures.nodes n
+    ∙ c.requires.added.extends n x is

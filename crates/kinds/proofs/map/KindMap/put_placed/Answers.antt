@@ -77,3 +77,11 @@ returns-clause-same g c n other found =
     let same : map (seen {V = ℕ}) c.deref-2.result.now ≡ by_place numbers asked =
     ap (map (seen {V = ℕ})) c.deref-2.ensures.value ∙ c.in_ok-entries.ensures ∙ ap (λ (ns : List ℕ). by_place ns asked) c.deref.ensures.value in
     c.in_ok-map.ensures.same n (ap (paths_with n) same ∙ none_placed n numbers asked (subst (λ m. ArePlaces m asked) long c.requires.places) other) found
+
+pub returns-clause-numbers : goal.returns-clause-numbers
+returns-clause-numbers g c =
+    let numbers = c.in_ok-kinds.numbers.items in
+    let asked : Numbers = map seen c.args.entries.now in
+    let same : map (seen {V = ℕ}) c.deref-2.result.now ≡ by_place numbers asked =
+    ap (map (seen {V = ℕ})) c.deref-2.ensures.value ∙ c.in_ok-entries.ensures ∙ ap (λ (ns : List ℕ). by_place ns asked) c.deref.ensures.value in
+    c.in_ok-map.ensures.numbers ∙ ap (λ (es : Numbers). put_all es c.args.self.now.1) same

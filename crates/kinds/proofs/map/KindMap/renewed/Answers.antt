@@ -72,3 +72,6 @@ returns-clause-kinds g c =
     let kept : Kept g.row.N.Denot = c.args.self.now in
     let renews : Renews f kept.0 c.in_ok-kinds.kinds = subst (λ (k : KindsOf g.row.N.Denot). Renews f k c.in_ok-kinds.kinds) c.kinds.ensures.all c.in_ok-kinds.ensures.renews in
     subst (λ (m : Kept g.row.M.Denot). Renews f kept.0 m.0) (sym c.in_ok-map.ensures) renews
+
+pub returns-clause-paths : goal.returns-clause-paths
+returns-clause-paths g c = ap (λ (m : Kept g.row.M.Denot). m.1) c.in_ok-map.ensures ∙ c.in_ok-numbers.ensures ∙ c.numbers.ensures.all

@@ -4,7 +4,7 @@ use Rattle.kinds.specs.Numbered.{Kept, AreSound, entries_by}
 use Rattle.kinds.specs.Renewed.{changed_where}
 use Rattle.kinds.specs.Tagged.{meets, AreTagsOf, ChangesEach}
 use Rattle.kinds.proofs.Renewals.{renewed_entries}
-use Rattle.kinds.proofs.Tags.{few_files, no_files, renews_tagged, renewed_pairs, same_where}
+use Rattle.kinds.proofs.Tags.{few_files, no_files, renews_tagged, changes_tagged, renewed_pairs, same_where}
 use Rattle.kinds.proofs.tagged.TaggedMap.with_tagged.Goals as goal
 
 pub changed_at-requires : goal.changed_at-requires
@@ -106,3 +106,17 @@ returns-clause-at_most g c =
     let few = few_files tags wanted k c.in_ok-numbers.numbers.items c.in_ok-numbers.ensures.exact ns sound c.in_ok-numbers.ensures.rising in
     let long = ap length c.deref.ensures.value in
     omega (arith, few, long, c.in_ok-map.ensures.at_most)
+
+pub returns-clause-kinds : goal.returns-clause-kinds
+returns-clause-kinds g c =
+    let tags = g.N.Tagged.tags_of in
+    let wanted = c.args.tags.now in
+    let k : KindsOf g.row.N.Denot = c.args.self.now.0 in
+    let f = g.C.NodeChange.changed c.args.change.now in
+    let each : ChangesEach f c.in_ok-numbers.numbers.items k c.in_ok-map.map.0 =
+    subst (λ (m : Kept g.row.N.Denot). ChangesEach f c.in_ok-numbers.numbers.items m.0 c.in_ok-map.map.0) c.map-before.ensures
+    (subst (λ (l : List ℕ). ChangesEach f l c.map-before.result.now.0 c.in_ok-map.map.0) c.deref.ensures.value c.in_ok-map.ensures.kinds) in
+    changes_tagged tags wanted k c.in_ok-numbers.numbers.items c.in_ok-numbers.ensures.exact f c.in_ok-map.map.0 each
+
+pub returns-clause-paths : goal.returns-clause-paths
+returns-clause-paths g c = c.in_ok-map.ensures.paths ∙ ap (λ (m : Kept g.row.N.Denot). m.1) c.map-before.ensures
