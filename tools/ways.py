@@ -27,7 +27,7 @@ import script  # noqa: E402
 
 PROGRAM = "facl_cli"
 ROWS = os.path.join(script.TOP, "crates.txt")
-MAX_WAYS = 640
+MAX_WAYS = 700
 MAX_CHAIN = 9
 
 

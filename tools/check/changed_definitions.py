@@ -41,7 +41,7 @@ TESTS: Dict[str, List[str]] = {
     "acl_people": ["acl_rights_tests", "acl_tree_tests"],
     "acl_edit": ["acl_edit_tests"],
     "acl_tree": ["acl_tree_tests"],
-    "acl_rights": ["acl_rights_tests"], "facl_script": ["facl_script_tests", "facl_words_tests"],
+    "path_classes": ["acl_rights_tests"], "acl_rights": ["acl_rights_tests"], "facl_script": ["facl_script_tests", "facl_words_tests"],
     "facl_output": ["facl_words_tests", "acl_rights_tests"],
     "facl_tools": ["facl_words_tests"],
     "facl_answers": ["acl_rights_tests", "facl_words_tests"], "facl_counts": ["facl_words_tests"],

@@ -13,9 +13,10 @@ use Rattle.acl_edit.specs.declared.node.Node.{Node}
 use Rattle.acl_tree.specs.Files.{Files}
 use Rattle.acl_people.specs.KnownPeople.{person, persons}
 use Rattle.acl_tree.specs.State.{State}
-use Rattle.acl_rights.specs.Rows.{Verdict, Rows, cells_of, rows_of, places_from, who_in, grants_to, may_in}
+use Rattle.path_classes.specs.Rows.{Rows, places_from, who_in, grants_to, may_in}
+use Rattle.acl_rights.specs.Rows.{Verdict, cells_of, rows_of}
 use Rattle.acl_rights.specs.Tables.{VerdictTable, IsWhole, cell_at, verdict_at, users_granted_alone, files_granted_alone}
-use Rattle.acl_rights.proofs.Maps.{find-values}
+use Rattle.path_classes.proofs.Maps.{find-values}
 
 pub got-map : {A B : Type 0} (f : A → B) (xs : List A) (i : ℕ) → slice_get (map f xs) i ≡ option_map f (slice_get xs i)
 got-map f [] i = refl

@@ -10,7 +10,8 @@ use Rattle.acl_text.specs.declared.rows.PasswdRow.{PasswdRow}
 use Rattle.acl_edit.specs.declared.node.Node.{Node}
 use Rattle.acl_people.specs.KnownPeople.{person, persons}
 use Rattle.acl_tree.specs.State.{State}
-use Rattle.acl_rights.specs.Rows.{Verdict, places_from}
+use Rattle.path_classes.specs.Rows.{places_from}
+use Rattle.acl_rights.specs.Rows.{Verdict}
 use Rattle.acl_rights.specs.Tables.{verdict_at}
 use Rattle.acl_rights.specs.Tables as tables
 use Rattle.acl_rights.specs.Reach.{reach, reach_at, users_reaching, files_reached}

@@ -16,10 +16,11 @@ use Rattle.acl_tree.specs.Reports.{StagedState}
 use Rattle.acl_tree.specs.declared.user_change.UserChange.{UserChange}
 use Rattle.acl_tree.specs.declared.user_change.UserChange.TheVariants.{Unchanged, Loaded, Memberships, Added, Removed}
 use Rattle.path_map.specs.Entries.{IsInOrder}
-use Rattle.acl_rights.specs.Rows.{Verdict, Rows}
+use Rattle.path_classes.specs.Rows.{Rows}
+use Rattle.acl_rights.specs.Rows.{Verdict}
 use Rattle.acl_rights.specs.Kept.{GoesFrom}
 use Rattle.acl_rights.proofs.Counted.{few_pass}
-use Rattle.acl_rights.proofs.Maps.{map_filter, find-filter, same_found, one_more, times_le}
+use Rattle.path_classes.proofs.Maps.{map_filter, find-filter, same_found, one_more, times_le}
 use Rattle.acl_rights.proofs.Goes.{moves, moved_user_in, joins}
 use Rattle.acl_rights.specs.Groups.{mentions_one}
 use Rattle.acl_rights.specs.Stages.{moves_asked, most_asked}

@@ -8,22 +8,13 @@ pub mod RowCounts
 pub mod Refreshed
 pub mod Mentions
 pub mod Refreshing
+pub mod Inside
 pub mod Rowed
 pub mod NextRows
-mod Places
 pub mod Orders
-mod Walks
-pub mod Tops
-pub mod Maps
 pub mod RowsOfKinds
 pub mod Counted
-mod Known
-mod RowsLeft
-mod Searched
-mod Lying
-pub mod Granted
-mod RowsOfNumbers
-mod ClassedRows
 mod Outside
-mod RowsFrom
-mod ClassesFrom
+pub mod Unlike
+pub mod MovedRows
+pub mod PutRows

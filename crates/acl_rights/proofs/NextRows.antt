@@ -18,11 +18,12 @@ use Rattle.acl_tree.specs.declared.user_change.UserChange.TheVariants.{Unchanged
 use Rattle.path_map.specs.Entries.{IsInOrder, seen}
 use Rattle.path_map.specs.Merged.{merged}
 use Rattle.path_map.specs.Below.{lies_in}
-use Rattle.acl_rights.specs.declared.kind_rows.LabelRow.{LabelRow}
-use Rattle.acl_rights.specs.KindRows.{RowedPaths, AreRowsOf, with_label, rowed, rowed_labels, each_row, with_last, without_at, with_again, mentions_any, rows_at}
+use Rattle.path_classes.specs.declared.label_row.LabelRow.{LabelRow}
+use Rattle.path_classes.specs.KindRows.{RowedPaths, rows_at}
+use Rattle.acl_rights.specs.KindRows.{AreRowsOf, with_label, rowed, rowed_labels, each_row, with_last, without_at, with_again, mentions_any}
 use Rattle.acl_rights.proofs.Counted.{no_length}
 use Rattle.acl_rights.proofs.RowsOfKinds.{rowed_rows}
-use Rattle.acl_rights.proofs.Maps.{map_filter, map_twice, times_le}
+use Rattle.path_classes.proofs.Maps.{map_filter, map_twice, times_le}
 use Rattle.acl_rights.proofs.Orders.{same_order}
 use Rattle.acl_rights.specs.Rows.{Verdict}
 use Rattle.acl_rights.specs.Groups.{mentions_one}
@@ -33,6 +34,8 @@ use Rattle.acl_rights.specs.Lines.{labels_of, AreBefore}
 use Rattle.acl_rights.proofs.Costs.{all_users, within, nothing_changed, moved_cost}
 use Rattle.acl_rights.proofs.RowCounts.{person_same}
 use Rattle.acl_rights.proofs.Goes.{moves, joins, leaves}
+use Rattle.path_classes.specs.ClassesWithin.{is_inside, inside}
+use Rattle.acl_rights.proofs.Inside.{inside_changed}
 use Rattle.acl_rights.proofs.Refreshing.{count_paths, count_lying, users_refreshed, count_none}
 use Rattle.acl_rights.proofs.Rowed.{rowed_paths, rowed_long, rows_changed, rows_moved, rows_joined, rows_left, rows_mentioning, paths_mentioning}
 
@@ -63,14 +66,6 @@ files_cost t labels users are same =
     let files : length labels ≡ length t.changed = sym (length-map labels with_label) ∙ ap length are ∙ length-map t.changed (λ (f : PathOf × Node). (f.0, f.1.label)) in
     let people : length users ≡ length t.state.people.users = ap length same ∙ all_users t.state.people in
     subst (λ n. n ≤ most_asked t) (λ i. sym files i * sym people i) (within t)
-
--- what is asked for the kinds of a tree, where as many files changed
-pub kinds_cost : (t : StagedState) (many : ℕ) (users : List Person) → many ≤ length t.changed → users ≡ persons t.state.people → many * length users ≤ most_asked t
-kinds_cost t many users few same =
-    let people : length users ≡ length t.state.people.users = ap length same ∙ all_users t.state.people in
-    let cost = times_le many (length t.changed) (length t.state.people.users) few in
-    let whole = within t in
-    omega (arith, cost, whole, ap (λ n. many * n) people)
 
 module _ (V : Verdict) (es : RowedPaths) (t : StagedState) (b : AreBefore V es t) (ordered : IsInOrder es) (n : IsInOrder t.state.tree.files) where
   abbrev us : List Person
@@ -119,9 +114,17 @@ module _ (V : Verdict) (es : RowedPaths) (t : StagedState) (b : AreBefore V es t
         ∙ rows_changed V before fs gs labels gone (are ∙ ap labels_of b.goes.reports.changed) (are_gone ∙ ap (λ (es : Files). paths es) b.goes.reports.gone) old_order n
         ∙ ap (λ (l : List Person). rowed V l gs) (sym same_users)
 
-    pub walked_after : (new : RowedPaths) (count : ℕ) → new ≡ rowed V us gs → count ≡ count_by (λ (e : PathOf × LabelRow). lies_in t.changed e.0) new
-        → count ≡ count_by (λ (e : PathOf × Node). lies_in t.changed e.0) gs
-    walked_after new count made counted = counted ∙ count_paths (lies_in t.changed) new gs (rowed_paths V us new gs made)
+    -- what is counted inside the changed and gone files is inside the changed ones
+    pub changed_most : {W : Type 0} (labels : List (PathOf × Label)) (gone : List (PathOf × W)) (new : RowedPaths) (count : ℕ)
+        → labels ≡ labels_of t.changed → paths gone ≡ paths t.gone → new ≡ rowed V us gs
+        → count ≤ length (inside (paths labels ++ paths gone) new) → count ≤ count_by (λ (e : PathOf × Node). lies_in t.changed e.0) gs
+    changed_most labels gone new count are are_gone made le =
+        let tops : paths labels ++ paths gone ≡ paths t.changed ++ paths t.gone = λ i. label_paths t.changed labels are i ++ are_gone i in
+        let all = inside_changed fs gs t.changed t.gone b.goes.reports.gone n b.goes.reports.apart in
+        let same = count_paths (is_inside (paths labels ++ paths gone)) new gs (rowed_paths V us new gs made) in
+        let long = length-filter (λ (e : PathOf × LabelRow). is_inside (paths labels ++ paths gone) e.0) new in
+        let turned = ap (λ (ps : List PathOf). count_by (λ (e : PathOf × Node). is_inside ps e.0) gs) tops in
+        omega (arith, le, long, same, turned, all)
 
   -- ---- a user joins or leaves groups
 
@@ -138,16 +141,15 @@ module _ (V : Verdict) (es : RowedPaths) (t : StagedState) (b : AreBefore V es t
     pub looked_moved : (count : ℕ) → count ≤ count_by (λ (e : PathOf × LabelRow). mentions_any groups e.1) es → count ≤ most_looked t.user_change gs
     looked_moved count le = subst (λ (c : UserChange). count ≤ most_looked c gs) (sym is) (let same = looked_are in let few = looked_le groups gs in omega (arith, le, same, few))
 
-    pub refreshed_moved : (count : ℕ) → count ≡ count_by (λ (e : PathOf × LabelRow). lies_in (filter (λ (d : PathOf × LabelRow). mentions_any groups d.1) es) e.0) es → count ≡ verdicts_refreshed t
-    refreshed_moved count counted =
+    pub refreshed_moved : (count : ℕ) → count ≤ count_by (λ (e : PathOf × LabelRow). lies_in (filter (λ (d : PathOf × LabelRow). mentions_any groups d.1) es) e.0) es → count ≤ verdicts_refreshed t
+    refreshed_moved count le =
         let m = moves V (rows_at es) t b.goes at groups is in
         let tops = filter (λ (e : PathOf × LabelRow). mentions_any groups e.1) es in
-        users_refreshed t count (nothing_changed V (rows_at es) t b.goes n m.0)
-        (
-        counted
-        ∙ count_lying tops es (filter (mentions_one groups) gs) gs (paths_mentioning V before groups es gs es_here) (rowed_paths V before es gs es_here)
-        ∙ ap (λ (c : UserChange). moves_refreshed c gs) (sym is)
-        )
+        let all = count_by (λ (e : PathOf × LabelRow). lies_in tops e.0) es in
+        let most = users_refreshed t all (nothing_changed V (rows_at es) t b.goes n m.0)
+        (count_lying tops es (filter (mentions_one groups) gs) gs (paths_mentioning V before groups es gs es_here) (rowed_paths V before es gs es_here)
+        ∙ ap (λ (c : UserChange). moves_refreshed c gs) (sym is)) in
+        omega (arith, le, most)
 
     module _ (local : (u w : Person) (f : Label) → AgreeOnMentions u w f → V u f ≡ V w f) (u : Person) (next : slice_get us at ≡ Some u) where
       pub rows_after_move : each_row (with_again V at u groups) es ≡ rowed V us gs

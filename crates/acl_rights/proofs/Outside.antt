@@ -22,13 +22,17 @@ use Rattle.acl_tree.specs.State.{State}
 use Rattle.acl_tree.specs.Reports.{StagedState, Reports, UsersMoved}
 use Rattle.acl_tree.proofs.Changes.{label_is_same}
 use Rattle.path_map.specs.Entries.{IsInOrder}
-use Rattle.acl_rights.specs.Rows.{Verdict, Rows, cells_of, rows_of}
-use Rattle.acl_rights.specs.ReachedRows.{can_search, passes_in, reached_from}
-use Rattle.acl_rights.specs.Walks.{reached_of}
+use Rattle.path_classes.specs.Rows.{Rows}
+use Rattle.acl_rights.specs.Rows.{Verdict, cells_of, rows_of}
+use Rattle.path_classes.specs.ReachedRows.{can_search, passes_in, reached_from}
 use Rattle.acl_rights.specs.States.{StatePair, loaded_state}
 use Rattle.acl_rights.specs.Outside.{is_outside, outside, SameOutside, SameRows, Holds, HoldsChanges}
-use Rattle.acl_rights.proofs.Maps.{find-values, find-filter, map_filter, same_found}
+use Rattle.path_classes.proofs.Maps.{find-values, find-filter, map_filter, same_found}
 use Rattle.acl_rights.proofs.Orders.{in_order-values}
+
+-- what is reached at paths, by the rows of all
+abbrev reached_of : Rows → Rows → Rows
+reached_of all rows = map (λ r. (r.0, reached_from all r.0 0 r.1)) rows
 
 out : (b : Bool) → not b ≡ true → b ≡ false
 out true h = cc

@@ -17,11 +17,12 @@ use Rattle.acl_names.specs.Below.{is_above}
 use Rattle.acl_tree.specs.Files.{Files}
 use Rattle.acl_people.specs.KnownPeople.{person, persons}
 use Rattle.acl_tree.specs.State.{State}
-use Rattle.acl_rights.specs.Rows.{Verdict, Rows, cells_of, rows_of, places_from, who_in, grants_to, may_in}
+use Rattle.path_classes.specs.Rows.{Rows, places_from, who_in, grants_to, may_in}
+use Rattle.acl_rights.specs.Rows.{Verdict, cells_of, rows_of}
 use Rattle.acl_rights.specs.Tables.{VerdictTable, IsWhole}
-use Rattle.acl_rights.specs.ReachedRows.{execute, can_search, passes_in, reach_cell, reached_from, reached_rows, reached_at}
+use Rattle.path_classes.specs.ReachedRows.{execute, can_search, passes_in, reach_cell, reached_from, reached_rows, reached_at}
 use Rattle.acl_rights.specs.Reach.{passes, reach, reach_at, users_reaching, files_reached}
-use Rattle.acl_rights.proofs.Maps.{find-values}
+use Rattle.path_classes.proofs.Maps.{find-values}
 use Rattle.acl_rights.proofs.Asked.{got-map, got, none_got}
 
 -- ---- values by paths and values

@@ -24,9 +24,10 @@ use Rattle.acl_tree.specs.declared.user_change.UserChange.{UserChange}
 use Rattle.acl_tree.specs.declared.user_change.UserChange.TheVariants.{Unchanged, Loaded, Memberships, Added, Removed}
 use Rattle.acl_tree.proofs.Changes.{label_is_same}
 use Rattle.path_map.specs.Entries.{IsInOrder}
-use Rattle.acl_rights.specs.Rows.{Verdict, Rows, cells_of, rows_of}
+use Rattle.path_classes.specs.Rows.{Rows}
+use Rattle.acl_rights.specs.Rows.{Verdict, cells_of, rows_of}
 use Rattle.acl_rights.specs.Groups.{mentions_one}
-use Rattle.acl_rights.specs.ReachedRows.{execute, reached_from, reached_rows}
+use Rattle.path_classes.specs.ReachedRows.{execute, reached_from, reached_rows}
 use Rattle.acl_rights.specs.Reach.{passes, reach, moves_refreshed, verdicts_refreshed}
 use Rattle.acl_rights.specs.Differing.{place_before, is_as_before, is_as_in, fails_from, differing}
 use Rattle.acl_rights.specs.Kept.{GoesFrom}
@@ -35,7 +36,7 @@ use Rattle.acl_rights.proofs.Reached.{reached_is, cell_reached}
 use Rattle.acl_rights.proofs.Goes.{moves, joins, leaves, old_order}
 use Rattle.acl_names.proofs.Below.{below_within, within_cases, within_itself}
 use Rattle.acl_names.proofs.Basics.{not_both, false_from, times_one, times_none}
-use Rattle.acl_rights.proofs.Maps.{map_twice}
+use Rattle.path_classes.proofs.Maps.{map_twice}
 use Rattle.acl_rights.proofs.RowCounts.{missed_most, missed_none, missed_one, any_found, any_filter, each_found, alike_above, some_same, long_row, sum_le}
 use Rattle.acl_rights.proofs.RowCounts.{finds, sum_parts, set_other, joined_was, left_was, person_same}
 
@@ -76,7 +77,7 @@ module _ (V : Verdict) (us ws : List Person) (fs gs : Files) (fo : IsInOrder fs)
           let value : reach V gs w e ≡ c = some_same (reach V gs w e) c (sym (ap (option_map (λ u. reach V gs u (e.0, e.1))) here) ∙ h) in
           ap (λ o. is_as_before o c) (old_cell move e i w (kept w here)) ∙ eq-eqb (reach V gs w e) c value
 
-  abbrev row_missed : UserChange → PathOf × Node → ℕ
+  abbrev pub row_missed : UserChange → PathOf × Node → ℕ
   row_missed move e = fails_from (row_test move e) 0 (row_cells e)
 
   row_most : (move : UserChange) (e : PathOf × Node) → row_missed move e ≤ length ws
@@ -280,7 +281,7 @@ module _ (V : Verdict) (local : (u w : Person) (f : Label) → AgreeOnMentions u
   abbrev gs : Files
   gs = t.state.tree.files
 
-  fo : IsInOrder fs
+  pub fo : IsInOrder fs
   fo = old_order V rows t goes ro
 
   alone : AllByRecursion (λ e. holds_below gs e.0 ≡ false) (gone_between fs gs)
@@ -370,6 +371,54 @@ module _ (V : Verdict) (local : (u w : Person) (f : Label) → AgreeOnMentions u
 
   is_there : reached_rows rows ≡ reached_rows (rows_of V us fs)
   is_there = ap reached_rows goes.rows_are
+
+  -- ---- as many as paths are counted, where each user's answers at the others are as before
+
+  module _ (c : PathOf → Bool) (zero : (e : PathOf × Node) → find path_cmp e.0 gs ≡ Some e.1 → c e.0 ≡ false → row_missed V us ws fs gs fo go Unchanged e ≡ 0) where
+    pub files_counted : differing None (reached_rows rows) (reached_rows (rows_of V ws gs)) ≤ length ws * count_by (λ (e : PathOf × Node). c e.0) gs
+    files_counted =
+        let each = rows_missed V us ws fs gs fo go Unchanged (λ e. length ws * (if c e.0 then 1 else 0) + 0) (λ e found. by e found (c e.0) refl) in
+        let parts = sum_parts (length ws) (λ (e : PathOf × Node). c e.0) (λ e. 0) gs in
+        subst (λ (old : Rows). differing None old (reached_rows (rows_of V ws gs)) ≤ length ws * count_by (λ (e : PathOf × Node). c e.0) gs) (sym is_there)
+        (omega (arith, each, parts, zeros gs))
+      where
+        zeros : (es : Files) → sum_by (λ e. 0) es ≡ 0
+        zeros [] = refl
+        zeros (e ∷ es) = let first = sum_by-cons (λ e. 0) e es in let more = zeros es in omega (arith, first, more)
+
+        by : (e : PathOf × Node) → find path_cmp e.0 gs ≡ Some e.1 → (b : Bool) → c e.0 ≡ b → row_missed V us ws fs gs fo go Unchanged e ≤ length ws * (if b then 1 else 0) + 0
+        by e found true is = omega (arith, row_most V us ws fs gs fo go Unchanged e, times_one (length ws))
+        by e found false is = omega (arith, zero e found is, times_none (length ws))
+
+    pub moved_counted : (at : ℕ) (groups : List ℕ) → t.user_change ≡ Memberships at groups
+        → differing None (reached_rows rows) (reached_rows (rows_of V ws gs)) ≤ count_by (λ (e : PathOf × Node). c e.0) gs
+    moved_counted at groups is =
+        let each = rows_missed V us ws fs gs fo go (Memberships at groups) (λ e. if c e.0 then 1 else 0) (λ e found. by e found (c e.0) refl) in
+        subst (λ (old : Rows). differing None old (reached_rows (rows_of V ws gs)) ≤ count_by (λ (e : PathOf × Node). c e.0) gs) (sym is_there) each
+      where
+        m : MovesUser us ws at groups
+        m = (moves V rows t goes at groups is).1
+
+        files : fs ≡ gs
+        files = ap (λ (r : Recorded). r.files) (sym (moves V rows t goes at groups is).0)
+
+        others : (i : ℕ) (w : Person) → slice_get ws i ≡ Some w → (i ≡ at → ⊥) → slice_get us i ≡ Some w
+        others i w got other = sym (ap (λ (l : List Person). slice_get l i) m.change.becomes ∙ set_other us at i m.change.after other) ∙ got
+
+        kept : (e : PathOf × Node) → find path_cmp e.0 gs ≡ Some e.1 → (i : ℕ) (w : Person) → slice_get us i ≡ Some w → IsKept V us ws fs gs fo go (Memberships at groups) e i w
+        kept e found i w was =
+            let there : find path_cmp e.0 fs ≡ Some e.1 = ap (find path_cmp e.0) files ∙ found in
+            record {
+              node = e.1;
+              user = w;
+              found = there;
+              was = was;
+              same = reach_kept V us ws fs gs fo go w w e.0 (λ q within. ap (λ (l : Files). option_map (λ (n : Node). V w n.label) (find path_cmp q l)) files) e.1 e.1 there found;
+            }
+
+        by : (e : PathOf × Node) → find path_cmp e.0 gs ≡ Some e.1 → (b : Bool) → c e.0 ≡ b → row_missed V us ws fs gs fo go (Memberships at groups) e ≤ (if b then 1 else 0)
+        by e found true is = row_one V us ws fs gs fo go (Memberships at groups) at e (λ i w got other. kept e found i w (others i w got other))
+        by e found false is = let n = zero e found is in omega (arith, n)
 
   pub line_most : differing (place_left t.user_change) (reached_rows rows) (reached_rows (rows_of V ws gs)) ≤ verdicts_refreshed t
   line_most =

@@ -1,5 +1,5 @@
 -- How many verdicts along paths a line makes again.
-use Rattle.std.proofs.Common.{◌≡◌, ℕ, ◌+◌, ◌*◌, ◌^◌, ◌<◌, Bool, false, cond, ◌||◌, List, [], ◌∷◌, length, map, refl, sym, ap, ◌∙◌, arith}
+use Rattle.std.proofs.Common.{◌≡◌, ℕ, ◌+◌, ◌*◌, ◌^◌, ◌<◌, ◌≤◌, Bool, false, cond, ◌||◌, List, [], ◌∷◌, length, map, refl, sym, ap, ◌∙◌, arith}
 use Rattle.std.specs.Prelude.{count_by}
 use Rattle.std.specs.List.{list_any}
 use Rattle.std.proofs.lemmas.List.Sums.{sum_by-cons, count_by-le-length}
@@ -11,7 +11,7 @@ use Rattle.acl_tree.specs.Reports.{StagedState}
 use Rattle.acl_tree.specs.declared.user_change.UserChange.TheVariants.{Unchanged}
 use Rattle.path_map.specs.Below.{lies_in}
 use Rattle.acl_rights.specs.Reach.{moves_refreshed, verdicts_refreshed}
-use Rattle.acl_rights.proofs.Maps.{times_le}
+use Rattle.path_classes.proofs.Maps.{times_le}
 
 -- paths alone decide
 pub count_paths : {A B : Type 0} (f : PathOf → Bool) (es : List (PathOf × A)) (fs : List (PathOf × B)) → map (λ (e : PathOf × A). e.0) es ≡ map (λ (e : PathOf × B). e.0) fs
@@ -57,21 +57,23 @@ count_none {A} (f ∷ fs) = sum_by-cons (λ (e : PathOf × A). 0) f fs ∙ ap (�
 
 module _ (t : StagedState) where
   -- files change
-  pub files_refreshed : (walked users : ℕ) → t.user_change ≡ Unchanged → walked ≡ count_by (λ (e : PathOf × Node). lies_in t.changed e.0) t.state.tree.files
-      → users ≡ length t.state.people.users → walked * users ≡ verdicts_refreshed t
-  files_refreshed walked users is w u =
-      (λ i. w i * u i)
-      ∙ swapped (count_by (λ (e : PathOf × Node). lies_in t.changed e.0) t.state.tree.files) (length t.state.people.users)
-      ∙ ap (λ m. length t.state.people.users * count_by (λ (e : PathOf × Node). lies_in t.changed e.0) t.state.tree.files + moves_refreshed m t.state.tree.files) (sym is)
+  pub files_most : (counted users : ℕ) → t.user_change ≡ Unchanged → counted ≤ count_by (λ (e : PathOf × Node). lies_in t.changed e.0) t.state.tree.files
+      → users ≡ length t.state.people.users → counted * users ≤ verdicts_refreshed t
+  files_most counted users is w u =
+      let all = count_by (λ (e : PathOf × Node). lies_in t.changed e.0) t.state.tree.files in
+      let le = times_le counted all users w in
+      let turned = ap (λ n. all * n) u ∙ swapped all (length t.state.people.users)
+      ∙ ap (λ m. length t.state.people.users * all + moves_refreshed m t.state.tree.files) (sym is) in
+      omega (arith, le, turned)
     where
       swapped : (a b : ℕ) → a * b ≡ b * a + 0
       swapped a b = grind arith
 
-  pub files_fit : (walked users : ℕ) → walked ≡ count_by (λ (e : PathOf × Node). lies_in t.changed e.0) t.state.tree.files
-      → users ≡ length t.state.people.users → length t.state.tree.files * length t.state.people.users < 2 ^ 64 → walked * users < 2 ^ 64
-  files_fit walked users w u fits =
+  pub files_fit : (counted users : ℕ) → counted ≤ count_by (λ (e : PathOf × Node). lies_in t.changed e.0) t.state.tree.files
+      → users ≡ length t.state.people.users → length t.state.tree.files * length t.state.people.users < 2 ^ 64 → counted * users < 2 ^ 64
+  files_fit counted users w u fits =
       let most = count_by-le-length (λ (e : PathOf × Node). lies_in t.changed e.0) t.state.tree.files in
-      let le = times_le walked (length t.state.tree.files) users (omega (arith, w, most)) in
+      let le = times_le counted (length t.state.tree.files) users (omega (arith, w, most)) in
       let same = ap (λ n. length t.state.tree.files * n) u in
       omega (arith, le, same, fits)
 

@@ -16,10 +16,10 @@ use Rattle.acl_names.specs.Below.{is_above}
 use Rattle.acl_names.proofs.Basics.{not_both, both_false, is_less, is_equal, times_none}
 use Rattle.path_map.proofs.Places.{above}
 use Rattle.path_map.specs.Entries.{IsInOrder}
-use Rattle.acl_rights.specs.Rows.{Rows}
-use Rattle.acl_rights.specs.ReachedRows.{reached_from}
+use Rattle.path_classes.specs.Rows.{Rows}
+use Rattle.path_classes.specs.ReachedRows.{reached_from}
 use Rattle.acl_rights.specs.Differing.{fails_from}
-use Rattle.acl_rights.proofs.Maps.{map_filter, find-values, find-filter, same_found}
+use Rattle.path_classes.proofs.Maps.{map_filter, find-values, find-filter, same_found}
 use Rattle.acl_rights.proofs.Orders.{in_order-values}
 
 -- ---- counts of cells

@@ -21,9 +21,10 @@ use Rattle.acl_tree.proofs.Changes.{label_is_same}
 use Rattle.path_map.specs.Entries.{IsInOrder}
 use Rattle.path_map.specs.Merged.{has, merged, put_all}
 use Rattle.path_map.proofs.Rows.{rows_merged}
-use Rattle.acl_rights.specs.declared.kind_rows.LabelRow.{LabelRow}
-use Rattle.acl_rights.specs.KindRows.{RowedPaths, label_row, rowed, rowed_labels, each_row, with_last, without_at, with_again, mentions_any, rows_at}
-use Rattle.acl_rights.proofs.Maps.{map_twice}
+use Rattle.path_classes.specs.declared.label_row.LabelRow.{LabelRow}
+use Rattle.path_classes.specs.KindRows.{RowedPaths, rows_at}
+use Rattle.acl_rights.specs.KindRows.{label_row, rowed, rowed_labels, each_row, with_last, without_at, with_again, mentions_any}
+use Rattle.path_classes.proofs.Maps.{map_twice}
 use Rattle.acl_rights.specs.Rows.{Verdict, cells_of, rows_of}
 use Rattle.acl_rights.specs.Groups.{mentions_one}
 use Rattle.acl_rights.specs.Lines.{labels_of, HaveLabels}

@@ -15,13 +15,14 @@ use Rattle.kinds.specs.Kinds.{KindsOf, node_at}
 use Rattle.kinds.specs.Numbered.{Kept, entries_in, with_node}
 use Rattle.kinds.specs.Placed.{placed, given, AreGiven, ArePlaces}
 use Rattle.kinds.specs.declared.placed.GivenNode.{GivenNode}
-use Rattle.acl_rights.specs.declared.kind_rows.LabelRow.{LabelRow}
+use Rattle.path_classes.specs.declared.label_row.LabelRow.{LabelRow}
 use Rattle.acl_tree.specs.Files.{Files}
 use Rattle.acl_entry.specs.Person.{Person}
 use Rattle.acl_entry.specs.declared.label.Label.{Label}
 use Rattle.acl_rights.specs.Rows.{Verdict, row_of}
 use Rattle.kinds.specs.Renewed.{changed_where}
-use Rattle.acl_rights.specs.KindRows.{RowedPaths, with_again, asked_again, mentions_any, label_row, rowed, some_row, rowed_labels, AreRowsOf, HasLabel}
+use Rattle.path_classes.specs.KindRows.{RowedPaths}
+use Rattle.acl_rights.specs.KindRows.{with_again, asked_again, mentions_any, label_row, rowed, some_row, rowed_labels, AreRowsOf, HasLabel}
 use Rattle.acl_rights.specs.KindRows.{borrowed_labels, labels_at, some_labels, IsPlaced, ArePlaced}
 
 times_more : (n u : ℕ) → suc n * u ≡ u + n * u

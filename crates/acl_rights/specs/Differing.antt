@@ -3,7 +3,7 @@ use Rattle.std.specs.Prelude.{ℕ, suc, ◌+◌, ◌==◌, nat_lt, Bool, false, 
 use Rattle.std.specs.List.{sum_by}
 use Rattle.std.specs.FinMap.{find}
 use Rattle.acl_names.specs.Paths.{path_cmp}
-use Rattle.acl_rights.specs.Rows.{Rows}
+use Rattle.path_classes.specs.Rows.{Rows}
 
 -- a user's place before, where the user at a place may have left
 abbrev pub place_before : Option ℕ → ℕ → ℕ

@@ -3,7 +3,8 @@ use Rattle.std.specs.Prelude.{◌≡◌}
 use Rattle.acl_people.specs.KnownPeople.{persons}
 use Rattle.acl_tree.specs.State.{State}
 use Rattle.acl_tree.specs.Reports.{StagedState, Reports}
-use Rattle.acl_rights.specs.Rows.{Verdict, Rows, rows_of}
+use Rattle.path_classes.specs.Rows.{Rows}
+use Rattle.acl_rights.specs.Rows.{Verdict, rows_of}
 
 -- the rows are those of some state, from which the line goes
 pub record GoesFrom (V : Verdict) (rows : Rows) (t : StagedState) : Type 0 where

@@ -8,13 +8,6 @@ pub mod Kept
 pub mod Groups
 pub mod Lines
 pub mod Rows
-pub mod ReachedRows
 pub mod Differing
-pub mod Walks
-pub mod Subtrees
 pub mod KindRows
-pub mod RowsLeft
-pub mod Classes
-pub mod ClassRows
-pub mod ClassLists
 pub mod Outside

@@ -6,12 +6,13 @@ use Rattle.acl_people.specs.KnownPeople.{persons}
 use Rattle.acl_names.specs.Paths.{PathOf}
 use Rattle.acl_tree.specs.Files.{Files}
 use Rattle.acl_tree.specs.Reports.{StagedState}
-use Rattle.acl_rights.specs.KindRows.{RowedPaths, rowed, rows_at}
+use Rattle.path_classes.specs.KindRows.{RowedPaths, rows_at}
+use Rattle.acl_rights.specs.KindRows.{rowed}
 use Rattle.acl_rights.specs.declared.kind_rows.KindRows.{KindRows}
 use Rattle.acl_rights.specs.Rows.{Verdict}
 use Rattle.acl_rights.specs.Tables.{VerdictTable}
 use Rattle.acl_rights.specs.Stages.{most_looked}
-use Rattle.acl_rights.specs.Reach.{verdicts_refreshed}
+use Rattle.acl_rights.specs.Reach.{unlike, verdicts_refreshed}
 use Rattle.acl_rights.specs.Kept.{GoesFrom}
 use Rattle.acl_rights.specs.declared.stage.NextRows.{NextRows}
 
@@ -32,9 +33,10 @@ pub record AreBefore (V : Verdict) (es : RowedPaths) (t : StagedState) : Type 0 
   pub goes : GoesFrom V (rows_at es) t
   pub are : es ≡ rowed V (persons goes.state.people) goes.state.tree.files
 
--- the rows are those of the state after the line; with no more labels fetched than it may, and the verdicts along paths
--- that may be other ones
-pub record IsAfter (V : Verdict) (t : StagedState) (new : NextRows) : Type 0 where
+-- from these rows, those of the state after the line; with no more labels fetched than it may, and the verdicts along paths that
+-- were found again: at least those that are other ones, and none that the line cannot change
+pub record IsAfter (V : Verdict) (old : RowedPaths) (t : StagedState) (new : NextRows) : Type 0 where
   pub rows : entries_in new.rows.rows ≡ rowed V (persons t.state.people) t.state.tree.files
   pub looked : new.looked ≤ most_looked t.user_change t.state.tree.files
-  pub refreshed : new.refreshed ≡ verdicts_refreshed t
+  pub least : unlike t.user_change (rows_at old) (rows_at (entries_in new.rows.rows)) ≤ new.refreshed
+  pub most : new.refreshed ≤ verdicts_refreshed t

@@ -14,10 +14,11 @@ use Rattle.acl_tree.specs.State.{State}
 use Rattle.acl_tree.specs.Reports.{StagedState, place_left}
 use Rattle.acl_tree.specs.declared.user_change.UserChange.{UserChange}
 use Rattle.acl_tree.specs.declared.user_change.UserChange.TheVariants.{Unchanged, Loaded, Memberships, Added, Removed}
-use Rattle.acl_rights.specs.ReachedRows.{execute, reached_rows}
+use Rattle.path_classes.specs.ReachedRows.{execute, reached_rows}
 use Rattle.acl_rights.specs.Differing.{differing}
 use Rattle.path_map.specs.Below.{lies_in}
-use Rattle.acl_rights.specs.Rows.{Verdict, Rows, places_from}
+use Rattle.path_classes.specs.Rows.{Rows, places_from}
+use Rattle.acl_rights.specs.Rows.{Verdict}
 use Rattle.acl_rights.specs.Groups.{mentions_one}
 
 -- ---- in a state

@@ -13,7 +13,8 @@ use Rattle.acl_people.specs.KnownPeople.{persons}
 use Rattle.acl_tree.specs.Files.{Files}
 use Rattle.acl_tree.specs.State.{State}
 use Rattle.acl_tree.specs.Reports.{coded_files}
-use Rattle.acl_rights.specs.Rows.{Verdict, Rows, cells_of, rows_of, coded_rows, places_from, who_in, may_in}
+use Rattle.path_classes.specs.Rows.{Rows, coded_rows, places_from, who_in, may_in}
+use Rattle.acl_rights.specs.Rows.{Verdict, cells_of, rows_of}
 
 -- how many users there are, the files, and a row for each
 pub record VerdictTable : Type 0 where

@@ -8,9 +8,10 @@ use Rattle.acl_text.specs.declared.rows.PasswdRow.{PasswdRow}
 use Rattle.acl_edit.specs.declared.node.Node.{Node}
 use Rattle.acl_people.specs.KnownPeople.{person, persons}
 use Rattle.acl_tree.specs.State.{State}
-use Rattle.acl_rights.specs.Rows.{Verdict, Rows, places_from, rows_of}
+use Rattle.path_classes.specs.Rows.{Rows, places_from}
+use Rattle.acl_rights.specs.Rows.{Verdict, rows_of}
 use Rattle.acl_rights.specs.Reach.{reach}
-use Rattle.acl_rights.specs.ReachedRows.{rows_along}
+use Rattle.path_classes.specs.ReachedRows.{rows_along}
 
 -- the requests that a user is granted on a file: by the file's list alone, or only where the user can search each
 -- recorded directory above it too

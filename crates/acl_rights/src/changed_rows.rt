@@ -1,21 +1,24 @@
-//! Rows of verdicts by kinds after some files changed: of labels that differ each is asked for once.
+//! Rows of verdicts by kinds after some files changed: of labels that differ each is judged once.
 
-ghost use Rattle.std.specs.Prelude.{◌≡◌, ◌+◌, ◌*◌, ◌<◌, ◌≤◌, ◌^◌, Some, true, length, map, slice_get, IfOk, IfSome, OnOk};
+ghost use Rattle.std.specs.Prelude.{◌≡◌, ◌+◌, ◌*◌, ◌++◌, ◌<◌, ◌≤◌, ◌^◌, Some, true, length, map, slice_get, IfOk, IfSome, OnOk};
 ghost use Rattle.path_map.specs.Entries.{IsInOrder, seen};
 ghost use Rattle.path_map.specs.Merged.{merged};
 ghost use Rattle.kinds.specs.Numbered.{entries_in};
 ghost use Rattle.kinds.specs.Placed.{given};
+ghost use Rattle.path_classes.specs.ClassedRows.{AreCounted, paths_of};
+ghost use Rattle.path_classes.specs.ClassesWithin.{inside};
 ghost use Rattle.acl_rights.specs.KindRows.{label_row, some_row, rowed_labels, with_label, borrowed_labels, AreRowsOf, HasLabel, IsPlaced, ArePlaced};
 
-use crate::cells::judged;
 use crate::hash::hash_of;
 use crate::hints::Hints;
 use crate::judge::Judge;
-use crate::kind_rows::{KindRows, LabelRow, with_row};
+use crate::judged::judged;
+use crate::kind_rows::{KindRows, with_row};
 use acl_entry::Label;
 use acl_names::Path;
 use acl_people::Subjects;
 use kinds::{GivenNode, KindMap, PlacedMap, push_found};
+use path_classes::LabelRow;
 use std::alloc::{AllocError, Global};
 use std::collections::BTreeMap;
 use std::rc::Rc;
@@ -104,7 +107,7 @@ fn places_of<'a>(
     })
 }
 
-/// A label with its row, asked for once.
+/// A label with its row, judged once.
 pub(crate) fn judged_row<J: Judge>(
     alloc: Global,
     judge: &mut J,
@@ -133,7 +136,7 @@ fn known_number(rows: &KindMap<LabelRow>, hints: &Hints, label: &Label) -> Optio
     }
 }
 
-/// The row of a label: that of a file that has it, or one that is asked for once.
+/// The row of a label: that of a file that has it, or one that is judged once.
 fn given_row<J: Judge>(
     alloc: Global,
     judge: &mut J,
@@ -154,7 +157,7 @@ fn given_row<J: Judge>(
     Ok(GivenNode::New(row))
 }
 
-/// The rows of labels, each asked for at most once.
+/// The rows of labels, each judged at most once.
 fn given_rows<J: Judge>(
     alloc: Global,
     judge: &mut J,
@@ -177,8 +180,9 @@ fn given_rows<J: Judge>(
 }
 
 impl KindRows {
-    /// The rows after some files have other labels and others are gone. Each different label is asked for at most once, and not
-    /// where hints find a file that has it. Fails only if memory, or the numbers, run out.
+    /// The rows after some files have other labels and others are gone, and of how many files the answers along their paths
+    /// were found again. Each different label is judged at most once, and not where hints find a file that has it. Fails only
+    /// if memory, or the numbers, run out.
     pub fn with_files<'a, J: Judge, W>(
         &self,
         alloc: Global,
@@ -186,16 +190,20 @@ impl KindRows {
         users: &Subjects,
         changed: &[(&'a Path, &'a Label)],
         gone: &[(&Path, W)],
-    ) -> Result<KindRows, AllocError>
+    ) -> Result<(KindRows, usize), AllocError>
         requires room { J.asked_of judge.old + length changed.now * length users.now < 2 ^ 64 }
         requires known { AreRowsOf J.verdict_of users.now (entries_in self.now.rows) }
         requires changed { IsInOrder (map with_label changed.now) }
         requires gone { IsInOrder (map seen gone.now) }
-        ensures rows { IfOk result (λ new. entries_in new.rows
+        ensures rows { IfOk result (λ new. entries_in new.0.rows
             ≡ merged (rowed_labels J.verdict_of users.now (map with_label changed.now)) (map seen gone.now) (entries_in self.now.rows)) }
+        ensures least { IfOk result (λ new. AreCounted self.now.rows new.0.rows new.1) }
+        ensures most { IfOk result (λ new. new.1 ≤ length (inside (paths_of (map with_label changed.now) ++ paths_of (map seen gone.now)) (entries_in new.0.rows))) }
         ensures at_most { J.asked_of judge.new ≤ J.asked_of judge.old + length changed.now * length users.now }
     {
-        let (left, gone_found) = self.rows.map().without_found(alloc, gone)?;
+        let before = self.rows.rows();
+        let (left, gone_found) = before.map().without_found(alloc, gone)?;
+        let _left = left.kinds();
         let new = places_of(alloc, changed)?;
         let LabelPlaces {
             labels,
@@ -213,7 +221,9 @@ impl KindRows {
         let mut changed_numbers = numbers;
         push_found(&mut changed_numbers, &gone_found)?;
         push_found(&mut changed_numbers, &found)?;
-        let rows = self.rows.after(alloc, map, changed_numbers)?;
-        Ok(KindRows { rows, hints })
+        let labelled = before.after(alloc, map, changed_numbers)?;
+        let _kinds = labelled.map().kinds();
+        let (rows, refreshed) = self.rows.with_files(alloc, labelled, changed, gone)?;
+        Ok((KindRows { rows, hints }, refreshed))
     }
 }

@@ -1,14 +1,7 @@
 //! A number that is made of a label, by which labels that differ are looked up.
 
 use acl_entry::{Entry, Key, Label};
-
-/// Some odd number whose bits have no order: the golden ratio's, as hashes use it.
-const SPREAD: u64 = 0x9E37_79B9_7F4A_7C15;
-
-/// A hash with a number worked into it.
-pub(crate) fn mixed(hash: u64, number: u64) -> u64 {
-    (hash ^ number).wrapping_mul(SPREAD).rotate_left(29)
-}
+use path_classes::mixed;
 
 /// A number of an entry: its tag, its permissions and the id that it names.
 fn number_of(entry: &Entry) -> u64 {

@@ -42,7 +42,7 @@ impl Model for VerdictTable {
 }
 
 impl VerdictTable {
-    /// The table of so many users and a tree, which it shares.
+    /// The table of `users` users and a tree, which it shares.
     fn of(users: usize, tree: &Tree, rows: KindRows) -> Result<VerdictTable, AllocError>
         requires { HaveLabels tree.now.files (entries_in rows.rows) }
         ensures { IfOk result (λ table. table ≡ table_of users tree.now.files rows) }
@@ -99,7 +99,7 @@ impl Rows {
         self.looked
     }
 
-    /// How many verdicts along paths may be new or other ones than before. Allocates nothing.
+    /// How many verdicts along paths were found again. Allocates nothing.
     pub fn refreshed(&self) -> u64
         ensures { result ≡ self.now.refreshed }
     {
@@ -117,7 +117,7 @@ impl Rows {
     }
 }
 
-/// The rows of all files: a verdict is asked for on every user and every file.
+/// The rows of all files: every user is judged on every file.
 fn all_rows<J: Judge>(
     alloc: Global,
     judge: &mut J,
@@ -137,7 +137,7 @@ impl<J: Judge> Index<J> {
     ghost use Rattle.acl_rights.specs.Stages.{CanStage, most_asked, most_looked, moves_groups};
     ghost use Rattle.acl_rights.specs.Reach.{verdicts_refreshed, unlike};
 
-    /// The table of a state: a verdict is asked for on every user and every file. Fails only if memory runs out.
+    /// The table of a state: every user is judged on every file. Fails only if memory runs out.
     pub fn build(
         alloc: Global,
         judge: &mut J,
@@ -156,7 +156,7 @@ impl<J: Judge> Index<J> {
         })
     }
 
-    /// The table of the state after a line. The judge is asked for at most as many verdicts as the line can have
+    /// The table of the state after a line. The judge decides at most as many verdicts as the line can have
     /// changed. Fails only if memory runs out.
     pub fn stage(&self, alloc: Global, judge: &mut J, staged: &Staged) -> Result<Rows, NoMemory>
         requires room { J.asked_of judge.old + all_pairs staged.now.state < 2 ^ 64 }
@@ -166,12 +166,12 @@ impl<J: Judge> Index<J> {
         ensures bounded { J.asked_of judge.new ≤ J.asked_of judge.old + all_pairs staged.now.state }
         ensures looked_most { IfOk result (λ rows. rows.looked ≤ most_looked staged.now.user_change staged.now.state.tree.files) }
         ensures looked_least { IfOk result (λ rows. moves_groups staged.now.user_change ≡ true → J.asked_of judge.new ≤ J.asked_of judge.old + rows.looked) }
-        ensures refreshed { IfOk result (λ rows. rows.refreshed ≡ verdicts_refreshed staged.now) }
+        ensures refreshed_most { IfOk result (λ rows. rows.refreshed ≤ verdicts_refreshed staged.now) }
         ensures refreshed_least { IfOk result (λ rows. unlike staged.now.user_change self.now.rows rows.table.rows ≤ rows.refreshed) }
     {
         staged.tree().soundness_law();
         let now = &self.table;
-        now.rows.rows.order_law();
+        now.rows.rows.rows().order_law();
         let new = after_line(alloc, judge, &now.rows, staged)?;
         let NextRows {
             rows,

@@ -13,13 +13,12 @@ ghost use Rattle.acl_rights.specs.Outside.{SameOutside, SameRows, HoldsChanges};
 ghost use Rattle.path_map.specs.Below.{from};
 
 use crate::changed_part::with_changes;
-use crate::file_classes::FileClasses;
-use crate::file_rows::FileRows;
 use crate::index::Index;
 use crate::judge::Judge;
 use acl_entry::{Perm, Requests};
 use acl_names::Path;
 use acl_tree::{FilesIter, Staged, State};
+use path_classes::{FileClasses, FileRows};
 use std::alloc::{AllocError, Global};
 use std::marker::Model;
 use std::mem;
@@ -61,7 +60,7 @@ impl<J: Judge> IndexedState<J> {
         }
     }
 
-    /// The prepared state after a line, with its index. The judge is asked for at most as many verdicts as the line can
+    /// The prepared state after a line, with its index. The judge decides at most as many verdicts as the line can
     /// have changed. Fails only if memory runs out; then the prepared state is discarded.
     pub fn after(
         &self,

@@ -14,7 +14,7 @@ pub trait Judge {
     /// The verdict on a user and a label.
     ghost verdict_of: { Verdict };
 
-    /// How many verdicts were asked for.
+    /// How many verdicts were decided.
     ghost asked_of: { Self → ℕ };
 
     /// The verdict on a user and a label. Allocates nothing.
@@ -23,7 +23,7 @@ pub trait Judge {
         ensures verdict { result ≡ verdict_of subject.now label.now }
         ensures asked { asked_of self.new ≡ asked_of self.old + 1 };
 
-    /// The verdicts on all users and a label, in the order of the users, for so many files that have this label.
+    /// The verdicts on all users and a label, in the order of the users, for `files` files that have this label.
     ///
     /// One verdict counts for each user and each of these files, however they are found. A judge that has no
     /// quicker way asks for them one by one, as this body does. Allocates nothing.
@@ -41,7 +41,7 @@ pub trait Judge {
         }
     }
 
-    /// How many verdicts were asked for.
+    /// How many verdicts were decided.
     fn asked(&self) -> u64
         ensures { result ≡ asked_of self.now };
 
@@ -57,7 +57,7 @@ pub struct Posix {
 }
 
 impl Posix {
-    /// No verdict was asked for yet.
+    /// No verdict was decided yet.
     pub fn new() -> Posix
         ensures { result.asked ≡ 0 }
     {

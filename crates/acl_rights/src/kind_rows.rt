@@ -1,60 +1,44 @@
 //! Rows of verdicts by kinds: for each file its label with the verdicts of all users on it. Files of one kind share them.
 
-ghost use Rattle.std.specs.Prelude.{◌≡◌, ◌+◌, ◌*◌, ◌++◌, ◌<◌, ◌≤◌, ◌^◌, true, false, length, count_by, IfOk, OnOk, [], nat_lt, if◌then◌else◌};
+ghost use Rattle.std.specs.Prelude.{◌≡◌, ◌+◌, ◌*◌, ◌<◌, ◌≤◌, ◌^◌, true, false, length, count_by, filter, IfOk, OnOk, [], nat_lt, if◌then◌else◌};
 ghost use Rattle.std.specs.List.{remove};
 ghost use Rattle.std.specs.Option.{option_copied};
 ghost use Rattle.std.specs.FinMap.{find};
 ghost use Rattle.acl_names.specs.Paths.{path_cmp};
-ghost use Rattle.acl_entry.specs.Mentions.{mentions};
+ghost use Rattle.path_map.specs.Below.{lies_in};
 ghost use Rattle.kinds.specs.Numbered.{entries_in};
-ghost use Rattle.acl_rights.specs.KindRows.{rows_at, label_row, rowed, each_row, with_last, without_at, with_again, asked_again, mentions_any};
+ghost use Rattle.path_classes.specs.ClassedRows.{AreCounted};
+ghost use Rattle.path_classes.specs.KindRows.{rows_at};
+ghost use Rattle.acl_rights.specs.KindRows.{label_row, rowed, each_row, with_last, without_at, with_again, asked_again, mentions_any};
 
-use crate::cells::{Cells, judged, judged_again, judged_last, without};
 use crate::hash::hash_of;
 use crate::hints::{FIRST_HINTS, Hint, Hints};
 use crate::judge::Judge;
+use crate::judged::{judged, judged_again, judged_last, without};
 use acl_edit::Node;
 use acl_entry::{Id, Label, Subject};
 use acl_names::Path;
 use acl_people::Subjects;
 use acl_tree::Files;
-use kinds::{KindMap, KindTest, NodeChange, Renewal, Tagged, TaggedMap};
+use kinds::{KindMap, NodeChange, Renewal, TaggedMap};
+use path_classes::{Cells, ClassedRows, LabelRow, push_groups};
 use std::alloc::{AllocError, Global};
 
-/// A label, and what each user may do with a file of this label, in the order of the users.
-#[derive(Drop)]
-pub struct LabelRow {
-    pub label: Label,
-    pub row: Cells,
-}
-
-impl Tagged for LabelRow {
-    ghost tags_of = { λ row. mentions row.label };
-
-    /// Adds the groups that the label mentions.
-    fn push_tags(&self, alloc: Global, new: &mut Vec<usize>) -> Result<(), AllocError> {
-        let ids = self.label.mentions(alloc)?;
-        push_groups(new, &ids)?;
-        Ok(())
-    }
-}
-
-/// For each file its label and row, and for each group the numbers of the labels that mention it; and hints at the numbers of
-/// labels.
+/// For each file its label, row and path class, and for each group the numbers of the labels that mention it; and hints at the
+/// numbers of labels.
 #[derive(Drop)]
 pub struct KindRows {
-    pub rows: TaggedMap<LabelRow>,
+    pub rows: ClassedRows,
     pub(crate) hints: Hints,
 }
 
-/// Adds the numbers of groups.
-fn push_groups(new: &mut Vec<usize>, ids: &[Id]) -> Result<(), AllocError>
-    ensures { OnOk result (new.new.items ≡ new.old.items ++ ids.now) }
-{
-    for id in ids {
-        new.push(id.number() as usize)?;
-    }
-    Ok(())
+/// The rows after a line, how many labels were fetched for it, and of how many files the answers along their paths were found
+/// again.
+#[derive(Drop)]
+pub(crate) struct UpdatedRows {
+    pub rows: KindRows,
+    pub looked: usize,
+    pub refreshed: usize,
 }
 
 /// A copy of a label. Fails only if memory runs out.
@@ -157,7 +141,7 @@ struct NoUser {
     at: usize,
 }
 
-/// A row without the user at a place, if it has so many.
+/// A row without the user at a place, if it has one there.
 fn shorter(alloc: Global, row: &Cells, at: usize) -> Result<Cells, AllocError>
     ensures { IfOk result (λ new. new ≡ (if nat_lt at (length row.now) then remove row.now at else row.now)) }
 {
@@ -187,20 +171,6 @@ impl Renewal<LabelRow, LabelRow, ()> for NoUser {
         let row = shorter(alloc, &node.row, self.at)?;
         let new = with_row(alloc, &node.label, row)?;
         Ok(new)
-    }
-}
-
-/// Labels that mention one of some groups.
-#[derive(Drop)]
-pub(crate) struct Mentioning<'a> {
-    pub(crate) groups: &'a [Id],
-}
-
-impl<'a> KindTest<LabelRow> for Mentioning<'a> {
-    ghost passes = { λ some row. mentions_any some.groups.now row };
-
-    fn passes(&self, node: &LabelRow) -> bool {
-        node.label.mentions_one_of(self.groups)
     }
 }
 
@@ -240,7 +210,7 @@ impl KindRows {
         ensures { IfOk result (λ none. entries_in none.rows ≡ []) }
     {
         Ok(KindRows {
-            rows: TaggedMap::new(alloc)?,
+            rows: ClassedRows::none(alloc)?,
             hints: Hints::new(alloc),
         })
     }
@@ -259,13 +229,14 @@ impl KindRows {
     pub fn row(&self, path: &Path) -> Option<&Cells>
         ensures { option_copied result ≡ find path_cmp path.now (rows_at (entries_in self.now.rows)) }
     {
-        match self.rows.get(path) {
+        let rows = self.rows.rows();
+        match rows.get(path) {
             Some(node) => Some(&node.row),
             None => None,
         }
     }
 
-    /// The rows of files, which share their paths: each kind is asked for as often as files have it. Fails only if memory
+    /// The rows of files, which share their paths: each kind is judged, and counts for each file that has it. Fails only if memory
     /// runs out.
     pub fn of_files<J: Judge>(
         alloc: Global,
@@ -281,7 +252,8 @@ impl KindRows {
         let all = AllUsers { users };
         let map = files.files_by_path().renewed(alloc, judge, &all)?;
         let hints = hints_of(alloc, &map)?;
-        let rows = TaggedMap::of(alloc, map)?;
+        let tagged = TaggedMap::of(alloc, map)?;
+        let rows = ClassedRows::of(alloc, tagged)?;
         Ok(KindRows { rows, hints })
     }
 
@@ -298,7 +270,9 @@ impl KindRows {
     {
         let hints = self.hints.share()?;
         let last = LastUser { user };
-        let rows = self.rows.renewed(alloc, judge, &last)?;
+        let before = self.rows.rows();
+        let renewed = before.renewed(alloc, judge, &last)?;
+        let rows = self.rows.with_all_rows(alloc, renewed)?;
         Ok(KindRows { rows, hints })
     }
 
@@ -308,13 +282,15 @@ impl KindRows {
     {
         let hints = self.hints.share()?;
         let none = NoUser { at };
-        let rows = self.rows.renewed(alloc, &mut (), &none)?;
+        let before = self.rows.rows();
+        let renewed = before.renewed(alloc, &mut (), &none)?;
+        let rows = self.rows.with_all_rows(alloc, renewed)?;
         Ok(KindRows { rows, hints })
     }
 
-    /// The rows with a user's verdict asked for again where the label mentions one of some groups, which the user joined or
-    /// left: once for each kind; and how many labels were fetched for that. The rows of other labels are shared, and none of
-    /// them is looked at. Fails only if memory, or the numbers, run out.
+    /// The rows with a user's verdict found again where the label mentions one of `groups`, which the user joined or left:
+    /// once for each kind. The rows of other labels are shared, and none of them is looked at. Fails only if memory, or the
+    /// numbers, run out.
     pub fn with_user_updated<J: Judge>(
         &self,
         alloc: Global,
@@ -322,19 +298,28 @@ impl KindRows {
         groups: &[Id],
         at: usize,
         user: &Subject,
-    ) -> Result<(KindRows, usize), AllocError>
+    ) -> Result<UpdatedRows, AllocError>
         requires room { J.asked_of judge.old + count_by (λ e. mentions_any groups.now e.1) (entries_in self.now.rows) < 2 ^ 64 }
-        ensures rows { IfOk result (λ new. entries_in new.0.rows ≡ each_row (with_again J.verdict_of at user.now groups.now) (entries_in self.now.rows)) }
-        ensures few { IfOk result (λ new. new.1 ≤ count_by (λ e. mentions_any groups.now e.1) (entries_in self.now.rows)) }
-        ensures none { IfOk result (λ new. new.1 ≡ 0 → count_by (λ e. mentions_any groups.now e.1) (entries_in self.now.rows) ≡ 0) }
-        ensures looked { IfOk result (λ new. J.asked_of judge.new ≤ J.asked_of judge.old + new.1) }
+        ensures rows { IfOk result (λ new. entries_in new.rows.rows ≡ each_row (with_again J.verdict_of at user.now groups.now) (entries_in self.now.rows)) }
+        ensures few { IfOk result (λ new. new.looked ≤ count_by (λ e. mentions_any groups.now e.1) (entries_in self.now.rows)) }
+        ensures looked { IfOk result (λ new. J.asked_of judge.new ≤ J.asked_of judge.old + new.looked) }
+        ensures least { IfOk result (λ new. AreCounted self.now.rows new.rows.rows new.refreshed) }
+        ensures most { IfOk result (λ new. new.refreshed ≤ count_by (λ e. lies_in (filter (λ d. mentions_any groups.now d.1) (entries_in self.now.rows)) e.0) (entries_in self.now.rows)) }
         ensures at_most { J.asked_of judge.new ≤ J.asked_of judge.old + count_by (λ e. mentions_any groups.now e.1) (entries_in self.now.rows) }
     {
         let hints = self.hints.share()?;
         let mut tags = Vec::new(alloc);
         push_groups(&mut tags, groups)?;
         let moved = MovedUser { at, user };
-        let (rows, looked) = self.rows.with_tagged(alloc, judge, &tags, &moved)?;
-        Ok((KindRows { rows, hints }, looked))
+        let before = self.rows.rows();
+        let _kinds = before.map().kinds();
+        let labels = before.numbers_tagged(alloc, &tags)?;
+        let (updated, looked) = before.with_tagged(alloc, judge, &tags, &moved)?;
+        let (rows, refreshed) = self.rows.with_rows(alloc, updated, &labels)?;
+        Ok(UpdatedRows {
+            rows: KindRows { rows, hints },
+            looked,
+            refreshed,
+        })
     }
 }

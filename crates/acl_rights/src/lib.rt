@@ -1,7 +1,8 @@
 //! The index of who may do what: the verdicts on all users and files, kept up to date line by line.
 //!
-//! What is kept is one row for each kind of files: the label that the files have, and for each user the requests that it
-//! grants. A file has the number of its kind, so a million files of twenty kinds have twenty rows:
+//! One row is kept for each kind of files: the label that the files have, and for each user the requests that it grants. A
+//! file has the number of its kind, so a million files of twenty kinds have twenty rows. And a file has a path class, which
+//! says by whom all directories above can be searched (`path_classes`):
 //!
 //! ```text
 //! path    number        number  label            joe  ann        group  numbers
@@ -10,55 +11,42 @@
 //! home/f  1
 //! ```
 //!
-//! For each group the numbers of the rows whose label mentions it are kept, as pairs of numbers in one ordered set. Nothing is
-//! kept along paths.
+//! For each group the numbers of the rows whose label mentions it are kept, as pairs of numbers in one ordered set.
 //!
 //! - A line that changes files: each different label of a changed file that hints do not find is judged once, for all users
 //!   (more often where hashes collide), and the changed files get the number of their new row. All other files keep theirs.
 //!   The groups that the label of each number that files got or lost mentions are compared before and after the line, and the
-//!   pairs that differ are taken out or put in.
-//! - A membership: the lists of the groups give the rows whose label mentions one of them. For each of these the verdict of the
-//!   one user is asked for again; no other row is looked at.
+//!   pairs that differ are taken out or put in. The files at or below the changed ones get their path classes again.
+//! - A membership: the lists of the groups give the rows whose label mentions one of them. For each of these the one user is
+//!   judged again; no other row is looked at. Path classes of these labels, and those below, say again by whom directories can
+//!   be searched.
 //! - A user more: each row is one verdict longer. A user fewer: one shorter.
-//! - A question on a file is a look-up of its row; one on all files is a walk over them in path order.
-//! - A question along paths looks at the rows of the directories above the file too: a verdict counts only where each of
-//!   them grants the user search.
+//! - A question on a file is a look-up of its row, along its path of its path class too; one on all files is a walk over them in
+//!   path order.
 //! - A question on all users at once counts files by classes: files of a class have the same row, alone or along paths. So
 //!   each class is looked at once for all users.
 //!
-//! Verdicts on users and files: who decides, how often, the verdicts of all users on one file, rows of them by kinds of files,
-//! those that are left where each directory above has to grant search, and classes of files that have the same row.
+//! Verdicts on users and files: who decides, how often, the verdicts of all users on one label, rows of them by kinds of files,
+//! and what each line makes of them.
 #![tactic(auto)]
 
-mod answers;
-mod cells;
 mod changed_part;
 mod changed_rows;
-mod class_hints;
-mod classes;
-mod counts;
-mod file_classes;
-mod file_rows;
 mod hash;
 mod hints;
 mod index;
 mod indexed;
 mod judge;
+mod judged;
 mod kind_rows;
-mod many_rows;
 mod questions;
-mod reached_paths;
-mod search;
-mod stack;
 mod stage;
 
-pub use cells::{Cells, same_row};
 pub use changed_part::enclosing;
-pub use file_classes::FileClasses;
-pub use file_rows::{FileRow, FileRows};
 pub use index::{Index, Rows};
 pub use indexed::{IndexedState, IndexedStates, States, Verdicts};
 pub use judge::{Judge, Posix};
+pub use path_classes::{Cells, FileClasses, FileRow, FileRows, same_row};
 
 // The public calls take and give these values of the crates below.
 pub use acl_edit::{Edit, Kind, Specs};

@@ -7,18 +7,16 @@ ghost use Rattle.acl_names.specs.Paths.{path_cmp};
 ghost use Rattle.acl_tree.specs.State as states;
 ghost use Rattle.path_map.specs.Below.{from};
 
-use crate::answers::granted_users;
-use crate::file_classes::FileClasses;
-use crate::file_rows::FileRows;
 use crate::index::Index;
 use crate::judge::Judge;
 use acl_entry::{NoMemory, Perm, Requests};
 use acl_names::Path;
+use path_classes::{FileClasses, FileRows, granted_users};
 use std::alloc::Global;
 
 impl<J: Judge> Index<J> {
     ghost use Rattle.acl_rights.specs.Tables.{IsWhole, FindsUsers, FindsFiles, cell_at, users_at, files_at, verdict_at, row_at, users_granted_alone, files_granted_alone};
-    ghost use Rattle.acl_rights.specs.ReachedRows.{rows_along, reached_rows, reached_at};
+    ghost use Rattle.path_classes.specs.ReachedRows.{rows_along, reached_rows, reached_at};
     ghost use Rattle.acl_rights.specs.Reach.{reach_at, users_reaching, files_reached};
 
     /// The verdict on a user and a file.
@@ -83,7 +81,7 @@ impl<J: Judge> Index<J> {
         if user >= now.users {
             return Ok(None);
         }
-        let paths = now.rows.granted_paths(alloc, user, request)?;
+        let paths = now.rows.rows.granted_paths(alloc, user, request)?;
         Ok(Some(paths))
     }
 
@@ -106,7 +104,7 @@ impl<J: Judge> Index<J> {
         ensures { result ≡ reached_at self.now.rows user path.now }
     {
         let now = &self.table;
-        now.rows.reach(user, path)
+        now.rows.rows.reach(user, path)
     }
 
     /// What a user may do with a file, if both are there and the user can search each recorded directory above; else
@@ -128,7 +126,7 @@ impl<J: Judge> Index<J> {
         ensures { FindsUsers result (users_at (reached_rows self.now.rows) path.now request) }
     {
         let now = &self.table;
-        let Some(row) = now.rows.reached_row(alloc, path)? else {
+        let Some(row) = now.rows.rows.reached_row(alloc, path)? else {
             return Ok(None);
         };
         let users = granted_users(alloc, &row, request)?;
@@ -162,7 +160,7 @@ impl<J: Judge> Index<J> {
         if user >= now.users {
             return Ok(None);
         }
-        let paths = now.rows.reached_paths(alloc, user, request)?;
+        let paths = now.rows.rows.reached_paths(alloc, user, request)?;
         Ok(Some(paths))
     }
 
@@ -205,7 +203,7 @@ impl<J: Judge> Index<J> {
         ensures { result ≡ rows_along along self.now.rows }
     {
         let now = &self.table;
-        now.rows.file_rows(along)
+        now.rows.rows.file_rows(along)
     }
 
     /// Each file with its class, in path order: files of a class have the same row, with `along` what is left of their rows
@@ -214,7 +212,7 @@ impl<J: Judge> Index<J> {
         ensures { result ≡ ([], rows_along along self.now.rows) }
     {
         let now = &self.table;
-        now.rows.file_classes(alloc, along)
+        now.rows.rows.file_classes(alloc, along)
     }
 
     /// Each file that is not before a path with its class, in path order, as [`Index::file_classes`] has them. Fails only if
@@ -228,7 +226,7 @@ impl<J: Judge> Index<J> {
         ensures { IfOk result (λ classes. classes.1 ≡ from top.now (rows_along along self.now.rows)) }
     {
         let now = &self.table;
-        now.rows.file_classes_from(alloc, along, top)
+        now.rows.rows.file_classes_from(alloc, along, top)
     }
 
     /// Each file that is not before a path with what each user may do with it, in path order; with `along` only where the
@@ -242,6 +240,6 @@ impl<J: Judge> Index<J> {
         ensures { IfOk result (λ rows. rows ≡ from top.now (rows_along along self.now.rows)) }
     {
         let now = &self.table;
-        now.rows.file_rows_from(alloc, along, top)
+        now.rows.rows.file_rows_from(alloc, along, top)
     }
 }

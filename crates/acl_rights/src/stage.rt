@@ -1,23 +1,24 @@
 //! The rows of verdicts after a line, by how the line moves the users.
 
-ghost use Rattle.std.specs.Prelude.{◌≡◌, ◌+◌, ◌-◌, ◌<◌, ◌≤◌, ◌^◌, true, Some, count_by, filter, length, map, slice_get, IfOk, MatchOption};
+ghost use Rattle.std.specs.Prelude.{◌≡◌, ◌+◌, ◌-◌, ◌<◌, ◌≤◌, ◌^◌, true, Some, count_by, length, map, slice_get, IfOk};
 ghost use Rattle.acl_tree.specs.Files.{Files};
 ghost use Rattle.kinds.specs.Numbered.{entries_in};
 ghost use Rattle.acl_people.specs.KnownPeople.{persons};
 ghost use Rattle.path_map.specs.Below.{lies_in};
-ghost use Rattle.acl_rights.specs.KindRows.{mentions_any, rowed, with_label};
+ghost use Rattle.path_classes.specs.ClassedRows.{AreCounted};
+ghost use Rattle.acl_rights.specs.KindRows.{rowed, with_label};
 ghost use Rattle.acl_rights.specs.Costs.{all_pairs};
 ghost use Rattle.acl_rights.specs.Stages.{most_asked, moves_groups};
 ghost use Rattle.acl_rights.specs.Lines.{labels_of, AreBefore, IsAfter};
 
 use crate::judge::Judge;
-use crate::kind_rows::KindRows;
-use acl_entry::{Id, Label, Subject};
+use crate::kind_rows::{KindRows, UpdatedRows};
+use acl_entry::{Label, Subject};
 use acl_names::Path;
 use acl_tree::{Differences, GroupIds, Staged, UserChange};
 use std::alloc::{AllocError, Global};
 
-/// The rows after a line, how many labels were fetched for it, and how many verdicts along paths may be other ones.
+/// The rows after a line, how many labels were fetched for it, and how many verdicts along paths were found again.
 #[derive(Drop)]
 pub(crate) struct NextRows {
     pub rows: KindRows,
@@ -40,73 +41,32 @@ fn labels<'a>(
     Ok(labels)
 }
 
-/// The labels of files that are still to come, where they are fewer than so many. No more of them are looked at.
-fn fewer_labels<'a>(
-    alloc: Global,
-    files: Differences<'a>,
-    many: usize,
-) -> Result<Option<Vec<(&'a Path, &'a Label)>>, AllocError>
-    ensures { IfOk result (λ labels. MatchOption labels (many ≤ length files.entry) (λ few. map with_label few.items ≡ labels_of files.entry)) }
-{
-    let mut labels = Vec::new(alloc);
-    let mut rest = files;
-    while let Some(file) = rest.next() {
-        labels.push((file.0, &file.1.label))?;
-        if labels.len() >= many {
-            return Ok(None);
-        }
-    }
-    Ok(Some(labels))
-}
-
-/// The rows with those of files that changed put, and without those of files that are gone.
-fn with_changed<J: Judge>(
-    alloc: Global,
-    judge: &mut J,
-    rows: &KindRows,
-    staged: &Staged,
-    changed: &[(&Path, &Label)],
-) -> Result<KindRows, AllocError>
-    requires room { J.asked_of judge.old + most_asked staged.now < 2 ^ 64 }
-    requires before { AreBefore J.verdict_of (entries_in rows.now.rows) staged.now }
-    requires moved { staged.now.user_change ≡ UserChange.Unchanged }
-    requires changed { map with_label changed.now ≡ labels_of staged.now.changed }
-    ensures rows { IfOk result (λ new. entries_in new.rows ≡ rowed J.verdict_of (persons staged.now.state.people) staged.now.state.tree.files) }
-    ensures at_most { J.asked_of judge.new ≤ J.asked_of judge.old + most_asked staged.now }
-{
-    staged.tree().soundness_law();
-    rows.rows.order_law();
-    let users = staged.people().all_subjects();
-    let gone = labels(alloc, staged.gone())?;
-    let new = rows.with_files(alloc, judge, users, changed, &gone)?;
-    Ok(new)
-}
-
-/// The rows after a line by which files change and no user does: each label of a file that changed is asked for once. Where
-/// as many files changed as the tree has numbers of kinds, no list of them is made.
+/// The rows with those of files that changed put, and without those of files that are gone: each label of a file that changed
+/// is judged at most once. And of how many files the answers along their paths were found again.
 fn changed_rows<J: Judge>(
     alloc: Global,
     judge: &mut J,
     rows: &KindRows,
     staged: &Staged,
-) -> Result<KindRows, AllocError>
+) -> Result<(KindRows, usize), AllocError>
     requires room { J.asked_of judge.old + most_asked staged.now < 2 ^ 64 }
     requires before { AreBefore J.verdict_of (entries_in rows.now.rows) staged.now }
     requires moved { staged.now.user_change ≡ UserChange.Unchanged }
-    ensures rows { IfOk result (λ new. entries_in new.rows ≡ rowed J.verdict_of (persons staged.now.state.people) staged.now.state.tree.files) }
+    ensures rows { IfOk result (λ new. entries_in new.0.rows ≡ rowed J.verdict_of (persons staged.now.state.people) staged.now.state.tree.files) }
+    ensures least { IfOk result (λ new. AreCounted rows.now.rows new.0.rows new.1) }
+    ensures most { IfOk result (λ new. new.1 ≤ count_by (λ e. lies_in staged.now.changed e.0) staged.now.state.tree.files) }
     ensures at_most { J.asked_of judge.new ≤ J.asked_of judge.old + most_asked staged.now }
 {
     staged.tree().soundness_law();
-    rows.rows.order_law();
+    rows.rows.rows().order_law();
     let users = staged.people().all_subjects();
-    let files = staged.tree().files_whole().files_by_path();
-    match fewer_labels(alloc, staged.changed(), files.numbers_len())? {
-        Some(changed) => with_changed(alloc, judge, rows, staged, &changed),
-        None => rows.of_kinds(alloc, judge, files, users),
-    }
+    let changed = labels(alloc, staged.changed())?;
+    let gone = labels(alloc, staged.gone())?;
+    let new = rows.with_files(alloc, judge, users, &changed, &gone)?;
+    Ok(new)
 }
 
-/// The rows after a line by which files change and no user does, and how many verdicts along paths may be other ones.
+/// The rows after a line by which files change and no user does, and how many verdicts along paths were found again.
 fn after_files<J: Judge>(
     alloc: Global,
     judge: &mut J,
@@ -117,17 +77,16 @@ fn after_files<J: Judge>(
     requires counts { all_pairs staged.now.state < 2 ^ 64 }
     requires before { AreBefore J.verdict_of (entries_in rows.now.rows) staged.now }
     requires moved { staged.now.user_change ≡ UserChange.Unchanged }
-    ensures after { IfOk result (IsAfter J.verdict_of staged.now) }
+    ensures after { IfOk result (IsAfter J.verdict_of (entries_in rows.now.rows) staged.now) }
     ensures at_most { J.asked_of judge.new ≤ J.asked_of judge.old + most_asked staged.now }
 {
     staged.tree().soundness_law();
-    rows.rows.order_law();
-    let new = changed_rows(alloc, judge, rows, staged)?;
-    let files = new.count_below(staged.changed());
+    rows.rows.rows().order_law();
+    let (new, files) = changed_rows(alloc, judge, rows, staged)?;
     Ok(NextRows {
         rows: new,
         looked: 0,
-        refreshed: files * staged.people().users() as u64,
+        refreshed: files as u64 * staged.people().users() as u64,
     })
 }
 
@@ -139,7 +98,7 @@ fn after_load<J: Judge>(
 ) -> Result<NextRows, AllocError>
     requires before { AreBefore J.verdict_of (entries_in rows.now.rows) staged.now }
     requires moved { staged.now.user_change ≡ UserChange.Loaded }
-    ensures { IfOk result (IsAfter J.verdict_of staged.now) }
+    ensures { IfOk result (IsAfter J.verdict_of (entries_in rows.now.rows) staged.now) }
 {
     staged.tree().soundness_law();
     Ok(NextRows {
@@ -166,25 +125,7 @@ fn moved_user<'a, J: Judge>(
     }
 }
 
-/// How many files lie at one whose label mentions one of some groups, or below it. Where no label was fetched, none does, and no
-/// path is walked over.
-fn count_refreshed(
-    alloc: Global,
-    rows: &KindRows,
-    groups: &[Id],
-    looked: usize,
-) -> Result<u64, AllocError>
-    requires none { looked ≡ 0 → count_by (λ e. mentions_any groups.now e.1) (entries_in rows.now.rows) ≡ 0 }
-    requires few { length (entries_in rows.now.rows) < 2 ^ 64 }
-    ensures { IfOk result (λ count. count ≡ count_by (λ e. lies_in (filter (λ d. mentions_any groups.now d.1) (entries_in rows.now.rows)) e.0) (entries_in rows.now.rows)) }
-{
-    if looked == 0 {
-        return Ok(0);
-    }
-    rows.count_below_mentioning(alloc, groups)
-}
-
-/// The rows after a user joined or left groups: the user's verdict is asked for again where a label mentions one of these
+/// The rows after a user joined or left groups: the user is judged again where a label mentions one of these
 /// groups, and nowhere else.
 fn after_move<J: Judge>(
     alloc: Global,
@@ -197,20 +138,24 @@ fn after_move<J: Judge>(
     requires room { J.asked_of judge.old + most_asked staged.now < 2 ^ 64 }
     requires before { AreBefore J.verdict_of (entries_in rows.now.rows) staged.now }
     requires moved { staged.now.user_change ≡ UserChange.Memberships at groups.now }
-    ensures after { IfOk result (IsAfter J.verdict_of staged.now) }
+    ensures after { IfOk result (IsAfter J.verdict_of (entries_in rows.now.rows) staged.now) }
     ensures at_most { J.asked_of judge.new ≤ J.asked_of judge.old + most_asked staged.now }
     ensures looked_least { IfOk result (λ new. J.asked_of judge.new ≤ J.asked_of judge.old + new.looked) }
 {
     staged.tree().soundness_law();
-    rows.rows.order_law();
+    rows.rows.rows().order_law();
     let user = moved_user::<J>(rows, staged, at, groups);
     let groups = groups.as_slice();
-    let (new, looked) = rows.with_user_updated(alloc, judge, groups, at, user)?;
-    let refreshed = count_refreshed(alloc, rows, groups, looked)?;
-    Ok(NextRows {
-        rows: new,
-        looked: looked as u64,
+    let updated = rows.with_user_updated(alloc, judge, groups, at, user)?;
+    let UpdatedRows {
+        rows,
+        looked,
         refreshed,
+    } = updated;
+    Ok(NextRows {
+        rows,
+        looked: looked as u64,
+        refreshed: refreshed as u64,
     })
 }
 
@@ -226,7 +171,7 @@ fn joined_user<'a, J: Judge>(rows: &KindRows, staged: &'a Staged) -> &'a Subject
     }
 }
 
-/// The rows after a user was added, the last: that user's verdict is asked for on each kind of files.
+/// The rows after a user was added, the last: that user is judged on each kind of files.
 fn after_join<J: Judge>(
     alloc: Global,
     judge: &mut J,
@@ -236,21 +181,21 @@ fn after_join<J: Judge>(
     requires room { J.asked_of judge.old + most_asked staged.now < 2 ^ 64 }
     requires before { AreBefore J.verdict_of (entries_in rows.now.rows) staged.now }
     requires moved { staged.now.user_change ≡ UserChange.Added }
-    ensures after { IfOk result (IsAfter J.verdict_of staged.now) }
+    ensures after { IfOk result (IsAfter J.verdict_of (entries_in rows.now.rows) staged.now) }
     ensures at_most { J.asked_of judge.new ≤ J.asked_of judge.old + most_asked staged.now }
 {
     staged.tree().soundness_law();
-    rows.rows.order_law();
+    rows.rows.rows().order_law();
     let user = joined_user::<J>(rows, staged);
     let new = rows.with_user(alloc, judge, user)?;
     Ok(NextRows {
         rows: new,
         looked: 0,
-        refreshed: rows.rows.len() as u64,
+        refreshed: rows.rows.rows().len() as u64,
     })
 }
 
-/// The rows after a user was removed. Nobody is asked for.
+/// The rows after a user was removed. Nobody is judged.
 fn after_leave<J: Judge>(
     alloc: Global,
     rows: &KindRows,
@@ -259,12 +204,13 @@ fn after_leave<J: Judge>(
 ) -> Result<NextRows, AllocError>
     requires before { AreBefore J.verdict_of (entries_in rows.now.rows) staged.now }
     requires moved { staged.now.user_change ≡ UserChange.Removed at }
-    ensures { IfOk result (IsAfter J.verdict_of staged.now) }
+    ensures { IfOk result (IsAfter J.verdict_of (entries_in rows.now.rows) staged.now) }
 {
     staged.tree().soundness_law();
-    rows.rows.order_law();
+    rows.rows.rows().order_law();
+    let new = rows.without_user(alloc, at)?;
     Ok(NextRows {
-        rows: rows.without_user(alloc, at)?,
+        rows: new,
         looked: 0,
         refreshed: 0,
     })
@@ -280,7 +226,7 @@ pub(crate) fn after_line<J: Judge>(
     requires room { J.asked_of judge.old + most_asked staged.now < 2 ^ 64 }
     requires counts { all_pairs staged.now.state < 2 ^ 64 }
     requires before { AreBefore J.verdict_of (entries_in rows.now.rows) staged.now }
-    ensures after { IfOk result (IsAfter J.verdict_of staged.now) }
+    ensures after { IfOk result (IsAfter J.verdict_of (entries_in rows.now.rows) staged.now) }
     ensures at_most { J.asked_of judge.new ≤ J.asked_of judge.old + most_asked staged.now }
     ensures looked_least { IfOk result (λ new. moves_groups staged.now.user_change ≡ true → J.asked_of judge.new ≤ J.asked_of judge.old + new.looked) }
 {

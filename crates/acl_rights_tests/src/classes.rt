@@ -56,7 +56,7 @@ static ALONE: [Wanted; 6] = [
 ];
 
 /// The files of one label are of two classes, below two directories, of which one is closed to joe and ann. The root and
-/// `b` are of one class, since they have one row.
+/// `b` are of two classes, since nothing is above the root.
 static ALONG: [Wanted; 6] = [
     (b".", [0xff, 0x33, 0x33]),
     (b"a", [0xff, 0x01, 0x01]),
@@ -91,12 +91,12 @@ fn each_file_has_a_class(rt: HostRuntime) {
     let mut world = nothing(alloc).expect(&rt, "memory");
     assert_eq!(rt; first_wrong(alloc, &mut world, &SETUP), None);
     let alone = are(alloc, world.index.file_classes(alloc, false), &ALONE, 3);
-    let along = are(alloc, world.index.file_classes(alloc, true), &ALONG, 4);
+    let along = are(alloc, world.index.file_classes(alloc, true), &ALONG, 5);
     drop(world);
     assert!(rt; (alone, along) == (Some(true), Some(true)));
 }
 
-/// The files from one on, below a directory that is closed to joe and ann; the classes of the directories above it count too.
+/// The files from one on, below a directory that is closed to joe and ann.
 #[test]
 fn each_file_from_a_path_on_has_a_class(rt: HostRuntime) {
     let alloc = rt.alloc();
@@ -107,7 +107,7 @@ fn each_file_from_a_path_on_has_a_class(rt: HostRuntime) {
     let alone = world.index.file_classes_from(alloc, false, &top);
     let is_alone = are(alloc, alone.expect(&rt, "memory"), ALONE.split_at(2).1, 2);
     let along = world.index.file_classes_from(alloc, true, &top);
-    let is_along = are(alloc, along.expect(&rt, "memory"), ALONG.split_at(2).1, 4);
+    let is_along = are(alloc, along.expect(&rt, "memory"), ALONG.split_at(2).1, 3);
     drop(world);
     assert!(rt; (is_alone, is_along) == (Some(true), Some(true)));
 }

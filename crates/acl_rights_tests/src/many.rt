@@ -61,7 +61,7 @@ static ALL_FILES: [Row; 5] = [
         line: Line::Setfacl(b"u:joe:rX", true, b"."),
         asked: (0, 6),
         looked: 0,
-        refreshed: 36,
+        refreshed: 27,
         verdicts: &[
             Verdict {
                 user: JOE,
@@ -89,7 +89,7 @@ static ALL_FILES: [Row; 5] = [
         line: Line::Setfacl(b"g:adm:r", true, b"."),
         asked: (0, 6),
         looked: 0,
-        refreshed: 36,
+        refreshed: 0,
         verdicts: &[Verdict {
             user: JOE,
             path: b"a/1",
@@ -150,7 +150,7 @@ static A_FOLDER: [Row; 2] = [
         line: Line::Setfacl(b"u:joe:rX", true, b"a"),
         asked: (0, 6),
         looked: 0,
-        refreshed: 15,
+        refreshed: 12,
         verdicts: &[
             Verdict {
                 user: JOE,
@@ -185,7 +185,7 @@ static THEN_ONE: [Row; 2] = [
         line: Line::Setfacl(b"u:joe:rX", true, b"."),
         asked: (0, 6),
         looked: 0,
-        refreshed: 36,
+        refreshed: 27,
         verdicts: &[],
         reach: &[],
     },

@@ -80,13 +80,13 @@ pub static MEMBERSHIPS: [Row; 6] = [
     },
 ];
 
-/// Users is left and staff joined. Four files mention one of them: no two are of one kind, since a directory has the label of
-/// another file.
+/// Users is left and staff joined. Four files mention one of them, and have three labels: the root has that of run. Joe's verdict
+/// on f alone is another one.
 pub static PRIMARY: [Row; 1] = [Row {
     line: Line::Usermod(b"joe", b"staff"),
-    asked: (0, 4),
-    looked: 4,
-    refreshed: 5,
+    asked: (0, 3),
+    looked: 3,
+    refreshed: 1,
     verdicts: &[Verdict {
         user: JOE,
         path: b"f",
@@ -106,9 +106,9 @@ pub static NAMED: [Row; 2] = [
     },
     Row {
         line: Line::Usermod(b"joe", b"staff"),
-        asked: (0, 4),
-        looked: 4,
-        refreshed: 5,
+        asked: (0, 3),
+        looked: 3,
+        refreshed: 0,
         verdicts: &[],
         reach: &[],
     },
@@ -121,7 +121,7 @@ pub static LISTED: [Row; 6] = [
         line: Line::Setfacl(b"g:adm:r", false, b"f"),
         asked: (0, 3),
         looked: 0,
-        refreshed: 3,
+        refreshed: 0,
         verdicts: &[],
         reach: &[],
     },
@@ -141,7 +141,7 @@ pub static LISTED: [Row; 6] = [
         line: Line::Setfacl(b"g:cool:r", false, b"f"),
         asked: (0, 3),
         looked: 0,
-        refreshed: 3,
+        refreshed: 0,
         verdicts: &[],
         reach: &[],
     },
@@ -319,7 +319,7 @@ pub static COMES_BACK: [Row; 4] = [
         line: Line::Chmod(0o600, b"f"),
         asked: (0, 3),
         looked: 0,
-        refreshed: 3,
+        refreshed: 0,
         verdicts: &[],
         reach: &[],
     },

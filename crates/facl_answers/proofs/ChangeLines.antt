@@ -19,9 +19,10 @@ use Rattle.acl_tree.specs.Found.{FoundFile, found_file, found_in}
 use Rattle.path_map.specs.Below.{holds_below}
 use Rattle.acl_tree.specs.State.{State}
 use Rattle.acl_tree.proofs.Follows.{known_by_next}
-use Rattle.acl_rights.specs.Rows.{Verdict, Rows, rows_of}
+use Rattle.path_classes.specs.Rows.{Rows}
+use Rattle.acl_rights.specs.Rows.{Verdict, rows_of}
 use Rattle.acl_rights.specs.Tables.{VerdictTable, IsWhole}
-use Rattle.acl_rights.specs.ReachedRows.{rows_along, reached_from}
+use Rattle.path_classes.specs.ReachedRows.{rows_along, reached_from}
 use Rattle.acl_rights.proofs.Asked.{cell_is}
 use Rattle.acl_rights.proofs.Reached.{reach_is}
 use Rattle.facl_answers.specs.declared.placed_users.PlacedUser.{PlacedUser}

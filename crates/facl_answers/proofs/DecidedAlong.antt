@@ -17,7 +17,7 @@ use Rattle.acl_tree.specs.Files.{Files}
 use Rattle.path_map.specs.Entries.{IsInOrder}
 use Rattle.acl_tree.specs.Found.{found_file}
 use Rattle.path_map.specs.Below.{holds_below}
-use Rattle.acl_rights.specs.ReachedRows.{execute}
+use Rattle.path_classes.specs.ReachedRows.{execute}
 use Rattle.acl_rights.specs.Reach.{passes}
 use Rattle.acl_entry.proofs.Bytes.{has-byte_of}
 use Rattle.acl_names.proofs.Below.{not_below_itself}

@@ -21,9 +21,10 @@ use Rattle.path_map.proofs.Rows.{find_put_all}
 use Rattle.acl_tree.specs.Files.{Files}
 use Rattle.acl_tree.specs.State.{State}
 use Rattle.acl_rights.specs.Outside.{is_outside, SameOutside}
-use Rattle.acl_rights.specs.Rows.{Verdict, Rows}
+use Rattle.path_classes.specs.Rows.{Rows}
+use Rattle.acl_rights.specs.Rows.{Verdict}
 use Rattle.acl_rights.specs.Verdicts.{rows_granted}
-use Rattle.acl_rights.proofs.Maps.{map_filter, same_found}
+use Rattle.path_classes.proofs.Maps.{map_filter, same_found}
 use Rattle.facl_answers.specs.declared.placed_users.PlacedUser.{PlacedUser}
 use Rattle.facl_answers.specs.Inner.{Walked, keeps_place, lines_between, lines_of_both, row_in, walk_of, shown_before, next_path}
 use Rattle.facl_answers.specs.PartWalks.{front, files_granted}

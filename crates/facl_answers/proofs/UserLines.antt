@@ -9,7 +9,8 @@ use Rattle.acl_entry.specs.Perms.{Perms}
 use Rattle.acl_names.specs.Paths.{path_cmp, PathOf}
 use Rattle.acl_edit.specs.declared.node.Node.{Node}
 use Rattle.acl_tree.specs.State.{State}
-use Rattle.acl_rights.specs.Rows.{Verdict, places_from}
+use Rattle.path_classes.specs.Rows.{places_from}
+use Rattle.acl_rights.specs.Rows.{Verdict}
 use Rattle.facl_answers.specs.Answers.{user_line, who_text}
 use Rattle.acl_rights.specs.Verdicts.{granted, users_granted}
 use Rattle.facl_answers.specs.Inner.{line_at}

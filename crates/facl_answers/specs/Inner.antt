@@ -26,7 +26,7 @@ use Rattle.acl_names.specs.Names.{escaped}
 use Rattle.acl_people.specs.KnownPeople.{KnownPeople, users_of}
 use Rattle.acl_people.specs.NameTables.{is_name}
 use Rattle.acl_tree.specs.Found.{FoundFile, found_file}
-use Rattle.acl_rights.specs.Rows.{Rows}
+use Rattle.path_classes.specs.Rows.{Rows}
 use Rattle.facl_output.specs.Listings.{path_shown}
 use Rattle.facl_answers.specs.Answers.{user_line, verdict_line}
 use Rattle.facl_answers.specs.ChangesText.{change_lines}

@@ -21,7 +21,7 @@ use Rattle.acl_names.specs.Below.{encloses}
 use Rattle.acl_tree.specs.Files.{Files}
 use Rattle.acl_tree.specs.Found.{FoundFile, found_in}
 use Rattle.acl_rights.specs.Reach.{reach}
-use Rattle.acl_rights.specs.ReachedRows.{execute}
+use Rattle.path_classes.specs.ReachedRows.{execute}
 use Rattle.facl_output.specs.Listings.{has_slash}
 
 -- whether an entry is one of the first case of the check that applies: the owner's entry for the owner; else the user's

@@ -31,8 +31,9 @@ use Rattle.acl_tree.specs.Operands.{is_file}
 use Rattle.acl_tree.specs.State.{State}
 use Rattle.acl_tree.proofs.Follows.{before_it}
 use Rattle.acl_rights.specs.Reach.{reach}
-use Rattle.acl_rights.specs.ReachedRows.{reached_from, rows_along}
-use Rattle.acl_rights.specs.Rows.{Verdict, Rows, cells_of, rows_of, grants, grants_to}
+use Rattle.path_classes.specs.ReachedRows.{reached_from, rows_along}
+use Rattle.path_classes.specs.Rows.{Rows, grants, grants_to}
+use Rattle.acl_rights.specs.Rows.{Verdict, cells_of, rows_of}
 use Rattle.acl_rights.specs.Verdicts.{granted, rows_granted}
 use Rattle.acl_rights.proofs.Reached.{cell_reached}
 use Rattle.facl_answers.specs.Answers.{file_line}

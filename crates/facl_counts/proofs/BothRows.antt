@@ -11,8 +11,8 @@ use Rattle.path_map.specs.Inner.{After}
 use Rattle.path_map.specs.Merged.{put_all}
 use Rattle.path_map.proofs.Merges.{later_after, put_at_end, put_before, put_over, put_after}
 use Rattle.path_map.proofs.Places.{above, below}
-use Rattle.acl_rights.specs.Classes.{Classed, KeepRows, IsFileTaken}
-use Rattle.acl_rights.specs.Rows.{Rows}
+use Rattle.path_classes.specs.Classes.{Classed, KeepRows, IsFileTaken}
+use Rattle.path_classes.specs.Rows.{Rows}
 use Rattle.facl_counts.specs.InnerGains.{AreClassesOf, AreCounted, AreKeysOf, BothClassed, IsClassOf, IsTaken, RowsOfFile, next_path_of, path_order, rows_of_both}
 use Rattle.facl_counts.specs.Tallies.{Tallied, Sides, SaysAs, one}
 use Rattle.facl_answers.proofs.AfterPaths.{after_put_all, after_later, rest_in_order}

@@ -8,10 +8,10 @@ use Rattle.acl_names.specs.Paths.{PathOf}
 use Rattle.acl_names.proofs.Basics.{all_end, not_both}
 use Rattle.acl_names.proofs.Below.{within_trans}
 use Rattle.acl_tree.specs.Operands.{is_file}
-use Rattle.acl_rights.specs.Classes.{Classed, IsFileTaken, KeepRows, TakesFile}
+use Rattle.path_classes.specs.Classes.{Classed, IsFileTaken, KeepRows, TakesFile}
 use Rattle.path_map.specs.Below.{within}
 use Rattle.path_map.specs.Entries.{first}
-use Rattle.acl_rights.specs.Rows.{Rows}
+use Rattle.path_classes.specs.Rows.{Rows}
 use Rattle.facl_answers.specs.PartWalks.{front}
 use Rattle.facl_counts.specs.Tallies.{Tallied, Sides, SaysAs, one}
 use Rattle.facl_counts.specs.Sums.{row_of, Keyed, one_of, AreCounted, TakesWithin, IsCounting}

@@ -9,7 +9,7 @@ use Rattle.std.proofs.lemmas.List.Sums.{sum_by-cons}
 use Rattle.acl_entry.specs.Perms.{Perms}
 use Rattle.acl_names.specs.Paths.{PathOf}
 use Rattle.facl_counts.specs.Tallies.{Tallied, Sides, count_where, first_where}
-use Rattle.acl_rights.specs.Rows.{Rows, grants, grants_to}
+use Rattle.path_classes.specs.Rows.{Rows, grants, grants_to}
 use Rattle.facl_counts.specs.Sums.{Sum, no_sum, added, after_row, row_of, after_tally, after_tallies, Keyed, one_of, AreCounted, sum_in, AreSums}
 
 module _ (q : Perms) (user : ℕ) where

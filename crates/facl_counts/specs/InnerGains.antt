@@ -8,8 +8,8 @@ use Rattle.acl_entry.specs.Perms.{numbered}
 use Rattle.acl_names.specs.Paths.{path_cmp, PathOf}
 use Rattle.path_map.specs.Entries.{first, IsInOrder}
 use Rattle.path_map.specs.Merged.{put_all}
-use Rattle.acl_rights.specs.Classes.{Classed, KeepRows}
-use Rattle.acl_rights.specs.Rows.{Rows}
+use Rattle.path_classes.specs.Classes.{Classed, KeepRows}
+use Rattle.path_classes.specs.Rows.{Rows}
 use Rattle.facl_answers.specs.Answers.{line}
 use Rattle.facl_counts.specs.CountTexts.{count_text, spaced}
 use Rattle.facl_counts.specs.GainsText.{is_change, is_same, is_same_side, side_of, side_text, number_of_sides, lines_up_to, lines_by_sides}

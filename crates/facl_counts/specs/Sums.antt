@@ -6,8 +6,8 @@ use Rattle.acl_entry.specs.Check.{has}
 use Rattle.acl_entry.specs.Perms.{Perms}
 use Rattle.acl_names.specs.Below.{encloses}
 use Rattle.acl_names.specs.Paths.{PathOf}
-use Rattle.acl_rights.specs.Classes.{Classed, IsFileTaken}
-use Rattle.acl_rights.specs.Rows.{Rows, grants_to}
+use Rattle.path_classes.specs.Classes.{Classed, IsFileTaken}
+use Rattle.path_classes.specs.Rows.{Rows, grants_to}
 use Rattle.acl_tree.specs.Found.{files_found}
 use Rattle.acl_tree.specs.Files.{Files}
 use Rattle.acl_tree.specs.Operands.{is_file}

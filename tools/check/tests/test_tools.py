@@ -306,6 +306,7 @@ BODIES = {
         "if f.kind == X::NoMemory { Y::NoMemory } else { Y::Text(f) }",
         "let Some(x) = a.b.checked_add(1) else { return Err(AllocError); };",
         "match a.checked_add(b) { Some(n) => Ok(n), None => Err(AllocError) }",
+        "match a.checked_mul(b.count(*n)) { Some(n) => Ok(n), None => Err(AllocError) }",
         "let Ok(x) = u32::try_from(n) else { return Err(AllocError); };",
         "let (Ok(x), Ok(y)) = (u32::try_from(n), u32::try_from(m)) else { return Err(AllocError); };",
         "match e.kind() { K::OutOfMemory => X::NoMemory, _ => X::Usage }"),

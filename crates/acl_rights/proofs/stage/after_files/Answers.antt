@@ -1,53 +1,41 @@
-use Rattle.std.proofs.Common.{◌≤◌, length, sym, ap, subst, ◌∙◌, arith}
+use Rattle.std.proofs.Common.{◌*◌, length, sym, ap, subst, ◌∙◌, arith}
 use Rattle.path_map.specs.Entries.{IsInOrder}
-use Rattle.std.specs.Prelude.{count_by}
-use Rattle.path_map.specs.Below.{lies_in}
-use Rattle.kinds.specs.Numbered.{entries_in}
+use Rattle.kinds.specs.Numbered.{Kept, entries_in}
+use Rattle.path_classes.specs.declared.label_row.LabelRow.{LabelRow}
 use Rattle.acl_people.specs.KnownPeople.{KnownPeople, persons}
-use Rattle.acl_tree.specs.Files.{Files, Recorded, max_files}
-use Rattle.acl_rights.proofs.NextRows.{order_changed, walked_after}
-use Rattle.acl_rights.proofs.Refreshing.{files_refreshed, files_fit}
-use Rattle.acl_rights.proofs.Rowed.{rowed_long}
+use Rattle.acl_tree.specs.Files.{Recorded}
+use Rattle.acl_names.specs.Paths.{PathOf}
+use Rattle.acl_rights.proofs.Orders.{in_order-values}
+use Rattle.acl_rights.proofs.Refreshing.{files_most, files_fit}
+use Rattle.acl_rights.proofs.Rowed.{rowed_rows, rowed_paths}
+use Rattle.acl_rights.proofs.Unlike.{files_unlike}
+use Rattle.acl_rights.proofs.Costs.{all_users}
 use Rattle.acl_rights.proofs.stage.after_files.Goals as goal
-
-pub count_below-files-requires-clause-few : goal.count_below-files-requires-clause-few
-count_below-files-requires-clause-few g c =
-    let t = c.args.staged.now in
-    let long = rowed_long g.J.Judge.verdict_of (persons t.state.people) (entries_in c.in_ok-new.new.rows) t.state.tree.files c.in_ok-new.ensures.rows in
-    let few = subst (λ (r : Recorded). length r.files ≤ max_files) c.tree.ensures c.soundness_law.ensures.few in
-    omega (arith, long, few)
-
-pub count_below-files-requires-clause-order : goal.count_below-files-requires-clause-order
-count_below-files-requires-clause-order g c =
-    let V = g.J.Judge.verdict_of in
-    let t = c.args.staged.now in
-    let es = entries_in c.args.rows.now.rows in
-    let order = subst (λ (r : Recorded). IsInOrder r.files) c.tree.ensures c.soundness_law.ensures.order in
-    subst (λ (fs : Files). IsInOrder fs) (sym c.changed.ensures) (order_changed V es t c.requires.before c.order_law.ensures order c.requires.moved)
 
 pub overflow_mul-result : goal.overflow_mul-result
 overflow_mul-result g c =
-    let V = g.J.Judge.verdict_of in
     let t = c.args.staged.now in
-    let es = entries_in c.args.rows.now.rows in
-    let order = subst (λ (r : Recorded). IsInOrder r.files) c.tree.ensures c.soundness_law.ensures.order in
-    let counted = c.count_below-files.ensures ∙ ap (λ (fs : Files). count_by (λ e. lies_in fs e.0) (entries_in c.in_ok-new.new.rows)) c.changed.ensures in
-    let walked = walked_after V es t c.requires.before c.order_law.ensures order c.requires.moved (entries_in c.in_ok-new.new.rows) c.count_below-files.result c.in_ok-new.ensures.rows counted in
     let users = c.users.ensures ∙ ap (λ (r : KnownPeople). length r.users) c.people.ensures in
-    let fits = files_fit t c.count_below-files.result c.users.result walked users c.requires.counts in
+    let fits = files_fit t c.in_ok-new.files c.users.result c.in_ok-new.ensures.most users c.requires.counts in
     omega (arith, fits)
 
 pub returns-clause-after : goal.returns-clause-after
 returns-clause-after g c =
     let V = g.J.Judge.verdict_of in
     let t = c.args.staged.now in
-    let es = entries_in c.args.rows.now.rows in
+    let old : Kept LabelRow = c.args.rows.now.rows in
+    let new : Kept LabelRow = c.in_ok-new.new.rows in
     let order = subst (λ (r : Recorded). IsInOrder r.files) c.tree.ensures c.soundness_law.ensures.order in
-    let counted = c.count_below-files.ensures ∙ ap (λ (fs : Files). count_by (λ e. lies_in fs e.0) (entries_in c.in_ok-new.new.rows)) c.changed.ensures in
-    let walked = walked_after V es t c.requires.before c.order_law.ensures order c.requires.moved (entries_in c.in_ok-new.new.rows) c.count_below-files.result c.in_ok-new.ensures.rows counted in
     let users = c.users.ensures ∙ ap (λ (r : KnownPeople). length r.users) c.people.ensures in
+    let files = c.in_ok-new.files in
+    let unlike_files = files_unlike old new V g.met.J.Judge.local t c.requires.before.goes
+    (in_order-values (λ (e : PathOf × LabelRow). e.1.row) (entries_in old) (subst (λ (k : Kept LabelRow). IsInOrder (entries_in k)) c.rows.ensures c.order_law.ensures)) order
+    (rowed_rows V (persons t.state.people) (entries_in new) t.state.tree.files c.in_ok-new.ensures.rows)
+    (rowed_paths V (persons t.state.people) (entries_in new) t.state.tree.files c.in_ok-new.ensures.rows) files c.in_ok-new.ensures.least c.requires.moved in
+    let most = files_most t files c.users.result c.requires.moved c.in_ok-new.ensures.most users in
     record {
       rows = c.in_ok-new.ensures.rows;
       looked = omega arith;
-      refreshed = files_refreshed t c.count_below-files.result c.users.result c.requires.moved walked users;
+      least = (let same = ap (λ n. files * n) (all_users t.state.people ∙ sym users) in omega (arith, unlike_files, same));
+      most = omega (arith, most);
     }

@@ -1,7 +1,7 @@
 use Rattle.std.proofs.Common.{◌≡◌, true, filter, ap, subst, ◌∙◌}
 use Rattle.std.specs.Prelude.{slice_get}
-use Rattle.acl_rights.specs.Classes.{Classed}
-use Rattle.acl_rights.specs.Rows.{Rows}
+use Rattle.path_classes.specs.Classes.{Classed}
+use Rattle.path_classes.specs.Rows.{Rows}
 use Rattle.acl_rights.specs.Verdicts.{rows_granted}
 use Rattle.acl_tree.specs.Files.{Recorded}
 use Rattle.acl_tree.specs.Operands.{is_file}

@@ -2,7 +2,7 @@ use Rattle.std.proofs.Common.{subst, sym, ap, ◌∙◌}
 use Rattle.path_map.specs.Entries.{IsInOrder}
 use Rattle.acl_tree.specs.Files.{Recorded}
 use Rattle.acl_tree.specs.State.{State}
-use Rattle.acl_rights.specs.Classes.{Classed}
+use Rattle.path_classes.specs.Classes.{Classed}
 use Rattle.facl_counts.proofs.StateGains.{rows_order}
 use Rattle.facl_counts.proofs.gains.classes_of.Goals as goal
 

@@ -2,7 +2,7 @@ use Rattle.std.proofs.Common.{◌≡◌, map, length, ap, subst, ◌∙◌, arit
 use Rattle.std.specs.List.{flat_map}
 use Rattle.path_map.specs.Entries.{IsInOrder}
 use Rattle.acl_tree.specs.State.{State}
-use Rattle.acl_rights.specs.Classes.{Classed}
+use Rattle.path_classes.specs.Classes.{Classed}
 use Rattle.acl_rights.specs.Verdicts.{rows_granted}
 use Rattle.facl_counts.specs.Counting.{tallied}
 use Rattle.facl_counts.specs.InnerGains.{both_of, gained_of, lines_of_user}

@@ -3,7 +3,7 @@ use Rattle.std.specs.Option.{option_copied}
 use Rattle.std.specs.FinMap.{find}
 use Rattle.acl_names.specs.Paths.{path_cmp}
 use Rattle.acl_rights.specs.Tables.{VerdictTable}
-use Rattle.acl_rights.specs.Rows.{Rows}
+use Rattle.path_classes.specs.Rows.{Rows}
 use Rattle.acl_rights.proofs.index.Index.cells.Goals as goal
 
 pub returns-in-Some : goal.returns-in-Some

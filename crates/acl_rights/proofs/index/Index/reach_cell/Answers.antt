@@ -1,7 +1,7 @@
 use Rattle.std.proofs.Common.{ap, ◌∙◌}
 use Rattle.acl_rights.specs.Tables.{VerdictTable}
-use Rattle.acl_rights.specs.Rows.{Rows}
-use Rattle.acl_rights.specs.ReachedRows.{reached_at}
+use Rattle.path_classes.specs.Rows.{Rows}
+use Rattle.path_classes.specs.ReachedRows.{reached_at}
 use Rattle.acl_rights.proofs.index.Index.reach_cell.Goals as goal
 
 pub returns : goal.returns

@@ -2,8 +2,8 @@ use Rattle.std.proofs.Common.{◌≡◌, Some, None, true, sym, ap, ◌∙◌, a
 use Rattle.std.specs.Prelude.{nat_lt, if◌then◌else◌}
 use Rattle.std.proofs.lemmas.Bool.{lt-ltb}
 use Rattle.acl_rights.specs.Tables.{VerdictTable}
-use Rattle.acl_rights.specs.Rows.{Rows, may_in}
-use Rattle.acl_rights.specs.ReachedRows.{reached_rows}
+use Rattle.path_classes.specs.Rows.{Rows, may_in}
+use Rattle.path_classes.specs.ReachedRows.{reached_rows}
 use Rattle.acl_rights.proofs.index.Index.reached_paths.Goals as goal
 
 pub returns : goal.returns

@@ -3,8 +3,8 @@ use Rattle.std.specs.Prelude.{option_map}
 use Rattle.std.specs.FinMap.{find}
 use Rattle.acl_names.specs.Paths.{path_cmp}
 use Rattle.acl_rights.specs.Tables.{VerdictTable}
-use Rattle.acl_rights.specs.Rows.{Rows, who_in}
-use Rattle.acl_rights.specs.ReachedRows.{reached_rows}
+use Rattle.path_classes.specs.Rows.{Rows, who_in}
+use Rattle.path_classes.specs.ReachedRows.{reached_rows}
 use Rattle.acl_rights.proofs.index.Index.reaching.Goals as goal
 
 pub returns-in_default : goal.returns-in_default

@@ -1,18 +1,15 @@
 use Rattle.std.proofs.Common.{◌≤◌, length, ap, sym, subst, ◌∙◌, arith}
-use Rattle.acl_names.specs.Paths.{PathOf}
 use Rattle.path_map.specs.Entries.{IsInOrder}
 use Rattle.kinds.specs.Numbered.{entries_in}
 use Rattle.acl_people.specs.KnownPeople.{KnownPeople, persons}
 use Rattle.acl_tree.specs.Files.{Files, Recorded}
-use Rattle.acl_rights.specs.declared.kind_rows.LabelRow.{LabelRow}
-use Rattle.acl_rights.proofs.Orders.{in_order-values}
+use Rattle.path_classes.specs.KindRows.{rows_at}
 use Rattle.acl_rights.specs.Tables.{VerdictTable}
-use Rattle.acl_rights.specs.Rows.{Rows, rows_of}
+use Rattle.path_classes.specs.Rows.{Rows}
 use Rattle.acl_rights.specs.Reach.{unlike}
 use Rattle.acl_rights.specs.Kept.{GoesFrom}
 use Rattle.acl_rights.specs.Lines.{HaveLabels}
 use Rattle.acl_rights.proofs.Costs.{most_le}
-use Rattle.acl_rights.proofs.Refreshed.{line_most}
 use Rattle.acl_rights.proofs.Rowed.{rowed_is, rowed_rows, rowed_labels_are}
 use Rattle.acl_rights.proofs.index.Index.stage.Goals as goal
 
@@ -74,16 +71,14 @@ returns-clause-bounded g c =
 
 pub returns-clause-refreshed_least : goal.returns-clause-refreshed_least
 returns-clause-refreshed_least g c =
-    let V = g.J.Judge.verdict_of in
     let t = c.args.staged.now in
-    let old : Rows = c.args.self.now.rows in
-    let goes : GoesFrom V old t = record { state = c.requires.goes.state; rows_are = c.requires.goes.whole.rows; reports = c.requires.goes.reports } in
     let rows = ap (λ (x : VerdictTable). x.rows) (c.now.view_is ∙ c.self.view_is) in
-    let order : IsInOrder old = subst IsInOrder rows (in_order-values (λ (e : PathOf × LabelRow). e.1.row) (entries_in c.now.inside.rows.rows) c.order_law.ensures) in
-    let most = line_most V g.met.J.Judge.local old t goes order (subst (λ (r : Recorded). IsInOrder r.files) c.tree.ensures c.soundness_law.ensures.order) in
-    subst (λ (rs : Rows). unlike t.user_change old rs ≤ c.in_ok-new.new.refreshed)
-    (sym (ap (λ (x : VerdictTable). x.rows) c.in_ok-table.ensures ∙ rowed_rows V (persons t.state.people) (entries_in c.in_ok-new.new.rows.rows) t.state.tree.files c.in_ok-new.ensures.after.rows))
-    (subst (λ n. unlike t.user_change old (rows_of V (persons t.state.people) t.state.tree.files) ≤ n) (sym c.in_ok-new.ensures.after.refreshed) most)
+    subst (λ (old : Rows). unlike t.user_change old c.in_ok-table.table.rows ≤ c.in_ok-new.new.refreshed) rows
+    (subst (λ (new : Rows). unlike t.user_change (rows_at (entries_in c.now.inside.rows.rows)) new ≤ c.in_ok-new.new.refreshed)
+    (sym (ap (λ (x : VerdictTable). x.rows) c.in_ok-table.ensures)) c.in_ok-new.ensures.after.least)
+
+pub returns-clause-refreshed_most : goal.returns-clause-refreshed_most
+returns-clause-refreshed_most g c = c.in_ok-new.ensures.after.most
 
 pub returns-in_err-table-clause-at_most : goal.returns-in_err-table-clause-at_most
 returns-in_err-table-clause-at_most g c = c.after_line.ensures.at_most

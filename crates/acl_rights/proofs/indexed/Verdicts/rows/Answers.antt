@@ -1,5 +1,5 @@
 use Rattle.std.proofs.Common.{ap, ◌∙◌}
-use Rattle.acl_rights.specs.ReachedRows.{rows_along}
+use Rattle.path_classes.specs.ReachedRows.{rows_along}
 use Rattle.acl_rights.proofs.indexed.Verdicts.rows.Goals as goal
 
 pub returns : goal.returns

@@ -1,8 +1,8 @@
 use Rattle.std.proofs.Common.{◌≡◌, subst}
 use Rattle.std.specs.Prelude.{IfOk}
 use Rattle.path_map.specs.Below.{from}
-use Rattle.acl_rights.specs.Rows.{Rows}
-use Rattle.acl_rights.specs.ReachedRows.{rows_along}
+use Rattle.path_classes.specs.Rows.{Rows}
+use Rattle.path_classes.specs.ReachedRows.{rows_along}
 use Rattle.acl_rights.proofs.indexed.Verdicts.rows_from.Goals as goal
 
 pub returns : goal.returns

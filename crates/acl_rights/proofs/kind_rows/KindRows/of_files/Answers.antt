@@ -1,7 +1,7 @@
 use Rattle.std.proofs.Common.{◌*◌, length, refl, ap, ◌∙◌, arith}
 use Rattle.kinds.specs.Numbered.{Kept, entries_in}
 use Rattle.kinds.specs.Renewed.{renewed}
-use Rattle.acl_rights.specs.declared.kind_rows.LabelRow.{LabelRow}
+use Rattle.path_classes.specs.declared.label_row.LabelRow.{LabelRow}
 use Rattle.acl_rights.specs.KindRows.{node_row}
 use Rattle.acl_rights.proofs.RowsOfKinds.{sum_of_each}
 use Rattle.acl_rights.proofs.kind_rows.KindRows.of_files.Goals as goal
@@ -43,8 +43,14 @@ returns-in_err-rows-clause-at_most g c =
     let sum = sum_of_each u (entries_in c.files_by_path.result.now) ∙ ap (λ es. length es * u) c.files_by_path.ensures.all in
     omega (arith, sum, c.in_ok-map.ensures.at_most)
 
+pub returns-in_err-tagged-clause-at_most : goal.returns-in_err-tagged-clause-at_most
+returns-in_err-tagged-clause-at_most g c =
+    let u = length c.args.users.now in
+    let sum = sum_of_each u (entries_in c.files_by_path.result.now) ∙ ap (λ es. length es * u) c.files_by_path.ensures.all in
+    omega (arith, sum, c.in_ok-map.ensures.at_most)
+
 pub returns-clause-rows : goal.returns-clause-rows
 returns-clause-rows g c =
-    ap (λ (kept : Kept LabelRow). entries_in kept) c.in_ok-rows.ensures
+    ap (λ (kept : Kept LabelRow). entries_in kept) (c.in_ok-rows.ensures ∙ c.in_ok-tagged.ensures)
     ∙ c.in_ok-map.ensures.entries
     ∙ ap (renewed (node_row g.J.Judge.verdict_of c.args.users.now)) c.files_by_path.ensures.all

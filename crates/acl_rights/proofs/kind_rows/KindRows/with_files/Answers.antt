@@ -1,18 +1,27 @@
-use Rattle.std.proofs.Common.{◌≡◌, ℕ, ◌||◌, ◌++◌, Bool, true, false, true≢false, List, map, length, refl, sym, ap, subst, ◌∙◌}
+use Rattle.std.proofs.Common.{◌≡◌, ℕ, ◌<◌, ◌||◌, ◌++◌, Bool, true, false, true≢false, List, map, length, refl, sym, ap, subst, ◌∙◌, arith}
 use Rattle.std.specs.Prelude.{◌==◌}
 use Rattle.std.proofs.lemmas.List.Folds.{list_any-append}
 use Rattle.std.proofs.lemmas.List.{length-map}
 use Rattle.acl_names.specs.Paths.{PathOf}
 use Rattle.path_map.specs.Entries.{IsInOrder, seen}
 use Rattle.path_map.specs.Merged.{put_all, without_all}
-use Rattle.kinds.specs.Numbered.{Kept, entries_in}
+use Rattle.std.specs.Prelude.{get_or}
+use Rattle.std.specs.Borrow.{Bor}
+use Rattle.kinds.specs.Kinds.{node_at, count_at}
+use Rattle.kinds.specs.Numbered.{Kept, AreSound, entries_in}
 use Rattle.kinds.specs.Given.{used_at}
 use Rattle.kinds.specs.Tagged.{is_one, numbers_found}
-use Rattle.acl_rights.specs.declared.kind_rows.LabelRow.{LabelRow}
-use Rattle.kinds.specs.Placed.{placed, given, ArePlaces}
+use Rattle.path_classes.specs.declared.label_row.LabelRow.{LabelRow}
+use Rattle.kinds.specs.Placed.{placed, given, by_place, ArePlaces}
+use Rattle.path_classes.specs.ClassedRows.{AreCounted, paths_of}
+use Rattle.path_classes.specs.ClassesWithin.{inside}
+use Rattle.path_classes.proofs.Maps.{map_twice}
 use Rattle.acl_entry.specs.declared.label.Label.{Label}
-use Rattle.acl_rights.specs.KindRows.{some_row, with_label, borrowed_labels, RowedPaths, AreRowsOf, ArePlaced}
+use Rattle.path_classes.specs.KindRows.{RowedPaths}
+use Rattle.acl_rights.specs.KindRows.{some_row, with_label, borrowed_labels, AreRowsOf, ArePlaced}
 use Rattle.acl_rights.proofs.RowsOfKinds.{rows_placed, rows_given, rows_left, places_within, places_order}
+use Rattle.acl_rights.proofs.Orders.{same_order}
+use Rattle.acl_rights.proofs.PutRows.{puts_rows, placed_paths, inside_entries, label_paths}
 use Rattle.acl_rights.proofs.kind_rows.KindRows.with_files.Goals as goal
 
 pub given_rows-requires-clause-known : goal.given_rows-requires-clause-known
@@ -20,7 +29,7 @@ given_rows-requires-clause-known g c =
     let V = g.J.Judge.verdict_of in
     let us = c.args.users.now in
     let left : entries_in c.in_ok-left.left ≡ without_all (map seen c.args.gone.now) (entries_in c.args.self.now.rows) =
-    c.in_ok-left.ensures.entries ∙ ap (λ (kept : Kept LabelRow). without_all (map seen c.args.gone.now) (entries_in kept)) c.map.ensures in
+    c.in_ok-left.ensures.entries ∙ ap (λ (kept : Kept LabelRow). without_all (map seen c.args.gone.now) (entries_in kept)) (c.map.ensures ∙ c.rows-before.ensures) in
     subst (λ (es : RowedPaths). AreRowsOf V us es) (sym left) (rows_left V us (map seen c.args.gone.now) (entries_in c.args.self.now.rows) c.requires.known)
 
 pub put_placed-requires-clause-order : goal.put_placed-requires-clause-order
@@ -64,8 +73,8 @@ returns-clause-rows g c =
     let rows : map (given k) c.deref-3.result.now ≡ map row ls = ap (map (given k)) c.deref-3.ensures.value ∙ c.in_ok-nodes.ensures.rows
     ∙ ap (λ l. map row (borrowed_labels l)) c.deref.ensures.value in
     let left : entries_in c.in_ok-left.left ≡ without_all (map seen c.args.gone.now) (entries_in c.args.self.now.rows) =
-    c.in_ok-left.ensures.entries ∙ ap (λ (kept : Kept LabelRow). without_all (map seen c.args.gone.now) (entries_in kept)) c.map.ensures in
-    ap (λ (kept : Kept LabelRow). entries_in kept) c.in_ok-rows.ensures
+    c.in_ok-left.ensures.entries ∙ ap (λ (kept : Kept LabelRow). without_all (map seen c.args.gone.now) (entries_in kept)) (c.map.ensures ∙ c.rows-before.ensures) in
+    ap (λ (kept : Kept LabelRow). entries_in kept) (c.in_ok-rows.ensures.rows ∙ c.in_ok-labelled.ensures)
     ∙ c.in_ok-put.ensures.entries
     ∙ (λ i. put_all (placed (rows i) (map seen (c.deref-2.ensures.value i))) (left i))
     ∙ ap (λ (puts : RowedPaths). put_all puts (without_all (map seen c.args.gone.now) (entries_in c.args.self.now.rows))) (rows_placed V us ls es ps are.are)
@@ -93,3 +102,44 @@ after-requires g c n h =
     c.in_ok-put.ensures.same n none.0 none.1.1
     ∙ c.in_ok-left.ensures.same n none.1.0
     ∙ ap (λ (kept : Kept LabelRow). used_at kept.0 n) c.map.ensures
+
+pub with_files-requires-clause-changed : goal.with_files-requires-clause-changed
+with_files-requires-clause-changed g c =
+    same_order (map (seen {V = Bor Label}) c.args.changed.now) (map with_label c.args.changed.now) (label_paths c.args.changed.now) c.requires.changed
+
+pub with_files-requires-clause-puts : goal.with_files-requires-clause-puts
+with_files-requires-clause-puts g c =
+    let old : Kept LabelRow = c.args.self.now.rows in
+    let left : Kept LabelRow = c.in_ok-left.left in
+    let new : Kept LabelRow = c.in_ok-labelled.labelled in
+    let map_is = c.in_ok-labelled.ensures in
+    let before_is = c.map.ensures ∙ c.rows-before.ensures in
+    let places : List (PathOf × ℕ) = map seen c.in_ok-new.new.places.items in
+    let puts = by_place c.in_ok-put.put.numbers.items places in
+    let are : ArePlaced (map with_label c.args.changed.now) (borrowed_labels c.in_ok-new.new.labels.items) places = c.in_ok-new.ensures in
+    let puts_paths : paths_of puts ≡ paths_of (map (seen {V = Bor Label}) c.args.changed.now) =
+    map_twice (λ (e : PathOf × ℕ). (e.0, get_or c.in_ok-put.put.numbers.items e.1 0)) (λ (e : PathOf × ℕ). e.0) places
+    ∙ placed_paths (borrowed_labels c.in_ok-new.new.labels.items) places c.args.changed.now are.are in
+    let changed_order = same_order (map (seen {V = Bor Label}) c.args.changed.now) (map with_label c.args.changed.now) (label_paths c.args.changed.now) c.requires.changed in
+    puts_rows old left new (map seen c.args.changed.now) (map seen c.args.gone.now) puts (same_order puts (map (seen {V = Bor Label}) c.args.changed.now) puts_paths changed_order) puts_paths
+    c.kinds-left.ensures.sound
+    (subst (λ (k : Kept LabelRow). AreSound k.0 k.1) c.map-3.ensures c.kinds-kinds.ensures.sound)
+    (c.in_ok-left.ensures.numbers ∙ ap (λ (k : Kept LabelRow). without_all (map seen c.args.gone.now) k.1) before_is)
+    (ap (λ (k : Kept LabelRow). k.1) map_is ∙ c.in_ok-put.ensures.numbers
+    ∙ ap (λ (es : List (Bor PathOf × ℕ)). put_all (by_place c.in_ok-put.put.numbers.items (map seen es)) left.1) c.deref-2.ensures.value)
+    (λ n some. c.in_ok-left.ensures.nodes n some ∙ ap (λ (k : Kept LabelRow). node_at k.0 n) before_is)
+    (λ n x is some. ap (λ (k : Kept LabelRow). node_at k.0 n) map_is ∙ c.in_ok-put.ensures.nodes n x is (subst (λ (k : Kept LabelRow). 0 < count_at k.0 n) map_is some))
+
+pub returns-clause-least : goal.returns-clause-least
+returns-clause-least g c = subst (λ (k : Kept LabelRow). AreCounted c.args.self.now.rows k c.in_ok-rows.refreshed) (sym c.in_ok-rows.ensures.rows) c.in_ok-rows.ensures.least
+
+pub returns-clause-most : goal.returns-clause-most
+returns-clause-most g c =
+    let new : Kept LabelRow = c.in_ok-labelled.labelled in
+    let tops : List PathOf = paths_of (map (seen {V = Bor Label}) c.args.changed.now) ++ paths_of (map seen c.args.gone.now) in
+    let sound : AreSound new.0 new.1 = subst (λ (k : Kept LabelRow). AreSound k.0 k.1) c.map-3.ensures c.kinds-kinds.ensures.sound in
+    let long = inside_entries tops new.0 new.1 sound.used in
+    let labelled : List PathOf = paths_of (map with_label c.args.changed.now) ++ paths_of (map seen c.args.gone.now) in
+    let turned : length (inside tops (entries_in new)) ≡ length (inside labelled (entries_in c.in_ok-rows.rows)) =
+    λ i. length (inside (label_paths c.args.changed.now i ++ paths_of (map seen c.args.gone.now)) (entries_in (sym c.in_ok-rows.ensures.rows i))) in
+    omega (arith, c.in_ok-rows.ensures.most, long, turned)

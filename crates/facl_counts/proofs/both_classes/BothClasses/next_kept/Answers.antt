@@ -1,7 +1,7 @@
 use Rattle.std.proofs.Common.{subst}
 use Rattle.std.specs.Prelude.{option_map}
 use Rattle.path_map.specs.Entries.{seen}
-use Rattle.acl_rights.specs.Classes.{TakesFile}
+use Rattle.path_classes.specs.Classes.{TakesFile}
 use Rattle.facl_counts.proofs.BothRows.{kept_taken}
 use Rattle.facl_counts.proofs.both_classes.BothClasses.next_kept.Goals as goal
 

@@ -1,5 +1,0 @@
-use Rattle.std.proofs.Common.{◌≡◌, ◌++◌, take}
-use Rattle.acl_rights.proofs.kind_rows.push_groups.Given as goal
-
-abbrev pub invariant-loop-id : goal.invariant-loop-id
-invariant-loop-id l = l.new.items ≡ l.fn.new.items ++ take l.id-index l.ids

@@ -1,0 +1,92 @@
+//! The verdicts of users on a label, by the judge.
+
+ghost use Rattle.std.specs.Prelude.{◌≡◌, ◌+◌, ◌*◌, ◌++◌, ◌∷◌, [], ◌<◌, ◌≤◌, ◌^◌, length, IfOk, slice_set};
+ghost use Rattle.std.specs.List.{remove};
+ghost use Rattle.std.specs.Option.{option_map_or};
+ghost use Rattle.acl_rights.specs.Rows.{row_of, Asks};
+
+use crate::judge::Judge;
+use acl_entry::{Label, Requests, Subject};
+use acl_people::Subjects;
+use path_classes::Cells;
+use std::alloc::{AllocError, Global};
+
+/// The verdicts of all users on a label, which count for `files` files that have it. Where those of
+/// another row are the same, they are shared. Fails only if memory runs out.
+pub(crate) fn judged<J: Judge>(
+    alloc: Global,
+    judge: &mut J,
+    users: &Subjects,
+    label: &Label,
+    files: u64,
+    other: Option<&Cells>,
+) -> Result<Cells, AllocError>
+    requires room { J.asked_of judge.old + files * length users.now < 2 ^ 64 }
+    requires some { 0 < files }
+    ensures cells { IfOk result (λ cells. cells ≡ row_of J.verdict_of users.now label.now) }
+    ensures asked { Asks result (J.asked_of judge.old) (J.asked_of judge.new) (files * length users.now) }
+{
+    let mut requests = vec![in alloc; Requests::none(); users.len()]?;
+    judge.verdicts(users, label, files, &mut requests);
+    Cells::new_or_shared(alloc, requests, other)
+}
+
+/// The verdicts with that of one user decided again, if it is another one. Fails only if memory runs out.
+pub(crate) fn judged_again<J: Judge>(
+    alloc: Global,
+    judge: &mut J,
+    cells: &Cells,
+    at: usize,
+    user: &Subject,
+    label: &Label,
+) -> Result<Option<Cells>, AllocError>
+    requires room { J.asked_of judge.old + 1 < 2 ^ 64 }
+    requires at { at < length cells.now }
+    ensures cells { IfOk result (λ some. option_map_or (λ new. new) some cells.now ≡ slice_set cells.now at (J.verdict_of user.now label.now)) }
+    ensures at_most { J.asked_of judge.new ≤ J.asked_of judge.old + 1 }
+{
+    let old = cells.as_slice();
+    let verdict = judge.verdict(user, label);
+    if old[at].bits() == verdict.bits() {
+        return Ok(None);
+    }
+    let mut new = Vec::from_slice(alloc, old)?;
+    new[at] = verdict;
+    let row = Cells::new(alloc, new)?;
+    Ok(Some(row))
+}
+
+/// The verdicts with that of one user more, the last. Fails only if memory runs out.
+pub(crate) fn judged_last<J: Judge>(
+    alloc: Global,
+    judge: &mut J,
+    cells: &[Requests],
+    user: &Subject,
+    label: &Label,
+    other: Option<&Cells>,
+) -> Result<Cells, AllocError>
+    requires { J.asked_of judge.old + 1 < 2 ^ 64 }
+    ensures cells { IfOk result (λ new. new ≡ cells.now ++ J.verdict_of user.now label.now ∷ []) }
+    ensures at_most { J.asked_of judge.new ≤ J.asked_of judge.old + 1 }
+{
+    let mut new = Vec::with_capacity(alloc, cells.len().saturating_add(1))?;
+    new.extend_from_slice(cells)?;
+    new.push(judge.verdict(user, label))?;
+    Cells::new_or_shared(alloc, new, other)
+}
+
+/// The verdicts without that of one user. Fails only if memory runs out.
+pub(crate) fn without(
+    alloc: Global,
+    cells: &[Requests],
+    at: usize,
+    other: Option<&Cells>,
+) -> Result<Cells, AllocError>
+    requires { at < length cells.now }
+    ensures { IfOk result (λ new. new ≡ remove cells.now at) }
+{
+    let mut new = Vec::with_capacity(alloc, cells.len())?;
+    new.extend_from_slice(cells)?;
+    let _gone = new.remove(at);
+    Cells::new_or_shared(alloc, new, other)
+}

@@ -1,0 +1,12 @@
+use Rattle.std.proofs.Common.{◌≤◌, map, take}
+use Rattle.path_map.specs.Entries.{seen}
+use Rattle.path_classes.specs.ChangedAnswers.{AreTrue}
+use Rattle.path_classes.specs.ClassedRows.{AreCountedOf}
+use Rattle.path_classes.proofs.changed_answers.changed_answers.Given as goal
+
+abbrev pub invariant-loop-at : goal.invariant-loop-at
+invariant-loop-at l = record {
+  compared : AreTrue l.labels_before l.classes_before l.labels l.classes l.compared;
+  least : AreCountedOf l.old l.rows (map seen (take l.at l.files)) l.count;
+  most : l.count ≤ l.at;
+}

@@ -1,0 +1,13 @@
+use Rattle.std.proofs.Common.{length, map}
+use Rattle.path_map.specs.Entries.{seen}
+use Rattle.path_classes.specs.ClassBuilding.{AreRight, AreMade}
+use Rattle.path_classes.proofs.class_walk.walk.Given as goal
+
+abbrev pub invariant-loop-path : goal.invariant-loop-path
+invariant-loop-path l = record {
+  made : AreMade l.rows l.fn.files l.over l.fn.builder.classes l.builder.classes (map seen l.made.items) l.rest (map seen l.stack.items);
+  known : AreRight l.rows l.builder.classes l.builder.known.items;
+}
+
+abbrev pub decreases-loop-path : goal.decreases-loop-path
+decreases-loop-path l = length l.rest

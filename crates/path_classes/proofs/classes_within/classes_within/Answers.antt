@@ -1,0 +1,66 @@
+use Rattle.std.proofs.Common.{List, map, sym, ap, subst, ◌∙◌}
+use Rattle.std.specs.Borrow.{Bor}
+use Rattle.acl_names.specs.Paths.{PathOf}
+use Rattle.path_map.specs.Entries.{seen}
+use Rattle.kinds.specs.Kinds.{KindsOf}
+use Rattle.kinds.specs.Numbered.{Kept, AreUsed}
+use Rattle.path_classes.specs.declared.label_row.LabelRow.{LabelRow}
+use Rattle.path_classes.specs.declared.path_class.PathClass.{PathClass}
+use Rattle.path_classes.specs.ClassBuilding.{IsRightAt, AreRight}
+use Rattle.path_classes.specs.ClassesWithin.{paths_seen, outside}
+use Rattle.path_classes.proofs.FoundWithin.{found_first, top_over, top_found, found_last}
+use Rattle.path_classes.proofs.classes_within.classes_within.Goals as goal
+
+pub loop-top-init : goal.loop-top-init
+loop-top-init c =
+    let rows : Kept LabelRow = c.args.rows.now in
+    let before : Kept PathClass = c.args.before.now in
+    let tops : List (Bor PathOf) = c.args.tops.now in
+    record {
+      found =
+          found_first rows (outside (paths_seen tops) before.1) before.0 c.new-builder.result.classes tops (map seen c.new-made.result.items)
+          (c.new-builder.ensures.classes ∙ c.in_ok-classes.ensures ∙ c.kinds-old.ensures.all) (ap (map seen) c.new-made.ensures.items);
+      known = subst (AreRight rows.0 c.new-builder.result.classes) (sym c.new-builder.ensures.known) tt;
+    }
+
+pub walk_top-requires-clause-used : goal.walk_top-requires-clause-used
+walk_top-requires-clause-used c =
+    let rows : Kept LabelRow = c.args.rows.now in
+    subst (λ (k : KindsOf LabelRow). AreUsed k c.numbers-numbers.result.now) (sym c.kinds-kinds.ensures.all)
+    (subst (AreUsed rows.0) (sym c.numbers-numbers.ensures.all) c.numbers-numbers.ensures.sound.used)
+
+pub walk_top-requires-clause-over : goal.walk_top-requires-clause-over
+walk_top-requires-clause-over c =
+    let rows : Kept LabelRow = c.args.rows.now in
+    let before : Kept PathClass = c.args.before.now in
+    top_over rows before c.numbers-numbers.ensures.sound.order c.args.tops.now c.loop-top.top-index c.top-item.result c.loop-top-test.true c.top-item.is c.requires.tops c.requires.fits
+    c.kinds-kinds.result.now c.kinds-kinds.ensures.all c.numbers-paths.result.now c.numbers-paths.ensures.all c.loop-top.builder.classes (map seen c.loop-top.made.items) c.loop-top.invariant.found
+
+pub walk_top-requires-clause-known : goal.walk_top-requires-clause-known
+walk_top-requires-clause-known c =
+    subst (λ (k : KindsOf LabelRow). AreRight k c.loop-top.builder.classes c.loop-top.builder.known.items) (sym c.kinds-kinds.ensures.all) c.loop-top.invariant.known
+
+pub loop-top-preserved : goal.loop-top-preserved
+loop-top-preserved c =
+    let rows : Kept LabelRow = c.args.rows.now in
+    let before : Kept PathClass = c.args.before.now in
+    record {
+      found =
+          top_found rows before c.numbers-numbers.ensures.sound.order c.args.tops.now c.loop-top.top-index c.top-item.result c.loop-top-test.true c.top-item.is c.requires.tops c.requires.fits
+          c.kinds-kinds.result.now c.kinds-kinds.ensures.all c.numbers-numbers.result.now c.numbers-numbers.ensures.all c.numbers-paths.result.now c.numbers-paths.ensures.all
+          c.loop-top.builder.classes c.in_ok-next.next.classes (map seen c.loop-top.made.items) (map seen c.walk_top.new.made.items) c.loop-top.invariant.found c.in_ok-next.ensures.walks;
+      known = subst (λ (k : KindsOf LabelRow). AreRight k c.in_ok-next.next.classes c.in_ok-next.next.known.items) c.kinds-kinds.ensures.all c.in_ok-next.ensures.known;
+    }
+
+pub returns : goal.returns
+returns c =
+    let rows : Kept LabelRow = c.args.rows.now in
+    let before : Kept PathClass = c.args.before.now in
+    let tops : List (Bor PathOf) = c.args.tops.now in
+    found_last rows (outside (paths_seen tops) before.1) before.0 c.loop-top.builder.classes c.into_classes.result tops c.loop-top.top-index (map seen c.loop-top.made.items)
+    c.loop-top-test.false c.into_classes.ensures c.loop-top.invariant.found
+
+pub walk_top-requires-clause-kept : goal.walk_top-requires-clause-kept
+walk_top-requires-clause-kept c = λ n lt.
+    let right = c.loop-top.invariant.found.widens.right n (c.requires.kept n lt) in
+    subst (λ (k : KindsOf LabelRow). IsRightAt k c.loop-top.builder.classes n) (sym c.kinds-kinds.ensures.all) right

@@ -1,0 +1,111 @@
+//! The verdicts of all users on one file.
+
+ghost use Rattle.std.specs.Prelude.{◌≡◌, ◌↔◌, true, IfOk, slice_get, ℕ, List};
+ghost use Rattle.path_classes.specs.ReachedRows.{execute};
+
+use acl_entry::{Perm, Requests};
+use std::alloc::{AllocError, Global};
+use std::marker::Model;
+use std::rc::Rc;
+
+/// What each user may do with a file, in the order of the users. Files of equal verdicts can share them.
+#[derive(Drop)]
+pub struct Cells {
+    requests: Rc<Vec<Requests>>,
+}
+
+impl Model for Cells {
+    ghost Value = { List ℕ };
+
+    ghost view = { λ c. c.requests.value.items };
+}
+
+/// Whether two rows of verdicts are the same. The loop does not end early, so that it compares many at a time. Allocates
+/// nothing.
+pub fn same_row(some: &[Requests], others: &[Requests]) -> bool
+    ensures { (result ≡ true) ↔ (some.now ≡ others.now) }
+{
+    if some.len() != others.len() {
+        return false;
+    }
+    let mut is_same = true;
+    for at in 0..some.len() {
+        is_same &= some[at].bits() == others[at].bits();
+    }
+    is_same
+}
+
+impl Clone for Cells {
+    ghost is_clone = { λ cells copy. copy ≡ cells };
+
+    fn clone(&self) -> Result<Cells, AllocError> {
+        self.share()
+    }
+}
+
+impl Cells {
+    /// These verdicts. Fails only if memory runs out.
+    pub fn new(alloc: Global, requests: Vec<Requests>) -> Result<Cells, AllocError>
+        ensures { IfOk result (λ cells. cells ≡ requests.items) }
+    {
+        Ok(Cells {
+            requests: Rc::new(alloc, requests)?,
+        })
+    }
+
+    /// These verdicts; where others are the same, they are shared. Fails only if memory runs out.
+    pub fn new_or_shared(
+        alloc: Global,
+        requests: Vec<Requests>,
+        other: Option<&Cells>,
+    ) -> Result<Cells, AllocError>
+        ensures { IfOk result (λ cells. cells ≡ requests.items) }
+    {
+        if let Some(other) = other {
+            if same_row(other.as_slice(), &requests) {
+                let same = other.share()?;
+                return Ok(same);
+            }
+        }
+        let new = Cells::new(alloc, requests)?;
+        Ok(new)
+    }
+
+    /// The same verdicts, in shared memory. Fails only if memory runs out.
+    pub fn share(&self) -> Result<Cells, AllocError>
+        ensures { IfOk result (λ cells. cells ≡ self.now) }
+    {
+        Ok(Cells {
+            requests: self.requests.clone()?,
+        })
+    }
+
+    /// Whether these are the same verdicts in shared memory. Nothing is known where they are not. Allocates nothing.
+    pub fn shares(&self, other: &Cells) -> bool {
+        Rc::ptr_eq(&self.requests, &other.requests)
+    }
+
+    /// The verdicts, one for each user.
+    pub fn as_slice(&self) -> &[Requests]
+        ensures { result.now ≡ self.now }
+    {
+        &self.requests
+    }
+
+    /// What a user may do. Allocates nothing.
+    pub fn get(&self, user: usize) -> Option<Requests>
+        ensures { result ≡ slice_get self.now user }
+    {
+        match self.as_slice().get(user) {
+            Some(requests) => Some(*requests),
+            None => None,
+        }
+    }
+}
+
+/// The request to search.
+pub fn search() -> Perm
+    ensures { result ≡ execute }
+{
+    Perm::EXECUTE
+}

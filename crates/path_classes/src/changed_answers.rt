@@ -1,0 +1,255 @@
+//! How many files may have other answers along their paths, where their classes were found again.
+
+ghost use Rattle.std.specs.Prelude.{◌≡◌, ◌<◌, ◌≤◌, ℕ, suc, Some, None, true, length, map, IfOk, OnOk, IfSome, if◌then◌else◌};
+ghost use Rattle.std.specs.Option.{option_copied};
+ghost use Rattle.std.specs.Ordering.{nat_cmp};
+ghost use Rattle.std.specs.BTreeMap.{get};
+ghost use Rattle.path_map.specs.Entries.{IsInOrder, seen};
+ghost use Rattle.kinds.specs.Inner.{AreAmong};
+ghost use Rattle.kinds.specs.Kinds.{node_at};
+ghost use Rattle.path_classes.specs.PathClasses.{kept_search, search_above, AreClasses};
+ghost use Rattle.path_classes.specs.ClassedRows.{AreCountedOf};
+ghost use Rattle.path_classes.specs.ChangedAnswers.{SameRow, SameReach, HadSameReach, IsTrueFor, AreTrue};
+
+use crate::cells::same_row;
+use crate::label_row::LabelRow;
+use crate::path_class::PathClass;
+use crate::searchers::Searchers;
+use acl_names::Path;
+use kinds::{KindMap, Kinds};
+use std::alloc::{AllocError, Global};
+use std::collections::BTreeMap;
+
+/// Whether files of a class before have the same answers as files of a class now, by the classes' numbers.
+#[derive(Clone, Copy)]
+pub(crate) struct Comparison {
+    pub(crate) was: usize,
+    pub(crate) is: usize,
+    pub(crate) is_same: bool,
+}
+
+/// Pairs of classes that were compared: the last one, and all by a key.
+#[derive(Drop)]
+pub(crate) struct Comparisons {
+    pub(crate) last: Option<Comparison>,
+    pub(crate) all: BTreeMap<u64, Comparison>,
+}
+
+/// A key of two classes. If two pairs have the same key, the first is compared again.
+fn key(was: usize, is: usize) -> u64 {
+    (was as u64).wrapping_mul(1 << 32).wrapping_add(is as u64)
+}
+
+/// Whether two labels have the same row.
+fn has_same_row(old: &Kinds<LabelRow>, rows: &Kinds<LabelRow>, was: usize, is: usize) -> bool
+    ensures { result ≡ true → SameRow old.now rows.now was is }
+{
+    match old.get(was) {
+        Some(was) => match rows.get(is) {
+            Some(is) => same_row(was.row.as_slice(), is.row.as_slice()),
+            None => false,
+        },
+        None => false,
+    }
+}
+
+/// Who can search down to a class, where it keeps that.
+fn kept_search(classes: &Kinds<PathClass>, number: usize) -> Option<&Searchers>
+    ensures { option_copied result ≡ kept_search (node_at classes.now number) }
+{
+    match classes.get(number) {
+        Some(class) => match &class.search {
+            Some(search) => Some(search),
+            None => None,
+        },
+        None => None,
+    }
+}
+
+/// Whether the same users can search down to two classes, where both keep that.
+fn has_same_search(
+    before: &Kinds<PathClass>,
+    after: &Kinds<PathClass>,
+    was: usize,
+    is: usize,
+) -> bool
+    ensures { result ≡ true → search_above before.now (Some was) ≡ search_above after.now (Some is) }
+{
+    match kept_search(before, was) {
+        Some(was) => match kept_search(after, is) {
+            Some(is) => was.is_same(is),
+            None => false,
+        },
+        None => false,
+    }
+}
+
+/// Whether the same users get through two classes above, if there are any.
+fn has_same_above(
+    before: &Kinds<PathClass>,
+    after: &Kinds<PathClass>,
+    was: Option<usize>,
+    is: Option<usize>,
+) -> bool
+    ensures { result ≡ true → search_above before.now was ≡ search_above after.now is }
+{
+    match was {
+        Some(was) => match is {
+            Some(is) => has_same_search(before, after, was, is),
+            None => false,
+        },
+        None => is.is_none(),
+    }
+}
+
+/// Whether files of a class before have the same answers as files of a class now.
+fn has_same_reach(
+    old: &Kinds<LabelRow>,
+    before: &Kinds<PathClass>,
+    rows: &Kinds<LabelRow>,
+    after: &Kinds<PathClass>,
+    was: usize,
+    is: usize,
+) -> bool
+    ensures { result ≡ true → SameReach old.now before.now rows.now after.now was is }
+{
+    match before.get(was) {
+        Some(was) => match after.get(is) {
+            Some(is) => {
+                has_same_row(old, rows, was.kind, is.kind)
+                    && has_same_above(before, after, was.above, is.above)
+            }
+            None => false,
+        },
+        None => false,
+    }
+}
+
+/// What was found for a pair of classes, if it is of this pair.
+fn found_for(found: Option<Comparison>, was: usize, is: usize) -> Option<Comparison>
+    ensures same { IfSome result (λ c. found ≡ Some c) }
+    ensures pair { IfSome result (λ c. (c.was ≡ was) × (c.is ≡ is)) }
+{
+    let found = found?;
+    if found.was == was && found.is == is {
+        Some(found)
+    } else {
+        None
+    }
+}
+
+impl Comparisons {
+    /// None. Allocates nothing.
+    fn new(alloc: Global) -> Comparisons
+        ensures last { result.last ≡ None }
+        ensures all { (key : ℕ) → get nat_cmp result.all key ≡ None }
+    {
+        Comparisons {
+            last: None,
+            all: BTreeMap::new(alloc),
+        }
+    }
+
+    /// What is kept for a key.
+    fn at(&self, key: u64) -> Option<Comparison>
+        ensures { result ≡ get nat_cmp self.now.all key }
+    {
+        match self.all.get(&key) {
+            Some(found) => Some(*found),
+            None => None,
+        }
+    }
+
+    /// Whether files of a class before have the same answers as files of a class now: pairs of classes are compared once. Fails
+    /// only if memory runs out.
+    fn are_same(
+        &mut self,
+        old: &Kinds<LabelRow>,
+        before: &Kinds<PathClass>,
+        rows: &Kinds<LabelRow>,
+        after: &Kinds<PathClass>,
+        was: usize,
+        is: usize,
+    ) -> Result<bool, AllocError>
+        requires { AreTrue old.now before.now rows.now after.now self.old }
+        ensures kept { OnOk result (AreTrue old.now before.now rows.now after.now self.new) }
+        ensures same { IfOk result (IsTrueFor old.now before.now rows.now after.now was is) }
+    {
+        if let Some(found) = found_for(self.last, was, is) {
+            return Ok(found.is_same);
+        }
+        let key = key(was, is);
+        if let Some(found) = found_for(self.at(key), was, is) {
+            self.last = Some(found);
+            return Ok(found.is_same);
+        }
+        let is_same = has_same_reach(old, before, rows, after, was, is);
+        let found = Comparison { was, is, is_same };
+        let _before = self.all.insert(key, found)?;
+        self.last = Some(found);
+        Ok(is_same)
+    }
+
+    /// Whether a file that had a class, if any, has the same answers with a class now. Fails only if memory runs out.
+    fn is_same(
+        &mut self,
+        old: &Kinds<LabelRow>,
+        before: &Kinds<PathClass>,
+        rows: &Kinds<LabelRow>,
+        after: &Kinds<PathClass>,
+        was: Option<usize>,
+        is: usize,
+    ) -> Result<bool, AllocError>
+        requires { AreTrue old.now before.now rows.now after.now self.old }
+        ensures kept { OnOk result (AreTrue old.now before.now rows.now after.now self.new) }
+        ensures same { IfOk result (λ same. same ≡ true → HadSameReach old.now before.now rows.now after.now was is) }
+    {
+        match was {
+            Some(was) => self.are_same(old, before, rows, after, was, is),
+            None => Ok(false),
+        }
+    }
+}
+
+/// A count and one more, unless answers are the same.
+fn count_unless(count: usize, is_same: bool) -> usize
+    requires { count < 18446744073709551615 }
+    ensures { result ≡ (if is_same then count else suc count) }
+{
+    if is_same { count } else { count + 1 }
+}
+
+/// At most how many of some files have other answers than before: those that had no class, and those whose class before has
+/// other answers than their class now. Fails only if memory runs out.
+pub(crate) fn changed_answers(
+    alloc: Global,
+    old: &KindMap<LabelRow>,
+    before: &KindMap<PathClass>,
+    rows: &KindMap<LabelRow>,
+    after: &KindMap<PathClass>,
+    files: &[(&Path, usize)],
+) -> Result<usize, AllocError>
+    requires were { AreClasses old.now before.now }
+    requires are { AreClasses rows.now after.now }
+    requires order { IsInOrder (map seen files.now) }
+    requires among { AreAmong after.now.1 (map seen files.now) }
+    ensures least { IfOk result (AreCountedOf old.now rows.now (map seen files.now)) }
+    ensures most { IfOk result (λ count. count ≤ length files.now) }
+{
+    old.order_law();
+    rows.order_law();
+    let labels_before = old.kinds();
+    let labels = rows.kinds();
+    let classes_before = before.kinds();
+    let classes = after.kinds();
+    let found = before.numbers().get_all(alloc, files)?;
+    let mut compared = Comparisons::new(alloc);
+    let mut count = 0;
+    for at in 0..files.len() {
+        let was = found[at];
+        let is = files[at].1;
+        let is_same = compared.is_same(labels_before, classes_before, labels, classes, was, is)?;
+        count = count_unless(count, is_same);
+    }
+    Ok(count)
+}

@@ -1,0 +1,261 @@
+//! Classes by their numbers, while files come in path order.
+
+ghost use Rattle.std.specs.Prelude.{◌≡◌, [], IfOk, IfSome, Some};
+ghost use Rattle.std.specs.Option.{option_copied};
+ghost use Rattle.kinds.specs.Kinds.{IsNode};
+ghost use Rattle.path_classes.specs.PathClasses.{AboveKeeps, search_above, depth_below, IsRight};
+ghost use Rattle.path_classes.specs.ClassBuilding.{IsKnown, IsRightAt, IsRightAbove, AreRight, AreKept, IsThere, Fills, Keeps, Finds};
+
+use crate::class_hints::ClassHints;
+use crate::kept_classes::{KeptClasses, is_class_of};
+use crate::label_row::LabelRow;
+use crate::path_class::PathClass;
+use crate::searchers::{Searchers, searchers_below};
+use kinds::Kinds;
+use std::alloc::{AllocError, Global};
+use std::rc::Rc;
+
+/// The classes so far; the numbers of those that the walk met, which are right; and hints at their places among these.
+#[derive(Drop)]
+pub(crate) struct ClassBuilder {
+    pub(crate) classes: Kinds<PathClass>,
+    pub(crate) known: Vec<usize>,
+    hints: ClassHints,
+}
+
+/// The number at a place, if it is that of the class of a label below a class; with the place.
+fn known_at(
+    classes: &Kinds<PathClass>,
+    known: &[usize],
+    place: usize,
+    above: Option<usize>,
+    kind: usize,
+) -> Option<(usize, usize)>
+    ensures { IfSome result (λ found. IsKnown classes.now known.now above kind found.1) }
+{
+    let number = *known.get(place)?;
+    if is_class_of(classes, number, above, kind) {
+        Some((place, number))
+    } else {
+        None
+    }
+}
+
+/// The class of a label below a class, if it is found; with its place.
+fn known_class(
+    classes: &Kinds<PathClass>,
+    known: &[usize],
+    hints: &ClassHints,
+    above: Option<usize>,
+    kind: usize,
+) -> Option<(usize, usize)>
+    ensures { IfSome result (λ found. IsKnown classes.now known.now above kind found.1) }
+{
+    if let Some(last) = hints.last(kind) {
+        if let Some(found) = known_at(classes, known, last, above, kind) {
+            return Some(found);
+        }
+    }
+    let place = hints.place(above, kind)?;
+    known_at(classes, known, place, above, kind)
+}
+
+/// Who gets through the class above, if there is one.
+pub(crate) fn search_of(classes: &Kinds<PathClass>, above: Option<usize>) -> Option<&Searchers>
+    requires { AboveKeeps classes.now above }
+    ensures { option_copied result ≡ search_above classes.now above }
+{
+    let Some(number) = above else {
+        return None;
+    };
+    match classes.get(number) {
+        Some(class) => match &class.search {
+            Some(search) => Some(search),
+            None => unreachable!(),
+        },
+        None => unreachable!(),
+    }
+}
+
+/// A class with who can search down to it.
+fn with_search(
+    alloc: Global,
+    rows: &Kinds<LabelRow>,
+    classes: &Kinds<PathClass>,
+    class: &PathClass,
+) -> Result<PathClass, AllocError>
+    requires { IsRight rows.now classes.now class.now }
+    ensures { IfOk result (λ new. Fills rows.now classes.now class.now new) }
+{
+    let row = &rows.node(class.kind).row;
+    let above = search_of(classes, class.above);
+    let search = searchers_below(alloc, above, row.as_slice())?;
+    Ok(PathClass {
+        kind: class.kind,
+        above: class.above,
+        depth: class.depth,
+        search: Some(search),
+    })
+}
+
+/// The classes, where one of them keeps who can search down to it.
+fn keeping(
+    alloc: Global,
+    rows: &Kinds<LabelRow>,
+    classes: Kinds<PathClass>,
+    number: usize,
+) -> Result<Kinds<PathClass>, AllocError>
+    requires { IsRightAt rows.now classes number }
+    ensures { IfOk result (Keeps rows.now classes (Some number)) }
+{
+    let class = classes.node(number);
+    if class.search.is_some() {
+        return Ok(classes);
+    }
+    let new = with_search(alloc, rows, &classes, class)?;
+    let new = Rc::new(alloc, new)?;
+    classes.with_node(number, new)
+}
+
+/// The classes, where the one above, if there is one, keeps who can search down to it.
+fn above_keeping(
+    alloc: Global,
+    rows: &Kinds<LabelRow>,
+    classes: Kinds<PathClass>,
+    above: Option<usize>,
+) -> Result<Kinds<PathClass>, AllocError>
+    requires { IsRightAbove rows.now classes above }
+    ensures { IfOk result (Keeps rows.now classes above) }
+{
+    match above {
+        Some(number) => keeping(alloc, rows, classes, number),
+        None => Ok(classes),
+    }
+}
+
+/// How many directories are above a file right below a class, or below none. Fails where they are more than can be counted,
+/// as where memory runs out.
+fn depth_below(classes: &Kinds<PathClass>, above: Option<usize>) -> Result<usize, AllocError>
+    requires { IsThere classes.now above }
+    ensures { IfOk result (λ depth. depth ≡ depth_below classes.now above) }
+{
+    let Some(number) = above else {
+        return Ok(0);
+    };
+    let Some(depth) = classes.node(number).depth.checked_add(1) else {
+        return Err(AllocError);
+    };
+    Ok(depth)
+}
+
+/// The classes with one more.
+fn added(
+    alloc: Global,
+    rows: &Kinds<LabelRow>,
+    classes: Kinds<PathClass>,
+    above: Option<usize>,
+    kind: usize,
+) -> Result<(Kinds<PathClass>, usize), AllocError>
+    requires row { IsNode rows.now kind }
+    requires above { AboveKeeps classes above }
+    ensures { IfOk result (λ new. Finds rows.now classes above kind new.0 new.1) }
+{
+    let depth = depth_below(&classes, above)?;
+    let class = PathClass {
+        kind,
+        above,
+        depth,
+        search: None,
+    };
+    let class = Rc::new(alloc, class)?;
+    classes.add(alloc, class)
+}
+
+/// The class of a label below a class that the walk has not met: one that paths outside have, or a new one.
+fn kept_or_added(
+    alloc: Global,
+    rows: &Kinds<LabelRow>,
+    kept: &KeptClasses,
+    classes: Kinds<PathClass>,
+    above: Option<usize>,
+    kind: usize,
+) -> Result<(Kinds<PathClass>, usize), AllocError>
+    requires row { IsNode rows.now kind }
+    requires above { IsRightAbove rows.now classes above }
+    requires kept { AreKept rows.now classes kept.now.outside }
+    ensures { IfOk result (λ new. Finds rows.now classes above kind new.0 new.1) }
+{
+    if let Some(class) = kept.find(alloc, &classes, above, kind)? {
+        return Ok((classes, class));
+    }
+    let classes = above_keeping(alloc, rows, classes, above)?;
+    added(alloc, rows, classes, above, kind)
+}
+
+impl ClassBuilder {
+    /// Classes, of which none can be found. Allocates nothing.
+    pub fn new(alloc: Global, classes: Kinds<PathClass>) -> ClassBuilder
+        ensures classes { result.classes ≡ classes }
+        ensures known { result.known.items ≡ [] }
+    {
+        ClassBuilder {
+            classes,
+            known: Vec::new(alloc),
+            hints: ClassHints::new(alloc),
+        }
+    }
+
+    /// The class of a label below a class: one that is known, one that paths outside have, or a new one. Fails only if memory, or
+    /// the numbers, run out.
+    pub fn class_of(
+        self,
+        alloc: Global,
+        rows: &Kinds<LabelRow>,
+        kept: &KeptClasses,
+        above: Option<usize>,
+        kind: usize,
+    ) -> Result<(ClassBuilder, usize), AllocError>
+        requires row { IsNode rows.now kind }
+        requires above { IsRightAbove rows.now self.classes above }
+        requires known { AreRight rows.now self.classes self.known.items }
+        requires kept { AreKept rows.now self.classes kept.now.outside }
+        ensures finds { IfOk result (λ new. Finds rows.now self.classes above kind new.0.classes new.1) }
+        ensures known { IfOk result (λ new. AreRight rows.now new.0.classes new.0.known.items) }
+    {
+        let ClassBuilder {
+            classes,
+            mut known,
+            mut hints,
+        } = self;
+        if let Some((place, class)) = known_class(&classes, &known, &hints, above, kind) {
+            hints.set_last(kind, place)?;
+            let same = ClassBuilder {
+                classes,
+                known,
+                hints,
+            };
+            return Ok((same, class));
+        }
+        let (classes, class) = kept_or_added(alloc, rows, kept, classes, above, kind)?;
+        hints.add(above, kind, known.len())?;
+        known.push(class)?;
+        let more = ClassBuilder {
+            classes,
+            known,
+            hints,
+        };
+        Ok((more, class))
+    }
+
+    /// The classes.
+    pub fn into_classes(self) -> Kinds<PathClass>
+        ensures { result ≡ self.classes }
+    {
+        let ClassBuilder {
+            classes,
+            known: _known,
+            hints: _hints,
+        } = self;
+        classes
+    }
+}

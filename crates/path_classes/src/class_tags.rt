@@ -1,0 +1,81 @@
+//! Tags of classes: a class is found by its label, by the class above, and by both.
+
+ghost use Rattle.std.specs.Prelude.{◌≡◌, ◌++◌, map, IfOk, OnOk};
+ghost use Rattle.path_classes.specs.ClassTags.{label_tag, below_tag, above_tags, pair_hash, pair_tag, class_tags};
+
+use crate::hash::mixed;
+use crate::path_class::PathClass;
+use kinds::Tagged;
+use std::alloc::{AllocError, Global};
+
+/// The tag of the classes of a label. Fails, as if memory ran out, if it is too large.
+pub(crate) fn label_tag(kind: usize) -> Result<usize, AllocError>
+    ensures { IfOk result (λ tag. tag ≡ label_tag kind) }
+{
+    match kind.checked_mul(3) {
+        Some(tag) => Ok(tag),
+        None => Err(AllocError),
+    }
+}
+
+/// The tag of the classes right below a class. Fails, as if memory ran out, if it is too large.
+pub(crate) fn below_tag(above: usize) -> Result<usize, AllocError>
+    ensures { IfOk result (λ tag. tag ≡ below_tag above) }
+{
+    let tag = label_tag(above)?;
+    match tag.checked_add(1) {
+        Some(tag) => Ok(tag),
+        None => Err(AllocError),
+    }
+}
+
+/// A hash of a label and a class above.
+fn pair_hash(above: Option<usize>, kind: usize) -> u64
+    ensures { result ≡ pair_hash above kind }
+{
+    let hash = mixed(0, kind as u64);
+    match above {
+        Some(above) => mixed(hash, above as u64),
+        None => hash,
+    }
+}
+
+/// The tag of the classes of a label below a class. Others may have it too.
+pub(crate) fn pair_tag(above: Option<usize>, kind: usize) -> usize
+    ensures { result ≡ pair_tag above kind }
+{
+    let hash = (pair_hash(above, kind) % (1 << 30)) as usize;
+    3 * hash + 2
+}
+
+/// Adds the tag of a class above, if there is one.
+fn push_above(new: &mut Vec<usize>, above: Option<usize>) -> Result<(), AllocError>
+    ensures { OnOk result (new.new.items ≡ new.old.items ++ above_tags above) }
+{
+    if let Some(above) = above {
+        new.push(below_tag(above)?)?;
+    }
+    Ok(())
+}
+
+/// Adds the tags of the classes of some labels.
+pub(crate) fn label_tags(alloc: Global, labels: &[usize]) -> Result<Vec<usize>, AllocError>
+    ensures { IfOk result (λ tags. tags.items ≡ map label_tag labels.now) }
+{
+    let mut tags = Vec::with_capacity(alloc, labels.len())?;
+    for label in labels {
+        tags.push(label_tag(*label)?)?;
+    }
+    Ok(tags)
+}
+
+impl Tagged for PathClass {
+    ghost tags_of = { λ class. class_tags class.above class.kind };
+
+    /// Adds the tags.
+    fn push_tags(&self, alloc: Global, new: &mut Vec<usize>) -> Result<(), AllocError> {
+        new.push(label_tag(self.kind)?)?;
+        new.push(pair_tag(self.above, self.kind))?;
+        push_above(new, self.above)
+    }
+}

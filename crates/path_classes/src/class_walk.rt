@@ -1,0 +1,77 @@
+//! A walk over files in path order that gives them classes: a file's class is found by its label and by the class of the
+//! nearest recorded directory above.
+
+ghost use Rattle.std.specs.Prelude.{◌≡◌, ◌≤◌, ◌++◌, ◌∷◌, [], map, length, take, is_ok, IfOk, if◌then◌else◌};
+ghost use Rattle.std.specs.Option.{option_or};
+ghost use Rattle.path_map.specs.Entries.{IsInOrder, seen};
+ghost use Rattle.kinds.specs.Numbered.{AreUsed};
+ghost use Rattle.path_classes.specs.Walks.{last_of};
+ghost use Rattle.path_classes.specs.ClassBuilding.{IsRightAbove, AreRight, AreKept, AreWalked};
+
+use crate::class_builder::ClassBuilder;
+use crate::kept_classes::KeptClasses;
+use crate::label_row::LabelRow;
+use crate::stack::{depth_above, last};
+use acl_names::Path;
+use kinds::Kinds;
+use path_map::Within;
+use std::alloc::{AllocError, Global};
+
+/// The class of the last of the first `depth` files; where there is none, a given one.
+fn last_class(files: &[(&Path, usize)], depth: usize, over: Option<usize>) -> Option<usize>
+    requires { depth ≤ length files.now }
+    ensures { result ≡ option_or (last_of (take depth (map seen files.now))) over }
+{
+    match last(files.split_at(depth).0) {
+        Some(class) => Some(*class),
+        None => over,
+    }
+}
+
+/// Puts a file in the place of those after the first `depth`.
+fn put<'a>(
+    files: &mut Vec<(&'a Path, usize)>,
+    depth: usize,
+    path: &'a Path,
+    class: usize,
+) -> Result<(), AllocError>
+    requires { depth ≤ length files.old.items }
+    ensures { map seen files.new.items ≡ (if is_ok result then take depth (map seen files.old.items) ++ (path.now, class) ∷ [] else take depth (map seen files.old.items)) }
+{
+    files.truncate(depth);
+    files.push((path, class))?;
+    Ok(())
+}
+
+/// The classes of the files at or below a path, in one pass: those with no recorded directory of these above them are right
+/// below a given class, or below none. Fails only if memory runs out.
+pub(crate) fn walk<'a, 'p>(
+    alloc: Global,
+    rows: &Kinds<LabelRow>,
+    kept: &KeptClasses,
+    builder: ClassBuilder,
+    over: Option<usize>,
+    files: Within<'a, 'p, usize>,
+) -> Result<(ClassBuilder, Vec<(&'a Path, usize)>), AllocError>
+    requires order { IsInOrder files }
+    requires used { AreUsed rows.now files }
+    requires over { IsRightAbove rows.now builder.classes over }
+    requires known { AreRight rows.now builder.classes builder.known.items }
+    requires kept { AreKept rows.now builder.classes kept.now.outside }
+    ensures walked { IfOk result (λ new. AreWalked rows.now files.entry over builder.classes new.0.classes (map seen new.1.items)) }
+    ensures known { IfOk result (λ new. AreRight rows.now new.0.classes new.0.known.items) }
+{
+    let mut builder = builder;
+    let mut stack = Vec::new(alloc);
+    let mut made = Vec::new(alloc);
+    let mut rest = files;
+    while let Some((path, kind)) = rest.next() {
+        let depth = depth_above(&stack, path);
+        let above = last_class(&stack, depth, over);
+        let (next, class) = builder.class_of(alloc, rows, kept, above, kind)?;
+        builder = next;
+        put(&mut stack, depth, path, class)?;
+        made.push((path, class))?;
+    }
+    Ok((builder, made))
+}

@@ -1,0 +1,144 @@
+//! Rows of labels by kinds with the path classes of their files.
+
+ghost use Rattle.std.specs.Prelude.{◌≡◌, ◌≤◌, ◌++◌, [], length, map, IfOk, List};
+ghost use Rattle.acl_names.specs.Paths.{PathOf};
+ghost use Rattle.path_map.specs.Entries.{IsInOrder, seen};
+ghost use Rattle.kinds.specs.Numbered.{entries_in};
+ghost use Rattle.path_classes.specs.ClassesWithin.{inside};
+ghost use Rattle.path_classes.specs.ClassedRows.{AreCounted, PutsRows, paths_of, AllInside, ChangesRows};
+ghost use Rattle.path_classes.specs.PathClasses.{AreClasses};
+
+use crate::changed_files::classes_with_files;
+use crate::label_row::LabelRow;
+use crate::path_class::PathClass;
+use crate::path_classes::classes_of;
+use crate::rerowed_classes::{all_rerowed_classes, rerowed_classes};
+use acl_names::Path;
+use kinds::TaggedMap;
+use std::alloc::{AllocError, Global};
+use std::marker::Model;
+
+/// The rows of files, and the path classes of these files. To a contract it is the rows, which determine the classes.
+#[derive(Drop)]
+pub struct ClassedRows {
+    rows: TaggedMap<LabelRow>,
+    classes: TaggedMap<PathClass>,
+}
+
+impl Model for ClassedRows {
+    ghost use Rattle.kinds.specs.Numbered.{Kept};
+    ghost use Rattle.path_classes.specs.declared.label_row.LabelRow.{LabelRow as RowOfLabel};
+    ghost use Rattle.path_classes.specs.PathClasses.{AreClasses};
+    ghost use Rattle.path_classes.specs.Codes.{coded_kept};
+
+    ghost Value = { Kept RowOfLabel };
+
+    ghost coded = { coded_kept };
+
+    ghost view = { λ c. c.rows };
+
+    ghost invariant = { λ c. AreClasses c.rows c.classes };
+}
+
+impl ClassedRows {
+    /// No files. Fails only if memory runs out.
+    pub fn none(alloc: Global) -> Result<ClassedRows, AllocError>
+        ensures { IfOk result (λ none. entries_in none ≡ []) }
+    {
+        let rows = TaggedMap::new(alloc)?;
+        let none = ClassedRows::of(alloc, rows)?;
+        Ok(none)
+    }
+
+    /// These rows, with the classes of their files: one pass over these. Fails only if memory, or the numbers, run out.
+    pub fn of(alloc: Global, rows: TaggedMap<LabelRow>) -> Result<ClassedRows, AllocError>
+        ensures { IfOk result (λ new. new ≡ rows) }
+    {
+        let classes = classes_of(alloc, rows.map())?;
+        let classes = TaggedMap::of(alloc, classes)?;
+        Ok(ClassedRows { rows, classes })
+    }
+
+    /// A copy that shares rows and classes. Fails only if memory runs out.
+    pub fn share(&self) -> Result<ClassedRows, AllocError>
+        ensures { IfOk result (λ same. same ≡ self.now) }
+    {
+        let rows = self.rows.share()?;
+        let classes = self.classes.share()?;
+        Ok(ClassedRows { rows, classes })
+    }
+
+    /// The rows.
+    pub fn rows(&self) -> &TaggedMap<LabelRow>
+        ensures { result.now ≡ self.now }
+    {
+        &self.rows
+    }
+
+    /// The path classes of the files.
+    pub(crate) fn classes(&self) -> &TaggedMap<PathClass>
+        ensures { AreClasses self.now result.now }
+    {
+        &self.classes
+    }
+
+    /// Other rows of the same files, whose labels have the same numbers: those of `labels` alone may have other rows. The
+    /// number is that of the files whose answers along their paths were found again. Fails only if memory, or the numbers,
+    /// run out.
+    pub fn with_rows(
+        &self,
+        alloc: Global,
+        rows: TaggedMap<LabelRow>,
+        labels: &[usize],
+    ) -> Result<(ClassedRows, usize), AllocError>
+        requires { ChangesRows self.now labels.now rows }
+        ensures rows { IfOk result (λ new. new.0 ≡ rows) }
+        ensures least { IfOk result (λ new. AreCounted self.now rows new.1) }
+        ensures most { IfOk result (λ new. (tops : List PathOf) → AllInside labels.now tops rows.1 → new.1 ≤ length (inside tops rows.1)) }
+    {
+        let old = self.rows();
+        let before = self.classes();
+        let new = rerowed_classes(alloc, old.map(), rows.map(), before, labels)?;
+        let (classes, count) = new;
+        Ok((ClassedRows { rows, classes }, count))
+    }
+
+    /// Other rows of the same files, whose labels have the same numbers. Fails only if memory, or the numbers, run out.
+    pub fn with_all_rows(
+        &self,
+        alloc: Global,
+        rows: TaggedMap<LabelRow>,
+    ) -> Result<ClassedRows, AllocError>
+        requires { rows.1 ≡ self.now.1 }
+        ensures { IfOk result (λ new. new ≡ rows) }
+    {
+        let old = self.rows();
+        let before = self.classes();
+        let classes = all_rerowed_classes(alloc, old.map(), rows.map(), before)?;
+        Ok(ClassedRows { rows, classes })
+    }
+
+    /// Rows where some files have other labels, or are new, and others are gone: the paths of both are in path order. All other
+    /// files keep their labels' numbers. The number is that of the files whose answers along their paths were found again.
+    /// Fails only if memory, or the numbers, run out.
+    pub fn with_files<V, W>(
+        &self,
+        alloc: Global,
+        rows: TaggedMap<LabelRow>,
+        changed: &[(&Path, V)],
+        gone: &[(&Path, W)],
+    ) -> Result<(ClassedRows, usize), AllocError>
+        requires changed { IsInOrder (map seen changed.now) }
+        requires gone { IsInOrder (map seen gone.now) }
+        requires puts { PutsRows self.now (map seen changed.now) (map seen gone.now) rows }
+        ensures rows { IfOk result (λ new. new.0 ≡ rows) }
+        ensures least { IfOk result (λ new. AreCounted self.now rows new.1) }
+        ensures most { IfOk result (λ new. new.1 ≤ length (inside (paths_of (map seen changed.now) ++ paths_of (map seen gone.now)) rows.1)) }
+    {
+        let old = self.rows();
+        let before = self.classes();
+        let new = classes_with_files(alloc, old.map(), rows.map(), before, changed, gone)?;
+        let (classes, count) = new;
+        Ok((ClassedRows { rows, classes }, count))
+    }
+}

@@ -1,0 +1,209 @@
+//! The classes of the files at or below some paths, the tops, where all other files keep theirs.
+
+ghost use Rattle.std.specs.Prelude.{◌≡◌, ◌≤◌, ◌++◌, ◌∷◌, [], not, is_none, length, map, filter, IfOk, OnOk, if◌then◌else◌};
+ghost use Rattle.path_map.specs.Entries.{IsInOrder, seen};
+ghost use Rattle.path_map.specs.Merged.{has};
+ghost use Rattle.kinds.specs.Numbered.{AreUsed};
+ghost use Rattle.path_classes.specs.PathClasses.{class_above, AreClasses};
+ghost use Rattle.path_classes.specs.ClassBuilding.{IsRightAbove, AreRight, AreKept};
+ghost use Rattle.path_classes.specs.ClassesWithin.{paths_seen, inside, outside, AreTops, FitOutside, ChangesInside, WalksTop, AreFound};
+ghost use Rattle.path_classes.specs.ClassedRows.{AreCounted};
+
+use crate::changed_answers::changed_answers;
+use crate::class_builder::ClassBuilder;
+use crate::class_walk::walk;
+use crate::kept_classes::KeptClasses;
+use crate::label_row::LabelRow;
+use crate::path_class::PathClass;
+use acl_names::Path;
+use kinds::{KindMap, Kinds, TaggedMap};
+use path_map::{PathMap, Within};
+use std::alloc::{AllocError, Global};
+
+/// The class of the nearest recorded path above a path, if there is one.
+fn class_over(classes: &PathMap<usize>, path: &Path) -> Option<usize>
+    ensures { result ≡ class_above path.now classes.now }
+{
+    match classes.nearest_above(path) {
+        Some(entry) => Some(entry.1),
+        None => None,
+    }
+}
+
+/// Adds the classes of the files at or below a top.
+fn walk_top<'a>(
+    alloc: Global,
+    rows: &Kinds<LabelRow>,
+    files: &'a PathMap<usize>,
+    before: &PathMap<usize>,
+    kept: &KeptClasses,
+    builder: ClassBuilder,
+    top: &Path,
+    made: &mut Vec<(&'a Path, usize)>,
+) -> Result<ClassBuilder, AllocError>
+    requires used { AreUsed rows.now files.now }
+    requires over { IsRightAbove rows.now builder.classes (class_above top.now before.now) }
+    requires known { AreRight rows.now builder.classes builder.known.items }
+    requires kept { AreKept rows.now builder.classes kept.now.outside }
+    ensures walks { IfOk result (λ new. WalksTop rows.now files.now (class_above top.now before.now) top.now builder.classes (map seen made.old.items) new.classes (map seen made.new.items)) }
+    ensures known { IfOk result (λ new. AreRight rows.now new.classes new.known.items) }
+{
+    files.order_law();
+    let over = class_over(before, top);
+    let below = files.within(top);
+    let (next, own) = walk(alloc, rows, kept, builder, over, below)?;
+    made.extend_from_slice(&own)?;
+    Ok(next)
+}
+
+/// The classes of the files at or below some tops, of which none is below another one, beside the classes that were there;
+/// and these files with their classes, in path order. Of the classes that were there those can be found that paths outside have.
+/// Fails only if memory, or the numbers, run out.
+fn classes_within<'a>(
+    alloc: Global,
+    rows: &'a KindMap<LabelRow>,
+    before: &KindMap<PathClass>,
+    kept: &KeptClasses,
+    tops: &[&Path],
+) -> Result<(Kinds<PathClass>, Vec<(&'a Path, usize)>), AllocError>
+    requires tops { AreTops (paths_seen tops.now) }
+    requires fits { FitOutside rows.now (paths_seen tops.now) before.now }
+    requires kept { AreKept rows.now.0 before.now.0 kept.now.outside }
+    ensures { IfOk result (λ new. AreFound rows.now (paths_seen tops.now) (outside (paths_seen tops.now) before.now.1) before.now.0 new.0 (map seen new.1.items)) }
+{
+    let numbers = rows.numbers();
+    let kinds = rows.kinds();
+    let paths = before.numbers();
+    let old = before.kinds();
+    let classes = old.share()?;
+    let mut builder = ClassBuilder::new(alloc, classes);
+    let mut made = Vec::new(alloc);
+    for top in tops {
+        let next = walk_top(alloc, kinds, numbers, paths, kept, builder, *top, &mut made)?;
+        builder = next;
+    }
+    Ok((builder.into_classes(), made))
+}
+
+/// Adds the files of a walk.
+fn push_all<'a, 'p>(
+    all: &mut Vec<(&'a Path, usize)>,
+    files: Within<'a, 'p, usize>,
+) -> Result<(), AllocError>
+    ensures { OnOk result (map seen all.new.items ≡ map seen all.old.items ++ files.entry) }
+{
+    let mut rest = files;
+    while let Some(entry) = rest.next() {
+        all.push(entry)?;
+    }
+    Ok(())
+}
+
+/// The files at or below some tops, in path order.
+fn files_within<'a>(
+    alloc: Global,
+    files: &'a PathMap<usize>,
+    tops: &[&Path],
+) -> Result<Vec<(&'a Path, usize)>, AllocError>
+    requires { AreTops (paths_seen tops.now) }
+    ensures { IfOk result (λ all. map seen all.items ≡ inside (paths_seen tops.now) files.now) }
+{
+    files.order_law();
+    let mut all = Vec::new(alloc);
+    for top in tops {
+        let below = files.within(*top);
+        push_all(&mut all, below)?;
+    }
+    Ok(all)
+}
+
+/// Adds a file that was looked up, if it was not found.
+fn push_unless<'a>(
+    gone: &mut Vec<(&'a Path, usize)>,
+    file: (&'a Path, usize),
+    found: Option<usize>,
+) -> Result<(), AllocError>
+    ensures { OnOk result (map seen gone.new.items ≡ (if is_none found then map seen gone.old.items ++ seen file.entry ∷ [] else map seen gone.old.items)) }
+{
+    match found {
+        Some(_) => Ok(()),
+        None => {
+            gone.push(file)?;
+            Ok(())
+        }
+    }
+}
+
+/// The files that are not among others, of some that are in path order.
+fn gone_of<'a>(
+    alloc: Global,
+    others: &PathMap<usize>,
+    files: &[(&'a Path, usize)],
+) -> Result<Vec<(&'a Path, usize)>, AllocError>
+    requires { IsInOrder (map seen files.now) }
+    ensures { IfOk result (λ gone. map seen gone.items ≡ filter (λ e. not (has e.0 others.now)) (map seen files.now)) }
+{
+    let found = others.get_all(alloc, files)?;
+    let mut gone = Vec::new(alloc);
+    for at in 0..files.len() {
+        push_unless(&mut gone, files[at], found[at])?;
+    }
+    Ok(gone)
+}
+
+/// The classes of `classes_within`, and the files inside that are gone.
+fn found_within<'a>(
+    alloc: Global,
+    rows: &'a KindMap<LabelRow>,
+    before: &'a TaggedMap<PathClass>,
+    tops: &[&Path],
+) -> Result<
+    (
+        Kinds<PathClass>,
+        Vec<(&'a Path, usize)>,
+        Vec<(&'a Path, usize)>,
+    ),
+    AllocError,
+>
+    requires tops { AreTops (paths_seen tops.now) }
+    requires fits { FitOutside rows.now (paths_seen tops.now) before.now }
+    ensures found { IfOk result (λ new. AreFound rows.now (paths_seen tops.now) (outside (paths_seen tops.now) before.now.1) before.now.0 new.0 (map seen new.1.items)) }
+    ensures gone { IfOk result (λ new. map seen new.2.items ≡ filter (λ e. not (has e.0 rows.now.1)) (inside (paths_seen tops.now) before.now.1)) }
+{
+    let classes_before = before.map();
+    let paths = classes_before.numbers();
+    let files = rows.numbers();
+    let inside = files_within(alloc, paths, tops)?;
+    let kept = KeptClasses::of(before, &inside)?;
+    let (classes, made) = classes_within(alloc, rows, classes_before, &kept, tops)?;
+    let gone = gone_of(alloc, files, &inside)?;
+    Ok((classes, made, gone))
+}
+
+/// The classes of all files, where those outside of some tops keep theirs: none of the tops is below another one. The number is
+/// that of the files inside that may have other answers than before. Fails only if memory, or the numbers, run out.
+pub(crate) fn classes_after(
+    alloc: Global,
+    old: &KindMap<LabelRow>,
+    rows: &KindMap<LabelRow>,
+    before: &TaggedMap<PathClass>,
+    tops: &[&Path],
+) -> Result<(TaggedMap<PathClass>, usize), AllocError>
+    requires tops { AreTops (paths_seen tops.now) }
+    requires were { AreClasses old.now before.now }
+    requires changes { ChangesInside old.now (paths_seen tops.now) rows.now }
+    ensures classes { IfOk result (λ new. AreClasses rows.now new.0) }
+    ensures least { IfOk result (λ new. AreCounted old.now rows.now new.1) }
+    ensures most { IfOk result (λ new. new.1 ≤ length (inside (paths_seen tops.now) rows.now.1)) }
+{
+    old.order_law();
+    rows.order_law();
+    let _files = rows.numbers();
+    let classes_before = before.map();
+    let _paths = classes_before.numbers();
+    let (classes, made, gone) = found_within(alloc, rows, before, tops)?;
+    let after = before.put_counted(alloc, classes, &made, &gone)?;
+    let new = after.map();
+    let changed = changed_answers(alloc, old, classes_before, rows, new, &made)?;
+    Ok((after, changed))
+}

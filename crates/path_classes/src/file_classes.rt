@@ -1,0 +1,103 @@
+//! Files by classes, one after another: all files of a class have the same row of verdicts, alone, or along paths where each
+//! directory above has to grant search.
+
+ghost use Rattle.std.specs.Prelude.{◌≡◌, [], slice_get, option_map, IfOk, OnErr};
+ghost use Rattle.std.specs.Option.{option_copied};
+ghost use Rattle.path_map.specs.Below.{from};
+ghost use Rattle.path_map.specs.Entries.{first, seen};
+ghost use Rattle.kinds.specs.Numbered.{entries_in};
+ghost use Rattle.path_classes.specs.KindRows.{rows_at};
+ghost use Rattle.path_classes.specs.ReachedRows.{rows_along};
+ghost use Rattle.path_classes.specs.Classes.{KeepRows, TakesFile};
+
+use crate::classed_rows::ClassedRows;
+use crate::met_rows::MetRows;
+use crate::numbered_files::NumberedFiles;
+use acl_entry::Requests;
+use acl_names::Path;
+use std::alloc::{AllocError, Global};
+use std::marker::Model;
+
+/// A cursor over files with their classes: those that are still to come, in path order. To a contract it is the rows of the
+/// classes so far, and the rows of these files.
+#[derive(Drop)]
+pub struct FileClasses<'a> {
+    files: NumberedFiles<'a>,
+    met: MetRows,
+}
+
+impl<'a> Model for FileClasses<'a> {
+    ghost use Rattle.path_classes.specs.Classes.{Classed, coded_classed};
+    ghost use Rattle.path_classes.specs.NumberedRows.{row_at, rows_left, AreMet};
+
+    ghost Value = { Classed };
+
+    ghost coded = { coded_classed };
+
+    ghost view = { λ f. (f.met.rows.items, rows_left f.files) };
+
+    ghost invariant = { λ f. AreMet (row_at f.files) f.met.places.items f.met.rows.items };
+}
+
+impl<'a> FileClasses<'a> {
+    /// The next file in path order with its class. After an error the file is still to come. Fails only if memory runs out.
+    pub fn next(&mut self, alloc: Global) -> Result<Option<(&'a Path, usize)>, AllocError>
+        ensures file { IfOk result (λ found. TakesFile self.old (option_map seen found) self.new) }
+        ensures same { OnErr result (self.new.1 ≡ self.old.1) }
+        ensures rows { OnErr result (KeepRows self.old.0 self.new.0) }
+    {
+        let Some((path, number)) = self.files.first() else {
+            return Ok(None);
+        };
+        let class = self.met.place_of(alloc, &self.files, number)?;
+        self.files.advance();
+        Ok(Some((path, class)))
+    }
+
+    /// The path of the file that `next` would return. Allocates nothing.
+    pub fn path(&self) -> Option<&'a Path>
+        ensures { option_map (λ path. path.now) result ≡ option_map (λ row. row.0) (first self.now.1) }
+    {
+        self.files.path()
+    }
+
+    /// The row of a class, if there is one: what each user may do with its files, in the order of the users. Allocates
+    /// nothing.
+    pub fn row(&self, class: usize) -> Option<&[Requests]>
+        ensures { option_copied result ≡ slice_get self.now.0 class }
+    {
+        match self.met.row(class) {
+            Some(cells) => Some(cells.as_slice()),
+            None => None,
+        }
+    }
+}
+
+impl ClassedRows {
+    /// All files with their classes: of their rows, or of what is left of these where each directory above has to grant
+    /// search. Allocates nothing.
+    pub fn file_classes(&self, alloc: Global, along: bool) -> FileClasses<'_>
+        ensures { result ≡ ([], rows_along along (rows_at (entries_in self.now))) }
+    {
+        FileClasses {
+            files: self.numbered_files(along),
+            met: MetRows::new(alloc),
+        }
+    }
+
+    /// The files that are not before a path with their classes, as [`ClassedRows::file_classes`] has them. Fails only if memory
+    /// runs out.
+    pub fn file_classes_from(
+        &self,
+        alloc: Global,
+        along: bool,
+        top: &Path,
+    ) -> Result<FileClasses<'_>, AllocError>
+        ensures { IfOk result (λ classes. classes.1 ≡ from top.now (rows_along along (rows_at (entries_in self.now)))) }
+    {
+        Ok(FileClasses {
+            files: self.numbered_files_from(along, top),
+            met: MetRows::new(alloc),
+        })
+    }
+}

@@ -1,0 +1,70 @@
+//! Path classes: what files have in common that have one label and lie below directories of one class; and what users may do
+//! with files along their paths.
+//!
+//! Beside the row of its label, each file has the number of a path class. A class has the number of the label and the class of
+//! the nearest recorded directory above, and says which users can search all directories down to it, as soon as a file lies
+//! below:
+//!
+//! ```text
+//! path   label   class       class  label  above  searched by
+//! .      0       0           0      0      -      joe ann
+//! a      1       1           1      1      0      joe
+//! a/f    2       2           2      2      1      not kept: nothing is below
+//! b      1       1
+//! b/g    2       2
+//! ```
+//!
+//! So a user may do with `b/g` along its path what the row of label 2 grants, if class 1 has the user; else nothing. That is two
+//! look-ups, whatever the depth.
+//!
+//! - A directory that alone has its class gets another label in place: nothing below it moves. Below one that shares its class
+//!   each file gets the class of its label below the class above, which may be one that files elsewhere have.
+//! - Where rows change, the classes of their labels are renewed: who can search is found anew for each, and for those right
+//!   below one that changes. Classes are found by tags: their label, the class above, and a hash of both.
+//! - How many files' answers were found again is counted by the counts of classes.
+//!
+//! Rows of verdicts; labels with their rows; who can search down to a place; classes, and how lines on files, memberships and
+//! users change them; and the answers along paths: of a file, of all files to a user, of files by classes of equal rows.
+#![tactic(auto)]
+
+mod answers;
+mod cells;
+mod changed_answers;
+mod changed_files;
+mod class_builder;
+mod class_hints;
+mod class_tags;
+mod class_walk;
+mod classed_rows;
+mod classes_within;
+mod file_classes;
+mod file_rows;
+mod hash;
+mod kept_classes;
+mod label_row;
+mod left_rows;
+mod met_rows;
+mod numbered_files;
+mod path_class;
+mod path_classes;
+mod reach;
+mod reached_paths;
+mod reached_row;
+mod relabelled_file;
+mod renewed_searches;
+mod rerowed_classes;
+mod same_rows;
+mod searchers;
+mod stack;
+mod tagged_classes;
+mod top_paths;
+
+pub use answers::granted_users;
+pub use cells::{Cells, same_row};
+pub use classed_rows::ClassedRows;
+pub use file_classes::FileClasses;
+pub use file_rows::{FileRow, FileRows};
+pub use hash::mixed;
+pub use label_row::{LabelRow, push_groups};
+pub use path_class::PathClass;
+pub use searchers::Searchers;

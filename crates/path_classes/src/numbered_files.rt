@@ -1,0 +1,182 @@
+//! Files with the numbers by which their rows are found, one after another: those of labels, or along paths those of path
+//! classes.
+
+ghost use Rattle.std.specs.Prelude.{◌≡◌, true, drop, option_map, IfOk, IfSome};
+ghost use Rattle.path_map.specs.Below.{from};
+ghost use Rattle.path_map.specs.Entries.{first, seen};
+ghost use Rattle.kinds.specs.Kinds.{IsNode};
+ghost use Rattle.kinds.specs.Numbered.{entries_in};
+ghost use Rattle.path_classes.specs.KindRows.{rows_at};
+ghost use Rattle.path_classes.specs.ReachedRows.{rows_along};
+ghost use Rattle.path_classes.specs.ClassBuilding.{IsRightAt};
+ghost use Rattle.path_classes.specs.NumberedRows.{label_row, class_row, HasRow, HaveRows, AreNumbers, row_at, rows_left};
+
+use crate::cells::Cells;
+use crate::classed_rows::ClassedRows;
+use crate::label_row::LabelRow;
+use crate::left_rows::class_row;
+use crate::path_class::PathClass;
+use crate::same_rows::is_same_row;
+use acl_names::Path;
+use kinds::Kinds;
+use path_map::{Entries, PathMap};
+use std::alloc::{AllocError, Global};
+use std::marker::Model;
+
+/// A cursor over files with their numbers: those that are still to come, in path order.
+#[derive(Drop)]
+pub(crate) struct NumberedFiles<'a> {
+    labels: &'a Kinds<LabelRow>,
+    classes: Option<&'a Kinds<PathClass>>,
+    first: Option<(&'a Path, usize)>,
+    rest: Entries<'a, usize>,
+}
+
+impl<'a> Model for NumberedFiles<'a> {
+    ghost use Rattle.std.specs.Prelude.{option_map};
+    ghost use Rattle.path_classes.specs.NumberedRows.{numbers_left, FilesLeft, HaveRows};
+    ghost use Rattle.path_classes.specs.Codes.{coded_left};
+
+    ghost Value = { FilesLeft };
+
+    ghost coded = { coded_left };
+
+    ghost view = { λ f. record { rows = f.labels.now; classes = option_map (λ k. k.now) f.classes; left = numbers_left f.first f.rest } };
+
+    ghost invariant = { λ f. HaveRows f.labels.now (option_map (λ k. k.now) f.classes) (numbers_left f.first f.rest) };
+}
+
+/// The row of a label, shared.
+fn shared_row(labels: &Kinds<LabelRow>, number: usize) -> Result<Cells, AllocError>
+    requires { IsNode labels.now number }
+    ensures { IfOk result (λ row. row ≡ label_row labels.now number) }
+{
+    labels.node(number).row.share()
+}
+
+/// What a path class leaves of the row of its label: shared with that row, where all of it is left.
+fn left_or_shared(
+    alloc: Global,
+    labels: &Kinds<LabelRow>,
+    classes: &Kinds<PathClass>,
+    number: usize,
+) -> Result<Cells, AllocError>
+    requires { IsRightAt labels.now classes.now number }
+    ensures { IfOk result (λ row. row ≡ class_row labels.now classes.now number) }
+{
+    let left = class_row(alloc, labels, classes, number)?;
+    let whole = labels.get(classes.node(number).kind);
+    Cells::new_or_shared(alloc, left, whole.map(|node| &node.row))
+}
+
+impl<'a> NumberedFiles<'a> {
+    /// Files of a map of numbers.
+    fn new(
+        labels: &'a Kinds<LabelRow>,
+        classes: Option<&'a Kinds<PathClass>>,
+        files: Entries<'a, usize>,
+    ) -> NumberedFiles<'a>
+        requires { HaveRows labels.now (option_map (λ k. k.now) classes) files }
+        ensures { result ≡ record { rows = labels.now; classes = option_map (λ k. k.now) classes.entry; left = files.entry } }
+    {
+        let mut rest = files;
+        let first = rest.next();
+        NumberedFiles {
+            labels,
+            classes,
+            first,
+            rest,
+        }
+    }
+
+    /// The first of the files, with its number. Allocates nothing.
+    pub fn first(&self) -> Option<(&'a Path, usize)>
+        ensures first { option_map seen result ≡ first self.now.left }
+        ensures row { IfSome result (λ e. HasRow self.now.rows self.now.classes e.1) }
+    {
+        self.first
+    }
+
+    /// The path of the first of the files. Allocates nothing.
+    pub fn path(&self) -> Option<&'a Path>
+        ensures { option_map (λ path. path.now) result ≡ option_map (λ row. row.0) (first (rows_left self.now)) }
+    {
+        match self.first {
+            Some((path, _)) => Some(path),
+            None => None,
+        }
+    }
+
+    /// Goes on to the file after the first. Allocates nothing.
+    pub fn advance(&mut self)
+        ensures { self.new ≡ record self.old { left = drop 1 self.old.left } }
+    {
+        if self.first.is_some() {
+            self.first = self.rest.next();
+        }
+    }
+
+    /// The number of the label of a number's files.
+    pub fn label(&self, number: usize) -> usize {
+        let Some(classes) = self.classes else {
+            return number;
+        };
+        match classes.get(number) {
+            Some(class) => class.kind,
+            None => number,
+        }
+    }
+
+    /// Whether two numbers have the same row, where that is seen without the rows. Allocates nothing.
+    pub fn is_same_row(&self, number: usize, other: usize) -> bool
+        ensures { result ≡ true → row_at self.now number ≡ row_at self.now other }
+    {
+        match self.classes {
+            Some(classes) => is_same_row(classes, number, other),
+            None => number == other,
+        }
+    }
+
+    /// The row of a number: shared with that of a label, where both are the same. Fails only if memory runs out.
+    pub fn row(&self, alloc: Global, number: usize) -> Result<Cells, AllocError>
+        requires { HasRow self.now.rows self.now.classes number }
+        ensures { IfOk result (λ row. row ≡ row_at self.now number) }
+    {
+        match self.classes {
+            Some(classes) => left_or_shared(alloc, self.labels, classes, number),
+            None => shared_row(self.labels, number),
+        }
+    }
+}
+
+impl ClassedRows {
+    /// The numbers by which files' rows are found, alone or along paths; and the path classes, if the numbers are theirs.
+    fn file_numbers(&self, along: bool) -> (&PathMap<usize>, Option<&Kinds<PathClass>>)
+        ensures { AreNumbers along self.now (option_map (λ k. k.now) result.1) result.0.now }
+    {
+        let rows = self.rows();
+        rows.order_law();
+        let labels = rows.numbers();
+        if !along {
+            return (labels, None);
+        }
+        let classes = self.classes();
+        (classes.numbers(), Some(classes.kinds()))
+    }
+
+    /// All files with their numbers. Allocates nothing.
+    pub(crate) fn numbered_files(&self, along: bool) -> NumberedFiles<'_>
+        ensures { rows_left result ≡ rows_along along (rows_at (entries_in self.now)) }
+    {
+        let (numbers, classes) = self.file_numbers(along);
+        NumberedFiles::new(self.rows().kinds(), classes, numbers.iter())
+    }
+
+    /// The files that are not before a path, with their numbers. Allocates nothing.
+    pub(crate) fn numbered_files_from(&self, along: bool, top: &Path) -> NumberedFiles<'_>
+        ensures { rows_left result ≡ from top.now (rows_along along (rows_at (entries_in self.now))) }
+    {
+        let (numbers, classes) = self.file_numbers(along);
+        NumberedFiles::new(self.rows().kinds(), classes, numbers.from(top))
+    }
+}

@@ -1,0 +1,40 @@
+//! The path classes of files.
+
+ghost use Rattle.std.specs.Prelude.{◌≡◌, [], IfOk};
+ghost use Rattle.path_classes.specs.PathClasses.{AreClasses};
+
+use crate::class_builder::ClassBuilder;
+use crate::class_walk::walk;
+use crate::kept_classes::KeptClasses;
+use crate::label_row::LabelRow;
+use crate::path_class::PathClass;
+use acl_names::Path;
+use kinds::{KindMap, Kinds};
+use std::alloc::{AllocError, Global};
+
+/// The path above all others.
+fn root(alloc: Global) -> Path
+    ensures { result ≡ [] }
+{
+    match Path::new(Vec::new(alloc)) {
+        Some(root) => root,
+        None => unreachable!(),
+    }
+}
+
+/// The classes of all files. Fails only if memory runs out.
+pub(crate) fn classes_of(
+    alloc: Global,
+    rows: &KindMap<LabelRow>,
+) -> Result<KindMap<PathClass>, AllocError>
+    ensures { IfOk result (AreClasses rows.now) }
+{
+    let numbers = rows.numbers();
+    let kinds = rows.kinds();
+    let top = root(alloc);
+    let files = numbers.within(&top);
+    let kept = KeptClasses::none(alloc)?;
+    let none = ClassBuilder::new(alloc, Kinds::new(alloc));
+    let (walked, made) = walk(alloc, kinds, &kept, none, None, files)?;
+    KindMap::renumbered(alloc, numbers, walked.into_classes(), &made)
+}

@@ -1,0 +1,39 @@
+//! Classes of paths that are found by their tags: nothing else of the classes is looked at.
+
+ghost use Rattle.std.specs.Prelude.{◌≡◌, ℕ, IfOk};
+ghost use Rattle.std.specs.List.Sorted.{IsStrictlyIncreasing};
+ghost use Rattle.kinds.specs.Given.{used_at};
+ghost use Rattle.path_classes.specs.FoundClasses.{is_labelled};
+ghost use Rattle.path_classes.specs.Renewing.{is_one, AreBelow};
+
+use crate::class_tags::{below_tag, label_tags};
+use crate::path_class::PathClass;
+use kinds::TaggedMap;
+use std::alloc::{AllocError, Global};
+
+/// The classes of paths right below a class. Fails only if memory, or the numbers, run out.
+pub(crate) fn classes_below(
+    alloc: Global,
+    classes: &TaggedMap<PathClass>,
+    above: usize,
+) -> Result<Vec<usize>, AllocError>
+    ensures { IfOk result (λ below. AreBelow classes.now.0 above below.items) }
+{
+    let tag = below_tag(above)?;
+    let numbers = classes.numbers_tagged(alloc, &[tag])?;
+    Ok(numbers)
+}
+
+/// The classes of paths that have one of some labels, rising. Fails only if memory, or the numbers, run out.
+pub(crate) fn classes_of_labels(
+    alloc: Global,
+    classes: &TaggedMap<PathClass>,
+    labels: &[usize],
+) -> Result<Vec<usize>, AllocError>
+    ensures rising { IfOk result (λ numbers. IsStrictlyIncreasing numbers.items) }
+    ensures exact { IfOk result (λ numbers. (n : ℕ) → is_one n numbers.items ≡ is_labelled labels.now (used_at classes.now.0 n)) }
+{
+    let tags = label_tags(alloc, labels)?;
+    let numbers = classes.numbers_tagged(alloc, &tags)?;
+    Ok(numbers)
+}
