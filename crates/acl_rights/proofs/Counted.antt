@@ -37,6 +37,12 @@ few_pass test (x ∷ xs) = by (test x) (few_pass test xs)
 pub few_counted : {A : Type 0} (test : A → Bool) (xs : List A) → count_by test xs ≤ length xs
 few_counted test xs = omega (arith, few_pass test xs, length-filter test xs)
 
+pub all_counted : {A : Type 0} (test : A → Bool) → ((x : A) → test x ≡ true) → (xs : List A) → count_by test xs ≡ length xs
+all_counted test all [] = refl
+all_counted {A = A} test all (x ∷ xs) =
+    let here : cond {A = ℕ} (test x) 1 0 ≡ 1 = ap (λ b. cond {A = ℕ} b 1 0) (all x) in
+    omega (arith, sum_by-cons (λ (y : A). cond (test y) 1 0) x xs, here, all_counted test all xs)
+
 pub none_lie : {A R : Type 0} (tops : List (PathOf × A)) → tops ≡ [] → (es : List (PathOf × R)) → count_by (λ e. lies_in tops e.0) es ≡ 0
 none_lie tops none [] = refl
 none_lie {R = R} tops none (e ∷ es) =

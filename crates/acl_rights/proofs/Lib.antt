@@ -13,6 +13,7 @@ pub mod Rowed
 pub mod NextRows
 pub mod Orders
 pub mod RowsOfKinds
+pub mod RowsOfNumbers
 pub mod Counted
 mod Outside
 pub mod Unlike

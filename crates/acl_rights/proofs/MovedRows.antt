@@ -1,7 +1,7 @@
 -- Rows after a user joined or left groups: the labels that mention them, and where these are.
-use Rattle.std.proofs.Common.{◌≡◌, ℕ, ◌+◌, ◌<◌, ◌≤◌, Bool, true, false, cond, ◌||◌, List, [], ◌∷◌, length, map, filter, Option, Some, None, refl, sym, ap, subst, ◌∙◌, arith, true≢false}
+use Rattle.std.proofs.Common.{◌≡◌, ℕ, Bool, true, false, cond, ◌||◌, List, [], ◌∷◌, length, filter, Some, None, refl, sym, ap, subst, ◌∙◌, true≢false}
 use Rattle.std.specs.Prelude.{count_by, option_map, nat_lt, ⊤, if◌then◌else◌}
-use Rattle.std.specs.List.{list_any, AllByRecursion}
+use Rattle.std.specs.List.{AllByRecursion}
 use Rattle.std.specs.Option.{option_map_or}
 use Rattle.std.proofs.lemmas.List.Sums.{length-filter}
 use Rattle.acl_names.specs.Paths.{PathOf}
@@ -10,8 +10,7 @@ use Rattle.acl_names.proofs.Below.{within_itself}
 use Rattle.acl_entry.specs.Mentions.{mentions}
 use Rattle.path_map.specs.Below.{lies_in}
 use Rattle.kinds.specs.Kinds.{KindsOf, node_at, count_at, IsNode}
-use Rattle.kinds.specs.Numbered.{Kept, Numbers, with_node, entries_by, AreUsed, AreSound}
-use Rattle.kinds.specs.Given.{used_at}
+use Rattle.kinds.specs.Numbered.{Kept, Numbers, with_node, entries_by, AreUsed}
 use Rattle.kinds.specs.Tagged.{is_one, meets, tags_at, ChangesTagged}
 use Rattle.path_classes.specs.declared.label_row.LabelRow.{LabelRow}
 use Rattle.path_classes.specs.ClassesWithin.{is_inside, inside}

@@ -1,6 +1,6 @@
 -- The rows after a line are those of the state after it.
 use Rattle.std.proofs.Common.{◌≡◌, ℕ, ◌*◌, ◌-◌, ◌≤◌, ◌++◌, List, [], ◌∷◌, length, map, filter, Some, refl, sym, ap, subst, ◌∙◌, arith}
-use Rattle.std.specs.Prelude.{count_by, slice_get}
+use Rattle.std.specs.Prelude.{count_by, slice_get, Result, Ok, Err, IfOk}
 use Rattle.std.specs.Borrow.{Bor}
 use Rattle.std.proofs.lemmas.List.{length-append, length-map}
 use Rattle.std.proofs.lemmas.List.Sums.{length-filter}
@@ -21,7 +21,6 @@ use Rattle.path_map.specs.Below.{lies_in}
 use Rattle.path_classes.specs.declared.label_row.LabelRow.{LabelRow}
 use Rattle.path_classes.specs.KindRows.{RowedPaths, rows_at}
 use Rattle.acl_rights.specs.KindRows.{AreRowsOf, with_label, rowed, rowed_labels, each_row, with_last, without_at, with_again, mentions_any}
-use Rattle.acl_rights.proofs.Counted.{no_length}
 use Rattle.acl_rights.proofs.RowsOfKinds.{rowed_rows}
 use Rattle.path_classes.proofs.Maps.{map_filter, map_twice, times_le}
 use Rattle.acl_rights.proofs.Orders.{same_order}
@@ -36,7 +35,7 @@ use Rattle.acl_rights.proofs.RowCounts.{person_same}
 use Rattle.acl_rights.proofs.Goes.{moves, joins, leaves}
 use Rattle.path_classes.specs.ClassesWithin.{is_inside, inside}
 use Rattle.acl_rights.proofs.Inside.{inside_changed}
-use Rattle.acl_rights.proofs.Refreshing.{count_paths, count_lying, users_refreshed, count_none}
+use Rattle.acl_rights.proofs.Refreshing.{count_paths, count_lying, users_refreshed}
 use Rattle.acl_rights.proofs.Rowed.{rowed_paths, rowed_long, rows_changed, rows_moved, rows_joined, rows_left, rows_mentioning, paths_mentioning}
 
 abbrev paths : {A : Type 0} → List (PathOf × A) → List PathOf
@@ -66,6 +65,19 @@ files_cost t labels users are same =
     let files : length labels ≡ length t.changed = sym (length-map labels with_label) ∙ ap length are ∙ length-map t.changed (λ (f : PathOf × Node). (f.0, f.1.label)) in
     let people : length users ≡ length t.state.people.users = ap length same ∙ all_users t.state.people in
     subst (λ n. n ≤ most_asked t) (λ i. sym files i * sym people i) (within t)
+
+-- as many as a count are no more than it
+pub all_most : {A E : Type 0} (result : Result (A × ℕ) E) (files count : ℕ) → IfOk result (λ new. new.1 ≡ files) → files ≡ count → IfOk result (λ new. new.1 ≤ count)
+all_most (Ok new) files count is same = omega (arith, is, same)
+all_most (Err fault) files count is same = tt
+
+-- what the kinds of a tree cost, where as many files changed
+pub kinds_cost : (t : StagedState) (many : ℕ) (users : List Person) → many ≤ length t.changed → users ≡ persons t.state.people → many * length users ≤ most_asked t
+kinds_cost t many users few same =
+    let people : length users ≡ length t.state.people.users = ap length same ∙ all_users t.state.people in
+    let cost = times_le many (length t.changed) (length t.state.people.users) few in
+    let whole = within t in
+    omega (arith, cost, whole, ap (λ n. many * n) people)
 
 module _ (V : Verdict) (es : RowedPaths) (t : StagedState) (b : AreBefore V es t) (ordered : IsInOrder es) (n : IsInOrder t.state.tree.files) where
   abbrev us : List Person

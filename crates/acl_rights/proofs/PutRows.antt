@@ -1,5 +1,5 @@
 -- Rows where files have other labels and others are gone, by their labels' numbers.
-use Rattle.std.proofs.Common.{◌≡◌, ℕ, ◌+◌, ◌<◌, Bool, true, false, not, cond, eqb, List, [], ◌∷◌, length, map, filter, is_some, Option, Some, None, refl, sym, ap, subst, ◌∙◌, arith}
+use Rattle.std.proofs.Common.{◌≡◌, ℕ, ◌+◌, ◌<◌, Bool, true, false, not, cond, List, [], ◌∷◌, length, map, filter, is_some, Option, Some, None, refl, sym, ap, subst, ◌∙◌, arith}
 use Rattle.std.specs.Prelude.{slice_get}
 use Rattle.std.specs.Borrow.{Bor}
 use Rattle.std.specs.List.{AllByRecursion}
@@ -11,7 +11,7 @@ use Rattle.std.proofs.lemmas.List.Sums.{length-filter}
 use Rattle.acl_names.specs.Paths.{path_cmp, PathOf}
 use Rattle.acl_entry.specs.declared.label.Label.{Label}
 use Rattle.path_map.specs.Entries.{IsInOrder, seen}
-use Rattle.path_map.specs.Merged.{has, put_all, without_all, merged}
+use Rattle.path_map.specs.Merged.{has, put_all, without_all}
 use Rattle.path_map.proofs.Rows.{find_put_all}
 use Rattle.kinds.specs.Kinds.{KindsOf, node_at, count_at, IsNode}
 use Rattle.kinds.specs.Numbered.{Kept, Numbers, AreUsed, AreSound, entries_by, paths_with, one_if}

@@ -1,6 +1,6 @@
 -- Rows by kinds: those of a state with what a line changes are those of the state after it.
 use Rattle.std.proofs.Common.{◌≡◌, ℕ, ◌+◌, ◌<◌, ◌++◌, Bool, true, false, cond, not, Ordering, Less, Equal, Greater, List, [], ◌∷◌, length, map, filter, is_some}
-use Rattle.std.proofs.Common.{Option, Some, None, set, refl, sym, ap, subst, ◌∙◌, arith}
+use Rattle.std.proofs.Common.{Option, Some, None, set, refl, sym, ap, subst, ◌∙◌}
 use Rattle.std.specs.Prelude.{◌&&◌, nat_lt, slice_get, option_map, count_by, if◌then◌else◌}
 use Rattle.std.specs.Option.{option_map_or}
 use Rattle.std.specs.List.{remove}

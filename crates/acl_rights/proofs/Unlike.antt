@@ -1,9 +1,8 @@
 -- How many answers along paths a line changes, by a count of the paths at which some answer is another one.
 use Rattle.std.proofs.Common.{◌≡◌, ℕ, ◌+◌, ◌*◌, ◌≤◌, Bool, true, false, not, eqb, cond, List, [], ◌∷◌, length, map, Option, Some, None, refl, sym, ap, subst, ◌∙◌, arith}
-use Rattle.std.specs.Prelude.{option_map, option_and_then, slice_get, count_by, if◌then◌else◌}
+use Rattle.std.specs.Prelude.{option_map, option_and_then, slice_get, count_by}
 use Rattle.std.specs.FinMap.{find}
 use Rattle.std.proofs.lemmas.Bool.{eqb-true, eq-eqb}
-use Rattle.std.proofs.lemmas.List.{length-map}
 use Rattle.std.proofs.lemmas.List.Sums.{sum_by-cons}
 use Rattle.acl_entry.specs.Mentions.{AgreeOnMentions}
 use Rattle.acl_entry.specs.Person.{Person}
@@ -21,9 +20,9 @@ use Rattle.kinds.specs.Numbered.{Kept, Numbers, with_node, entries_by, entries_i
 use Rattle.path_classes.specs.declared.label_row.LabelRow.{LabelRow}
 use Rattle.path_classes.specs.ClassedRows.{SameAnswers, AreCounted}
 use Rattle.path_classes.specs.KindRows.{RowedPaths, rows_at}
-use Rattle.path_classes.specs.ReachedRows.{reached_from, reached_rows, reached_at}
+use Rattle.path_classes.specs.ReachedRows.{reached_from, reached_rows}
 use Rattle.path_classes.specs.Rows.{Rows}
-use Rattle.path_classes.proofs.Maps.{find-values, map_twice, times_le}
+use Rattle.path_classes.proofs.Maps.{find-values, times_le}
 use Rattle.path_classes.proofs.Searched.{find_reached}
 use Rattle.acl_rights.specs.Differing.{is_as_before, is_as_in, fails_from, differing}
 use Rattle.acl_rights.specs.Kept.{GoesFrom}

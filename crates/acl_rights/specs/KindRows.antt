@@ -98,3 +98,21 @@ pub record IsPlaced (l : Label) (old new : List Label) (at : ℕ) : Type 0 where
 pub record ArePlaced (paths : List (PathOf × Label)) (ls : List Label) (es : List (PathOf × ℕ)) : Type 0 where
   pub are : labels_at ls es ≡ some_labels paths
   pub few : length ls ≤ length paths
+
+-- ---- rows that are known; for inner functions
+
+-- rows that are shared
+abbrev pub shared_rows : {Z : Type 0} → List (Rc LabelRow Z) → List LabelRow
+shared_rows rs = map (λ r. r.value) rs
+
+-- each is that of an entry
+abbrev pub AreOfEntries : List LabelRow → RowedPaths → Type 0
+AreOfEntries rs es = AllByRecursion (λ r. IsOfEntry r es) rs
+
+-- each is that of its label
+abbrev pub AreRows : Verdict → List Person → List LabelRow → Type 0
+AreRows V us rs = AllByRecursion (λ r. r.row ≡ row_of V us r.label) rs
+
+-- a row is one of some, and has this label
+abbrev pub IsAmongRows : Label → LabelRow → List LabelRow → Type 0
+IsAmongRows l r rs = ((at : ℕ) × (slice_get rs at ≡ Some r)) × (r.label ≡ l)

@@ -16,7 +16,9 @@
 //! - A line that changes files: each different label of a changed file that hints do not find is judged once, for all users
 //!   (more often where hashes collide), and the changed files get the number of their new row. All other files keep theirs.
 //!   The groups that the label of each number that files got or lost mentions are compared before and after the line, and the
-//!   pairs that differ are taken out or put in. The files at or below the changed ones get their path classes again.
+//!   pairs that differ are taken out or put in. The files at or below the changed ones get their path classes again. Where the
+//!   root changed, and as many files as the tree has numbers of kinds, the rows are those of these numbers: each is judged at
+//!   most once, and not where a row of its label is there; and all files get their path classes again.
 //! - A membership: the lists of the groups give the rows whose label mentions one of them. For each of these the one user is
 //!   judged again; no other row is looked at. Path classes of these labels, and those below, say again by whom directories can
 //!   be searched.
@@ -39,6 +41,7 @@ mod indexed;
 mod judge;
 mod judged;
 mod kind_rows;
+mod many_rows;
 mod questions;
 mod stage;
 

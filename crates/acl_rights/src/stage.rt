@@ -1,21 +1,25 @@
 //! The rows of verdicts after a line, by how the line moves the users.
 
-ghost use Rattle.std.specs.Prelude.{◌≡◌, ◌+◌, ◌-◌, ◌<◌, ◌≤◌, ◌^◌, true, Some, count_by, length, map, slice_get, IfOk};
+ghost use Rattle.std.specs.Prelude.{◌≡◌, ◌+◌, ◌*◌, ◌-◌, ◌<◌, ◌≤◌, ◌^◌, true, Some, count_by, length, map, slice_get, IfOk, MatchOption};
 ghost use Rattle.acl_tree.specs.Files.{Files};
+ghost use Rattle.acl_names.specs.Paths.{PathOf};
 ghost use Rattle.kinds.specs.Numbered.{entries_in};
 ghost use Rattle.acl_people.specs.KnownPeople.{persons};
 ghost use Rattle.path_map.specs.Below.{lies_in};
 ghost use Rattle.path_classes.specs.ClassedRows.{AreCounted};
-ghost use Rattle.acl_rights.specs.KindRows.{rowed, with_label};
+ghost use Rattle.acl_rights.specs.KindRows.{AreRowsOf, rowed, with_label};
 ghost use Rattle.acl_rights.specs.Costs.{all_pairs};
 ghost use Rattle.acl_rights.specs.Stages.{most_asked, moves_groups};
 ghost use Rattle.acl_rights.specs.Lines.{labels_of, AreBefore, IsAfter};
 
 use crate::judge::Judge;
 use crate::kind_rows::{KindRows, UpdatedRows};
+use acl_edit::Node;
 use acl_entry::{Label, Subject};
 use acl_names::Path;
+use acl_people::Subjects;
 use acl_tree::{Differences, GroupIds, Staged, UserChange};
+use kinds::KindMap;
 use std::alloc::{AllocError, Global};
 
 /// The rows after a line, how many labels were fetched for it, and how many verdicts along paths were found again.
@@ -41,8 +45,86 @@ fn labels<'a>(
     Ok(labels)
 }
 
+/// The labels of files that are still to come, if they are fewer than `many`. No more of them are looked at.
+fn fewer_labels<'a>(
+    alloc: Global,
+    files: Differences<'a>,
+    many: usize,
+) -> Result<Option<Vec<(&'a Path, &'a Label)>>, AllocError>
+    ensures { IfOk result (λ labels. MatchOption labels (many ≤ length files.entry) (λ few. map with_label few.items ≡ labels_of files.entry)) }
+{
+    let mut labels = Vec::new(alloc);
+    let mut rest = files;
+    while let Some(file) = rest.next() {
+        labels.push((file.0, &file.1.label))?;
+        if labels.len() >= many {
+            return Ok(None);
+        }
+    }
+    Ok(Some(labels))
+}
+
+/// Whether the first file that is still to come is the root: all paths are at or below it.
+fn begin_at_root(files: Differences<'_>) -> bool
+    ensures { result ≡ true → (p : PathOf) → lies_in files.entry p ≡ true }
+{
+    let mut rest = files;
+    match rest.next() {
+        Some(first) => first.0.borrowed().is_root(),
+        None => false,
+    }
+}
+
 /// The rows with those of files that changed put, and without those of files that are gone: each label of a file that changed
 /// is judged at most once. And of how many files the answers along their paths were found again.
+fn with_changed<J: Judge>(
+    alloc: Global,
+    judge: &mut J,
+    rows: &KindRows,
+    staged: &Staged,
+    changed: &[(&Path, &Label)],
+) -> Result<(KindRows, usize), AllocError>
+    requires room { J.asked_of judge.old + most_asked staged.now < 2 ^ 64 }
+    requires before { AreBefore J.verdict_of (entries_in rows.now.rows) staged.now }
+    requires moved { staged.now.user_change ≡ UserChange.Unchanged }
+    requires changed { map with_label changed.now ≡ labels_of staged.now.changed }
+    ensures rows { IfOk result (λ new. entries_in new.0.rows ≡ rowed J.verdict_of (persons staged.now.state.people) staged.now.state.tree.files) }
+    ensures least { IfOk result (λ new. AreCounted rows.now.rows new.0.rows new.1) }
+    ensures most { IfOk result (λ new. new.1 ≤ count_by (λ e. lies_in staged.now.changed e.0) staged.now.state.tree.files) }
+    ensures at_most { J.asked_of judge.new ≤ J.asked_of judge.old + most_asked staged.now }
+{
+    staged.tree().soundness_law();
+    rows.rows.rows().order_law();
+    let users = staged.people().all_subjects();
+    let gone = labels(alloc, staged.gone())?;
+    let new = rows.with_files(alloc, judge, users, changed, &gone)?;
+    Ok(new)
+}
+
+/// The rows of all files of a tree, and how many these are.
+fn all_rows<J: Judge>(
+    alloc: Global,
+    judge: &mut J,
+    rows: &KindRows,
+    files: &KindMap<Node>,
+    users: &Subjects,
+) -> Result<(KindRows, usize), AllocError>
+    requires room { J.asked_of judge.old + length files.now.0.0 * length users.now < 2 ^ 64 }
+    requires known { AreRowsOf J.verdict_of users.now (entries_in rows.now.rows) }
+    requires few { length (entries_in files.now) < 2 ^ 64 }
+    ensures rows { IfOk result (λ new. entries_in new.0.rows ≡ rowed J.verdict_of users.now (entries_in files.now)) }
+    ensures least { IfOk result (λ new. AreCounted rows.now.rows new.0.rows new.1) }
+    ensures count { IfOk result (λ new. new.1 ≡ length (entries_in files.now)) }
+    ensures at_most { J.asked_of judge.new ≤ J.asked_of judge.old + length files.now.0.0 * length users.now }
+{
+    let new = rows.of_kinds(alloc, judge, files, users)?;
+    let _kinds = new.rows.rows().map().kinds();
+    let count = files.len();
+    Ok((new, count))
+}
+
+/// The rows after a line by which files change and no user does. Where the root changed, and as many files as the tree has
+/// numbers of kinds, no list of them is made, and the rows of all files are found from these numbers.
 fn changed_rows<J: Judge>(
     alloc: Global,
     judge: &mut J,
@@ -59,11 +141,16 @@ fn changed_rows<J: Judge>(
 {
     staged.tree().soundness_law();
     rows.rows.rows().order_law();
+    if !begin_at_root(staged.changed()) {
+        let changed = labels(alloc, staged.changed())?;
+        return with_changed(alloc, judge, rows, staged, &changed);
+    }
     let users = staged.people().all_subjects();
-    let changed = labels(alloc, staged.changed())?;
-    let gone = labels(alloc, staged.gone())?;
-    let new = rows.with_files(alloc, judge, users, &changed, &gone)?;
-    Ok(new)
+    let files = staged.tree().files_whole().files_by_path();
+    match fewer_labels(alloc, staged.changed(), files.numbers_len())? {
+        Some(changed) => with_changed(alloc, judge, rows, staged, &changed),
+        None => all_rows(alloc, judge, rows, files, users),
+    }
 }
 
 /// The rows after a line by which files change and no user does, and how many verdicts along paths were found again.

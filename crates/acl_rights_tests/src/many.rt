@@ -55,13 +55,13 @@ static SETUP: [Row; 3] = [
     },
 ];
 
-/// Two lines on all files, and others from the rows that these leave.
+/// Two lines on all files, for which every verdict along a path is found again, and others from the rows that these leave.
 static ALL_FILES: [Row; 5] = [
     Row {
         line: Line::Setfacl(b"u:joe:rX", true, b"."),
         asked: (0, 6),
         looked: 0,
-        refreshed: 27,
+        refreshed: 36,
         verdicts: &[
             Verdict {
                 user: JOE,
@@ -89,7 +89,7 @@ static ALL_FILES: [Row; 5] = [
         line: Line::Setfacl(b"g:adm:r", true, b"."),
         asked: (0, 6),
         looked: 0,
-        refreshed: 0,
+        refreshed: 36,
         verdicts: &[Verdict {
             user: JOE,
             path: b"a/1",
@@ -185,7 +185,7 @@ static THEN_ONE: [Row; 2] = [
         line: Line::Setfacl(b"u:joe:rX", true, b"."),
         asked: (0, 6),
         looked: 0,
-        refreshed: 27,
+        refreshed: 36,
         verdicts: &[],
         reach: &[],
     },

@@ -80,12 +80,12 @@ pub static MEMBERSHIPS: [Row; 6] = [
     },
 ];
 
-/// Users is left and staff joined. Four files mention one of them, and have three labels: the root has that of run. Joe's verdict
-/// on f alone is another one.
+/// Users is left and staff joined. Four files mention one of them: no two are of one kind, since a directory has the label of
+/// another file. Joe's verdict on f alone is another one.
 pub static PRIMARY: [Row; 1] = [Row {
     line: Line::Usermod(b"joe", b"staff"),
-    asked: (0, 3),
-    looked: 3,
+    asked: (0, 4),
+    looked: 4,
     refreshed: 1,
     verdicts: &[Verdict {
         user: JOE,
@@ -106,8 +106,8 @@ pub static NAMED: [Row; 2] = [
     },
     Row {
         line: Line::Usermod(b"joe", b"staff"),
-        asked: (0, 3),
-        looked: 3,
+        asked: (0, 4),
+        looked: 4,
         refreshed: 0,
         verdicts: &[],
         reach: &[],

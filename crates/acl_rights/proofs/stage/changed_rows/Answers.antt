@@ -1,94 +1,30 @@
-use Rattle.std.proofs.Common.{map, ap, subst, ◌∙◌, arith}
-use Rattle.std.specs.Borrow.{Bor}
-use Rattle.path_map.specs.Entries.{IsInOrder, seen}
-use Rattle.acl_entry.specs.declared.label.Label.{Label}
+use Rattle.std.proofs.Common.{◌≡◌, true, length, ap, sym, subst, ◌∙◌}
+use Rattle.std.specs.Prelude.{count_by}
+use Rattle.acl_names.specs.Paths.{PathOf}
+use Rattle.acl_edit.specs.declared.node.Node.{Node}
 use Rattle.kinds.specs.Numbered.{Kept, entries_in}
+use Rattle.path_map.specs.Entries.{IsInOrder}
+use Rattle.path_map.specs.Below.{lies_in}
 use Rattle.path_classes.specs.declared.label_row.LabelRow.{LabelRow}
 use Rattle.acl_people.specs.KnownPeople.{persons}
-use Rattle.acl_tree.specs.Files.{Recorded}
-use Rattle.acl_rights.specs.KindRows.{with_label}
-use Rattle.acl_rights.specs.Lines.{labels_of}
-use Rattle.acl_rights.proofs.NextRows.{rows_known, seen_paths, files_cost, changed_order, gone_order, rows_after, changed_most}
+use Rattle.acl_tree.specs.Files.{Files, Recorded}
+use Rattle.acl_rights.proofs.Counted.{all_counted}
+use Rattle.acl_rights.proofs.NextRows.{rows_known, all_most}
 use Rattle.acl_rights.proofs.stage.changed_rows.Goals as goal
 
-pub with_files-requires-clause-room : goal.with_files-requires-clause-room
-with_files-requires-clause-room g c =
-    let same = c.all_subjects-users.ensures ∙ ap persons c.people.ensures in
-    let changed_are = ap (map with_label) c.deref.ensures.value ∙ c.in_ok-changed.ensures ∙ ap labels_of c.changed.ensures in
-    let cost = files_cost c.args.staged.now c.deref.result.now c.all_subjects-users.result.now changed_are same in
-    omega (arith, cost, c.requires.room)
-
-pub with_files-requires-clause-known : goal.with_files-requires-clause-known
-with_files-requires-clause-known g c =
-    let V = g.J.Judge.verdict_of in
-    let t = c.args.staged.now in
-    let es = entries_in c.args.rows.now.rows in
+pub all_rows-requires-clause-known : goal.all_rows-requires-clause-known
+all_rows-requires-clause-known g c =
     let order = subst (λ (r : Recorded). IsInOrder r.files) c.tree.ensures c.soundness_law.ensures.order in
     let same = c.all_subjects-users.ensures ∙ ap persons c.people.ensures in
-    rows_known V es t c.requires.before (subst (λ (k : Kept LabelRow). IsInOrder (entries_in k)) c.rows.ensures c.order_law.ensures) order c.requires.moved c.all_subjects-users.result.now same
+    let known = subst (λ (k : Kept LabelRow). IsInOrder (entries_in k)) c.rows.ensures c.order_law.ensures in
+    rows_known g.J.Judge.verdict_of (entries_in c.args.rows.now.rows) c.args.staged.now c.requires.before known order c.requires.moved c.all_subjects-users.result.now same
 
-pub with_files-requires-clause-changed : goal.with_files-requires-clause-changed
-with_files-requires-clause-changed g c =
-    let V = g.J.Judge.verdict_of in
+pub returns-in-None-clause-most : goal.returns-in-None-clause-most
+returns-in-None-clause-most g c =
     let t = c.args.staged.now in
-    let es = entries_in c.args.rows.now.rows in
-    let order = subst (λ (r : Recorded). IsInOrder r.files) c.tree.ensures c.soundness_law.ensures.order in
-    let changed_are = ap (map with_label) c.deref.ensures.value ∙ c.in_ok-changed.ensures ∙ ap labels_of c.changed.ensures in
-    changed_order V es t c.requires.before (subst (λ (k : Kept LabelRow). IsInOrder (entries_in k)) c.rows.ensures c.order_law.ensures) order c.requires.moved
-    (map with_label c.deref.result.now) changed_are
-
-pub with_files-requires-clause-gone : goal.with_files-requires-clause-gone
-with_files-requires-clause-gone g c =
-    let V = g.J.Judge.verdict_of in
-    let t = c.args.staged.now in
-    let es = entries_in c.args.rows.now.rows in
-    let order = subst (λ (r : Recorded). IsInOrder r.files) c.tree.ensures c.soundness_law.ensures.order in
-    let gone = map (seen {V = Bor Label}) c.deref-2.result.now in
-    let gone_are = seen_paths t.gone c.deref-2.result.now (ap (map with_label) c.deref-2.ensures.value ∙ c.in_ok-gone.ensures ∙ ap labels_of c.gone.ensures) in
-    gone_order V es t c.requires.before (subst (λ (k : Kept LabelRow). IsInOrder (entries_in k)) c.rows.ensures c.order_law.ensures) order c.requires.moved gone gone_are
-
-pub returns-in_err-new-clause-at_most : goal.returns-in_err-new-clause-at_most
-returns-in_err-new-clause-at_most g c =
-    let same = c.all_subjects-users.ensures ∙ ap persons c.people.ensures in
-    let changed_are = ap (map with_label) c.deref.ensures.value ∙ c.in_ok-changed.ensures ∙ ap labels_of c.changed.ensures in
-    let cost = files_cost c.args.staged.now c.deref.result.now c.all_subjects-users.result.now changed_are same in
-    omega (arith, cost, c.with_files.ensures.at_most)
-
-pub returns-clause-at_most : goal.returns-clause-at_most
-returns-clause-at_most g c =
-    let same = c.all_subjects-users.ensures ∙ ap persons c.people.ensures in
-    let changed_are = ap (map with_label) c.deref.ensures.value ∙ c.in_ok-changed.ensures ∙ ap labels_of c.changed.ensures in
-    let cost = files_cost c.args.staged.now c.deref.result.now c.all_subjects-users.result.now changed_are same in
-    omega (arith, cost, c.with_files.ensures.at_most)
-
-pub returns-clause-rows : goal.returns-clause-rows
-returns-clause-rows g c =
-    let V = g.J.Judge.verdict_of in
-    let t = c.args.staged.now in
-    let es = entries_in c.args.rows.now.rows in
-    let order = subst (λ (r : Recorded). IsInOrder r.files) c.tree.ensures c.soundness_law.ensures.order in
-    let changed_are = ap (map with_label) c.deref.ensures.value ∙ c.in_ok-changed.ensures ∙ ap labels_of c.changed.ensures in
-    let gone = map (seen {V = Bor Label}) c.deref-2.result.now in
-    let gone_are = seen_paths t.gone c.deref-2.result.now (ap (map with_label) c.deref-2.ensures.value ∙ c.in_ok-gone.ensures ∙ ap labels_of c.gone.ensures) in
-    let same = c.all_subjects-users.ensures ∙ ap persons c.people.ensures in
-    let made = rows_after V es t c.requires.before
-    (subst (λ (k : Kept LabelRow). IsInOrder (entries_in k)) c.rows.ensures c.order_law.ensures) order c.requires.moved (map with_label c.deref.result.now) gone c.all_subjects-users.result.now
-    (entries_in c.in_ok-new.new.0.rows) changed_are gone_are same c.in_ok-new.ensures.rows in
-    made
-
-pub returns-clause-most : goal.returns-clause-most
-returns-clause-most g c =
-    let V = g.J.Judge.verdict_of in
-    let t = c.args.staged.now in
-    let es = entries_in c.args.rows.now.rows in
-    let order = subst (λ (r : Recorded). IsInOrder r.files) c.tree.ensures c.soundness_law.ensures.order in
-    let changed_are = ap (map with_label) c.deref.ensures.value ∙ c.in_ok-changed.ensures ∙ ap labels_of c.changed.ensures in
-    let gone = map (seen {V = Bor Label}) c.deref-2.result.now in
-    let gone_are = seen_paths t.gone c.deref-2.result.now (ap (map with_label) c.deref-2.ensures.value ∙ c.in_ok-gone.ensures ∙ ap labels_of c.gone.ensures) in
-    let same = c.all_subjects-users.ensures ∙ ap persons c.people.ensures in
-    let made = rows_after V es t c.requires.before
-    (subst (λ (k : Kept LabelRow). IsInOrder (entries_in k)) c.rows.ensures c.order_law.ensures) order c.requires.moved (map with_label c.deref.result.now) gone c.all_subjects-users.result.now
-    (entries_in c.in_ok-new.new.0.rows) changed_are gone_are same c.in_ok-new.ensures.rows in
-    changed_most V es t c.requires.before (subst (λ (k : Kept LabelRow). IsInOrder (entries_in k)) c.rows.ensures c.order_law.ensures) order c.requires.moved
-    (map with_label c.deref.result.now) gone (entries_in c.in_ok-new.new.0.rows) c.in_ok-new.new.1
-    changed_are gone_are made c.in_ok-new.ensures.most
+    let lie : (p : PathOf) → lies_in t.changed p ≡ true =
+    subst (λ (l : Files). (p : PathOf) → lies_in l p ≡ true) c.changed.ensures (c.begin_at_root.ensures c.if-not-begin_at_root.false) in
+    let files = c.files_by_path-files.ensures.all ∙ ap (λ (r : Recorded). r.files) (c.files_whole.ensures ∙ c.tree-2.ensures) in
+    let counted = all_counted (λ (e : PathOf × Node). lies_in t.changed e.0) (λ e. lie e.0) t.state.tree.files in
+    let all = length (entries_in c.files_by_path-files.result.now) in
+    all_most c.all_rows.result all (count_by (λ e. lies_in t.changed e.0) t.state.tree.files) c.all_rows.ensures.count (ap length files ∙ sym counted)

@@ -1,0 +1,187 @@
+//! Rows of verdicts by kinds after many files changed: one for each number of the files' map. Of labels that differ each is
+//! judged at most once.
+
+ghost use Rattle.std.specs.Prelude.{◌≡◌, ◌+◌, ◌*◌, ◌++◌, ◌∷◌, ◌<◌, ◌≤◌, ◌^◌, [], length, option_map, IfOk, IfSome};
+ghost use Rattle.kinds.specs.Numbered.{entries_in};
+ghost use Rattle.kinds.specs.Given.{used_at, shared_nodes};
+ghost use Rattle.kinds.specs.Renewed.{renewed_before};
+ghost use Rattle.acl_rights.specs.KindRows.{label_row, node_row, rowed, shared_rows, AreRowsOf, AreRows, AreOfEntries, IsAmongRows};
+
+use crate::changed_rows::{is_same_label, judged_row};
+use crate::hash::hash_of;
+use crate::judge::Judge;
+use crate::kind_rows::{KindRows, hints_of};
+use acl_edit::Node;
+use acl_entry::Label;
+use acl_people::Subjects;
+use kinds::KindMap;
+use path_classes::{ClassedRows, LabelRow};
+use std::alloc::{AllocError, Global};
+use std::collections::BTreeMap;
+use std::rc::Rc;
+
+/// Rows that are known, and their places by the hashes of their labels.
+#[derive(Drop)]
+struct KnownRows {
+    rows: Vec<Rc<LabelRow>>,
+    by_hash: BTreeMap<u64, usize>,
+}
+
+impl KnownRows {
+    /// The row of a label, if it is the last one of its hash.
+    fn row(&self, hash: u64, label: &Label) -> Result<Option<Rc<LabelRow>>, AllocError>
+        ensures { IfOk result (λ some. IfSome some (λ row. IsAmongRows label.now row.value (shared_rows self.now.rows.items))) }
+    {
+        let Some(at) = self.by_hash.get(&hash) else {
+            return Ok(None);
+        };
+        let Some(row) = self.rows.get(*at) else {
+            return Ok(None);
+        };
+        if is_same_label(&row.label, label) {
+            Ok(Some(row.clone()?))
+        } else {
+            Ok(None)
+        }
+    }
+
+    /// One row more, by the hash of its label.
+    fn put(&mut self, hash: u64, row: Rc<LabelRow>) -> Result<(), AllocError>
+        ensures { IfOk result (λ _. self.new.rows.items ≡ self.old.rows.items ++ row ∷ []) }
+    {
+        self.by_hash.insert(hash, self.rows.len())?;
+        self.rows.push(row)?;
+        Ok(())
+    }
+}
+
+/// Puts the row of a number among those that are known, if a file has the number.
+fn put_number(
+    known: &mut KnownRows,
+    rows: &KindMap<LabelRow>,
+    number: usize,
+) -> Result<(), AllocError>
+    requires { AreOfEntries (shared_rows known.old.rows.items) (entries_in rows.now) }
+    ensures { IfOk result (λ _. AreOfEntries (shared_rows known.new.rows.items) (entries_in rows.now)) }
+{
+    let some = rows.shared_node(number)?;
+    let Some(row) = some else {
+        return Ok(());
+    };
+    let hash = hash_of(&row.label);
+    known.put(hash, row)?;
+    Ok(())
+}
+
+/// The rows that files have.
+fn known_rows(alloc: Global, rows: &KindMap<LabelRow>) -> Result<KnownRows, AllocError>
+    ensures { IfOk result (λ known. AreOfEntries (shared_rows known.rows.items) (entries_in rows.now)) }
+{
+    let mut known = KnownRows {
+        rows: Vec::new(alloc),
+        by_hash: BTreeMap::new(alloc),
+    };
+    for number in 0..rows.numbers_len() {
+        put_number(&mut known, rows, number)?;
+    }
+    Ok(known)
+}
+
+/// The row of a label: one that is known, or one that is judged once, which is known from then on.
+fn row_of_label<J: Judge>(
+    alloc: Global,
+    judge: &mut J,
+    users: &Subjects,
+    known: &mut KnownRows,
+    label: &Label,
+) -> Result<Rc<LabelRow>, AllocError>
+    requires room { J.asked_of judge.old + length users.now < 2 ^ 64 }
+    requires known { AreRows J.verdict_of users.now (shared_rows known.old.rows.items) }
+    ensures row { IfOk result (λ row. row.value ≡ label_row J.verdict_of users.now label.now) }
+    ensures known { IfOk result (λ _. AreRows J.verdict_of users.now (shared_rows known.new.rows.items)) }
+    ensures at_most { J.asked_of judge.new ≤ J.asked_of judge.old + length users.now }
+{
+    let hash = hash_of(label);
+    let some = known.row(hash, label)?;
+    if let Some(row) = some {
+        return Ok(row);
+    }
+    let row = judged_row(alloc, judge, users, label)?;
+    let same = row.clone()?;
+    known.put(hash, same)?;
+    Ok(row)
+}
+
+/// The row of a number, if a file has the number.
+fn row_of_number<J: Judge>(
+    alloc: Global,
+    judge: &mut J,
+    users: &Subjects,
+    known: &mut KnownRows,
+    files: &KindMap<Node>,
+    number: usize,
+) -> Result<Option<Rc<LabelRow>>, AllocError>
+    requires room { J.asked_of judge.old + length users.now < 2 ^ 64 }
+    requires known { AreRows J.verdict_of users.now (shared_rows known.old.rows.items) }
+    ensures row { IfOk result (λ some. option_map (λ r. r.value) some ≡ option_map (node_row J.verdict_of users.now) (used_at files.now.0 number)) }
+    ensures known { IfOk result (λ _. AreRows J.verdict_of users.now (shared_rows known.new.rows.items)) }
+    ensures at_most { J.asked_of judge.new ≤ J.asked_of judge.old + length users.now }
+{
+    match files.used(number) {
+        Some(node) => {
+            let row = row_of_label(alloc, judge, users, known, &node.label)?;
+            Ok(Some(row))
+        }
+        None => Ok(None),
+    }
+}
+
+/// For each number its row, if a file has the number.
+fn rows_of_numbers<J: Judge>(
+    alloc: Global,
+    judge: &mut J,
+    users: &Subjects,
+    known: KnownRows,
+    files: &KindMap<Node>,
+) -> Result<Vec<Option<Rc<LabelRow>>>, AllocError>
+    requires room { J.asked_of judge.old + length files.now.0.0 * length users.now < 2 ^ 64 }
+    requires known { AreRows J.verdict_of users.now (shared_rows known.rows.items) }
+    ensures rows { IfOk result (λ rows. shared_nodes rows.items ≡ renewed_before (node_row J.verdict_of users.now) files.now.0 (length files.now.0.0)) }
+    ensures at_most { J.asked_of judge.new ≤ J.asked_of judge.old + length files.now.0.0 * length users.now }
+{
+    let mut known = known;
+    let mut rows = Vec::with_capacity(alloc, files.numbers_len())?;
+    for number in 0..files.numbers_len() {
+        let row = row_of_number(alloc, judge, users, &mut known, files, number)?;
+        rows.push(row)?;
+    }
+    Ok(rows)
+}
+
+impl KindRows {
+    /// The rows of the files of a map by kinds, which share its paths; path classes are found anew for all files. Each number of
+    /// the map is judged at most once, and not where a file of these rows has its label. Fails only if memory, or the numbers,
+    /// run out.
+    pub fn of_kinds<J: Judge>(
+        &self,
+        alloc: Global,
+        judge: &mut J,
+        files: &KindMap<Node>,
+        users: &Subjects,
+    ) -> Result<KindRows, AllocError>
+        requires room { J.asked_of judge.old + length files.now.0.0 * length users.now < 2 ^ 64 }
+        requires known { AreRowsOf J.verdict_of users.now (entries_in self.now.rows) }
+        ensures rows { IfOk result (λ new. entries_in new.rows ≡ rowed J.verdict_of users.now (entries_in files.now)) }
+        ensures at_most { J.asked_of judge.new ≤ J.asked_of judge.old + length files.now.0.0 * length users.now }
+    {
+        let _kinds = files.kinds();
+        let before = self.rows.rows();
+        let known = known_rows(alloc, before.map())?;
+        let nodes = rows_of_numbers(alloc, judge, users, known, files)?;
+        let map = files.with_nodes(alloc, &nodes)?;
+        let hints = hints_of(alloc, &map)?;
+        let tagged = before.replaced(alloc, map)?;
+        let rows = ClassedRows::of(alloc, tagged)?;
+        Ok(KindRows { rows, hints })
+    }
+}
