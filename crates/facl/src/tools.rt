@@ -335,7 +335,7 @@ fn answer<J: Judge>(
         ToolLine::Why(line) => why::answer(alloc, state, line),
         ToolLine::Index => index::answer(alloc, indexed),
         ToolLine::Changes(line) => changes::answer(alloc, indexed_states, line),
-        ToolLine::Gains(line) => gains::answer(alloc, indexed_states.loaded(), indexed, line),
+        ToolLine::Gains(line) => gains::answer(alloc, indexed_states, line),
         ToolLine::Useradd(line) => useradd::answer(alloc, state, line),
         ToolLine::Userdel(line) => userdel::answer(alloc, state, line),
     }

@@ -1,9 +1,10 @@
 -- The files of two states with their rows, one after another, and their counts by classes.
-use Rattle.std.proofs.Common.{◌≡◌, ℕ, suc, arith, cond, List, [], ◌∷◌, ◌++◌, append_assoc, append-nil, map, length, Option, Some, None, Less, Equal, Greater, refl, sym, ap, subst, ◌∙◌}
+use Rattle.std.proofs.Common.{◌≡◌, ℕ, suc, arith, cond, true, false, List, [], ◌∷◌, ◌++◌, append_assoc, append-nil, map, length, Option, Some, None, Less, Equal, Greater, refl, sym, ap, subst, ◌∙◌}
 use Rattle.std.specs.Prelude.{option_map}
 use Rattle.std.specs.Ordering.{is_eq}
 use Rattle.std.specs.FinMap.{find}
 use Rattle.std.proofs.lemmas.Cmp.{tied_itself}
+use Rattle.acl_names.specs.Below.{encloses}
 use Rattle.acl_names.specs.Paths.{PathOf, path_cmp}
 use Rattle.acl_names.proofs.PathOrder.{path_total, exact_paths}
 use Rattle.path_map.specs.Entries.{first, IsInOrder}
@@ -13,7 +14,8 @@ use Rattle.path_map.proofs.Merges.{later_after, put_at_end, put_before, put_over
 use Rattle.path_map.proofs.Places.{above, below}
 use Rattle.path_classes.specs.Classes.{Classed, KeepRows, IsFileTaken}
 use Rattle.path_classes.specs.Rows.{Rows}
-use Rattle.facl_counts.specs.InnerGains.{AreClassesOf, AreCounted, AreKeysOf, BothClassed, IsClassOf, IsTaken, RowsOfFile, next_path_of, path_order, rows_of_both}
+use Rattle.facl_counts.specs.InnerGains.{AreClassesOf, AreCounted, AreKeysOf, BothClassed, IsClassOf, IsTaken, RowsOfFile, TakesNext, TakesNextWithin, next_path_of, path_order, rows_of_both}
+use Rattle.facl_answers.specs.PartWalks.{front}
 use Rattle.facl_counts.specs.Tallies.{Tallied, Sides, SaysAs, one}
 use Rattle.facl_answers.proofs.AfterPaths.{after_put_all, after_later, rest_in_order}
 
@@ -186,16 +188,16 @@ keys_more before after [] (file ∷ files) key path rows h has = absurd h
 keys_more before after (k ∷ keys) [] key path rows h has = absurd h
 keys_more before after (k ∷ keys) (file ∷ files) key path rows h has = (h.0, keys_more before after keys files key path rows h.1 has)
 
--- so many files of both are counted
-pub record IsCounting (start both : BothClassed) (tallies : List (Tallied Sides)) : Type 0 where
+-- so many files of both at or below a path are counted
+pub record IsCounting (top : PathOf) (start both : BothClassed) (tallies : List (Tallied Sides)) : Type 0 where
   pub files : List (PathOf × RowsOfFile)
   pub counted : AreCounted both tallies files
-  pub rest : files ++ rows_of_both both.0.1 both.1.1 ≡ rows_of_both start.0.1 start.1.1
+  pub rest : files ++ front top (rows_of_both both.0.1 both.1.1) ≡ front top (rows_of_both start.0.1 start.1.1)
   pub before : IsInOrder both.0.1
   pub after : IsInOrder both.1.1
 
-pub counting_starts : (start : BothClassed) (tallies : List (Tallied Sides)) → IsInOrder start.0.1 → IsInOrder start.1.1 → tallies ≡ [] → IsCounting start start tallies
-counting_starts start tallies ob oa none = record {
+pub counting_starts : (top : PathOf) (start : BothClassed) (tallies : List (Tallied Sides)) → IsInOrder start.0.1 → IsInOrder start.1.1 → tallies ≡ [] → IsCounting top start start tallies
+counting_starts top start tallies ob oa none = record {
   files = [];
   counted = record { keys = []; says = subst (λ ts. SaysAs ts []) (sym none) (record { counts = λ test. refl; firsts = λ test. refl }); are = tt };
   rest = refl;
@@ -203,9 +205,10 @@ counting_starts start tallies ob oa none = record {
   after = oa;
 }
 
-pub counting_more : (start both next : BothClassed) (ts more : List (Tallied Sides)) (path : PathOf) (key : Sides) → IsCounting start both ts → IsTaken both (path, key) next
-    → ((others : List (Tallied Sides)) → SaysAs ts others → SaysAs more (others ++ one key path ∷ [])) → IsCounting start next more
-counting_more start both next ts more path key at taken added = record {
+pub counting_more : (top : PathOf) (start both next : BothClassed) (ts more : List (Tallied Sides)) (path : PathOf) (key : Sides) → IsCounting top start both ts
+    → encloses top path ≡ true → IsTaken both (path, key) next
+    → ((others : List (Tallied Sides)) → SaysAs ts others → SaysAs more (others ++ one key path ∷ [])) → IsCounting top start next more
+counting_more top start both next ts more path key at inside taken added = record {
   files = at.files ++ (path, taken.rows) ∷ [];
   counted = record {
     keys = at.counted.keys ++ one key path ∷ [];
@@ -213,13 +216,32 @@ counting_more start both next ts more path key at taken added = record {
     are = keys_more next.0.0 next.1.0 at.counted.keys at.files key path taken.rows (keys_kept both next taken.keep_before taken.keep_after at.counted.keys at.files at.counted.are) taken.has;
   };
   rest =
-      append_assoc at.files ((path, taken.rows) ∷ []) (rows_of_both next.0.1 next.1.1)
-      ∙ ap (λ l. at.files ++ l) (sym taken.is)
+      append_assoc at.files ((path, taken.rows) ∷ []) (front top (rows_of_both next.0.1 next.1.1))
+      ∙ ap (λ l. at.files ++ l)
+      (sym (ap (front top) taken.is ∙ ap (λ b. cond b ((path, taken.rows) ∷ front top (rows_of_both next.0.1 next.1.1)) []) inside))
       ∙ at.rest;
   before = taken.before_order;
   after = taken.after_order;
 }
 
-pub counting_ends : (start both : BothClassed) (ts : List (Tallied Sides)) → rows_of_both both.0.1 both.1.1 ≡ [] → IsCounting start both ts → AreCounted both ts (rows_of_both start.0.1 start.1.1)
-counting_ends start both ts none at =
-    subst (AreCounted both ts) (sym (append-nil at.files) ∙ ap (λ l. at.files ++ l) (sym none) ∙ at.rest) at.counted
+pub counting_ends : (top : PathOf) (start both next : BothClassed) (ts : List (Tallied Sides)) → TakesNextWithin top both None next → IsCounting top start both ts
+    → AreCounted next ts (front top (rows_of_both start.0.1 start.1.1))
+counting_ends top start both next ts over at =
+    subst (AreCounted next ts) (sym (append-nil at.files) ∙ ap (λ l. at.files ++ l) (sym over.0) ∙ at.rest)
+    (record {
+      keys = at.counted.keys;
+      says = at.counted.says;
+      are = keys_kept both next over.1.0 over.1.1 at.counted.keys at.files at.counted.are;
+    })
+
+-- ---- the next file, if it is at or below a path
+
+pub over_within : (top : PathOf) (old new : BothClassed) → TakesNext old None new → TakesNextWithin top old None new
+over_within top old new over = (
+  ap (front top) over.0,
+  (subst (λ (both : BothClassed). KeepRows old.0.0 both.0.0) (sym over.1) (kept_rows old.0.0), subst (λ (both : BothClassed). KeepRows old.1.0 both.1.0) (sym over.1) (kept_rows old.1.0)),
+)
+
+pub passed_within : (top path : PathOf) (key : Sides) (old new : BothClassed) → encloses top path ≡ false → IsTaken old (path, key) new → TakesNextWithin top old None new
+passed_within top path key old new apart taken =
+    (ap (front top) taken.is ∙ ap (λ b. cond b ((path, taken.rows) ∷ front top (rows_of_both new.0.1 new.1.1)) []) apart, (taken.keep_before, taken.keep_after))

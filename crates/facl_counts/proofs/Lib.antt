@@ -2,6 +2,7 @@ pub mod BelowLines
 pub mod BothRows
 pub mod ClassFiles
 pub mod GainLines
+pub mod PartGains
 pub mod PathShown
 pub mod Rekeyed
 pub mod SideSums

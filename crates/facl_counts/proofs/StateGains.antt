@@ -31,9 +31,9 @@ use Rattle.facl_answers.specs.ChangesText.{users_of_both, shown_files, files_of_
 use Rattle.facl_counts.specs.GainsText.{is_change, is_same, side_of, side_text, number_of_sides, lines_up_to, lines_by_sides, gain_line, granted_in, sides_of, is_kept, has_change, files_with}
 use Rattle.facl_counts.specs.GainsText.{gain_lines, gains_text}
 use Rattle.facl_answers.specs.Inner.{Placed, placed_of, placed_in}
-use Rattle.facl_counts.specs.InnerGains.{AllOfBoth, AreCounted, AreKeysOf, ArePassed, BothClassed, Gained, IsClassOf, IsPassed, RowsOfFile}
-use Rattle.facl_counts.specs.InnerGains.{verdict_given, cells_of_both, change_of, count_line, counted_line, gained_of, keyed, lines_of_user, rekeyed}
-use Rattle.facl_counts.specs.InnerGains.{row_of_class, rows_of_both, rows_of_key, tally_line}
+use Rattle.facl_counts.specs.InnerGains.{AllOfBoth, Gained, HasChanges, HaveChanges, RowsOfFile}
+use Rattle.facl_counts.specs.InnerGains.{verdict_given, cells_of_both, change_of, changes_of, count_line, counted_line, gained_of, keyed, lines_of_user}
+use Rattle.facl_counts.specs.InnerGains.{rows_in_both, tally_line}
 use Rattle.facl_counts.specs.PathTexts.{text_in}
 use Rattle.facl_counts.specs.Tallies.{Tallied, Sides, SaysAs, one, count_where, first_where}
 use Rattle.facl_answers.specs.declared.placed_users.PlacedUser.{PlacedUser}
@@ -41,42 +41,7 @@ use Rattle.facl_counts.specs.declared.user_gains.UserGains.{UserGains}
 use Rattle.facl_answers.proofs.AfterPaths.{rest_in_order}
 use Rattle.facl_answers.proofs.ChangeLines.{paths, order_by_paths, part_put_all, table_of, whole_table, rows_paths, cell_along}
 use Rattle.facl_counts.proofs.GainLines.{lines_same, same_line}
-use Rattle.facl_counts.proofs.Rekeyed.{says_rekeyed}
-use Rattle.facl_counts.proofs.Tallying.{says_both}
 use Rattle.facl_answers.proofs.Unchanged.{shown_paths}
-
--- ---- counts of files by their rows
-
-class_row : (rows : List (List ℕ)) (class : Option ℕ) (row : Option (List ℕ)) → IsClassOf rows class row → row_of_class rows class ≡ row
-class_row rows None None h = refl
-class_row rows None (Some row) h = absurd h
-class_row rows (Some class) None h = absurd h
-class_row rows (Some class) (Some row) h = h
-
-module _ (places : Sides) where
-  -- each file with the change that it is
-  abbrev pub ones_of : List (PathOf × RowsOfFile) → List (Tallied Sides)
-  ones_of [] = []
-  ones_of (file ∷ files) = keyed (change_of places file.1) 1 file.0 ++ ones_of files
-
-  ones_counted : (both : BothClassed) (keys : List (Tallied Sides)) (files : List (PathOf × RowsOfFile)) → AreKeysOf both.0.0 both.1.0 keys files
-      → rekeyed (λ key. change_of places (rows_of_key both key)) keys ≡ ones_of files
-  ones_counted both [] [] h = refl
-  ones_counted both [] (file ∷ files) h = absurd h
-  ones_counted both (key ∷ keys) [] h = absurd h
-  ones_counted both (key ∷ keys) (file ∷ files) h =
-      let before = class_row both.0.0 key.key.0 file.1.0 h.0.1.0 in
-      let after = class_row both.1.0 key.key.1 file.1.1 h.0.1.1 in
-      let counted : key.count ≡ 1 = ap (λ (t : Tallied Sides). t.count) h.0.0 in
-      let first : key.first ≡ file.0 = ap (λ (t : Tallied Sides). t.first) h.0.0 in
-      let more = ones_counted both keys files h.1 in
-      λ i. keyed (change_of places (before i, after i)) (counted i) (first i) ++ more i
-
-  pub says_ones : (both : BothClassed) (ts : List (Tallied Sides)) (files : List (PathOf × RowsOfFile)) → AreCounted both ts files
-      → SaysAs (rekeyed (λ key. change_of places (rows_of_key both key)) ts) (ones_of files)
-  says_ones both ts files at =
-      subst (λ l. SaysAs (rekeyed (λ key. change_of places (rows_of_key both key)) ts) l) (ones_counted both at.keys files at.are)
-      (says_rekeyed (λ key. change_of places (rows_of_key both key)) ts at.keys at.says)
 
 -- ---- the first of some entries that pass a test
 
@@ -229,7 +194,7 @@ module _ (V : Verdict) (along : Bool) (loaded now : State) (before_order : IsInO
     at_paths [] = []
     at_paths (p ∷ ps) = keyed (change_of places (rows_at p)) 1 p ++ at_paths ps
 
-    ones_by_paths : (rows : Rows) → ones_of places (map (λ row. (row.0, rows_at row.0)) rows) ≡ at_paths (paths rows)
+    ones_by_paths : (rows : Rows) → changes_of places (map (λ row. (row.0, rows_at row.0)) rows) ≡ at_paths (paths rows)
     ones_by_paths [] = refl
     ones_by_paths (row ∷ rows) = ap (λ l. keyed (change_of places (rows_at row.0)) 1 row.0 ++ l) (ones_by_paths rows)
 
@@ -288,16 +253,13 @@ module _ (V : Verdict) (along : Bool) (loaded now : State) (before_order : IsInO
 
     -- ---- a user
 
-    pub user_is : (both : BothClassed) (ts : List (Tallied Sides)) (gained : List (Tallied Sides)) → AreCounted both ts (rows_of_both rows_before rows_after)
-        → SaysAs gained (rekeyed (λ key. change_of places (rows_of_key both key)) ts)
+    pub user_is : (gained : List (Tallied Sides)) → SaysAs gained (changes_of places (rows_in_both V along loaded now))
         → lines_by_sides (tally_line (text_in loaded.tree now.tree) (escaped name) gained) ≡ gain_lines V along loaded now name
-    user_is both ts gained at says =
-        let all = says_both gained (rekeyed (λ key. change_of places (rows_of_key both key)) ts) (ones_of places (rows_of_both rows_before rows_after)) says
-        (says_ones places both ts (rows_of_both rows_before rows_after) at) in
-        let ones : ones_of places (rows_of_both rows_before rows_after) ≡ at_paths (paths all_shown) = ones_by_paths (put_all rows_after rows_before) ∙ ap at_paths both_paths in
+    user_is gained says =
+        let ones : changes_of places (rows_in_both V along loaded now) ≡ at_paths (paths all_shown) = ones_by_paths (put_all rows_after rows_before) ∙ ap at_paths both_paths in
         let of_side : (sides : Sides) → tally_line (text_in loaded.tree now.tree) (escaped name) gained sides ≡ gain_line (escaped name) sides (files_with V along loaded now name sides) =
         λ sides.
-        same_line (text_in loaded.tree now.tree) (escaped name) gained (ones_of places (rows_of_both rows_before rows_after)) all sides
+        same_line (text_in loaded.tree now.tree) (escaped name) gained (changes_of places (rows_in_both V along loaded now)) says sides
         ∙ ap (λ l. tally_line (text_in loaded.tree now.tree) (escaped name) l sides) ones
         ∙ line_is sides
         in
@@ -308,17 +270,16 @@ module _ (V : Verdict) (along : Bool) (loaded now : State) (before_order : IsInO
 
   -- ---- all users
 
-  pub users_are : (both : BothClassed) (ts : List (Tallied Sides)) → AreCounted both ts (rows_of_both rows_before rows_after)
-      → (rows : List PasswdRow) (users : List UserGains) → AllOfBoth (IsPassed both ts) (map (at_start loaded now) rows) (map gained_of users)
+  pub users_are : (rows : List PasswdRow) (users : List UserGains) → AllOfBoth (HasChanges (rows_in_both V along loaded now)) (map (at_start loaded now) rows) (map gained_of users)
       → flat_map (lines_of_user (text_in loaded.tree now.tree)) users ≡ flat_map (λ row. gain_lines V along loaded now row.name) rows
-  users_are both ts at [] [] h = refl
-  users_are both ts at [] (user ∷ users) h = absurd h
-  users_are both ts at (row ∷ rows) [] h = absurd h
-  users_are both ts at (row ∷ rows) (user ∷ users) h =
+  users_are [] [] h = refl
+  users_are [] (user ∷ users) h = absurd h
+  users_are (row ∷ rows) [] h = absurd h
+  users_are (row ∷ rows) (user ∷ users) h =
       let name : user.user.name.items ≡ escaped row.name = ap (λ (p : Placed). p.0) h.0.0 in
       let says = h.0.1 [] (record { counts = λ test. refl; firsts = λ test. refl }) in
-      let here = ap (λ n. lines_by_sides (tally_line (text_in loaded.tree now.tree) n user.tallies)) name ∙ user_is row.name both ts user.tallies at says in
-      let more = users_are both ts at rows users h.1 in
+      let here = ap (λ n. lines_by_sides (tally_line (text_in loaded.tree now.tree) n user.tallies)) name ∙ user_is row.name user.tallies says in
+      let more = users_are rows users h.1 in
       λ i. here i ++ more i
 
 -- the rows of a state are in order
@@ -333,27 +294,23 @@ beside_none f (x ∷ xs) = let here : Gained = (f x, []) in ap (λ l. here ∷ l
 pub all_gains : (V : Verdict) (along : Bool) (loaded now : State) → IsInOrder loaded.tree.files → IsInOrder now.tree.files
     → (were are : KnownPeople) → were ≡ loaded.people → are ≡ now.people
     → (placed : List PlacedUser) → map placed_of placed ≡ map (λ row. placed_in were are row.name) (are.users ++ filter (λ row. not (has_name row.name (users_of are))) were.users)
-    → (before after : Rows) → before ≡ rows_granted V along loaded → after ≡ rows_granted V along now
-    → (both : BothClassed) (ts : List (Tallied Sides)) → AreCounted both ts (rows_of_both before after)
-    → (tallies : List (Tallied Sides)) → tallies ≡ ts
-    → (started ended : List UserGains) → map gained_of started ≡ map {B = Gained} (λ user. (placed_of user, [])) placed → ArePassed both tallies started ended
+    → (started ended : List UserGains) → map gained_of started ≡ map {B = Gained} (λ user. (placed_of user, [])) placed → HaveChanges (rows_in_both V along loaded now) started ended
     → flat_map (lines_of_user (text_in loaded.tree now.tree)) ended ≡ gains_text V along loaded now
-all_gains V along loaded now before_order after_order were are p q placed known before after b a both ts counted tallies same started ended start passed =
+all_gains V along loaded now before_order after_order were are p q placed known started ended start changes =
     let rows = users_of_both loaded now in
     let placed_rows : map placed_of placed ≡ map (λ row. placed_in loaded.people now.people row.name) rows =
     known ∙ (λ i. map (λ row. placed_in (p i) (q i) row.name) ((q i).users ++ filter (λ row. not (has_name row.name (users_of (q i)))) (p i).users)) in
     let at : map gained_of started ≡ map (at_start loaded now) rows =
     start ∙ beside_none placed_of placed ∙ ap (map {B = Gained} (λ (u : Placed). (u, []))) placed_rows ∙ sym (beside_none (λ row. placed_in loaded.people now.people row.name) rows) in
-    users_are V along loaded now before_order after_order both ts (subst (AreCounted both ts) (λ i. rows_of_both (b i) (a i)) counted) rows ended
-    (subst (λ l. AllOfBoth (IsPassed both ts) l (map gained_of ended)) at (subst (λ l. ArePassed both l started ended) same passed))
+    users_are V along loaded now before_order after_order rows ended (subst (λ l. AllOfBoth (HasChanges (rows_in_both V along loaded now)) l (map gained_of ended)) at changes)
 
 -- what is written back over a whole list
 pub written_back : {A : Type 0} (n : ℕ) (items new : List A) → n ≡ length new → take n (new ++ drop (length new) items) ≡ new
 written_back n items new long = ap (λ k. take k (new ++ drop (length new) items)) long ∙ take-append_seam new (drop (length new) items)
 
 -- users are as many as they were
-pub as_many : (both : BothClassed) (ts : List (Tallied Sides)) (xs ys : List UserGains) → ArePassed both ts xs ys → length xs ≡ length ys
-as_many both ts [] [] h = refl
-as_many both ts [] (y ∷ ys) h = absurd h
-as_many both ts (x ∷ xs) [] h = absurd h
-as_many both ts (x ∷ xs) (y ∷ ys) h = ap suc (as_many both ts xs ys h.1)
+pub as_many : (files : List (PathOf × RowsOfFile)) (xs ys : List UserGains) → HaveChanges files xs ys → length xs ≡ length ys
+as_many files [] [] h = refl
+as_many files [] (y ∷ ys) h = absurd h
+as_many files (x ∷ xs) [] h = absurd h
+as_many files (x ∷ xs) (y ∷ ys) h = ap suc (as_many files xs ys h.1)

@@ -55,7 +55,7 @@ no_gain n = none_any (has n) (map numbered (1 ∷ 2 ∷ 3 ∷ 4 ∷ 5 ∷ 6 ∷ 
 no_change : (cell : Option ℕ) → is_change true (cell, cell) ≡ false
 no_change cell = λ i. no_gain (unwrap_or cell 0) i || no_gain (unwrap_or cell 0) i
 
-unchanged : (places : Sides) (row : List ℕ) → same_place places.0 places.1 ≡ true → change_of places (Some row, Some row) ≡ None
+pub unchanged : (places : Sides) (row : List ℕ) → same_place places.0 places.1 ≡ true → change_of places (Some row, Some row) ≡ None
 unchanged places row same =
     let place = same_of places.0 places.1 same in
     let cell = verdict_given (Some row) places.0 in

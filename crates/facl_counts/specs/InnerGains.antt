@@ -1,19 +1,25 @@
 -- For inner functions of `gains`: no public contract names these definitions.
-use Rattle.std.specs.Prelude.{◌≡◌, ℕ, ◌+◌, ◌<◌, ◌&&◌, not, Bool, if◌then◌else◌, List, [], ◌∷◌, ◌++◌, map, length, slice_get, Option, Some, None, is_some, option_map, option_and_then}
+use Rattle.std.specs.Prelude.{◌≡◌, ℕ, ◌+◌, ◌<◌, ◌&&◌, not, Bool, true, if◌then◌else◌, List, [], ◌∷◌, ◌++◌, map, length, slice_get, Option, Some, None, is_some, option_map, option_and_then}
+use Rattle.std.specs.List.{AllByRecursion}
 use Rattle.std.specs.FinMap.{find}
 use Rattle.std.specs.declared.cmp.Ordering.{Ordering}
 use Rattle.std.specs.declared.cmp.Ordering.TheVariants.{Less, Greater}
 use Rattle.acl_entry.specs.Check.{has}
 use Rattle.acl_entry.specs.Perms.{numbered}
+use Rattle.acl_names.specs.Below.{encloses}
 use Rattle.acl_names.specs.Paths.{path_cmp, PathOf}
 use Rattle.path_map.specs.Entries.{first, IsInOrder}
 use Rattle.path_map.specs.Merged.{put_all}
 use Rattle.path_classes.specs.Classes.{Classed, KeepRows}
 use Rattle.path_classes.specs.Rows.{Rows}
+use Rattle.acl_tree.specs.State.{State}
+use Rattle.acl_rights.specs.Rows.{Verdict}
+use Rattle.acl_rights.specs.Verdicts.{rows_granted}
 use Rattle.facl_answers.specs.Answers.{line}
 use Rattle.facl_counts.specs.CountTexts.{count_text, spaced}
 use Rattle.facl_counts.specs.GainsText.{is_change, is_same, is_same_side, side_of, side_text, number_of_sides, lines_up_to, lines_by_sides}
 use Rattle.facl_answers.specs.Inner.{Placed, placed_of, keeps_place}
+use Rattle.facl_answers.specs.PartWalks.{front}
 use Rattle.facl_counts.specs.Tallies.{Sides, Tallied, SaysAs, one, count_where, first_where}
 use Rattle.facl_counts.specs.declared.both_classes.BothClasses.{BothClasses}
 use Rattle.facl_counts.specs.declared.tallies.Tally.{Tally}
@@ -86,6 +92,11 @@ abbrev pub TakesNext : BothClassed → Option (PathOf × Sides) → BothClassed 
 TakesNext old None new = (rows_of_both old.0.1 old.1.1 ≡ []) × (new ≡ old)
 TakesNext old (Some file) new = IsTaken old file new
 
+-- the next file of both, if one at or below a path was to come; else what was to come begins with none of these
+abbrev pub TakesNextWithin : PathOf → BothClassed → Option (PathOf × Sides) → BothClassed → Type 0
+TakesNextWithin top old None new = (front top (rows_of_both old.0.1 old.1.1) ≡ []) × (KeepRows old.0.0 new.0.0 × KeepRows old.1.0 new.1.0)
+TakesNextWithin top old (Some file) new = (encloses top file.0 ≡ true) × IsTaken old file new
+
 -- files are counted by classes that have their rows
 pub record AreCounted (both : BothClassed) (tallies : List (Tallied Sides)) (files : List (PathOf × RowsOfFile)) : Type 0 where
   pub keys : List (Tallied Sides)
@@ -122,6 +133,10 @@ abbrev pub change_of : (places : Sides) → RowsOfFile → Option Sides
 change_of places rows =
     if is_change (is_some rows.0 && is_some rows.1) (cells_of_both places rows) then Some (cells_of_both places rows) else None
 
+-- no user has a change on a file with these rows
+abbrev pub AreSilentOn : RowsOfFile → List UserGains → Type 0
+AreSilentOn rows users = AllByRecursion (λ user. change_of (user.user.before, user.user.after) rows ≡ None) users
+
 -- so many files with a key, of which one is the first; none where there is no key
 abbrev pub keyed : {K : Type 0} → Option K → (count : ℕ) → (first : PathOf) → List (Tallied K)
 keyed None count first = []
@@ -131,6 +146,11 @@ keyed (Some key) count first = record { key = key; count = count; first = first 
 abbrev pub rekeyed : {K L : Type 0} → (K → Option L) → List (Tallied K) → List (Tallied L)
 rekeyed key_of [] = []
 rekeyed key_of (t ∷ ts) = keyed (key_of t.key) t.count t.first ++ rekeyed key_of ts
+
+-- each file that is a change for the user at these places, with the change
+abbrev pub changes_of : (places : Sides) → List (PathOf × RowsOfFile) → List (Tallied Sides)
+changes_of places [] = []
+changes_of places (file ∷ files) = keyed (change_of places file.1) 1 file.0 ++ changes_of places files
 
 -- a user with counts
 abbrev pub Gained : Type 0
@@ -167,6 +187,25 @@ IsPassed both tallies old new =
 -- the same for each user
 abbrev pub ArePassed : BothClassed → List (Tallied Sides) → (old new : List UserGains) → Type 0
 ArePassed both tallies old new = AllOfBoth (IsPassed both tallies) (map gained_of old) (map gained_of new)
+
+-- a user's counts have the changes of some files more
+abbrev pub HasChanges : List (PathOf × RowsOfFile) → (old new : Gained) → Type 0
+HasChanges files old new = (new.0 ≡ old.0) × ((others : List (Tallied Sides)) → SaysAs old.1 others → SaysAs new.1 (others ++ changes_of old.0.1 files))
+
+-- the same for each user
+abbrev pub HaveChanges : List (PathOf × RowsOfFile) → (old new : List UserGains) → Type 0
+HaveChanges files old new = AllOfBoth (HasChanges files) (map gained_of old) (map gained_of new)
+
+-- ---- of two states
+
+module _ (V : Verdict) (along : Bool) (loaded now : State) where
+  -- the rows of a path
+  abbrev pub rows_at : PathOf → RowsOfFile
+  rows_at p = (find path_cmp p (rows_granted V along loaded), find path_cmp p (rows_granted V along now))
+
+  -- all files with their rows
+  abbrev pub rows_in_both : List (PathOf × RowsOfFile)
+  rows_in_both = rows_of_both (rows_granted V along loaded) (rows_granted V along now)
 
 -- ---- lines
 

@@ -12,7 +12,7 @@ ghost use Rattle.facl_counts.specs.Sums.{sum_of, sum_line, sum_lines, AreSums};
 
 use crate::class_counts::{add_tallies, count_files};
 use crate::count_texts::push_count;
-use crate::path_texts::files_at;
+use crate::path_texts::{files_at, root};
 use crate::sums::{UserSum, UserSums};
 use acl_entry::Perm;
 use acl_names::Path;
@@ -87,7 +87,7 @@ fn top_of(alloc: Global, paths: &[Path]) -> Result<Path, AllocError>
 {
     let mut top = match paths.first() {
         Some(path) => path.try_clone(alloc)?,
-        None => Path::new(Vec::new(alloc)).unwrap(),
+        None => root(alloc),
     };
     for path in paths {
         top = enclosing(alloc, top, path)?;

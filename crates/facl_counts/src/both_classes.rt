@@ -4,7 +4,8 @@ ghost use Rattle.std.specs.Prelude.{◌≡◌, Some, option_map, IfOk};
 ghost use Rattle.std.specs.Option.{option_copied};
 ghost use Rattle.std.specs.declared.cmp.Ordering.TheVariants as orders;
 ghost use Rattle.path_map.specs.Entries.{IsInOrder, seen};
-ghost use Rattle.facl_counts.specs.InnerGains.{AreCounted, TakesNext, both_of, next_path_of, path_order, row_of_class, rows_of_both};
+ghost use Rattle.facl_answers.specs.PartWalks.{front};
+ghost use Rattle.facl_counts.specs.InnerGains.{AreCounted, TakesNext, TakesNextWithin, both_of, next_path_of, path_order, row_of_class, rows_of_both};
 
 use crate::tallies::{Key, Tallies};
 use crate::two_paths::path_order;
@@ -105,15 +106,37 @@ impl<'a> BothClasses<'a> {
         row_of_class(&self.after, class)
     }
 
-    /// How many of all files that are to come have each key. Fails only if memory, or the numbers, run out.
-    pub fn count_all(&mut self, alloc: Global) -> Result<Tallies<'a>, AllocError>
+    /// The next file of either state, if it is at a path or below it. None else, and what was to come is then not to be
+    /// asked for: the file may be passed. Fails only if memory runs out.
+    fn next_within(
+        &mut self,
+        alloc: Global,
+        top: &Path,
+    ) -> Result<Option<(&'a Path, Key)>, AllocError>
         requires before { IsInOrder self.old.before.1 }
         requires after { IsInOrder self.old.after.1 }
-        ensures { IfOk result (λ tallies. AreCounted (both_of self.new) tallies (rows_of_both self.old.before.1 self.old.after.1)) }
+        ensures { IfOk result (λ found. TakesNextWithin top.now (both_of self.old) (option_map seen found) (both_of self.new)) }
+    {
+        let Some((path, key)) = self.next(alloc)? else {
+            return Ok(None);
+        };
+        if path.is_within(top) {
+            Ok(Some((path, key)))
+        } else {
+            Ok(None)
+        }
+    }
+
+    /// How many of the files that are to come have each key, as long as they are at a path or below it. Fails only if memory,
+    /// or the numbers, run out.
+    pub fn count_within(&mut self, alloc: Global, top: &Path) -> Result<Tallies<'a>, AllocError>
+        requires before { IsInOrder self.old.before.1 }
+        requires after { IsInOrder self.old.after.1 }
+        ensures { IfOk result (λ tallies. AreCounted (both_of self.new) tallies (front top.now (rows_of_both self.old.before.1 self.old.after.1))) }
     {
         let mut tallies = Tallies::new(alloc);
         let mut hints = BTreeMap::new(alloc);
-        while let Some((path, key)) = self.next(alloc)? {
+        while let Some((path, key)) = self.next_within(alloc, top)? {
             let code = code(key);
             let hint = hint_at(&hints, code);
             let at = tallies.add(hint, key, 1, path)?;

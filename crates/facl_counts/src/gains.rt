@@ -1,23 +1,27 @@
 //! What `gains` prints: for each user and each change of what the user is granted, on how many files, and on which first.
 
-ghost use Rattle.std.specs.Prelude.{◌≡◌, [], ◌<◌, ◌+◌, ◌++◌, if◌then◌else◌, IfOk, map, option_map};
+ghost use Rattle.std.specs.Prelude.{◌≡◌, ◌<◌, ◌+◌, ◌++◌, false, if◌then◌else◌, IfOk, OnOk, map, option_map};
 ghost use Rattle.std.specs.List.{flat_map, list_any};
 ghost use Rattle.acl_names.specs.Appends.{Appends};
 ghost use Rattle.path_map.specs.Entries.{IsInOrder};
+ghost use Rattle.acl_names.specs.Below.{encloses};
+ghost use Rattle.acl_names.specs.Paths.{PathOf};
+ghost use Rattle.path_map.specs.Below.{from};
+ghost use Rattle.acl_rights.specs.Outside.{SameOutside};
 ghost use Rattle.acl_rights.specs.Verdicts.{rows_granted};
 ghost use Rattle.facl_answers.specs.Answers.{line};
 ghost use Rattle.facl_counts.specs.CountTexts.{count_text, spaced};
 ghost use Rattle.facl_counts.specs.Counting.{tallied};
 ghost use Rattle.facl_counts.specs.GainsText.{gains_text, is_same, is_same_side, side_of, side_text};
-ghost use Rattle.facl_counts.specs.InnerGains.{count_line, is_before, lines_after, lines_of_user, tally_line, tally_lines};
+ghost use Rattle.facl_counts.specs.InnerGains.{AreSilentOn, HaveChanges, count_line, is_before, rows_at, rows_in_both, lines_after, lines_of_user, tally_line, tally_lines};
 ghost use Rattle.facl_counts.specs.PathTexts.{text_in};
 ghost use Rattle.facl_counts.specs.Tallies.{count_where, first_where};
 
 use crate::both_classes::BothClasses;
 use crate::count_texts::{push_count, push_path};
-use crate::path_texts::text_of;
+use crate::path_texts::{root, text_of};
 use crate::tallies::{Key, Tally, together};
-use crate::user_gains::{UserGains, count_changes, without_counts};
+use crate::user_gains::{UserGains, count_changes, keep_places, without_counts};
 use acl_names::Path;
 use acl_rights::{FileClasses, IndexedState, Judge, Verdicts};
 use acl_tree::Tree;
@@ -255,14 +259,62 @@ fn push_users(
     Ok(())
 }
 
-/// All files of a state by classes.
-fn classes_of<'a, J: Judge>(alloc: Global, verdicts: &Verdicts<'a, J>) -> FileClasses<'a>
-    ensures all { result ≡ ([], rows_granted J.verdict_of verdicts.now.along verdicts.now.state.now) }
-    ensures order { IsInOrder result.1 }
+/// The files of a state that are not before a path, by classes.
+fn classes_from<'a, J: Judge>(
+    alloc: Global,
+    verdicts: &Verdicts<'a, J>,
+    top: &Path,
+) -> Result<FileClasses<'a>, AllocError>
+    ensures all { IfOk result (λ classes. classes.1 ≡ from top.now (rows_granted J.verdict_of verdicts.now.along verdicts.now.state.now)) }
+    ensures order { IfOk result (λ classes. IsInOrder classes.1) }
     ensures tree { IsInOrder verdicts.now.state.now.tree.files }
 {
     verdicts.state.state().tree().soundness_law();
-    verdicts.classes(alloc)
+    verdicts.classes_from(alloc, top)
+}
+
+/// Counts each user's changes on the files at or below a path, where no user has one on another file.
+fn count_part<'x, J: Judge>(
+    alloc: Global,
+    users: &mut [UserGains<'x>],
+    loaded: &'x IndexedState<J>,
+    verdicts: &Verdicts<'x, J>,
+    top: &Path,
+) -> Result<(), AllocError>
+    requires silent { (p : PathOf) → encloses top.now p ≡ false → AreSilentOn (rows_at J.verdict_of verdicts.now.along loaded.now verdicts.now.state.now p) users.old }
+    ensures { OnOk result (HaveChanges (rows_in_both J.verdict_of verdicts.now.along loaded.now verdicts.now.state.now) users.old users.new) }
+{
+    let verdicts_before = loaded.verdicts(verdicts.along);
+    let mut both = BothClasses {
+        before: classes_from(alloc, &verdicts_before, top)?,
+        after: classes_from(alloc, verdicts, top)?,
+    };
+    let tallies = both.count_within(alloc, top)?;
+    count_changes(users, &both, tallies.as_slice())
+}
+
+/// Counts each user's changes. Where no user has another place than before, only the files of the part are looked at
+/// outside which users may do the same in both states.
+fn count_all<'x, J: Judge>(
+    alloc: Global,
+    users: &mut [UserGains<'x>],
+    loaded: &'x IndexedState<J>,
+    verdicts: &Verdicts<'x, J>,
+    changed: Option<&Path>,
+) -> Result<(), AllocError>
+    requires same { SameOutside J.verdict_of (option_map (λ p. p.now) changed) loaded.now verdicts.now.state.now }
+    requires before { IsInOrder loaded.now.tree.files }
+    requires after { IsInOrder verdicts.now.state.now.tree.files }
+    ensures { OnOk result (HaveChanges (rows_in_both J.verdict_of verdicts.now.along loaded.now verdicts.now.state.now) users.old users.new) }
+{
+    if !keep_places(users) {
+        let root = root(alloc);
+        return count_part(alloc, users, loaded, verdicts, &root);
+    }
+    match changed {
+        Some(top) => count_part(alloc, users, loaded, verdicts, top),
+        None => Ok(()),
+    }
 }
 
 /// The users of both states, with their changes counted.
@@ -270,21 +322,37 @@ fn gains_of_users<'x, J: Judge>(
     alloc: Global,
     loaded: &'x IndexedState<J>,
     verdicts: &Verdicts<'x, J>,
+    changed: Option<&Path>,
 ) -> Result<Vec<UserGains<'x>>, AllocError>
+    requires { SameOutside J.verdict_of (option_map (λ p. p.now) changed) loaded.now verdicts.now.state.now }
     ensures { IfOk result (λ users. flat_map (lines_of_user (text_in loaded.now.tree verdicts.now.state.now.tree)) users.items
         ≡ gains_text J.verdict_of verdicts.now.along loaded.now verdicts.now.state.now) }
 {
+    loaded.state().tree().soundness_law();
+    verdicts.state.state().tree().soundness_law();
     let people = verdicts.state.state().people();
     let placed = users_of_both(alloc, loaded.state().people(), people)?;
-    let verdicts_before = loaded.verdicts(verdicts.along);
-    let mut both = BothClasses {
-        before: classes_of(alloc, &verdicts_before),
-        after: classes_of(alloc, verdicts),
-    };
-    let tallies = both.count_all(alloc)?;
     let mut users = without_counts(alloc, placed)?;
-    count_changes(&mut users, &both, tallies.as_slice())?;
+    count_all(alloc, &mut users, loaded, verdicts, changed)?;
     Ok(users)
+}
+
+/// What `gains` prints, where users may do the same in both states outside a part of the tree: it is one walk over both
+/// states' files of the part. Fails only if memory runs out.
+pub fn write_gains_within<'x, J: Judge>(
+    alloc: Global,
+    loaded: &'x IndexedState<J>,
+    verdicts: &Verdicts<'x, J>,
+    changed: Option<&Path>,
+) -> Result<Vec<u8>, AllocError>
+    requires { SameOutside J.verdict_of (option_map (λ p. p.now) changed) loaded.now verdicts.now.state.now }
+    ensures { IfOk result (λ text. text.items ≡ gains_text J.verdict_of verdicts.now.along loaded.now verdicts.now.state.now) }
+{
+    let users = gains_of_users(alloc, loaded, verdicts, changed)?;
+    let now = verdicts.state.state().tree();
+    let mut text = Vec::new(alloc);
+    push_users(alloc, &mut text, loaded.state().tree(), now, &users)?;
+    Ok(text)
 }
 
 /// What `gains` prints: for each user of either state and each change of what the user is granted, how many files have
@@ -297,9 +365,6 @@ pub fn write_gains<'x, J: Judge>(
 ) -> Result<Vec<u8>, AllocError>
     ensures { IfOk result (λ text. text.items ≡ gains_text J.verdict_of verdicts.now.along loaded.now verdicts.now.state.now) }
 {
-    let users = gains_of_users(alloc, loaded, verdicts)?;
-    let now = verdicts.state.state().tree();
-    let mut text = Vec::new(alloc);
-    push_users(alloc, &mut text, loaded.state().tree(), now, &users)?;
-    Ok(text)
+    let root = root(alloc);
+    write_gains_within(alloc, loaded, verdicts, Some(&root))
 }

@@ -18,6 +18,13 @@ fn is_recorded(tree: &Tree, path: &Path) -> bool
     tree.get(path).is_some()
 }
 
+/// The path of the root.
+pub(crate) fn root(alloc: Global) -> Path
+    ensures { result ≡ [] }
+{
+    Path::new(Vec::new(alloc)).unwrap()
+}
+
 /// The file of a path, if it is recorded.
 pub(crate) fn files_at<'a>(
     alloc: Global,

@@ -190,7 +190,7 @@ fn row_stays(before: &GivenRow<'_>, after: &GivenRow<'_>) -> bool
 }
 
 /// Whether each user has the same place in both states, or none in both.
-fn keep_places(users: &[UserGains<'_>]) -> bool
+pub(crate) fn keep_places(users: &[UserGains<'_>]) -> bool
     ensures { result ≡ list_all keeps users.now }
 {
     users

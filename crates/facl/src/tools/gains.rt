@@ -1,11 +1,12 @@
 //! The tool `gains`: what each user has gained and lost so far, on how many files.
 
 ghost use Rattle.std.specs.Prelude.{◌≡◌};
+ghost use Rattle.acl_rights.specs.States.{loaded_state};
 ghost use Rattle.facl.specs.Gains.{answered, read};
 ghost use Rattle.facl_tools.specs.Replies.{Replies};
 
-use acl_rights::{IndexedState, Judge};
-use facl_counts::write_gains;
+use acl_rights::{IndexedStates, Judge};
+use facl_counts::write_gains_within;
 use facl_output::LineFault;
 use facl_script::{OptionRow, Syntax, Words};
 use facl_tools::{Effect, by_name};
@@ -36,15 +37,19 @@ pub(crate) fn read(words: &Words) -> GainsLine
 
 /// What users gained and lost since the texts were loaded, and on how many files; with `--reach` what they gained and lost
 /// along paths.
-pub(crate) fn answer<'x, J: Judge>(
+pub(crate) fn answer<J: Judge>(
     alloc: Global,
-    loaded: &'x IndexedState<J>,
-    indexed: &'x IndexedState<J>,
+    indexed_states: &IndexedStates<J>,
     line: GainsLine,
 ) -> Result<Effect, LineFault>
-    ensures { Replies indexed.now result (answered J.verdict_of loaded.now indexed.now line) }
+    ensures { Replies indexed_states.now.state result (answered J.verdict_of (loaded_state indexed_states.now) indexed_states.now.state line) }
 {
-    let verdicts = indexed.verdicts(line.reach);
-    let out = write_gains(alloc, loaded, &verdicts)?;
+    let verdicts = indexed_states.state().verdicts(line.reach);
+    let out = write_gains_within(
+        alloc,
+        indexed_states.loaded(),
+        &verdicts,
+        indexed_states.changed(),
+    )?;
     Ok(Effect::prints(out))
 }
