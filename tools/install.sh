@@ -57,12 +57,22 @@ check_parts() {
         fail "$prefix: cannot be written: run it as root, or give a PREFIX"
 }
 
+# install_modules: the packages of the commands, each with its modules and what of a page is beside them
+install_modules() {
+    folders=$(cd "$top/commands" && find facl_commands -name __pycache__ -prune -o -type d -print)
+    for folder in $folders; do
+        install -d -m 755 -- "$to/lib/facl/$folder"
+        for file in "$top/commands/$folder"/*.py "$top/commands/$folder"/*.css "$top/commands/$folder"/*.js; do
+            [ ! -f "$file" ] || install -m 644 -- "$file" "$to/lib/facl/$folder"
+        done
+    done
+}
+
 install_files() {
     install -m 755 -- "$program" "$to/bin/facl"
     rm -rf -- "$to/lib/facl"
-    install -d -m 755 -- "$to/lib/facl" "$to/lib/facl/facl_commands"
-    install -m 644 -- "$top"/commands/facl_commands/*.py "$top"/commands/facl_commands/*.css \
-        "$top"/commands/facl_commands/*.js "$to/lib/facl/facl_commands"
+    install -d -m 755 -- "$to/lib/facl"
+    install_modules
     sed -i "s/^VERSION = \"0\"/VERSION = \"$version\"/" "$to/lib/facl/facl_commands/__init__.py"
     for name in $commands; do
         install -m 755 -- "$top/commands/$name" "$to/lib/facl"

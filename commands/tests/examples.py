@@ -16,7 +16,7 @@ from common import COMMANDS
 
 sys.path.insert(0, COMMANDS)
 
-from facl_commands import manual  # noqa: E402
+from facl_commands.ask import manual  # noqa: E402
 
 REPOSITORY = os.path.dirname(COMMANDS)
 # What getfacl and `why` print begins as a command of root does.

@@ -15,8 +15,8 @@ from kernel_stand_in import (
     set_owner,
 )
 
-from facl_commands import lists, live
-from facl_commands.lists import Record
+from facl_commands.base import acl_bytes, live
+from facl_commands.base.acl_bytes import Record
 
 Change = Callable[[live.OpenFile, Record, Record, bool], None]
 Answer = Tuple[int, bool, bool]  # Of a look: flags, and whether the lists are the new ones.
@@ -176,8 +176,8 @@ class Program:
         self.modes = [(it, False, False) for it in flags]
         self.records = [(it, access, default) for it in flags for access in both for default in (both if case.is_directory else (True,))]
         # It runs once for each answer, with the same lists.
-        cached: Dict[str, Any] = {name: lru_cache(maxsize=None)(getattr(lists, name)) for name in SAME}
-        with mock.patch.multiple(lists, **cached):
+        cached: Dict[str, Any] = {name: lru_cache(maxsize=None)(getattr(acl_bytes, name)) for name in SAME}
+        with mock.patch.multiple(acl_bytes, **cached):
             self.start = self.grow(())
         self.branches = [dict(node.following) for node in self.nodes]
 
@@ -233,9 +233,9 @@ class Classes:
         permissions, self.end_extended = parts_of(end.access)
         self.end_default = end.default
         self.permissions = permissions_by_class(permissions, case.is_directory)
-        entries = ((lists.USER, 99), 7), ((lists.GROUP_OBJ, lists.NO_ID), 7)
+        entries = ((acl_bytes.USER, 99), 7), ((acl_bytes.GROUP_OBJ, acl_bytes.NO_ID), 7)
         self.other_extended: Extended = tuple(entries) if self.end_extended is None and case.has_lists else None
-        self.other_default = lists.minimal(0o751) if end.default != lists.minimal(0o751) else b""
+        self.other_default = acl_bytes.minimal(0o751) if end.default != acl_bytes.minimal(0o751) else b""
 
     def class_of(self, state: State, is_listed: bool) -> State:
         """With a mode or list of an owner's, or with those that facl-apply has set, which stay as they are."""

@@ -19,8 +19,9 @@ from gap_moves import (
 )
 from kernel_stand_in import State, state_of
 
-from facl_commands import changing, lists
-from facl_commands.lists import Record
+from facl_commands.apply import changing
+from facl_commands.base import acl_bytes
+from facl_commands.base.acl_bytes import Record
 
 USERS = [*range(1, 7), 99]
 Right = Tuple[str, int]
@@ -31,25 +32,25 @@ Right = Tuple[str, int]
 
 def runs_as(record: Record, is_directory: bool) -> Set[Right]:
     """As whom a plain file runs; which group names get in a directory."""
-    mode = record.flags | lists.permissions_of(record.access)
+    mode = record.flags | acl_bytes.permissions_of(record.access)
     if is_directory:
         return {("group", record.group)} if mode & 0o2000 else set()
     found = {("user", record.owner)} if mode & 0o4000 and mode & 0o111 else set()
     return found | ({("group", record.group)} if mode & 0o2010 == 0o2010 else set())
 
 
-def rights_of(record: Record, entries: lists.Entries, user: int, groups: Set[int]) -> int:
+def rights_of(record: Record, entries: acl_bytes.Entries, user: int, groups: Set[int]) -> int:
     """acl(5), and for each request alone."""
     if user == record.owner:
-        return entries[lists.USER_OBJ, lists.NO_ID]
-    if (lists.USER, user) in entries:
-        return entries[lists.USER, user]
-    its = [(lists.GROUP_OBJ, lists.NO_ID)] * (record.group in groups) + [(lists.GROUP, group) for group in sorted(groups)]
+        return entries[acl_bytes.USER_OBJ, acl_bytes.NO_ID]
+    if (acl_bytes.USER, user) in entries:
+        return entries[acl_bytes.USER, user]
+    its = [(acl_bytes.GROUP_OBJ, acl_bytes.NO_ID)] * (record.group in groups) + [(acl_bytes.GROUP, group) for group in sorted(groups)]
     found = [entries[key] for key in its if key in entries]
     granted = 0
     for each in found:
         granted |= each
-    return granted if found else entries[lists.OTHER, lists.NO_ID]
+    return granted if found else entries[acl_bytes.OTHER, acl_bytes.NO_ID]
 
 
 class Judge:
@@ -70,7 +71,7 @@ class Judge:
         return found
 
     def rights(self, record: Record) -> List[int]:
-        entries = lists.effective(lists.entries_of(record.access))
+        entries = acl_bytes.effective(acl_bytes.entries_of(record.access))
         return [rights_of(record, entries, user, self.case.groups[user]) for user in USERS]
 
     def actor(self, owner: int) -> int:

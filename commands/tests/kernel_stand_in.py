@@ -12,11 +12,11 @@ from common import COMMANDS
 
 sys.path.insert(0, COMMANDS)
 
-from facl_commands import lists  # noqa: E402
-from facl_commands.lists import Record  # noqa: E402
+from facl_commands.base import acl_bytes  # noqa: E402
+from facl_commands.base.acl_bytes import Record  # noqa: E402
 
 # The entries that the mode does not have: those of named users and groups and of the owning group. None without a mask.
-Extended = Optional[Tuple[Tuple[lists.Key, int], ...]]
+Extended = Optional[Tuple[Tuple[acl_bytes.Key, int], ...]]
 
 
 class State(NamedTuple):
@@ -39,19 +39,19 @@ class State(NamedTuple):
 @lru_cache(maxsize=None)
 def access_of(permissions: int, extended: Extended) -> bytes:
     if extended is None:
-        return lists.minimal(permissions)
-    of_mode = {(lists.USER_OBJ, lists.NO_ID): permissions >> 6, (lists.MASK, lists.NO_ID): permissions >> 3 & 7,
-               (lists.OTHER, lists.NO_ID): permissions & 7}
-    return lists.bytes_of({**of_mode, **dict(extended)})
+        return acl_bytes.minimal(permissions)
+    of_mode = {(acl_bytes.USER_OBJ, acl_bytes.NO_ID): permissions >> 6, (acl_bytes.MASK, acl_bytes.NO_ID): permissions >> 3 & 7,
+               (acl_bytes.OTHER, acl_bytes.NO_ID): permissions & 7}
+    return acl_bytes.bytes_of({**of_mode, **dict(extended)})
 
 
 @lru_cache(maxsize=None)
 def parts_of(data: bytes) -> Tuple[int, Extended]:
     """The permissions of the mode of a file with this list, and the other entries."""
-    entries = lists.entries_of(data)
-    if (lists.MASK, lists.NO_ID) not in entries:
-        return lists.permissions_of(data), None
-    return lists.permissions_of(data), tuple(sorted((key, it) for key, it in entries.items() if key[0] in lists.GROUP_CLASS))
+    entries = acl_bytes.entries_of(data)
+    if (acl_bytes.MASK, acl_bytes.NO_ID) not in entries:
+        return acl_bytes.permissions_of(data), None
+    return acl_bytes.permissions_of(data), tuple(sorted((key, it) for key, it in entries.items() if key[0] in acl_bytes.GROUP_CLASS))
 
 
 def state_of(record: Record, is_directory: bool) -> State:

@@ -10,7 +10,7 @@ from common import COMMANDS, Case, Done
 
 sys.path.insert(0, COMMANDS)
 
-from facl_commands import names, system  # noqa: E402
+from facl_commands.base import linux, names  # noqa: E402
 
 
 def record(path: bytes, status: os.stat_result) -> bytes:
@@ -52,12 +52,12 @@ class RealCase(Case):
         for place, _, files in os.walk(top):
             found += [place, *(os.path.join(place, name) for name in files)]
         found = sorted(set(found), key=lambda name: name.strip(b"/").split(b"/"))
-        dump, inodes = b"", [b"boot " + system.boot().encode()]
+        dump, inodes = b"", [b"boot " + linux.boot().encode()]
         by_file: Dict[Tuple[int, int], List[bytes]] = {}
         for name in found:
             descriptor = os.open(name, os.O_PATH)
             status = os.fstat(descriptor)
-            birth = system.status_of(descriptor)[6]
+            birth = linux.status_of(descriptor)[6]
             os.close(descriptor)
             path = name.strip(b"/")
             dump += record(path, status)

@@ -19,9 +19,12 @@ from typing import Any, Callable, Dict, List, Set
 from common import COMMANDS, Case, Done
 from real import RealCase
 
-from facl_commands import changing, apply, by_hand_done, carrying, differences, lists, live, plan_folder, planned, way  # noqa: E402
-from facl_commands.messages import SIGNALS, Failure  # noqa: E402
-from facl_commands.plan_folder import Folder  # noqa: E402
+from facl_commands.apply import carrying, changing, direction  # noqa: E402
+from facl_commands.apply import command as apply  # noqa: E402
+from facl_commands.base import acl_bytes, live  # noqa: E402
+from facl_commands.base.messages import SIGNALS, Failure  # noqa: E402
+from facl_commands.planned import by_hand_done, differences, plan_files, plan_folder  # noqa: E402
+from facl_commands.planned.plan_folder import PlanFolder  # noqa: E402
 
 
 VERSION, USER, GROUP, OTHER = "02000000", "01000600ffffffff", "04000400ffffffff", "20000400ffffffff"
@@ -104,9 +107,9 @@ class Plans(Case):
         self.assertTrue(os.path.exists(self.path("before.plan.1")))
 
     def test_lists_of_the_folder_above_are_not_in_a_plan(self) -> None:
-        entries = {(1, lists.NO_ID): 7, (2, 70001): 7, (4, lists.NO_ID): 5, (16, lists.NO_ID): 7, (32, lists.NO_ID): 5}
+        entries = {(1, acl_bytes.NO_ID): 7, (2, 70001): 7, (4, acl_bytes.NO_ID): 5, (16, acl_bytes.NO_ID): 7, (32, acl_bytes.NO_ID): 5}
         try:
-            os.setxattr(self.folder, lists.DEFAULT, lists.bytes_of(entries))
+            os.setxattr(self.folder, acl_bytes.DEFAULT, acl_bytes.bytes_of(entries))
         except OSError:
             self.skipTest("no lists here")
         no_options: List[str] = []
@@ -144,7 +147,7 @@ class Plans(Case):
             "too few fields": lambda: fields["files"][0].pop(),
             "a record from the end": lambda: fields["files"][0].__setitem__(6, -1),
             "a default list of a file": lambda: fields["records"][1].__setitem__(4, LIST),
-            "no owner": lambda: fields["records"][1].__setitem__(0, lists.NO_ID),
+            "no owner": lambda: fields["records"][1].__setitem__(0, acl_bytes.NO_ID),
             "a negative group": lambda: fields["records"][1].__setitem__(1, -1),
             "other bits than flags": lambda: fields["records"][1].__setitem__(2, 0o7),
             "a file that does not change": lambda: fields["files"][0].__setitem__(7, fields["files"][0][6]),
@@ -185,10 +188,10 @@ class Plans(Case):
                 other["files"][0][int(name)] = "@"
                 work.append(json.dumps(other).replace('"@"', value))
             for it in work:
-                self.read_or_fail(planned.read_work, it)
+                self.read_or_fail(plan_files.read_work, it)
             for it in (value, '{"boot":"","files":%s}' % value, journal.replace('"a"', value), journal.replace("1", value)):
-                self.read_or_fail(planned.read_journal, it)
-        self.assertEqual(list(planned.read_work(b"files", text.encode()).files), [it[0].encode() for it in fields["files"]])
+                self.read_or_fail(plan_files.read_journal, it)
+        self.assertEqual(list(plan_files.read_work(b"files", text.encode()).files), [it[0].encode() for it in fields["files"]])
 
     def read_or_fail(self, read: Callable[[bytes, bytes], object], text: str) -> None:
         """Reads a text; a fault in it has a message."""
@@ -236,7 +239,7 @@ class Plans(Case):
     def test_by_hand(self) -> None:
         """It is named until all of it is done, and by_hand_undo as long as something of that is not taken back."""
         self.assertEqual(self.plan(b"gpasswd -a guest audit\nuserdel mara\n", "--plan", "other").status, 0)
-        folder = Folder(os.open(self.path("other"), os.O_RDONLY | os.O_DIRECTORY), b"other")
+        folder = PlanFolder(os.open(self.path("other"), os.O_RDONLY | os.O_DIRECTORY), b"other")
         for notes, is_left, is_to_take_back in (
             ("", True, False), ("1 begun\n", True, True), ("1 begun\n1 finished\n", True, True), ("1 found\n2 begun\n", True, False),
             ("1 found\n2 begun\n2 finished\n", False, False), ("1 begun\n1 finished\n2 finished\n", False, True),
@@ -304,9 +307,9 @@ class ThereAndBack(Tree):
 
     def test_what_was_and_what_is(self) -> None:
         # getfacl(1) has the form of flags, acl(5) that of entries
-        old = lists.Record(70001, 4, 0o1000, lists.minimal(0o640), b"")
-        entries = {**lists.entries_of(lists.minimal(0o604)), (lists.USER, 70009): 6, (lists.MASK, lists.NO_ID): 7}
-        new = lists.Record(0, 4, 0o6000, lists.bytes_of(entries), lists.minimal(0o700))
+        old = acl_bytes.Record(70001, 4, 0o1000, acl_bytes.minimal(0o640), b"")
+        entries = {**acl_bytes.entries_of(acl_bytes.minimal(0o604)), (acl_bytes.USER, 70009): 6, (acl_bytes.MASK, acl_bytes.NO_ID): 7}
+        new = acl_bytes.Record(0, 4, 0o6000, acl_bytes.bytes_of(entries), acl_bytes.minimal(0o700))
         self.assertEqual(differences.parts(old, new), b"owner, flags, access list, default list")
         self.assertEqual(list(differences.lines(old, new, b"before")), [
             b"owner: 70001 before, root now", b"flags: --t before, ss- now", b"user:70009: none before, rw- now",
@@ -374,9 +377,9 @@ class Meanwhile(Tree):
         self.planned(*lines)
         folder = plan_folder.open_plan(os.fsencode(self.path("before.plan")))
         self.addCleanup(os.close, folder.descriptor)
-        taken = way.read_way(folder, False)
-        look = way.look_at(taken, taken.work.files)
-        self.assertEqual(way.unexpected(taken, look), {})
+        taken = direction.read_way(folder, False)
+        look = direction.look_at(taken, taken.work.files)
+        self.assertEqual(direction.unexpected(taken, look), {})
         carrier = carrying.Carrier(taken, look)
         carrier.begin()
         return carrier
@@ -479,7 +482,7 @@ class SideBySide(Meanwhile):
 
     def setUp(self) -> None:
         super().setUp()
-        for name, value in (("facl_commands.sharing.MANY", 2), ("os.geteuid", lambda: 0), ("os.cpu_count", lambda: 4)):
+        for name, value in (("facl_commands.base.workers.MANY", 2), ("os.geteuid", lambda: 0), ("os.cpu_count", lambda: 4)):
             patch = unittest.mock.patch(name, value)
             patch.start()
             self.addCleanup(patch.stop)

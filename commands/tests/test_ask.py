@@ -21,13 +21,15 @@ from common import COMMANDS, HERE, Case, Done, outside_the_gate, take_terminal
 
 sys.path.insert(0, COMMANDS)
 
-from facl_commands import completion, manual, overview, terminal, tools  # noqa: E402
-from facl_commands.messages import Failure  # noqa: E402
-from facl_commands.names import shown  # noqa: E402
-from facl_commands.program import Session, find_program  # noqa: E402
-from facl_commands.prompt import ALONE, WORDS_OF_PROMPT, Prompt  # noqa: E402
-from facl_commands.snapshot import check_texts  # noqa: E402
-from facl_commands.superuser import Superusers  # noqa: E402
+from facl_commands.ask import completion, manual, terminal  # noqa: E402
+from facl_commands.ask.prompt import ALONE, WORDS_OF_PROMPT, Prompt  # noqa: E402
+from facl_commands.base.messages import Failure  # noqa: E402
+from facl_commands.base.names import shown  # noqa: E402
+from facl_commands.model import overview  # noqa: E402
+from facl_commands.model.snapshot import check_texts  # noqa: E402
+from facl_commands.model.superuser import Superusers  # noqa: E402
+from facl_commands.program import tools  # noqa: E402
+from facl_commands.program.session import Session, find_program  # noqa: E402
 
 SHARE = os.fsencode(os.path.join(HERE, "snapshots", "share"))
 SCRIPT = b"who r srv/share/notes\nfrob\nsetfacl -d -m d:u:guest:r,u:guest:x srv/share/drafts\nmay guest r\nwho 'open\n\xff\ngetfacl -M - x\nindex"
@@ -526,7 +528,7 @@ class Prompts(unittest.TestCase):
             prompt.answer_line((line % name).encode(), input)
         self.assertEqual(self.printed[-1], b"    There is srv/share/" + name.encode() + b"\n")
         self.assertEqual(completion.written(b"a\x1b\t'\\\xe2\x80\xae\xff\xc3\xa9"), "a\\033\\011\\047\\\\\\342\\200\\256\\377\u00e9")
-        texts = overview.Texts(b"x", b"", b"", b"", b"/srv/n\\033\\012x\n/srv/two\n\n")
+        texts = overview.LoadedTexts(b"x", b"", b"", b"", b"/srv/n\\033\\012x\n/srv/two\n\n")
         self.assertIn(b"2, first: /srv/n\x1b\\012x", next(overview.warnings(texts)))  # The command prints ESC as an escape.
 
     def test_help(self) -> None:

@@ -18,7 +18,7 @@ from small_tree import CLEAN, GROUP, PASSWD, SmallTree
 
 sys.path.insert(0, COMMANDS)
 
-from facl_commands import findings  # noqa: E402
+from facl_commands.questions.audit import findings  # noqa: E402
 
 PLAIN = b"# owner: 1001\n# group: 2001\nuser::rw-\ngroup::rw-\nother::---\n"
 FOLDER = b"# owner: 0\n# group: 2001\nuser::rwx\ngroup::rwx\nother::---\n"

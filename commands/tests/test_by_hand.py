@@ -15,12 +15,15 @@ from common import COMMANDS, Case, Done, restore_signals
 
 sys.path.insert(0, COMMANDS)
 
-from facl_commands import apply, by_hand, records  # noqa: E402
-from facl_commands.lists import Record  # noqa: E402
-from facl_commands.messages import Command  # noqa: E402
-from facl_commands.people import People, PeopleChange, shown_change  # noqa: E402
-from facl_commands.records import File  # noqa: E402
-from facl_commands.snapshot import Identity, nanoseconds  # noqa: E402
+from facl_commands.apply import command as apply  # noqa: E402
+from facl_commands.base.acl_bytes import Record  # noqa: E402
+from facl_commands.base.linux import Identity  # noqa: E402
+from facl_commands.base.messages import Command  # noqa: E402
+from facl_commands.model import records  # noqa: E402
+from facl_commands.model.people import People, PeopleChange, shown_change  # noqa: E402
+from facl_commands.model.records import File  # noqa: E402
+from facl_commands.model.snapshot import nanoseconds  # noqa: E402
+from facl_commands.plan import by_hand  # noqa: E402
 
 SHELLS = [shell for shell in ("dash", "bash") if shutil.which(shell)] or ["sh"]
 BODY = b"# owner: 1001\n# group: 100\nuser::rw%s\ngroup::r-%s\nother::---\n"
@@ -603,7 +606,7 @@ class Lost(UserScripts):
     def write_removal(self, *files: bytes) -> None:
         """A plan that removes mara, over files of these bodies."""
         old = {b"%d" % number: File(False, body) for number, body in enumerate(files)}
-        people, nothing = self.changes(b"userdel mara"), records.Changes([], [], [])
+        people, nothing = self.changes(b"userdel mara"), records.ChangedPaths([], [], [])
         self.write("plan/by_hand", by_hand.script_of(people, nothing, old, old, {}))
         self.write("plan/by_hand_undo", by_hand.undo_script_of(people, nothing, old, old, {}))
 

@@ -15,12 +15,15 @@ from common import COMMANDS, HERE
 
 sys.path.insert(0, COMMANDS)
 
-from facl_commands import causes, manual, owners, refused_line, remedies, tools  # noqa: E402
-from facl_commands.cause_tests import Cause  # noqa: E402
-from facl_commands.people import People  # noqa: E402
-from facl_commands.program import Session, find_program  # noqa: E402
-from facl_commands.scripts import Unit, read_script  # noqa: E402
-from facl_commands.snapshot import read_snapshot  # noqa: E402
+from facl_commands.ask import manual  # noqa: E402
+from facl_commands.model.people import People  # noqa: E402
+from facl_commands.model.snapshot import read_snapshot  # noqa: E402
+from facl_commands.plan import chown  # noqa: E402
+from facl_commands.program import tools  # noqa: E402
+from facl_commands.program.hints import causes, refused_line, remedies  # noqa: E402
+from facl_commands.program.hints.conditions import Cause  # noqa: E402
+from facl_commands.program.scripts import Unit, read_script  # noqa: E402
+from facl_commands.program.session import Session, find_program  # noqa: E402
 
 SHARE = os.fsencode(os.path.join(HERE, "snapshots", "share"))
 FILLED: Dict[bytes, bytes] = {b"USER": b"ines", b"GROUP": b"audit", b"FILE": b"srv/share/one", b"PERMS": b"rw", b"UID": b"1010",
@@ -63,7 +66,7 @@ class Asked(unittest.TestCase):
         if not unit.is_ended:
             return [b"facl: text without end"]
         if is_plan and unit.is_of(*tools.TOOLS_OF_PLANS):
-            done = owners.restoring(self.session, self.people, unit)
+            done = chown.restoring(self.session, self.people, unit)
             if isinstance(done, bytes):
                 return [done]
             unit = done

@@ -14,7 +14,10 @@ from typing import Callable, Dict, List
 from common import COMMANDS, Case
 
 sys.path.insert(0, COMMANDS)
-from facl_commands import daily, daily_children, daily_words, messages  # noqa: E402
+from facl_commands.base import messages  # noqa: E402
+from facl_commands.daily import children as daily_children  # noqa: E402
+from facl_commands.daily import command as daily  # noqa: E402
+from facl_commands.daily import words as daily_words  # noqa: E402
 
 LOCK, MADE = "lock.of-facl-daily", "made.by-facl-daily"
 STUBS = {

@@ -16,8 +16,8 @@ from common import COMMANDS, Case, Done, restore_signals
 
 sys.path.insert(0, COMMANDS)
 
-from facl_commands.diff_states import pairs_of  # noqa: E402
-from facl_commands.diff_words import entries_of, words_of_list  # noqa: E402
+from facl_commands.questions.diff.reasons import entries_of, words_of_list  # noqa: E402
+from facl_commands.questions.diff.states import pairs_of  # noqa: E402
 
 PAIR = ("before", "after")
 NOTHING = b"nothing differs: the same users, groups of users, files and lists\n"

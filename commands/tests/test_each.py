@@ -17,11 +17,13 @@ from common import COMMANDS, HERE, Case, Done, outside_the_gate, restore_signals
 
 sys.path.insert(0, COMMANDS)
 
-from facl_commands import agreement, counts, servers, shard_worker, shards, texts  # noqa: E402
-from facl_commands.messages import Failure  # noqa: E402
-from facl_commands.names import path_order, read_path  # noqa: E402
-from facl_commands.program import OutputSlice, Session, find_program  # noqa: E402
-from facl_commands.scripts import read_script  # noqa: E402
+from facl_commands.ask.parts import agreement, counts, join, worker  # noqa: E402
+from facl_commands.ask.parts import hosts as servers  # noqa: E402
+from facl_commands.base.messages import Failure  # noqa: E402
+from facl_commands.base.names import path_order, read_path  # noqa: E402
+from facl_commands.model import sources  # noqa: E402
+from facl_commands.program.scripts import read_script  # noqa: E402
+from facl_commands.program.session import OutputSlice, Session, find_program  # noqa: E402
 
 GETFACL = b"""\
 #!/bin/sh
@@ -148,8 +150,8 @@ class Joined(unittest.TestCase):
                 file.write(output)
                 slices.append(OutputSlice(file, start, file.tell()))
             file.flush()
-            streams = [shards.items_of(unit, place, output) for place, output in enumerate(slices)]
-            return b"".join(shards.merged([it for it in streams if it is not None]))
+            streams = [join.items_of(unit, place, output) for place, output in enumerate(slices)]
+            return b"".join(join.merged([it for it in streams if it is not None]))
 
     def test_changes_are_in_path_order(self) -> None:
         self.assertEqual(self.joined(b"changes", b"ben gains r-- srv\nmara gains -w-,rw- srv/b\nmara loses --x srv/b\nguest gains r-- srv/b/z\n",
@@ -178,7 +180,7 @@ class Joined(unittest.TestCase):
             file.write(b"".join(blocks))
             file.flush()
             ends = [0, len(blocks[0]), len(blocks[0] + blocks[1])]
-            parts = [agreement.Recorded(b"", {}, {}, OutputSlice(file, start, end)) for start, end in zip(ends, ends[1:])]
+            parts = [agreement.RecordedPart(b"", {}, {}, OutputSlice(file, start, end)) for start, end in zip(ends, ends[1:])]
             self.assertEqual(agreement.files_of_several(parts), [b"srv", b"srv/b"])
 
     def test_reasons_are_in_path_order(self) -> None:
@@ -189,7 +191,7 @@ class Joined(unittest.TestCase):
 class Agreement(unittest.TestCase):
     """What two snapshots may not have if they are parts of one tree."""
 
-    def recorded(self, label: bytes, files: Dict[bytes, bytes], users: Dict[str, int], groups: Dict[str, int]) -> agreement.Recorded:
+    def recorded(self, label: bytes, files: Dict[bytes, bytes], users: Dict[str, int], groups: Dict[str, int]) -> agreement.RecordedPart:
         file = tempfile.TemporaryFile()
         self.addCleanup(file.close)
         file.write(b"".join(b"# file: " + name + b"\n" + body + b"\n" for name, body in files.items()))
@@ -198,7 +200,7 @@ class Agreement(unittest.TestCase):
         blocks = b"".join(agreement.blocks_of([OutputSlice(file, 0, size)]))
         file.write(blocks)
         file.flush()
-        return agreement.Recorded(label, users, groups, OutputSlice(file, size, size + len(blocks)))
+        return agreement.RecordedPart(label, users, groups, OutputSlice(file, size, size + len(blocks)))
 
     def expect(self, wanted: Optional[bytes], first: Dict[bytes, bytes], second: Dict[bytes, bytes], users: Dict[str, int] = {},
                groups: Dict[str, int] = {}) -> None:
@@ -223,30 +225,30 @@ class Tops(Case):
     """Dumps in which the directories above are not recorded."""
 
     def test_tops(self) -> None:
-        self.assertEqual(texts.tops_of(b"# file: srv/b/c\n\n# file: srv/b\n\n#file:srv/a\\012/\n\n# file: srv-x\n\n# file: srv/b c\n"),
+        self.assertEqual(sources.tops_of(b"# file: srv/b/c\n\n# file: srv/b\n\n#file:srv/a\\012/\n\n# file: srv-x\n\n# file: srv/b c\n"),
                          [b"srv/a\n", b"srv/b", b"srv/b c", b"srv-x"])
-        self.assertEqual(texts.tops_of(b"# file: .\n\n# file: a\n"), [b""])
-        self.assertEqual(texts.tops_of(b""), [])
+        self.assertEqual(sources.tops_of(b"# file: .\n\n# file: a\n"), [b""])
+        self.assertEqual(sources.tops_of(b""), [])
 
     def test_operands(self) -> None:
         paths = [b"%09d" % number for number in range(15000)]
-        groups = texts.operands_of(paths)
+        groups = sources.operands_of(paths)
         self.assertEqual([word.strip(b"'") for words in groups for word in words], paths)
-        self.assertLess(max(len(b" ".join(words)) for words in groups), texts.ROOM)
-        self.assertEqual(texts.operands_of([b"x" * 70000, b"a"]), [[b"'" + b"x" * 70000 + b"'"], [b"'a'"]])
+        self.assertLess(max(len(b" ".join(words)) for words in groups), sources.ROOM)
+        self.assertEqual(sources.operands_of([b"x" * 70000, b"a"]), [[b"'" + b"x" * 70000 + b"'"], [b"'a'"]])
 
     def test_listings(self) -> None:
         dump = self.read("before/dump")
         self.write("before/dump", dump[dump.index(b"# file: /srv/share/") :].replace(b"# file: /srv/share/\n", b"# file: /srv/other\n"))
         folder = os.fsencode(self.path("before"))
         with Session(find_program(None), folder) as session:
-            tops = texts.find_tops(session, folder)
+            tops = sources.find_tops(session, folder)
             self.assertEqual((len(tops), tops[0]), (11, b"srv/other"))
-            whole = b"".join(output.read() for output in texts.list_below(session, tops))
+            whole = b"".join(output.read() for output in sources.list_below(session, tops))
             self.assertEqual(names_of(whole)[0], b"srv/other")
             self.assertEqual(len(names_of(whole)), len(names_of(dump)) - 2)
             session.ask_accepted(b"rm srv/share/one")
-            self.assertEqual(len(names_of(b"".join(output.read() for output in texts.list_below(session, tops)))), len(names_of(whole)) - 1)
+            self.assertEqual(len(names_of(b"".join(output.read() for output in sources.list_below(session, tops)))), len(names_of(whole)) - 1)
 
 
 class Servers(Case):
@@ -292,7 +294,7 @@ class Files(unittest.TestCase):
     """Which files a line that edits has."""
 
     def expect(self, line: bytes, *names: bytes) -> None:
-        self.assertEqual(shard_worker.files_of(read_script(b"s", line)[0]), list(names))
+        self.assertEqual(worker.files_of(read_script(b"s", line)[0]), list(names))
 
     def test_files(self) -> None:
         self.expect(b"setfacl -R -m u:ines:r a 'b c' --test", b"a", b"b c")
@@ -312,7 +314,7 @@ class Files(unittest.TestCase):
         self.expect(b"why --reach ines a b", b"a", b"b")
         self.expect(b"who r a")
         self.expect(b"changes --reach")
-        self.assertEqual(shards.hosts_of([b"a", b"host:b", b"./c:d", b"me@host.x:/b c", b"host:e"]),
+        self.assertEqual(join.hosts_of([b"a", b"host:b", b"./c:d", b"me@host.x:/b c", b"host:e"]),
                          {b":": [b"a", b"./c:d"], b"host": [b"b", b"e"], b"me@host.x": [b"/b c"]})
 
 

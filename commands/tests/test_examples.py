@@ -18,7 +18,7 @@ from examples import REPOSITORY, blocks_of, difference, examples_of, read_lines,
 
 sys.path.insert(0, COMMANDS)
 
-from facl_commands.program import find_program  # noqa: E402
+from facl_commands.program.session import find_program  # noqa: E402
 
 SNAPSHOTS = os.path.join(HERE, "snapshots")
 # With the snapshot that each is about.

@@ -17,8 +17,9 @@ from gaps import Judge, Play
 from kernel_stand_in import State, access_of, own_access, own_group, own_mode, parts_of, remove_access, set_default, state_of
 from test_live import GIDS, Pairs
 
-from facl_commands import changing, lists, live
-from facl_commands.lists import Record
+from facl_commands.apply import changing
+from facl_commands.base import acl_bytes, live
+from facl_commands.base.acl_bytes import Record
 
 PAIRS = 300
 # What differs in a pair; x is a list that only gains execution.
@@ -38,9 +39,9 @@ class Pair(NamedTuple):
 
 def with_x(data: bytes, has_x: bool) -> bytes:
     """A list whose entries, but for those of the owner and of others, have execution or have not."""
-    entries = lists.entries_of(data)
-    its = (*lists.GROUP_CLASS, lists.MASK)
-    return lists.bytes_of({key: (it & 6 | has_x) if key[0] in its else it for key, it in entries.items()})
+    entries = acl_bytes.entries_of(data)
+    its = (*acl_bytes.GROUP_CLASS, acl_bytes.MASK)
+    return acl_bytes.bytes_of({key: (it & 6 | has_x) if key[0] in its else it for key, it in entries.items()})
 
 
 def other_part(pairs: Pairs, name: str, old: Record, is_directory: bool) -> Record:
@@ -54,7 +55,7 @@ def other_part(pairs: Pairs, name: str, old: Record, is_directory: bool) -> Reco
 def two_records(pairs: Pairs, kind: Tuple[str, ...], is_directory: bool, has_lists: bool) -> Tuple[Record, Record]:
     old = pairs.record(is_directory)
     if not has_lists:
-        old = old._replace(access=lists.minimal(pairs.chance.randrange(0o1000)), default=b"")
+        old = old._replace(access=acl_bytes.minimal(pairs.chance.randrange(0o1000)), default=b"")
     if "x" in kind:
         old = old._replace(access=with_x(old.access, False))
     new = old
@@ -62,7 +63,7 @@ def two_records(pairs: Pairs, kind: Tuple[str, ...], is_directory: bool, has_lis
         if name == "x":
             new = new._replace(access=with_x(old.access, True))
         elif name == "access" and not has_lists:
-            new = new._replace(access=lists.minimal(lists.permissions_of(old.access) ^ pairs.chance.randrange(1, 0o1000)))
+            new = new._replace(access=acl_bytes.minimal(acl_bytes.permissions_of(old.access) ^ pairs.chance.randrange(1, 0o1000)))
         elif name != "default" or has_lists and is_directory:
             new = other_part(pairs, name, new, is_directory)
     return old, new
@@ -174,7 +175,7 @@ def play_each(case: Case, change: Change) -> Tuple[Set[str], Set[Tuple[State, in
 
 def former_move(file: live.OpenFile, now: Record, end: Record, _flags: int) -> Record:
     """With no look at what the last owner set, before the new list gives execution."""
-    access = lists.common(now.access, end.access)
+    access = acl_bytes.common(now.access, end.access)
     if access != now.access:
         file.set_access(access)
     file.set_owner(end.owner, end.group)
@@ -233,7 +234,7 @@ class Gaps(unittest.TestCase):
         ):
             with mock.patch.object(changing, name, instead):
                 self.assertTrue(any(fault in Play(it).faults for it in cases), fault)
-        with mock.patch.object(lists, "common", lambda one, other: other):
+        with mock.patch.object(acl_bytes, "common", lambda one, other: other):
             self.assertTrue(any(NEITHER in Play(it).faults for it in cases))
         with mock.patch.object(changing, "move", lambda file, now, end, flags: file.set_owner(*end.ids()) or now):
             self.assertTrue(any(LEFT in Play(it).faults for it in cases))
@@ -242,7 +243,7 @@ class Gaps(unittest.TestCase):
         case = next(it.case for it in pairs_of_records(PAIRS) if it.case.now.ids() != it.case.end.ids())
         for change in (
             lambda file, now, end, is_directory: file.set_mode(file.mode() & 0o777),
-            lambda file, now, end, is_directory: file.set_access(lists.common(file.record().access, end.access)),
+            lambda file, now, end, is_directory: file.set_access(acl_bytes.common(file.record().access, end.access)),
         ):
             self.assertRaises(AssertionError, Play, case, change)
 

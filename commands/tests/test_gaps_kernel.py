@@ -15,8 +15,9 @@ from kernel_stand_in import (
 from test_gaps import pairs_of_records
 from test_live import Pairs
 
-from facl_commands import changing, lists, live
-from facl_commands.lists import Record
+from facl_commands.apply import changing
+from facl_commands.base import acl_bytes, live
+from facl_commands.base.acl_bytes import Record
 
 OWNER, MAIN, MORE, FOREIGN = 70001, 70001, 70004, 70002  # A user, its groups, and one that it is not in.
 GROUPS = {MAIN, MORE}
@@ -36,9 +37,9 @@ def remove(name: bytes, attribute_name: bytes) -> None:
 
 def put_default(name: bytes, data: bytes) -> None:
     if data:
-        os.setxattr(name, lists.DEFAULT, data)
+        os.setxattr(name, acl_bytes.DEFAULT, data)
     else:
-        remove(name, lists.DEFAULT)
+        remove(name, acl_bytes.DEFAULT)
 
 
 def look(name: bytes) -> State:
@@ -50,7 +51,7 @@ def look(name: bytes) -> State:
 def put(name: bytes, state: State) -> None:
     """By root: makes a file a state."""
     os.chown(name, state.owner, state.group)
-    os.setxattr(name, lists.ACCESS, state.access())
+    os.setxattr(name, acl_bytes.ACCESS, state.access())
     if state.is_directory:
         put_default(name, state.default)
     os.chmod(name, state.mode)
@@ -72,8 +73,8 @@ def steps_of_root(state: State, mode: int, pairs: Pairs) -> Dict[str, Step]:
         "chown": Step(lambda name: os.chown(name, 70003, 70003), set_owner(state, 70003, 70003)),
         "owner": Step(lambda name: os.chown(name, 70003, -1), set_owner(state, 70003, -1)),
         "group": Step(lambda name: os.chown(name, -1, 70003), set_owner(state, -1, 70003)),
-        "list": Step(lambda name: os.setxattr(name, lists.ACCESS, data), set_access(state, data)),
-        "no list": Step(lambda name: remove(name, lists.ACCESS), remove_access(state)),
+        "list": Step(lambda name: os.setxattr(name, acl_bytes.ACCESS, data), set_access(state, data)),
+        "no list": Step(lambda name: remove(name, acl_bytes.ACCESS), remove_access(state)),
     }
     if state.is_directory:
         found["default"] = Step(lambda name: put_default(name, default), set_default(state, default))
@@ -88,8 +89,8 @@ def steps_of_owner(state: State, mode: int, pairs: Pairs) -> Dict[str, Step]:
         "more": Step(lambda name: os.chown(name, -1, MORE), own_group(state, MORE, GROUPS)),
         "same": Step(lambda name: os.chown(name, -1, state.group), own_group(state, state.group, GROUPS)),
         "foreign": Step(lambda name: refused(name, 70003), state),
-        "list": Step(lambda name: os.setxattr(name, lists.ACCESS, data), own_access(state, data, GROUPS)),
-        "no list": Step(lambda name: remove(name, lists.ACCESS), remove_access(state)),
+        "list": Step(lambda name: os.setxattr(name, acl_bytes.ACCESS, data), own_access(state, data, GROUPS)),
+        "no list": Step(lambda name: remove(name, acl_bytes.ACCESS), remove_access(state)),
     }
     if state.is_directory:
         found["default"] = Step(lambda name: put_default(name, default), set_default(state, default))
@@ -113,8 +114,8 @@ class Meddled(live.OpenFile):
             Step(lambda name: os.chmod(name, mode), own_mode(state, mode, groups)),
             Step(lambda name: os.chmod(name, 0o2740), own_mode(state, 0o2740, groups)),
             Step(lambda name: os.chown(name, -1, group), own_group(state, group, groups)),
-            Step(lambda name: os.setxattr(name, lists.ACCESS, data), own_access(state, data, groups)),
-            Step(lambda name: remove(name, lists.ACCESS), remove_access(state)),
+            Step(lambda name: os.setxattr(name, acl_bytes.ACCESS, data), own_access(state, data, groups)),
+            Step(lambda name: remove(name, acl_bytes.ACCESS), remove_access(state)),
         ] + [Step(lambda name: put_default(name, data), set_default(state, data))] * self.case.is_directory
         it = chance.choice(steps)
         as_user(state.owner, groups, lambda: it.run(self.name))
@@ -140,7 +141,7 @@ class Meddled(live.OpenFile):
         return look(self.name).record()
 
     def set_attribute(self, attribute_name: bytes, data: bytes) -> None:
-        name = "access" if attribute_name == lists.ACCESS else "default"
+        name = "access" if attribute_name == acl_bytes.ACCESS else "default"
         self.after(Call(name, (), data), lambda: os.setxattr(self.name, attribute_name, data))
 
     def set_default(self, data: bytes) -> None:
@@ -173,7 +174,7 @@ class Kernel(unittest.TestCase):
         os.close(os.open(self.real("f"), os.O_CREAT | os.O_WRONLY))
         os.mkdir(self.real("d"))
         try:
-            os.setxattr(self.real("f"), lists.ACCESS, Pairs(11).list())
+            os.setxattr(self.real("f"), acl_bytes.ACCESS, Pairs(11).list())
         except OSError:
             self.skipTest("no lists here")
 

@@ -15,8 +15,8 @@ from common import COMMANDS, Case, Done, outside_the_gate
 
 sys.path.insert(0, COMMANDS)
 
-from facl_commands import side_by_side  # noqa: E402
-from facl_commands.messages import Failure  # noqa: E402
+from facl_commands.ask.parts import runs  # noqa: E402
+from facl_commands.base.messages import Failure  # noqa: E402
 
 SCRIPT = b"who r srv/share/notes\nfrob\nmay guest x\nbelow r srv\n"
 SSH = b"""\
@@ -150,8 +150,8 @@ class WrongServers(Case):
         """Each ends, with its message."""
         for name, (body, _) in PROGRAMS.items():
             self.machine(name, body)
-        with mock.patch.dict(os.environ, self.environment()), mock.patch.object(side_by_side, "MOST_WRITTEN", MOST_WRITTEN):
-            found = side_by_side.run_hosts({name.encode(): [b"DIR"] for name in ("good", *PROGRAMS)}, [], SCRIPT, self.path("temporary"))
+        with mock.patch.dict(os.environ, self.environment()), mock.patch.object(runs, "MOST_WRITTEN", MOST_WRITTEN):
+            found = runs.run_hosts({name.encode(): [b"DIR"] for name in ("good", *PROGRAMS)}, [], SCRIPT, self.path("temporary"))
         self.assertIsInstance(found[b"good"], list)
         for name, (_, message) in PROGRAMS.items():
             outcome = found[name.encode()]
@@ -181,8 +181,8 @@ class WrongServers(Case):
         """What is kept in memory has a limit of its own."""
         self.wrong("wide", b'{"part": "' + b"x" * 100_000 + b'"}\n')
         self.wrong("high", self.answer.replace(b'{"line": 3', b'{"other": "' + b"x" * 100_000 + b'", "line": 3'))
-        with mock.patch.dict(os.environ, self.environment()), mock.patch.object(side_by_side, "MOST_READ", 90_000):
-            found = side_by_side.run_hosts({name: [b"DIR"] for name in (b"good", b"wide", b"high")}, [], SCRIPT, self.path("temporary"))
+        with mock.patch.dict(os.environ, self.environment()), mock.patch.object(runs, "MOST_READ", 90_000):
+            found = runs.run_hosts({name: [b"DIR"] for name in (b"good", b"wide", b"high")}, [], SCRIPT, self.path("temporary"))
         self.assertIsInstance(found.pop(b"good"), list)
         for outcome in found.values():
             assert isinstance(outcome, Failure)

@@ -14,9 +14,10 @@ from typing import Dict, List, NamedTuple, Tuple
 from common import Case
 from real import RealCase
 
-from facl_commands import changing, live, lists  # noqa: E402
-from facl_commands.lists import Record  # noqa: E402
-from facl_commands.program import Session, find_program  # noqa: E402
+from facl_commands.apply import changing  # noqa: E402
+from facl_commands.base import acl_bytes, live  # noqa: E402
+from facl_commands.base.acl_bytes import Record  # noqa: E402
+from facl_commands.program.session import Session, find_program  # noqa: E402
 
 UIDS, GIDS = range(1, 7), range(11, 16)
 NAMES = {1: b"user:", 2: b"user:", 4: b"group:", 8: b"group:", 16: b"mask:", 32: b"other:"}
@@ -72,7 +73,7 @@ class StandIn(live.OpenFile):
         self.become(self.present._replace(owner=owner, group=group, flags=flags))
 
     def set_mode(self, mode: int) -> None:
-        assert mode & 0o777 == lists.permissions_of(self.present.access)
+        assert mode & 0o777 == acl_bytes.permissions_of(self.present.access)
         self.become(self.present._replace(flags=mode & 0o7000))
 
 
@@ -86,13 +87,13 @@ class Pairs:
         return self.chance.choice((0, 1, 4, 5, 6, 7, 7))
 
     def list(self) -> bytes:
-        entries: Dict[Tuple[int, int], int] = {(tag, lists.NO_ID): self.permissions() for tag in (1, 4, 32)}
+        entries: Dict[Tuple[int, int], int] = {(tag, acl_bytes.NO_ID): self.permissions() for tag in (1, 4, 32)}
         for _ in range(self.chance.choice((0, 0, 1, 2, 3))):
             tag = self.chance.choice((2, 8))
             entries[tag, self.chance.choice(UIDS if tag == 2 else GIDS)] = self.permissions()
         if len(entries) > 3:
-            entries[16, lists.NO_ID] = self.permissions()
-        return lists.bytes_of(entries)
+            entries[16, acl_bytes.NO_ID] = self.permissions()
+        return acl_bytes.bytes_of(entries)
 
     def record(self, is_directory: bool) -> Record:
         flags = self.chance.choice((0, 0, 0o1000, 0o2000, 0o4000, 0o6000, 0o7000))
@@ -207,11 +208,11 @@ class Lists(unittest.TestCase):
         rows = [(1, 7, 0), (2, 4, 9), (2, 5, 3), (4, 4, 0), (16, 5, 0), (32, 0, 0)]
         given = struct.pack("<I", 2) + b"".join(struct.pack("<HHI", *row) for row in rows)
         wanted = [(1, 7, 2**32 - 1), (2, 5, 3), (2, 4, 9), (4, 4, 2**32 - 1), (16, 5, 2**32 - 1), (32, 0, 2**32 - 1)]
-        self.assertEqual(lists.canonical(given), struct.pack("<I", 2) + b"".join(struct.pack("<HHI", *row) for row in wanted))
+        self.assertEqual(acl_bytes.canonical(given), struct.pack("<I", 2) + b"".join(struct.pack("<HHI", *row) for row in wanted))
 
     def test_the_list_of_a_mode(self) -> None:
-        self.assertEqual(lines_of(lists.minimal(0o751)), b"user::rwx\ngroup::r-x\nother::--x\n")
-        self.assertEqual([lists.mode_of(lists.minimal(mode)) for mode in range(0o1000)], list(range(0o1000)))
+        self.assertEqual(lines_of(acl_bytes.minimal(0o751)), b"user::rwx\ngroup::r-x\nother::--x\n")
+        self.assertEqual([acl_bytes.mode_of(acl_bytes.minimal(mode)) for mode in range(0o1000)], list(range(0o1000)))
 
 
 if __name__ == "__main__":

@@ -12,8 +12,8 @@ from common import COMMANDS, HERE, Case
 
 sys.path.insert(0, COMMANDS)
 
-from facl_commands import manual  # noqa: E402
-from facl_commands.program import Session, find_program  # noqa: E402
+from facl_commands.ask import manual  # noqa: E402
+from facl_commands.program.session import Session, find_program  # noqa: E402
 
 REPOSITORY = os.path.join(COMMANDS, "..")
 SHARE = os.fsencode(os.path.join(HERE, "snapshots", "share"))

@@ -13,9 +13,9 @@ from common import COMMANDS, Case
 
 sys.path.insert(0, COMMANDS)
 
-from facl_commands import plan  # noqa: E402
-from facl_commands.scripts import read_script  # noqa: E402
-from facl_commands.snapshot import Snapshot, read_snapshot  # noqa: E402
+from facl_commands.model.snapshot import Snapshot, read_snapshot  # noqa: E402
+from facl_commands.plan import command as plan  # noqa: E402
+from facl_commands.program.scripts import read_script  # noqa: E402
 
 WRITTEN = b"before.plan: is written; next: facl-apply before.plan\n"
 NOBODY = b"; nobody may do anything else than before\n"

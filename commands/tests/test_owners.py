@@ -16,14 +16,15 @@ from common import COMMANDS, Case, outside_the_gate
 
 sys.path.insert(0, COMMANDS)
 
-from facl_commands import owners, tools  # noqa: E402
-from facl_commands.links import Links  # noqa: E402
-from facl_commands.names import path_order, script_word, write_name  # noqa: E402
-from facl_commands.people import People  # noqa: E402
-from facl_commands.program import Session, find_program  # noqa: E402
-from facl_commands.records import Files, read_listing  # noqa: E402
-from facl_commands.scripts import read_script  # noqa: E402
-from facl_commands.snapshot import Snapshot, read_snapshot  # noqa: E402
+from facl_commands.base.names import path_order, script_word, write_name  # noqa: E402
+from facl_commands.model.people import People  # noqa: E402
+from facl_commands.model.records import Files, read_listing  # noqa: E402
+from facl_commands.model.snapshot import Snapshot, read_snapshot  # noqa: E402
+from facl_commands.plan import chown  # noqa: E402
+from facl_commands.plan.hard_links import Links  # noqa: E402
+from facl_commands.program import tools  # noqa: E402
+from facl_commands.program.scripts import read_script  # noqa: E402
+from facl_commands.program.session import Session, find_program  # noqa: E402
 
 
 class Run:
@@ -43,7 +44,7 @@ class Run:
         (unit,) = read_script(b"edits", line + b"\n")
         self.links.before(self.session, unit)
         if unit.is_of(*tools.TOOLS_OF_PLANS):
-            done = owners.restoring(self.session, self.people, unit)
+            done = chown.restoring(self.session, self.people, unit)
             if isinstance(done, bytes):
                 return [done]
             unit = done
@@ -181,20 +182,20 @@ class Stored(Case):
 
     def test_too_many_files(self) -> None:
         before = self.run_of.files()
-        with mock.patch.object(owners, "TEXT_LIMIT", 1000):
+        with mock.patch.object(chown, "TEXT_LIMIT", 1000):
             self.assertEqual(self.run_of.answer(b"chown -R guest srv"), [b"chown: too many files"])
             self.assertEqual(self.run_of.files(), before)
             self.assertEqual(self.run_of.answer(b"chown guest srv"), [])
 
 
 class Left(Case):
-    def left(self, script: bytes) -> List[owners.Left]:
+    def left(self, script: bytes) -> List[chown.Left]:
         run = Run(self.path("before"))
         self.addCleanup(run.session.__exit__, None, None, None)
         before = People(run.snapshot.passwd, run.snapshot.group)
         for line in script.splitlines():
             self.assertEqual(run.answer(line), [])
-        return owners.left_behind(before, run.people, run.files())
+        return chown.left_behind(before, run.people, run.files())
 
     def test_nobody(self) -> None:
         self.assertEqual(self.left(b"userdel guest\nchmod 600 srv/share/one"), [])
@@ -202,25 +203,25 @@ class Left(Case):
 
     def test_owned_and_named(self) -> None:
         (mara,) = self.left(b"userdel mara")
-        self.assertEqual(owners.notes(mara), [
+        self.assertEqual(chown.notes(mara), [
             b"mara is removed and still owns 2 files, first: /srv/share/drafts",
             b"mara is removed and still named in the lists of 1 file, first: /srv/share/notes"])
-        self.assertEqual(owners.comments(mara), [
+        self.assertEqual(chown.comments(mara), [
             b"# mara (uid 1003) still owns 2 files. Put the new owner for NEWOWNER:",
             b"# chown -R -h --from=1003 NEWOWNER -- /srv/share/drafts"])
 
     def test_several(self) -> None:
         found = self.left(b"chown guest srv/share/one srv/share/drafts\nuserdel guest\nuserdel mara")
         self.assertEqual([(left.name, len(left.owned), len(left.named)) for left in found], [(b"mara", 1, 1), (b"guest", 3, 0)])
-        self.assertEqual(owners.comments(found[1])[1], b"# chown -R -h --from=1009 NEWOWNER -- /srv/share")
+        self.assertEqual(chown.comments(found[1])[1], b"# chown -R -h --from=1009 NEWOWNER -- /srv/share")
 
     def test_another_user_with_the_id(self) -> None:
         self.assertEqual(self.left(b"userdel mara\nuseradd -u 1003 -g staff nell"), [])
 
     def test_a_name_that_would_end_the_comment(self) -> None:
         (guest,) = self.left(b"creat -d --user=guest --mode=0755 'srv/share/x\\012rm y'\nuserdel guest")
-        self.assertEqual(owners.comments(guest)[1], b"# chown -R -h --from=1009 NEWOWNER -- /srv/share")
-        self.assertEqual(owners.notes(guest), [b"guest is removed and still owns 1 file, first: /srv/share/x\\012rm y"])
+        self.assertEqual(chown.comments(guest)[1], b"# chown -R -h --from=1009 NEWOWNER -- /srv/share")
+        self.assertEqual(chown.notes(guest), [b"guest is removed and still owns 1 file, first: /srv/share/x\\012rm y"])
 
 
 @outside_the_gate

@@ -16,8 +16,8 @@ from examples import read_lines
 
 sys.path.insert(0, COMMANDS)
 
-from facl_commands import manual  # noqa: E402
-from facl_commands.program import Session, find_program  # noqa: E402
+from facl_commands.ask import manual  # noqa: E402
+from facl_commands.program.session import Session, find_program  # noqa: E402
 
 PASSWD = b"lisa:x:1001:100::/:\njoe:x:1002:200::/:\ndaemon:x:1:1::/:\n"
 GROUP = b"staff:x:100:\nusers:x:200:\ndaemon:x:1:\n"

@@ -12,8 +12,11 @@ from common import COMMANDS, HERE, Case
 
 sys.path.insert(0, COMMANDS)
 
-from facl_commands import links, names, people, records, scripts, superuser, tools  # noqa: E402
-from facl_commands.program import Session, find_program  # noqa: E402
+from facl_commands.base import names  # noqa: E402
+from facl_commands.model import people, records, superuser  # noqa: E402
+from facl_commands.plan import hard_links  # noqa: E402
+from facl_commands.program import scripts, tools  # noqa: E402
+from facl_commands.program.session import Session, find_program  # noqa: E402
 
 
 class Names(unittest.TestCase):
@@ -150,7 +153,7 @@ class Tools(unittest.TestCase):
         self.assertEqual({name: tools.options_that(name, tools.DEEP) for name in (b"rm", b"chacl", b"getfacl", b"can")},
                          {b"rm": {b"-r"}, b"chacl": {b"-r"}, b"getfacl": {b"-R", b"--recursive"}, b"can": set()})
         for word, is_deep in ((b"-R", True), (b"-nRm", True), (b"--recursive", True), (b"-mR", False), (b"--recursively", False), (b"R", False)):
-            self.assertEqual(links.RECURSIVE.match(word) is not None, is_deep)
+            self.assertEqual(hard_links.RECURSIVE.match(word) is not None, is_deep)
 
 
 if __name__ == "__main__":

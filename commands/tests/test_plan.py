@@ -14,10 +14,10 @@ from common import COMMANDS, Case, Done, restore_signals
 
 sys.path.insert(0, COMMANDS)
 
-from facl_commands.links import Links, directory_above, parts_of, question  # noqa: E402
-from facl_commands.program import Session, find_program  # noqa: E402
-from facl_commands.records import File, write_record  # noqa: E402
-from facl_commands.scripts import LINE_LIMIT, read_script  # noqa: E402
+from facl_commands.model.records import File, write_record  # noqa: E402
+from facl_commands.plan.hard_links import Links, directory_above, parts_of, question  # noqa: E402
+from facl_commands.program.scripts import LINE_LIMIT, read_script  # noqa: E402
+from facl_commands.program.session import Session, find_program  # noqa: E402
 
 WRITTEN = b"before.plan: is written; next: facl-apply before.plan\n"
 REQUESTS = [b"--x", b"-w-", b"-wx", b"r--", b"r-x", b"rw-", b"rwx"]

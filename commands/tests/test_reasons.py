@@ -16,8 +16,8 @@ from page_data import Node, nodes_of, read_data
 
 sys.path.insert(0, COMMANDS)
 
-from facl_commands.names import script_word  # noqa: E402
-from facl_commands.program import Session, find_program  # noqa: E402
+from facl_commands.base.names import script_word  # noqa: E402
+from facl_commands.program.session import Session, find_program  # noqa: E402
 
 # Rows of passwd: two of one id, a name of digits alone, one with a blank, and one that is no UTF-8.
 USERS = [b"root:x:0:0:::", b"ines:x:1001:100:::", b"ben:x:1002:100:::", b"twin:x:1002:200:::", b"77:x:1005:300:::", b"jo x:x:1006:400:::",

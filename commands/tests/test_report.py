@@ -21,12 +21,14 @@ from page_data import Node, granted, nodes_of, places_of, read_data, unpacked
 
 sys.path.insert(0, COMMANDS)
 
-from facl_commands import page_columns, page_html, page_tree  # noqa: E402
-from facl_commands.label_answers import Answers  # noqa: E402
-from facl_commands.messages import Failure  # noqa: E402
-from facl_commands.names import path_order, write_name  # noqa: E402
-from facl_commands.new_file import NewFile  # noqa: E402
-from facl_commands.program import OutputSlice, Session, find_program  # noqa: E402
+from facl_commands.base.messages import Failure  # noqa: E402
+from facl_commands.base.names import path_order, write_name  # noqa: E402
+from facl_commands.base.new_file import NewFile  # noqa: E402
+from facl_commands.model.label_answers import LabelAnswers  # noqa: E402
+from facl_commands.page import columns as page_columns  # noqa: E402
+from facl_commands.page import frame as page_html  # noqa: E402
+from facl_commands.page import tree as page_tree  # noqa: E402
+from facl_commands.program.session import OutputSlice, Session, find_program  # noqa: E402
 
 HOSTILE = [b"<script>alert(1)", b"<!--", b"</title><img src=x onerror=alert(1)>", b"&amp;", b"\\033[31m", b"\\351", b"\\342\\200\\250",
            b"\\342\\200\\256x", b"{{7*7}}", b"'\"`", b"c\\012d"]
@@ -258,7 +260,7 @@ def listing_of(names: Iterable[bytes], bodies: Iterable[bytes]) -> OutputSlice:
 class Trees(unittest.TestCase):
     """The files of listings, without the program."""
 
-    def paths_of(self, tree: page_tree.Tree, order: List[int]) -> List[bytes]:
+    def paths_of(self, tree: page_tree.PageTree, order: List[int]) -> List[bytes]:
         paths: Dict[int, bytes] = {page_tree.ABOVE: b""}
         for number in order:
             above = paths[tree.parents[number]]
@@ -277,7 +279,7 @@ class Trees(unittest.TestCase):
                     # Where directories above are not recorded, both listings are the same.
                     found.update(b"/".join(path[:k]) for k in range(1 if seed % 2 else len(path), len(path) + 1))
                 kept.append(sorted(found, key=path_order) if seed % 2 or not kept else kept[0])
-            tree, labels = page_tree.Tree(), page_tree.Labels()
+            tree, labels = page_tree.PageTree(), page_tree.Labels()
             listings = []
             for paths in kept:
                 output = listing_of((write_name(path) or b"." for path in paths), (BODY % len(path) for path in paths))
@@ -298,16 +300,16 @@ class Deep(Case):
 
     def page(self) -> Dict[str, Any]:
         """Its data; users 1 and 2 may search all but the last directory, which is that of user 1 alone."""
-        tree, labels = page_tree.Tree(), page_tree.Labels()
+        tree, labels = page_tree.PageTree(), page_tree.Labels()
         last = b"a/" * self.LEVELS
         names = [b"."] + [b"a/" * k for k in range(1, self.LEVELS + 1)] + [b"a/" * k + b"f" for k in range(self.LEVELS, -1, -1)]
         output = listing_of(names, (BODY % (name == last) for name in names))
         listing = tree.add(page_tree.records_of(output), labels)
         output.file.close()
         vectors, lists = [b"ffff", b"ff01"], [b"other::r-x", b"other::---"]
-        answers = Answers([b"ines", b"ben"], vectors, lists, [[b"other::r-x"] * 2, [b"user::rwx", b"other::---"]])
+        answers = LabelAnswers([b"ines", b"ben"], vectors, lists, [[b"other::r-x"] * 2, [b"user::rwx", b"other::---"]])
         tables, whos = page_columns.Tables(), [page_columns.Who("user", name, name) for name in answers.users]
-        view = page_columns.View(page_columns.State(listing, answers), labels.bodies(), whos, tables)
+        view = page_columns.View(page_columns.PageState(listing, answers), labels.bodies(), whos, tables)
         return page_columns.Builder(tree, whos, view, view, tables).data("deep", False)
 
     def test_a_chain(self) -> None:

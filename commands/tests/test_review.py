@@ -16,8 +16,8 @@ from pdf_text import pages_of
 
 sys.path.insert(0, COMMANDS)
 
-from facl_commands.names import read_name  # noqa: E402
-from facl_commands.program import Session, find_program  # noqa: E402
+from facl_commands.base.names import read_name  # noqa: E402
+from facl_commands.program.session import Session, find_program  # noqa: E402
 
 FOLDER = "srv/finance"
 LOW_CONTRAST = Path(HERE, "contrast.js").read_text(encoding="utf-8")

@@ -12,8 +12,8 @@ from common import COMMANDS, Case
 
 sys.path.insert(0, COMMANDS)
 
-from facl_commands import scratch  # noqa: E402
-from facl_commands.messages import Failure, Interrupted, interrupt  # noqa: E402
+from facl_commands.base import scratch  # noqa: E402
+from facl_commands.base.messages import Failure, Interrupted, interrupt  # noqa: E402
 
 # u::rwx, u:70001:rwx, g::r-x, m::rwx, o::r-x
 DEFAULT_LIST = "02000000" "01000700ffffffff" "0200070071110100" "04000500ffffffff" "10000700ffffffff" "20000500ffffffff"

@@ -17,9 +17,9 @@ from common import COMMANDS, Case, restore_signals
 
 sys.path.insert(0, COMMANDS)
 
-from facl_commands import exchange  # noqa: E402
-from facl_commands.messages import Failure  # noqa: E402
-from facl_commands.program import Session  # noqa: E402
+from facl_commands.base.messages import Failure  # noqa: E402
+from facl_commands.program import exchange  # noqa: E402
+from facl_commands.program.session import Session  # noqa: E402
 
 HEAD = b"""\
 #!%s -IS

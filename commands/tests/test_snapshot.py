@@ -18,7 +18,10 @@ from common import COMMANDS, Case, Done, restore_signals
 
 sys.path.insert(0, COMMANDS)
 
-from facl_commands import by_hand, choice, lists, names, page_columns  # noqa: E402
+from facl_commands.base import acl_bytes, names  # noqa: E402
+from facl_commands.model import choice  # noqa: E402
+from facl_commands.page import columns as page_columns  # noqa: E402
+from facl_commands.plan import by_hand  # noqa: E402
 from test_each import PRINTER, names_of
 
 SNAPSHOT = os.path.join(COMMANDS, "facl-snapshot")
@@ -101,7 +104,7 @@ class SnapshotCase(Case):
         shutil.rmtree(place, ignore_errors=True)
         shutil.copytree(os.path.join(COMMANDS, "facl_commands"), os.path.join(place, "facl_commands"))
         self.command = shutil.copy(SNAPSHOT, place)
-        with open(os.path.join(place, "facl_commands", "recording.py"), "a", encoding="utf-8") as file:
+        with open(os.path.join(place, "facl_commands", "snapshot", "recording.py"), "a", encoding="utf-8") as file:
             file.write(code)
 
     def after_find(self, text: bytes) -> None:
@@ -276,20 +279,20 @@ f' && rm folder gone && mkdir folder && mv d1 d && mv d2 d1 && mv d d2 && mv d3 
     def test_lists_that_facl_does_not_take(self) -> None:
         """The kernel takes several entries of one user, of which the first counts, and of one group, and 8,191 entries."""
         def pack(*entries: Tuple[int, int, int]) -> bytes:
-            return lists.HEAD + b"".join(lists.ENTRY.pack(*entry) for entry in entries)
-        first, last = (lists.USER_OBJ, 6, lists.NO_ID), [(lists.MASK, 7, lists.NO_ID), (lists.OTHER, 4, lists.NO_ID)]
-        own = (lists.GROUP_OBJ, 4, lists.NO_ID)
-        self.add_code(LISTS % (pack(first, (lists.USER, 1, 9), (lists.USER, 7, 9), (lists.USER, 2, 8), own, (lists.GROUP, 4, 7),
-                                    (lists.GROUP, 2, 7), *last), b""))
+            return acl_bytes.HEAD + b"".join(acl_bytes.ENTRY.pack(*entry) for entry in entries)
+        first, last = (acl_bytes.USER_OBJ, 6, acl_bytes.NO_ID), [(acl_bytes.MASK, 7, acl_bytes.NO_ID), (acl_bytes.OTHER, 4, acl_bytes.NO_ID)]
+        own = (acl_bytes.GROUP_OBJ, 4, acl_bytes.NO_ID)
+        self.add_code(LISTS % (pack(first, (acl_bytes.USER, 1, 9), (acl_bytes.USER, 7, 9), (acl_bytes.USER, 2, 8), own, (acl_bytes.GROUP, 4, 7),
+                                    (acl_bytes.GROUP, 2, 7), *last), b""))
         self.expect_status(self.snapshot("new", "tree/b"), 0, b"lists with several entries of one user or group, which are recorded as "
                            b"one, as Linux judges by them: ")
         self.assertTrue(self.read("new/dump").endswith(
             b"\nuser::rw-\nuser:8:-w-\nuser:9:--x\ngroup::r--\ngroup:7:rw-\nmask::rwx\nother::r--\n\n"))
-        code = LISTS % (pack(first, *((lists.USER, 4, number) for number in range(4092)), own, *last), b"")
+        code = LISTS % (pack(first, *((acl_bytes.USER, 4, number) for number in range(4092)), own, *last), b"")
         self.add_code(code)
         self.expect_status(self.snapshot("new", "tree/b"), 1, b"most users that the dump names have no row in passwd")
         self.assertIn(b"\nuser:4091:r--\n", self.read("new/dump"))
-        self.add_code(LISTS % (pack(first, *((lists.USER, 4, number) for number in range(4093)), own, *last), b"")
+        self.add_code(LISTS % (pack(first, *((acl_bytes.USER, 4, number) for number in range(4093)), own, *last), b"")
                       + "of_all = attribute\nlive.attribute = lambda name, key: of_all(name, key) if not os.path.isdir(name) else None\n")
         self.expect_status(self.snapshot("new", "tree"), 1, b"/a/1: has a list of more than 4096 entries, which facl does not take\n")
         self.assertEqual(self.below_tree(), [b"", b"a/"])
@@ -414,12 +417,12 @@ class People(SnapshotCase):
         self.write("group.all", self.groups + b"prim:x:70100:\nlab:x:70101:carl,4711\nstaff:x:70102:\nmore:x:70103:ann\n"
                    b"other:x:70104:eve\n")
         self.write("groups.all", b"bea 70100 70102 70103 70001\ncarl 70101\ndora 70001 70102\nfinn 70001\neve 70104\n")
-        self.lists({(lists.USER, 70010): 4, (lists.GROUP, 70101): 4})
+        self.lists({(acl_bytes.USER, 70010): 4, (acl_bytes.GROUP, 70101): 4})
 
-    def lists(self, entries: lists.Entries) -> None:
+    def lists(self, entries: acl_bytes.Entries) -> None:
         """Has each list these entries too."""
-        more = {(lists.MASK, lists.NO_ID): 7} if entries else {}
-        self.add_code(LISTS % (lists.bytes_of({**lists.entries_of(lists.minimal(0o644)), **entries, **more}), b""))
+        more = {(acl_bytes.MASK, acl_bytes.NO_ID): 7} if entries else {}
+        self.add_code(LISTS % (acl_bytes.bytes_of({**acl_bytes.entries_of(acl_bytes.minimal(0o644)), **entries, **more}), b""))
 
     def test_those_that_are_named(self) -> None:
         """Users and groups by their ids, members by their names, and the groups of these users."""
@@ -468,7 +471,7 @@ class People(SnapshotCase):
         owners and members come first."""
         text = self.read("commands/facl-snapshot").replace(b"most_seconds=300", b"most_seconds=4")
         self.write("commands/facl-snapshot", text)
-        ids: lists.Entries = {(lists.USER, number): 4 for number in range(2_000_000_000, 2_000_001_200)}
+        ids: acl_bytes.Entries = {(acl_bytes.USER, number): 4 for number in range(2_000_000_000, 2_000_001_200)}
         self.lists(ids)
         self.write("commands/facl-snapshot", text)
         os.chmod(self.path("commands/facl-snapshot"), 0o755)
@@ -537,7 +540,7 @@ class People(SnapshotCase):
         for words in (["new", "tree"], ["--quiet", "new", "tree"]):
             self.expect_status(self.snapshot(*words), 1, b"facl-snapshot: there are no users but those of the system: " + text)
         self.write("passwd.list", self.listed)
-        self.lists({(lists.USER, 80001): 4, (lists.USER, 80002): 4})
+        self.lists({(acl_bytes.USER, 80001): 4, (acl_bytes.USER, 80002): 4})
         self.expect_status(self.snapshot("new", "tree"), 1, b"facl-snapshot: most users that the dump names have no row in passwd: " + text)
 
 

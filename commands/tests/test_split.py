@@ -13,13 +13,17 @@ from common import COMMANDS, Case
 
 sys.path.insert(0, COMMANDS)
 
-from facl_commands import audit, check, diff, diff_report, split_tree, texts  # noqa: E402
-from facl_commands.check_report import json_of as json_of_rules  # noqa: E402
-from facl_commands.found_names import FILE, MOST_FILES, Node, Tree  # noqa: E402
-from facl_commands.list_texts import shown_name  # noqa: E402
-from facl_commands.messages import Command, Failure  # noqa: E402
-from facl_commands.program import find_program  # noqa: E402
-from facl_commands.recording import Paths, part_of, sets_of_names  # noqa: E402
+from facl_commands.base.messages import Command, Failure  # noqa: E402
+from facl_commands.model import sources, split_tree  # noqa: E402
+from facl_commands.program.session import find_program  # noqa: E402
+from facl_commands.questions.audit import command as audit  # noqa: E402
+from facl_commands.questions.check import command as check  # noqa: E402
+from facl_commands.questions.check.report import json_of as json_of_rules  # noqa: E402
+from facl_commands.questions.diff import command as diff  # noqa: E402
+from facl_commands.questions.diff import report as diff_report  # noqa: E402
+from facl_commands.snapshot.found_names import FILE, MOST_FILES, NameTree, Node  # noqa: E402
+from facl_commands.snapshot.list_texts import shown_name  # noqa: E402
+from facl_commands.snapshot.recording import PathsOfNodes, part_of, sets_of_names  # noqa: E402
 
 COUNT = 7  # Files of a part.
 USERS = {"anna": 1001, "bert": 1002, "carl": 1003, "dora": 1004}
@@ -72,7 +76,7 @@ class World:
 
     def nodes(self) -> List[Node]:
         """All names, as facl-snapshot has them in memory, by their components."""
-        tree = Tree(MOST_FILES)
+        tree = NameTree(MOST_FILES)
         for path, it in self.files.items():
             above, _, name = (b"/" + path).rpartition(b"/")
             node = tree.folder(b"/" + path + b"/" * (path != b"")) if it.is_folder else tree.child(tree.folder(above + b"/"), name, FILE)
@@ -91,7 +95,7 @@ class World:
 
     def write_part(self, folder: str, nodes: List[Node], more: bytes = b"") -> None:
         nodes = sorted(nodes, key=lambda node: node.rank)
-        paths = Paths()
+        paths = PathsOfNodes()
         names = [paths.of(node) for node in nodes]
         groups = "".join("%s:x:%d:%s\n" % (name, gid, ",".join(members)) for name, (gid, members) in self.groups.items())
         written: Dict[str, bytes] = {
@@ -130,7 +134,7 @@ class SplitCase(Case):
     def audited(self, name: str) -> Tuple[object, ...]:
         given = audit.parse(["--json", self.path(name)])
         folder = os.fsencode(self.path(name))
-        found = audit.report_of(given, texts.Source(folder, folder, False), find_program(None))
+        found = audit.report_of(given, sources.Source(folder, folder, False), find_program(None))
         return (found.files, found.folders, found.is_whole, {kind: sorted(its) for kind, its in found.findings.items()},
                 [kind.name for kind in found.kinds()])
 
@@ -139,7 +143,7 @@ class SplitCase(Case):
         os.chmod(self.path("rules"), 0o600)
         given = check.parse(["--json", self.path(name), self.path("rules")])
         folder = os.fsencode(self.path(name))
-        found = check.report_of(given, texts.Source(folder, folder, False), find_program(None))[0]
+        found = check.report_of(given, sources.Source(folder, folder, False), find_program(None))[0]
         return {key: value for key, value in json_of_rules(found).items() if key != "snapshot"}
 
 

@@ -16,10 +16,11 @@ from common import COMMANDS, HERE, Case
 
 sys.path.insert(0, COMMANDS)
 
-from facl_commands import choice, names, tables  # noqa: E402
-from facl_commands.messages import Failure  # noqa: E402
-from facl_commands.program import Session, find_program  # noqa: E402
-from facl_commands.tables import Column  # noqa: E402
+from facl_commands.base import names, tables  # noqa: E402
+from facl_commands.base.messages import Failure  # noqa: E402
+from facl_commands.base.tables import Column  # noqa: E402
+from facl_commands.model import choice  # noqa: E402
+from facl_commands.program.session import Session, find_program  # noqa: E402
 
 PASSWD = b"".join(b"%s:x:%d:100::/:\n" % row for row in (
     (b"root", 0), (b"toor", 0), (b"daemon", 1), (b"svc", 999), (b"ann", 1000), (b"bob", 59999), (b"home", 60513), (b"dyn", 60514), (b"old", 65533),
@@ -89,7 +90,7 @@ class Fields(unittest.TestCase):
 
     @unittest.skipIf(shutil.which("node") is None, "it takes node")
     def test_the_page_has_the_same_marks(self) -> None:
-        with open(os.path.join(COMMANDS, "facl_commands", "report.js"), encoding="utf-8") as file:
+        with open(os.path.join(COMMANDS, "facl_commands", "page", "report.js"), encoding="utf-8") as file:
             function = next(line for line in file if line.startswith("function field("))
         texts = [start + end for start in ("", "-", "--", "-w", "-x", "r", "=", "+", "@", "'", '"', "\r", "a", "-\t") for end in ("", "x", "-", "1", "xx", "w-x", "w- r-x", "w- =1")]
         done = subprocess.run(["node", "-e", function + "console.log(JSON.stringify(%s.map(field)))" % json.dumps(texts)], capture_output=True, check=True)

@@ -10,7 +10,7 @@ from common import COMMANDS, Case
 
 sys.path.insert(0, COMMANDS)
 
-from facl_commands.program import find_program  # noqa: E402
+from facl_commands.program.session import find_program  # noqa: E402
 
 # Runs the program as it is, but where it is asked for the bytes of lists: there `bodies` changes the records that it is given,
 # and `answers` what it prints. Else `listings` changes the records.

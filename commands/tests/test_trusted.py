@@ -7,8 +7,8 @@ import unittest
 from common import Case
 from real import RealCase
 
-from facl_commands import trusted  # noqa: E402
-from facl_commands.messages import Failure  # noqa: E402
+from facl_commands.base import trusted  # noqa: E402
+from facl_commands.base.messages import Failure  # noqa: E402
 
 as_root = unittest.skipUnless(os.geteuid() == 0, "only for root, who can give files away")
 EVERYBODY = b": can be written by everybody, so it is not trusted\n"
@@ -156,7 +156,7 @@ class PlansInTheirPlace(RealCase):
         self.assertEqual(self.read("before.plan/notes"), b"mine")
 
     def test_one_lock(self) -> None:
-        from facl_commands import plan_folder
+        from facl_commands.planned import plan_folder
 
         folder = plan_folder.open_plan(os.fsencode(self.path("before.plan")))
         self.addCleanup(os.close, folder.descriptor)

@@ -1,0 +1,249 @@
+"""facl-apply: takes a plan to the live system, or takes it back."""
+from __future__ import annotations
+
+import argparse
+import grp
+import os
+import pwd
+from collections import Counter
+from typing import Callable, Dict, List, Mapping, Tuple
+
+from ..base import live
+from ..base.acl_bytes import Record
+from ..base.live import Seen
+from ..base.messages import Command, Failure, counted, parser_of, reason, signals_wait
+from ..base.names import live_name, path_order, shell_word
+from ..model import meta
+from ..planned import by_hand_done, differences, plan_files, plan_folder
+from .carrying import Carrier
+from .direction import Direction, Look, Obstacles, look_at, read_way, unexpected
+
+DONE, NOT_DONE, NOTHING, IN_PART = 0, 1, 3, 4
+HELP = """\
+Gives the files of a PLAN, which facl-plan wrote, their new owners, groups, flags and access control lists. Run it as
+root, or as the owner of all of them.
+
+First the files are compared with what they were when the plan was made: where somebody changed or replaced one
+meanwhile, they are named, and nothing is touched. Then each gets its new record, and is compared with the plan: where
+one differs, it is named, and all get their old records back. So they do where the command is interrupted. Where it is
+killed, run it again, to go on or with --undo: PLAN has what it was about.
+
+Each file is opened once, without following a symbolic link, and is known by its descriptor from then on: whatever
+others do to its name, no other file is changed. What a plan cannot do is in PLAN/by_hand, which is not run.
+"""
+STATUS = """\
+The exit status is 0 where it is done, and 3 where there is nothing to do; 1 where it is not done, and the files are
+as they were; 2 where the words, the plan or the system do not allow it, and nothing is touched; 4 where files are
+neither as they were nor as they should be: they are named; 5 where it is done, and that could not be written.
+"""
+
+
+def parse(words: List[str]) -> argparse.Namespace:
+    parser = parser_of("facl-apply", HELP, STATUS)
+    parser.add_argument("--dry-run", action="store_true", help="compare, say which files would be changed, and stop")
+    parser.add_argument("--undo", action="store_true",
+                        help="give the files their old records, with the same comparisons")
+    parser.add_argument("--leave-changed", action="store_true",
+                        help="with --undo: leave out files that somebody changed or removed since")
+    parser.add_argument("--drop-capabilities", action="store_true",
+                        help="change owners and groups of files with capabilities too, which they lose by that")
+    parser.add_argument("plan", metavar="PLAN")
+    given = parser.parse_args(words)
+    if given.leave_changed and not given.undo:
+        parser.error("--leave-changed is for --undo")
+    return given
+
+
+def say_cut_off(command: Command, way: Direction, look: Look) -> None:
+    if not way.was_cut_off():
+        return
+    files = way.work.files
+    old = sum(seen.record == files[path].old for path, seen in look.files.items())
+    new = sum(seen.record == files[path].new for path, seen in look.files.items())
+    command.say(b"an earlier run was cut off: %d as they were, %d as planned, %d between the two" %
+                (old, new, len(look.files) - old - new))
+
+
+def say_list(command: Command, way: Direction, found: Dict[bytes, bytes], files: Mapping[bytes, Seen] = {}) -> None:
+    """Each file; where it is one of those that were looked at, with what was and what is."""
+    when = b"by the plan" if way.is_undo else b"in the snapshot"
+    for path in sorted(found, key=path_order):
+        command.say(live_name(path) + b": " + found[path])
+        for line in differences.lines(way.start(path), files[path].record, when) if path in files else ():
+            command.say(b"    " + line)
+
+
+def say_changed(command: Command, way: Direction, look: Look, found: Dict[bytes, bytes]) -> None:
+    say_list(command, way, found, look.files)
+    count = counted(len(found), "file is", "files are")
+    if way.is_undo:
+        command.say(count + b" not as the plan left " + (b"it" if len(found) == 1 else b"them")
+                    + b", so nothing is touched; --leave-changed takes back the others")
+    else:
+        command.say(count + b" not as in the snapshot, so nothing is touched: make a new snapshot and a new plan")
+
+
+def nothing_to_do(command: Command, way: Direction) -> bool:
+    """Whether the state of the plan leaves nothing to do."""
+    name = way.folder.name
+    if not way.work.files:
+        command.say(name + b": has no records to change")
+    elif way.is_undo and way.state in (b"", plan_folder.UNDONE):
+        command.say(name + b": is not applied, so there is nothing to undo")
+    elif not way.is_undo and way.state == plan_folder.APPLIED:
+        command.say(name + b": is applied already; --undo takes it back")
+    else:
+        return False
+    return True
+
+
+def warn_of_inodes(command: Command, way: Direction) -> None:
+    if way.journal is None and plan_files.NOWHERE in (file.identity for file in way.work.files.values()):
+        command.say(b"warning: the snapshot has no inodes, so a file that was replaced by one of the same owner, "
+                    b"group, flags and "
+                    b"lists is not known")
+
+
+def warn_of_host(command: Command, way: Direction) -> None:
+    about = meta.read_meta(way.folder.read(meta.NAME)) if way.folder.has(meta.NAME) else meta.UNKNOWN
+    if meta.is_of_another_host(about):
+        command.say(b"warning: the snapshot is " + about.text() + b", which is another host than this one")
+
+
+def warn_of_names(command: Command, look: Look) -> None:
+    plain = {path: seen for path, seen in look.files.items() if seen.names > 1 and not seen.is_directory}
+    names = Counter(seen.identity for seen in plain.values())
+    found = [path for path, seen in plain.items() if seen.names > names[seen.identity]]
+    if found:
+        command.say(b"warning: files with names that are not in the plan, which are the same files: %d, first: %s" %
+                    (len(found), live_name(found[0])))
+
+
+def end(command: Command, way: Direction, carrier: Carrier, state: bytes) -> None:
+    """Where the state of the plan cannot be written, it looks like one that was cut off, and --undo goes all the
+    same."""
+    try:
+        carrier.end(state)
+    except OSError as error:
+        command.say(way.folder.name + b": cannot be written: " + reason(error)
+                    + b"; facl-apply will say that it was cut off")
+
+
+def put_back(command: Command, way: Direction, carrier: Carrier) -> int:
+    """Gives back what was there before this run."""
+    left = carrier.put_back()
+    if left:
+        return say_in_part(command, way, left)
+    end(command, way, carrier, plan_folder.UNDONE)
+    command.say(b"the old owners, groups, flags and lists are back")
+    return NOT_DONE
+
+
+def say_in_part(command: Command, way: Direction, left: Dict[bytes, bytes]) -> int:
+    say_list(command, way, left)
+    command.say(counted(len(left), "file is", "files are")
+                + b" not as before: mend what keeps facl-apply from it, then run "
+                b"facl-apply --undo " + shell_word(way.folder.name))
+    return IN_PART
+
+
+def carry_out(command: Command, way: Direction, carrier: Carrier, is_whole: bool) -> int:
+    """Gives the files their new records, or the old ones back. A signal waits until one of these is done; it is the
+    status only where the files are as they were, since else 0 or 4 says more."""
+    with signals_wait():
+        try:
+            carrier.begin()
+        except OSError as error:
+            raise Failure(way.folder.name + b": cannot be written: " + reason(error)
+                          + b"; nothing is touched") from error
+        try:
+            status = give_all(command, way, carrier, is_whole)
+        except MemoryError:
+            command.say(b"memory ran out, so files may be neither as they were nor as they should be: run facl-apply --undo "
+                        + shell_word(way.folder.name))
+            status = IN_PART
+        if status != NOT_DONE:
+            plan_folder.ignore_signals()
+    return status
+
+
+def give_all(command: Command, way: Direction, carrier: Carrier, is_whole: bool) -> int:
+    left = carrier.run()
+    if way.is_undo and left:
+        return say_in_part(command, way, left)
+    if left or carrier.is_stopped() and not way.is_undo:
+        say_list(command, way, left)
+        return put_back(command, way, carrier)
+    whole = plan_folder.UNDONE if way.is_undo else plan_folder.APPLIED
+    end(command, way, carrier, whole if is_whole else plan_folder.UNDONE_IN_PART)
+    command.tell(counted(len(carrier.seen), "file is", "files are")
+                 + (b" as before" if way.is_undo else b" as planned"))
+    return DONE
+
+
+def say_without_row(command: Command, records: List[Record]) -> None:
+    """Names the ids in the `records` of files that no user or group has now: the next one who gets such an id has the
+    files."""
+    sides: List[Tuple[bytes, Counter[int], Callable[[int], object]]] = [
+        (b"user", Counter(record.owner for record in records), pwd.getpwuid),
+        (b"group", Counter(record.group for record in records), grp.getgrgid),
+    ]
+    for kind, counts, look_up in sides:
+        for number, count in sorted(counts.items()):
+            try:
+                look_up(number)
+            except KeyError:
+                command.say(counted(count, "file belongs", "files belong")
+                            + b" to the %s id %d, which has no %s now" % (kind, number, kind))
+
+
+def by_hand(way: Direction) -> List[bytes]:
+    """The line that names what is to be done by hand, where there is something. It is made before anything is touched:
+    a script that cannot be read has no part in what is said of the files."""
+    if not way.is_undo:
+        is_left = by_hand_done.is_left(way.folder)
+        return [b"still to be done by hand: sh " + shell_word(way.file(b"by_hand"))] if is_left else []
+    try:
+        is_left = by_hand_done.is_to_take_back(way.folder)
+    except Failure as failure:  # The way back of files does not depend on it.
+        return [failure.text]
+    return [b"to take back what by_hand did: sh " + shell_word(way.file(b"by_hand_undo"))] if is_left else []
+
+
+def body(command: Command, words: List[str]) -> int:
+    given = parse(words)
+    live.check_proc()
+    way = read_way(plan_folder.open_plan(os.fsencode(given.plan)), given.undo)
+    rest = by_hand(way)
+    if nothing_to_do(command, way):
+        for line in rest:
+            command.tell(line)
+        return NOTHING
+    warn_of_host(command, way)
+    look = look_at(way, way.work.files)
+    changed = unexpected(way, look)
+    say_cut_off(command, way, look)
+    if changed and not given.leave_changed:
+        say_changed(command, way, look, changed)
+        return NOT_DONE
+    if changed:
+        left = {path: text + b"; it is left as it is" for path, text in changed.items()}
+        say_list(command, way, left, look.files)
+        look = look.without(changed)
+    obstacles = Obstacles(way, given.drop_capabilities).all(look)
+    if obstacles:
+        say_list(command, way, obstacles)
+        raise Failure(b"nothing is touched")
+    warn_of_names(command, look)
+    warn_of_inodes(command, way)
+    if given.dry_run:
+        for path in [*look.files, *look.later]:
+            command.tell(b"would change " + live_name(path) + b": " + differences.parts(way.start(path), way.end(path)))
+        return DONE
+    carrier = Carrier(way, look)
+    status = carry_out(command, way, carrier, not changed)
+    for line in rest if status == DONE else []:
+        command.tell(line)
+    if status == DONE and way.is_undo:
+        say_without_row(command, [way.end(path) for path in carrier.seen])
+    return status

@@ -1,0 +1,171 @@
+"""What a word of a line can be completed to: tools, options, users, groups, entries and paths."""
+from __future__ import annotations
+
+import bisect
+import re
+from typing import Callable, Iterator, List, NamedTuple, Optional, Tuple
+
+from ..base.names import read_path, shown, sorting_key
+from ..model.people import rows_of
+from ..program.protocol import FILE_LINE
+from ..program.scripts import words_of
+from ..program.tools import ENTRIES, FILE, GROUP, OTHER, TOOLS, USER, VALUES, operand_kinds, options_of_tool, split
+from .manual import Page
+
+CANDIDATES = 200  # The most that one word is offered.
+TOOL_WORDS = [tool.decode() for tool in TOOLS]
+NAMED_ENTRY = re.compile(r"((?:d(?:efault)?:)?(u(?:ser)?|g(?:roup)?):)([^:]*)\Z")
+PLAIN_WORD = re.compile(r"[A-Za-z0-9_./:=@%+,~^-]*\Z")
+
+
+class Started(NamedTuple):
+    """The word that is being written, and the words before it."""
+
+    start: int  # Where it starts in the line.
+    word: str  # Without quotes.
+    before: List[bytes]
+
+
+def started_word(line: str) -> Optional[Started]:
+    """The last word of a line, which may have an open quote; None in a comment."""
+    if line.lstrip(" \t").startswith("#"):
+        return None
+    start, is_open = 0, False
+    for place, letter in enumerate(line):
+        if letter == "'":
+            is_open = not is_open
+        elif letter in " \t" and not is_open:
+            start = place + 1
+    before = words_of(line[:start].encode("utf-8", "surrogateescape")) or []
+    return Started(start, line[start:].replace("'", ""), before)
+
+
+class CompletedPaths:
+    """The recorded paths, in an order in which those below a directory follow it."""
+
+    def __init__(self, dump: bytes) -> None:
+        names = re.findall(FILE_LINE, dump, re.MULTILINE)
+        self.keys = sorted({sorting_key(read_path(name)) for name in names})
+
+    def add(self, path: bytes) -> None:
+        key = sorting_key(path)
+        place = bisect.bisect_left(self.keys, key)
+        if self.keys[place : place + 1] != [key]:
+            self.keys.insert(place, key)
+
+    def remove(self, path: bytes) -> None:
+        """Without the path, and without those below it."""
+        key = sorting_key(path)
+        del self.keys[bisect.bisect_left(self.keys, key) : bisect.bisect_left(self.keys, key + b"\1")]
+
+    def below(self, directory: bytes, start: bytes) -> Iterator[Tuple[bytes, bool]]:
+        """The names in a directory that have this start, and whether other paths are below them."""
+        prefix = sorting_key(directory) + b"\0" if directory else b""
+        place = bisect.bisect_left(self.keys, prefix + start)
+        while place < len(self.keys) and self.keys[place].startswith(prefix + start):
+            name, has_more, _ = self.keys[place][len(prefix) :].partition(b"\0")
+            following = bisect.bisect_left(self.keys, prefix + name + b"\0")
+            is_directory = bool(has_more) or any(
+                key.startswith(prefix + name + b"\0") for key in self.keys[following : following + 1]
+            )
+            if name:
+                yield name, is_directory
+            place = bisect.bisect_left(self.keys, prefix + name + b"\1")
+
+
+def written(name: bytes) -> str:
+    """A name as a person writes it in a script, but for quotes."""
+    text = shown(name.replace(b"\\", b"\\\\")).decode()
+    return re.sub(r"[\t']", lambda found: "\\%03o" % ord(found[0]), text)
+
+
+def quoted(word: str, is_whole: bool) -> str:
+    """A word with its quotes where it needs them; without the last one where the word goes on."""
+    if PLAIN_WORD.match(word):
+        return word
+    return "'" + word + "'" * is_whole
+
+
+class Completer:
+    """Completes words over a snapshot."""
+
+    def __init__(self, page: Optional[Page], passwd: bytes, group: bytes, dump: Callable[[], bytes],
+                 more: List[str]) -> None:
+        self.page = page
+        self.users = [written(row[0]) for row in rows_of(passwd)]
+        self.groups = [written(row[0]) for row in rows_of(group)]
+        self.more = more  # Words of the prompt itself.
+        self.dump = dump
+        self.known: Optional[CompletedPaths] = None
+
+    def paths(self) -> CompletedPaths:
+        """Read when they are first asked for."""
+        if self.known is None:
+            self.known = CompletedPaths(self.dump())
+        return self.known
+
+    def complete(self, line: str) -> Tuple[int, List[str]]:
+        """Where the last word of a line starts, and what it can be."""
+        started = started_word(line)
+        if started is None:
+            return len(line), []
+        found = self.words(started)
+        return started.start, [word for _, word in zip(range(CANDIDATES), found)]
+
+    def words(self, started: Started) -> Iterator[str]:
+        if not started.before:
+            return (word + " " for word in [*TOOL_WORDS, *self.more] if word.startswith(started.word))
+        tool = started.before[0]
+        if tool == b"help":
+            topics = [*self.page.tools, *self.page.sections] if self.page else []
+            return (topic for topic in topics if topic.startswith(started.word))
+        if started.word.startswith("-") and b"--" not in started.before:
+            return self.options(tool, started.word)
+        return self.values(kind_of(started.before), started.word)
+
+    def options(self, tool: bytes, word: str) -> Iterator[str]:
+        name, is_value, value = word.partition("=")
+        if is_value:
+            kind = VALUES.get(tool, {}).get(name.encode("utf-8", "surrogateescape"), OTHER)
+            return (name + "=" + found for found in self.values(kind, value))
+        return (option for option in map(bytes.decode, options_of_tool(tool)) if option.startswith(word))
+
+    def values(self, kind: str, word: str) -> Iterator[str]:
+        if kind in (USER, GROUP):
+            names = self.users if kind == USER else self.groups
+            return (quoted(name, True) + " " for name in names if name.startswith(word))
+        if kind == ENTRIES:
+            return self.entries(word)
+        return self.files(word) if kind == FILE else iter(())
+
+    def entries(self, word: str) -> Iterator[str]:
+        """Names of the last entry of a word."""
+        before, comma, last = word.rpartition(",")
+        found = NAMED_ENTRY.match(last)
+        if found is None:
+            return iter(())
+        names = self.users if found[2].startswith("u") else self.groups
+        return (quoted(before + comma + found[1] + name + ":", False) for name in names if name.startswith(found[3]))
+
+    def files(self, word: str) -> Iterator[str]:
+        """The paths that go on from a word, up to the next slash."""
+        head, slash, last = word.rpartition("/")
+        directory = read_path(head.encode("utf-8", "surrogateescape"))
+        for name, is_directory in self.paths().below(directory, read_path(last.encode("utf-8", "surrogateescape"))):
+            yield quoted(head + slash + written(name) + "/" * is_directory, not is_directory) + " " * (not is_directory)
+
+    def ending(self, name: bytes) -> List[bytes]:
+        """Recorded paths whose last components are these, at most three."""
+        end = b"\0" + sorting_key(name)
+        found = (key.replace(b"\0", b"/") for key in self.paths().keys if key.endswith(end))
+        return [path for _, path in zip(range(3), found)]
+
+
+def kind_of(words: List[bytes]) -> str:
+    """What the next word of a line is."""
+    values = VALUES.get(words[0], {})
+    if len(words) > 1 and words[-1] in values:
+        return values[words[-1]]
+    line = split(words)
+    kinds = operand_kinds(words[0], line) or [OTHER]
+    return kinds[min(len(line.operands), len(kinds) - 1)]

@@ -1,0 +1,2 @@
+"""facl-ask over several snapshots of one tree, and on several servers: each answers the script, and the answers are
+joined."""

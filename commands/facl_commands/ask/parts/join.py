@@ -1,0 +1,277 @@
+"""facl-ask --each: a script over several snapshots side by side, by GNU parallel, with the answers joined in path
+order.
+
+The snapshots have to be parts of one tree (agreement.py). Each answers the whole script (worker.py). A line is
+then taken where the snapshots agree on it. One that is not taken, since its files lie in several snapshots, may have
+been done by some of them: then all answer the script again, without it.
+"""
+from __future__ import annotations
+
+import argparse
+import heapq
+import os
+from typing import Dict, Iterator, List, NamedTuple, Optional, Set, Tuple
+
+from ...base import scratch
+from ...base.messages import Command, Failure
+from ...base.names import path_order, read_path, sorting_key, write_name
+from ...model import overview
+from ...model.records import path_of
+from ...model.superuser import Superusers
+from ...program.answering import below_heading, lines_for_terminal, write_messages
+from ...program.protocol import ANSWERED, FILE_HEAD, PROGRAM, REFUSED, is_refused, lacking_file, lacks_file, message_of
+from ...program.scripts import Script, Unit, read_text
+from ...program.session import OutputSlice, lines_of
+from ...program.tools import (
+    ALL, CHANGES_OF_PEOPLE, COUNTING, DEEP, EDITS, LOOK, OF_RECORDS, TEST, options_that, path_in, split,
+)
+from . import agreement, counts
+from .runs import HERE, NOT_READABLE, SECONDS, Answered, Part, program_option, run_hosts
+from .runs import hosts_of as hosts_of
+
+SEVERAL = b"its files lie in several snapshots; name those of one in a line of its own"
+Item = Tuple[bytes, int, bytes]  # A path, the number of its snapshot, and what is printed for it.
+
+
+class Joined(NamedTuple):
+    """What a line prints, and its messages."""
+
+    output: Iterator[bytes]
+    messages: List[bytes]
+    is_dropped: bool = False  # Whether the script is answered again without it.
+
+
+def path_key(name: bytes) -> bytes:
+    """What printed names of files are sorted by: the order of their paths."""
+    return sorting_key(path_of(name))
+
+
+def items_of(unit: Unit, place: int, output: OutputSlice) -> Optional[Iterator[Item]]:
+    """What a line printed, file by file; None where it names no files."""
+    tool = unit.tool()
+    if tool in OF_RECORDS:
+        start = output._replace(end=min(output.end, output.start + len(FILE_HEAD))).read()
+        if start in (b"", FILE_HEAD):
+            records = ((it.partition(b"\n")[0][len(FILE_HEAD) :], it + b"\n\n") for it in output.records())
+            return ((path_key(name), place, text) for name, text in records)
+    elif tool in ALL and "PATH" in ALL[tool].prints:
+        return ((path_key(path_in(tool, line)), place, line + b"\n") for line in output.lines())
+    return None
+
+
+def merged(streams: List[Iterator[Item]]) -> Iterator[bytes]:
+    """The files in path order; of one that several snapshots have, what the first of them printed."""
+    last: Optional[Tuple[bytes, int]] = None
+    for key, place, text in heapq.merge(*streams, key=lambda item: item[:2]):
+        if last is not None and last[0] == key and last[1] != place:
+            continue
+        last = (key, place)
+        yield text
+
+
+def refused(unit: Unit, text: bytes, is_dropped: bool = False) -> Joined:
+    return Joined(iter(()), [message_of(unit.tool() or PROGRAM, text)], is_dropped)
+
+
+def join_accepted(unit: Unit, accepted: List[Answered]) -> Joined:
+    """What the snapshots that accepted a line printed."""
+    outputs = [it.output for it in accepted]
+    streams = [items_of(unit, place, output) for place, output in enumerate(outputs)]
+    messages = accepted[0].header.messages
+    if None not in streams:
+        return Joined(merged([stream for stream in streams if stream is not None]), messages)
+    if unit.is_of(*OF_RECORDS) and len(outputs) > 1 and is_recursive(unit):
+        return refused(unit, b"a listing of several snapshots is joined by its headers; omit -c")
+    return Joined(outputs[0].pieces(), messages)
+
+
+class CountsOfParts(NamedTuple):
+    """What the joining of lines that count needs."""
+
+    users: counts.Users
+    fault: bytes  # Why there are no sums; empty where there are.
+
+
+def join_counts(unit: Unit, answers: List[Answered], joining: CountsOfParts) -> Joined:
+    """The sums of the snapshots that have some of the files of a line that counts."""
+    headers = [it.header for it in answers]
+    refusal = counts.refusal(unit, [it.messages for it in headers], [it.lacks for it in headers])
+    accepted = [it for it in answers if not it.is_refused()]
+    if refusal or not accepted:
+        return Joined(iter(()), refusal or headers[0].messages)
+    if joining.fault and len(accepted) > 1:
+        return refused(unit, joining.fault)
+    sums = counts.sums_of(unit, [(it.output.lines(), it.header.shared) for it in accepted])
+    return Joined(iter(counts.lines_of_sums(unit, sums, joining.users)), [])
+
+
+def join_all(units: List[Unit], parts: List[Part], dropped: Dict[int, Joined], fault: bytes) -> Dict[int, Joined]:
+    """The answers to all lines, of which some are dropped."""
+    users = {name: number for part in parts for name, number in part.head.users.items()}
+    groups = {name: number for part in parts for name, number in part.head.groups.items()}
+    joining = CountsOfParts(counts.Users(users, groups), fault)
+    joined: Dict[int, Joined] = {}
+    for unit in units:
+        answer = dropped.get(unit.number)
+        if answer is None:
+            answers = [part.answers[unit.number] for part in parts]
+            answer = join_counts(unit, answers, joining) if unit.is_of(*COUNTING) else join(unit, answers)
+        if not is_refused(answer.messages):
+            joining.users.follow(unit)
+        joined[unit.number] = answer
+    return joined
+
+
+def join(unit: Unit, answers: List[Answered]) -> Joined:
+    """A line's answer by all snapshots."""
+    accepted = [it for it in answers if not it.is_refused()]
+    others = [it.header.messages for it in answers if it.is_refused() and not lacks_file(it.header.messages)]
+    if not accepted:
+        return join_refusals(unit, answers)
+    if is_edit(unit):
+        # Each snapshot that has a file of an edit has to have all, and to take it too; and what goes to all files below
+        # has to be in one snapshot.
+        concerned = [it for it in answers if it.header.has]
+        is_several = len(concerned) > 1 and is_recursive(unit)
+        if is_several or any(it.header.lacks or it.is_refused() for it in concerned):
+            return refused(unit, SEVERAL, is_dropped=True)
+    elif unit.is_of(*CHANGES_OF_PEOPLE) and len(accepted) < len(answers):
+        return refused(unit, b"the snapshots have other users or groups", is_dropped=True)
+    elif others:
+        return Joined(iter(()), others[0])
+    return join_accepted(unit, accepted)
+
+
+def is_edit(unit: Unit) -> bool:
+    """Whether a line changes files. A word --test is taken for the option anywhere in it."""
+    is_look = TEST in unit.words or split(unit.words).has(*options_that(unit.tool(), LOOK))
+    return unit.is_of(*EDITS) and not is_look
+
+
+def is_recursive(unit: Unit) -> bool:
+    """Whether a line goes to all files below."""
+    return split(unit.words).has(*options_that(unit.tool(), DEEP))
+
+
+def join_refusals(unit: Unit, answers: List[Answered]) -> Joined:
+    """The message of a line that no snapshot accepts: one that is not about a missing file comes first, and then one
+    about a file that no snapshot has."""
+    messages = [it.header.messages for it in answers]
+    others = [it for it in messages if not lacks_file(it)]
+    known = {read_path(write_name(name)) for it in answers for name in it.header.has}
+    missing = {read_path(lacking_file(it[0])): it for it in reversed(messages) if lacks_file(it)}
+    found = others or [missing[path] for path in sorted(set(missing) - known, key=path_order)]
+    return Joined(iter(()), found[0]) if found else refused(unit, SEVERAL)
+
+
+def without(script: bytes, units: List[Unit], dropped: Set[int]) -> bytes:
+    """The script with comments in the place of some of its lines."""
+    lines = script.split(b"\n")
+    for unit in units:
+        if unit.number in dropped:
+            lines[unit.number - 1 : unit.number - 1 + len(unit.lines)] = [b"#"] * len(unit.lines)
+    return b"\n".join(lines)
+
+
+def say_notices(command: Command, parts: List[Part]) -> None:
+    """What the snapshots cannot tell, each of it once, and how many lists with an empty mask they have."""
+    known: Dict[bytes, bytes] = {}
+    for part in parts:
+        for text in part.head.unknown:
+            known.setdefault(text, part.label)
+    for text, label in known.items():
+        command.say(label + b": " + text)
+    names = sorted({name for part in parts for name in part.head.masks}, key=lambda name: path_order(read_path(name)))
+    if names:
+        command.say(overview.warning_of(overview.EMPTY_MASKS, names))
+
+
+def recorded_in(parts: List[Part]) -> List[agreement.RecordedPart]:
+    return [agreement.RecordedPart(it.label, it.head.users, it.head.groups, it.files) for it in parts]
+
+
+def check_agreement(parts: List[Part]) -> None:
+    """Fails where snapshots are not parts of one tree."""
+    fault = agreement.disagreement(recorded_in(parts))
+    if fault is not None:
+        raise Failure(fault + b", so they are no parts of one tree: ask servers by --hosts NAME:DIR..")
+
+
+def superusers_of(parts: List[Part], with_root: bool) -> Superusers:
+    """Who is left out of answers about people."""
+    ids = {name.encode("latin-1"): number for part in parts for name, number in part.head.users.items()}
+    return Superusers({} if with_root else ids)
+
+
+def run_parts(hosts: Dict[bytes, List[bytes]], options: List[bytes], script: bytes, work: str,
+              seconds: int) -> List[Part]:
+    """The answers of all snapshots, of which those of another machine end after `seconds`."""
+    parts: List[Part] = []
+    for host, outcome in run_hosts(hosts, options, script, work, seconds).items():
+        if isinstance(outcome, Failure):
+            raise Failure((b"" if host == HERE else host + b": ") + outcome.text)
+        parts += outcome
+    return parts
+
+
+def answer_script(command: Command, script: Script, hosts: Dict[bytes, List[bytes]], given: argparse.Namespace,
+                  work: str) -> int:
+    """Answers a script over all snapshots, again where it has lines that count, and for each line that is dropped."""
+    units = script.units()
+    dropped: Dict[int, Joined] = {}
+    program = program_option(given.program)
+    is_one = sum(map(len, hosts.values())) == 1
+    seconds = given.timeout or SECONDS
+    parts = run_parts(hosts, [*[b"--records"] * (not is_one), *program], script.text, work, seconds)
+    check_agreement(parts)
+    say_notices(command, parts)
+    is_counting = any(unit.is_of(*COUNTING) for unit in units)
+    shared = agreement.files_of_several(recorded_in(parts)) if is_counting else []
+    options = counts.shared_options(shared)
+    fault = counts.too_many(shared) if options is None else b""
+    is_answered = not options  # Else they answer again, and say what they count of the files that several have.
+    while True:
+        if not is_answered:
+            parts = run_parts(hosts, [*(options or []), *program], without(script.text, units, set(dropped)), work, seconds)
+        joined = join_all(units, parts, dropped, fault)
+        new = next((number for number, it in joined.items() if it.is_dropped and number not in dropped), None)
+        if new is None:
+            return write(command, units, joined, superusers_of(parts, given.with_root), given.headings)
+        dropped[new], is_answered = joined[new], False
+
+
+def body(command: Command, folders: List[str], given: argparse.Namespace) -> int:
+    """Answers standard input over all snapshots."""
+    hosts = hosts_of([os.fsencode(it) for it in folders])
+    script = read_text("-")
+    with scratch.folder("facl-ask.") as work:
+        try:
+            return answer_script(command, script, hosts, given, work)
+        except (LookupError, ValueError) as error:
+            raise Failure(NOT_READABLE) from error
+
+
+def pieces_of(unit: Unit, answer: Joined, superusers: Superusers, has_headings: bool) -> Iterator[bytes]:
+    """What is printed of an answer."""
+    if has_headings:
+        return below_heading(unit, superusers.rest(unit, lines_of(answer.output)), answer.messages)
+    if superusers.is_about_people(unit) or os.isatty(1):
+        return (line + b"\n" for line in lines_for_terminal(superusers.rest(unit, lines_of(answer.output))))
+    return answer.output
+
+
+def write(command: Command, units: List[Unit], joined: Dict[int, Joined], superusers: Superusers,
+          has_headings: bool) -> int:
+    status = ANSWERED
+    for unit in units:
+        answer = joined[unit.number]
+        for text in pieces_of(unit, answer, superusers, has_headings):
+            command.write(text)
+        write_messages(command, b"line %d" % unit.number, unit, answer.messages)
+        if is_refused(answer.messages):
+            status = REFUSED
+        else:
+            superusers.follow(unit)
+    if superusers.has_left_out:
+        command.say(superusers.note())
+    return status

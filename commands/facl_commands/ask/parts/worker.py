@@ -1,0 +1,177 @@
+"""The answers of one snapshot of several: what `facl-ask --part` writes for `facl-ask --each` and `--hosts`.
+
+First comes a line of JSON about the snapshot, with --records what it records (agreement.py), and then for each line of
+the script that does something a header, which is a line of JSON, and the bytes that the program printed, with a line
+feed. Names in JSON are bytes, a letter for each.
+"""
+from __future__ import annotations
+
+import json
+import re
+from typing import Dict, List, NamedTuple, Optional, Sequence
+
+from ...base.messages import Command
+from ...base.names import read_name, script_word
+from ...model import overview, sources
+from ...model.people import rows_of
+from ...program.answering import answer_unit
+from ...program.protocol import FREE_FILE_LINE, LIST, is_refused, lacks_file
+from ...program.scripts import Script, Unit
+from ...program.session import Answer, Session
+from ...program.tools import COUNTING, EDITS, FILE, MAKERS, OF_RECORDS, RESTORING, WITH_FILES, operand_kinds, split
+from . import agreement
+from .counts import SharedFiles, of_some_files
+
+COUNTING_SOME = tuple(tool for tool in COUNTING if tool in WITH_FILES)
+OF_FILES = (*EDITS, *OF_RECORDS, *COUNTING_SOME)  # Tools that take several FILEs, or edit one.
+LONGEST_NUMBER = 20  # Digits.
+RECORD = re.compile(b"^" + FREE_FILE_LINE + b"$", re.MULTILINE)
+
+
+class Head(NamedTuple):
+    """The first line: the snapshot, and the ids of its users and groups by their names."""
+
+    part: bytes  # Its folder.
+    users: Dict[str, int]
+    groups: Dict[str, int]
+    unknown: List[bytes]  # What it cannot tell.
+    masks: List[bytes]  # Files with an empty mask, and something for others.
+    size: int  # Of what it records, which comes next.
+
+
+class Header(NamedTuple):
+    line: int
+    size: int  # Of the output after it.
+    messages: List[bytes]
+    lacks: List[bytes]  # Which FILEs are not recorded here,
+    has: List[bytes]  # and which are.
+    shared: List[bytes]  # Of a line that counts: files that others may have, with what it counts them for (counts.py).
+
+
+def line_of(value: NamedTuple) -> bytes:
+    return json.dumps(value._asdict(), default=lambda it: it.decode("latin-1")).encode() + b"\n"
+
+
+# --- what is read here was perhaps written by another machine
+
+
+def short_number(text: str) -> int:
+    """A number of JSON; the digits of one that is longer than any of ours are not read."""
+    if len(text) > LONGEST_NUMBER:
+        raise ValueError
+    return int(text)
+
+
+def number_in(value: object) -> int:
+    if not isinstance(value, int) or isinstance(value, bool) or value < 0:
+        raise ValueError
+    return value
+
+
+def name_in(value: object) -> bytes:
+    if not isinstance(value, str):
+        raise ValueError
+    return value.encode("latin-1")
+
+
+def names_in(value: object) -> List[bytes]:
+    if not isinstance(value, list):
+        raise ValueError
+    return list(map(name_in, value))
+
+
+def ids_in(value: object) -> Dict[str, int]:
+    if not isinstance(value, dict):
+        raise ValueError
+    return {name_in(name).decode("latin-1"): number_in(number) for name, number in value.items()}
+
+
+def read_fields(line: bytes, names: Sequence[str]) -> List[object]:
+    """The fields of these names of an object in JSON; ValueError where it is none, or lacks one."""
+    try:
+        fields = json.loads(line.decode("ascii"), parse_int=short_number)
+        return [fields[name] for name in names]
+    except (LookupError, TypeError, RecursionError) as error:
+        raise ValueError from error
+
+
+def read_head(line: bytes) -> Head:
+    part, users, groups, unknown, masks, size = read_fields(line, Head._fields)
+    return Head(name_in(part), ids_in(users), ids_in(groups), names_in(unknown), names_in(masks), number_in(size))
+
+
+def read_header(text: bytes) -> Header:
+    line, size, *lists = read_fields(text, Header._fields)
+    header = Header(number_in(line), number_in(size), *map(names_in, lists))
+    if any(b"\n" in message for message in header.messages):
+        raise ValueError
+    return header
+
+
+# --- the answers of this snapshot
+
+
+def files_of(unit: Unit) -> List[bytes]:
+    """The FILEs of a line, as names; of a file that it makes the directory that this is to be in."""
+    if not unit.is_of(*OF_FILES):
+        return []
+    if any(word.startswith(RESTORING) for word in unit.words):
+        return [read_name(name) for name in RECORD.findall(b"\n".join(unit.lines[1:-1]))]
+    line = split(unit.words)
+    operands = [read_name(word) for word in line.operands]
+    if unit.is_of(*MAKERS):
+        return [name.rstrip(b"/").rpartition(b"/")[0] or b"." for name in operands]
+    return operands[operand_kinds(unit.tool(), line).index(FILE) :]
+
+
+def is_recorded(session: Session, name: bytes) -> Optional[bool]:
+    """Whether a file is recorded; None where the word is no path."""
+    messages = session.ask(LIST + b" " + script_word(name.replace(b"\\", b"\\\\")) + b"\n").messages
+    return True if not messages else False if lacks_file(messages) else None
+
+
+def answer_here(session: Session, unit: Unit, has: List[bytes]) -> Answer:
+    """Answers a line; one that counts below some FILEs by those that are recorded here."""
+    answered = answer_unit(session, unit)
+    if unit.is_of(*COUNTING_SOME) and lacks_file(answered.messages) and has:
+        return session.ask(of_some_files(unit, has) + b"\n")
+    return answered
+
+
+def answer(command: Command, session: Session, unit: Unit, shared: SharedFiles) -> None:
+    """Answers a line, after a look at its files."""
+    found = [(name, is_recorded(session, name)) for name in files_of(unit)]
+    lacks, has = ([name for name, is_there in found if is_there is wanted] for wanted in (False, True))
+    output, messages = answer_here(session, unit, has)
+    is_taken = not is_refused(messages)
+    counted = shared.counted(unit) if is_taken and unit.is_of(*COUNTING) else []
+    if is_taken:
+        shared.follow(unit)
+    command.write(line_of(Header(unit.number, output.end - output.start, messages, lacks, has, counted)))
+    for piece in output.pieces():
+        command.write(piece)
+    command.write(b"\n")
+
+
+def head_of(folder: bytes, size: int) -> Head:
+    found = overview.read_texts(folder)
+    users, groups = ({row[0].decode("latin-1"): int(row[2]) for row in rows_of(rows)} for rows in (found.passwd, found.group))
+    unknown = [*overview.unknown(folder, found.dump), *overview.torn(found)]
+    return Head(folder, users, groups, unknown, list(overview.open_empty_masks(found.dump)), size)
+
+
+def write_part(command: Command, program: str, folder: bytes, script: Script, has_records: bool,
+               names: List[bytes]) -> int:
+    """Answers a script over one snapshot, between a first and a last line of our own; with the names of files that
+    others have too."""
+    with Session(program, folder) as session:
+        session.ask(b"")
+        listings = sources.list_below(session, sources.find_tops(session, folder)) if has_records else []
+        files = b"".join(agreement.blocks_of(listings))
+        command.write(line_of(head_of(folder, len(files))) + files)
+        units = script.units()
+        shared = SharedFiles(session, names, units)
+        for unit in units:
+            answer(command, session, unit, shared)
+        command.write(b"end\n")
+    return 0

@@ -1,0 +1,195 @@
+"""The prompt of facl-ask, apart from how a line is read: what is done with the lines that a person writes."""
+from __future__ import annotations
+
+import gc
+from typing import Callable, Iterator, List, Optional, Set
+
+from ..base.messages import Failure
+from ..base.names import read_path, shown, write_name
+from ..model.superuser import Superusers
+from ..program.hints import causes
+from ..program.protocol import (
+    IN_LINE, PROGRAM, UNKNOWN_TOOL, USAGE, has_text, is_refused, lacking_file, lacks_file, message_of,
+)
+from ..program.scripts import LINE_LIMIT, Unit, is_empty, read_units, words_of
+from ..program.session import Answer, Session
+from ..program.tools import EMPTY_ANSWERS, MAKERS, QUESTIONS, REACH, REMOVERS, REQUESTS
+from .completion import Completer
+from .manual import Page
+from .stops import marked
+
+Read = Callable[[str], str]  # Reads a line, after a prompt; raises EOFError and KeyboardInterrupt.
+HELP_WORDS, END_WORDS = (b"help", b"?"), (b"quit", b"exit")
+WORDS_OF_PROMPT = ["help", "quit"]
+ALONE = b"(each file is judged alone: with --reach after the tool, search on the directories above counts too)\n"
+KEYS = """\
+A line is a tool and its words: `help TOOL` has its options, and `help TOPIC` another section of the manual page.
+Tab completes a word. Control-C ends a line, a text or an answer; control-D or `quit` ends the prompt.
+"""
+
+
+class Prompt:
+    """A session with a person."""
+
+    def __init__(
+        self, start: Callable[[], Session], page: Optional[Page], completer: Completer, out: Callable[[bytes], None],
+        dim: Callable[[bytes], bytes] = bytes, superusers: Optional[Superusers] = None,
+    ) -> None:
+        self.start = start
+        self.superusers = superusers or Superusers({})
+        self.dim = dim  # How a line is written that is beside the answers.
+        self.noted: Set[bytes] = set()  # What was said once.
+        self.session = start()
+        self.page = page
+        self.completer = completer
+        self.out = out
+        self.number = 0  # Of the person's last line.
+        self.accepted: List[bytes] = []  # Lines that changed something, with their texts.
+        self.waiting: List[str] = []  # Lines that were pasted at once.
+
+    def run(self, read: Read) -> None:
+        """Answers lines until there are no more, which may be a day later."""
+        gc.enable()
+        try:
+            while True:
+                try:
+                    line = self.next_line(read, "%d> " % (self.number + 1))
+                except KeyboardInterrupt:
+                    self.out(b"(a line is given up; control-D ends the prompt)\n")
+                    continue
+                if not self.answer_line(line, read):
+                    return
+        except EOFError:
+            self.out(b"\n")
+
+    def close(self) -> None:
+        """Ends the program."""
+        self.session.__exit__(None, None, None)
+
+    def next_line(self, read: Read, prompt: str) -> bytes:
+        if not self.waiting:
+            self.waiting = read(prompt).split("\n")
+        self.number += 1
+        return self.waiting.pop(0).encode("utf-8", "surrogateescape")
+
+    def answer_line(self, line: bytes, read: Read) -> bool:
+        """Whether the session goes on."""
+        words = (words_of(line) if len(line) <= LINE_LIMIT else None) or []
+        if words[:1] and words[0] in END_WORDS and len(words) == 1:
+            return False
+        if words[:1] and words[0] in HELP_WORDS:
+            self.help(words[1:])
+            return True
+        if len(line) <= LINE_LIMIT and is_empty(line):
+            return True
+        number = self.number
+        try:
+            unit = next(read_units(b"", self.with_text(line, read)))
+        except KeyboardInterrupt:
+            self.out(b"(the text is given up, and line %d with it)\n" % number)
+            return True
+        self.answer(unit._replace(number=number))
+        return True
+
+    def with_text(self, line: bytes, read: Read) -> Iterator[bytes]:
+        """A line, and what is read after it for its text, if it takes one."""
+        yield line
+        while True:
+            yield self.next_line(read, "%d| " % (self.number + 1))
+
+    def answer(self, unit: Unit) -> None:
+        """Answers a line with its text."""
+        try:
+            answer = self.session.ask(unit.text())
+        except KeyboardInterrupt:
+            self.start_again(IN_LINE % unit.number + b"given up, and changed nothing\n")
+            return
+        try:
+            self.show(unit, answer)
+        except KeyboardInterrupt:
+            self.out(b"\n(the rest is not shown)\n")
+        if not is_refused(answer.messages) and not unit.is_of(*QUESTIONS):
+            self.accepted.append(unit.text())
+            self.superusers.follow(unit)
+            self.follow(unit)
+
+    def start_again(self, message: bytes) -> None:
+        """Ends the program, which is at a long answer, and brings another one to where it was."""
+        self.close()
+        self.session = self.start()
+        for lines in self.accepted:
+            self.session.ask(lines)
+        self.out(message)
+
+    def show(self, unit: Unit, answer: Answer) -> None:
+        """An answer below its line."""
+        count = 0
+        for printed in self.superusers.rest(unit, marked(unit, answer.output.lines())):
+            self.out(shown(printed) + b"\n")
+            count += 1
+        if not count and not is_refused(answer.messages) and unit.words:
+            self.out(EMPTY_ANSWERS.get(unit.words[0], b""))
+        for message in answer.messages:
+            self.out(IN_LINE % unit.number + shown(message) + b"\n")
+            for line in self.advice(unit, message):
+                self.out(b"    " + line.encode() + b"\n")
+        if unit.is_of(*REQUESTS) and REACH not in unit.words and not is_refused(answer.messages):
+            self.note(ALONE)
+        if self.superusers.has_left_out:
+            self.note(b"(" + self.superusers.note() + b")\n")
+
+    def note(self, line: bytes) -> None:
+        """Says something once in a session."""
+        if line not in self.noted:
+            self.noted.add(line)
+            self.out(self.dim(line))
+
+    def advice(self, unit: Unit, message: bytes) -> List[str]:
+        """The synopses of the tool where its words are wrong, and what was probably meant."""
+        found: List[str] = []
+        tool = unit.words[0].decode("utf-8", "replace") if unit.words else ""
+        if has_text(message, USAGE) and self.page and tool in self.page.tools:
+            found += self.page.tools[tool].synopses
+        text = causes.advice(unit.lines[0], message)
+        if text is not None:
+            found.append(text)
+        if message == message_of(PROGRAM, UNKNOWN_TOOL) and text is None:
+            found.append("The tools are listed by `help`.")
+        return found + self.elsewhere(message)
+
+    def elsewhere(self, message: bytes) -> List[str]:
+        """Recorded files whose paths end in one that is not there."""
+        path = read_path(lacking_file(message)) if lacks_file([message]) else b""
+        return ["There is " + shown(write_name(found)).decode()
+                for found in self.completer.ending(path)] if path else []
+
+    def follow(self, unit: Unit) -> None:
+        """Keeps the paths that are completed up to date."""
+        if self.completer.known is None or not unit.is_of(*MAKERS, *REMOVERS):
+            return
+        for word in unit.words[1:]:
+            if not word.startswith(b"-"):
+                change = self.completer.known.add if unit.is_of(*MAKERS) else self.completer.known.remove
+                change(read_path(word))
+
+    def help(self, words: List[bytes]) -> None:
+        topic = b" ".join(words).decode("utf-8", "replace")
+        if self.page is None:
+            text = "The manual page is not beside this command: man facl\n"
+        elif not topic:
+            synopses = "".join("    " + it + "\n" for tool in self.page.tools.values() for it in tool.synopses)
+            topics = [it for it in self.page.sections if it not in ("name", "synopsis", "see also", "options")]
+            text = KEYS + "\nTools:\n" + synopses + "\nTopics: " + ", ".join(topics) + "\n"
+        elif topic in self.page.tools:
+            text = self.page.tools[topic].text
+        else:
+            text = self.page.sections.get(topic.lower(),
+                                          "There is no tool and no section of this name: `help` lists them.\n")
+        self.out(text.encode())
+
+
+def refuse_early_end(session: Session) -> None:
+    """Fails where the program does not load the snapshot."""
+    answer = session.ask(b"")
+    if answer.messages:
+        raise Failure(answer.messages[0])

@@ -1,0 +1,37 @@
+"""Where a user is stopped on the way to a file: a mark on the block of that directory in the answer of `why
+--reach`."""
+from __future__ import annotations
+
+from typing import Iterable, Iterator, List, Set
+
+from ..base.names import directories_above, read_path
+from ..program.protocol import FILE_HEAD
+from ..program.scripts import Unit
+from ..program.tools import OF_RECORDS, OPTIONS, REACH, split
+
+MARK = b"    <-- here is no search: nothing below is reached"
+# Those that print the entries which decide, also of the directories above.
+BY_ENTRIES = tuple(tool for tool in OF_RECORDS if REACH in OPTIONS[tool])
+
+
+def marked(unit: Unit, lines: Iterable[bytes]) -> Iterator[bytes]:
+    """The lines of an answer; of a line that asks why along paths, with the mark on the first directory above each FILE
+    whose entries do not grant its user search. A directory comes after those above it."""
+    if not unit.is_of(*BY_ENTRIES) or REACH not in unit.words:
+        yield from lines
+        return
+    files = [read_path(name) for name in split(unit.words).operands[1:]]
+    closed: Set[bytes] = set()
+    block: List[bytes] = []
+    for line in lines:
+        block.append(line)
+        if not line:
+            path = read_path(block[0][len(FILE_HEAD) :])
+            if not any(entry.endswith(b"x") for entry in block[1:-1]):
+                # The files below that nothing above has stopped.
+                stopped = [file for file in files if path in directories_above(file)]
+                block[0] += MARK * any(closed.isdisjoint(directories_above(file)) for file in stopped)
+                closed.add(path)
+            yield from block
+            block = []
+    yield from block

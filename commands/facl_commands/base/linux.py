@@ -1,0 +1,150 @@
+"""Calls of Linux that Python does not have: a status with the birth, a rename that replaces nothing, and an end of
+writing."""
+from __future__ import annotations
+
+import ctypes
+import errno
+import os
+import signal
+import struct
+from typing import Dict, NamedTuple, Set, Tuple
+
+LIBRARY = ctypes.CDLL(None, use_errno=True)
+AT_EMPTY_PATH, AT_SYMLINK_NOFOLLOW = 0x1000, 0x100
+STATX_BASIC_STATS, STATX_BTIME = 0x7FF, 0x800
+RENAME_NOREPLACE, RENAME_EXCHANGE = 1, 2
+NO_OVERLAY, OF_ONE, OF_SEVERAL = range(3)
+OVERLAY = 0x794C7630  # The kind of file system, as statfs(2) has it.
+# struct statx: the mask of what is known, names, owner, group, mode, inode, birth in seconds and nanoseconds, device.
+STATX = struct.Struct("<I12xIIIH2xQ40xqI44xII")
+BUFFER = ctypes.create_string_buffer(256)
+STATX_CALL = getattr(LIBRARY, "statx", None)
+NO_DESCRIPTOR = -1
+PR_SET_PDEATHSIG = 1
+MOUNTS_FILE = "/proc/self/mountinfo"
+BOOT_FILE = "/proc/sys/kernel/random/boot_id"
+
+
+# Of a file: mode, owner, group, names, device, inode, and birth in nanoseconds since 1970, 0 where the file system has
+# none.
+Status = Tuple[int, int, int, int, int, int, int]
+
+
+class Identity(NamedTuple):
+    """Which file a name is of; birth is when it was made, in nanoseconds since 1970, or 0 where that is not known."""
+
+    device: int
+    inode: int
+    birth: int
+
+
+class DeviceNumbers(Dict[Tuple[int, int], int]):
+    """Device numbers by their two parts."""
+
+    def __missing__(self, parts: Tuple[int, int]) -> int:
+        self[parts] = os.makedev(*parts)
+        return self[parts]
+
+
+DEVICES = DeviceNumbers()
+
+
+class KeptBirths(Dict[Tuple[int, int], bool]):
+    """Whether files of a device keep their birth: on an overlay a file is copied when it is first changed, and gets
+    another one."""
+
+    def __missing__(self, parts: Tuple[int, int]) -> bool:
+        self[parts] = b"%d:%d" % parts not in overlays()
+        return self[parts]
+
+
+KEPT_BIRTHS = KeptBirths()
+
+
+def overlay_of(descriptor: int, device: int) -> int:
+    """Whether an open file is on an overlay: OF_ONE keeps device and inode where a file is copied at its first change,
+    but for one of several names; a file of OF_SEVERAL, whose layers are on several file systems, gets others."""
+    statfs = getattr(LIBRARY, "fstatfs", None)
+    if statfs is None or statfs(descriptor, BUFFER) != 0 or int.from_bytes(BUFFER.raw[:4], "little") != OVERLAY:
+        return NO_OVERLAY
+    return OF_ONE if b"%d:%d" % (os.major(device), os.minor(device)) in overlays() else OF_SEVERAL
+
+
+def overlays() -> Set[bytes]:
+    """The devices of the overlays that are mounted."""
+    try:
+        with open(MOUNTS_FILE, "rb") as file:
+            halves = [line.split(b" - ") for line in file]
+    except OSError:
+        return set()
+    return {first.split()[2] for first, second in halves if second.split()[0] == b"overlay"}
+
+
+def status_of(descriptor: int, name: bytes = b"") -> Status:
+    """The status of an open file, or of a name in an open directory, which is not followed where it is a link."""
+    if STATX_CALL is None:
+        found = os.stat(name, dir_fd=descriptor, follow_symlinks=False) if name else os.fstat(descriptor)
+        return found.st_mode, found.st_uid, found.st_gid, found.st_nlink, found.st_dev, found.st_ino, 0
+    if STATX_CALL(descriptor, name, AT_EMPTY_PATH | AT_SYMLINK_NOFOLLOW, STATX_BASIC_STATS | STATX_BTIME, BUFFER) != 0:
+        number = ctypes.get_errno()
+        raise OSError(number, os.strerror(number))
+    known, names, owner, group, mode, inode, seconds, nanoseconds, major, minor = STATX.unpack_from(BUFFER)
+    has_birth = known & STATX_BTIME and KEPT_BIRTHS[major, minor]
+    birth = seconds * 1_000_000_000 + nanoseconds if has_birth else 0
+    return mode, owner, group, names, DEVICES[major, minor], inode, birth
+
+
+def rename_new(old: bytes, new: bytes, folder: int) -> None:
+    """Renames within a folder, by its descriptor; fails where there is something of the new name."""
+    if hasattr(LIBRARY, "renameat2"):
+        if LIBRARY.renameat2(folder, old, folder, new, RENAME_NOREPLACE) == 0:
+            return
+        number = ctypes.get_errno()
+        if number not in (errno.EINVAL, errno.ENOSYS):  # Which say that the file system does not have it.
+            raise OSError(number, os.strerror(number), os.fsdecode(new))
+    if new in map(os.fsencode, os.listdir(folder)):
+        raise FileExistsError(errno.EEXIST, os.strerror(errno.EEXIST), os.fsdecode(new))
+    os.rename(old, new, src_dir_fd=folder, dst_dir_fd=folder)
+
+
+def exchange(made: bytes, there: bytes, folder: int) -> None:
+    """Has two names of a folder change places; by three renames where its file system cannot."""
+    if hasattr(LIBRARY, "renameat2"):
+        if LIBRARY.renameat2(folder, made, folder, there, RENAME_EXCHANGE) == 0:
+            return
+        number = ctypes.get_errno()
+        if number not in (errno.EINVAL, errno.ENOSYS):
+            raise OSError(number, os.strerror(number), os.fsdecode(there))
+    aside = made + b".old"
+    rename_new(there, aside, folder)
+    try:
+        rename_new(made, there, folder)
+    except OSError:
+        rename_new(aside, there, folder)
+        raise
+    rename_new(aside, made, folder)
+
+
+def write_out(descriptor: int) -> None:
+    """Writes all that the file system of a descriptor has in memory to its disk; without one, all that all have."""
+    if descriptor == NO_DESCRIPTOR or not hasattr(LIBRARY, "syncfs"):
+        os.sync()
+    elif LIBRARY.syncfs(descriptor) != 0:
+        raise OSError(ctypes.get_errno(), os.strerror(ctypes.get_errno()))
+
+
+def end_with(parent: int) -> None:
+    """Has this process killed when its parent ends; ends it where that has happened already."""
+    if hasattr(LIBRARY, "prctl"):
+        LIBRARY.prctl(PR_SET_PDEATHSIG, ctypes.c_ulong(signal.SIGKILL))
+    if os.getppid() != parent:
+        os._exit(1)
+
+
+def boot() -> str:
+    """Since which start of the system devices have their numbers."""
+    try:
+        with open(BOOT_FILE, encoding="ascii") as file:
+            return file.read().strip()
+    except OSError:
+        return "-"

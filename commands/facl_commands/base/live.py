@@ -1,0 +1,243 @@
+"""Files of the live system: each is opened once by its path, and then known by its descriptor alone.
+
+A path is followed component by component from the root, and never through a symbolic link. What is asked and changed of
+a file goes by /proc/self/fd, so it is of the very file that was opened, whatever becomes of its name.
+"""
+from __future__ import annotations
+
+import errno
+import os
+import stat
+from typing import Dict, List, NamedTuple, Optional
+
+from . import acl_bytes, linux
+from .acl_bytes import Record
+from .linux import Identity, Status
+from .messages import Failure, reason
+
+OPEN_LIMIT = 200  # Directories of one path that are open at once.
+CAPABILITY = b"security.capability"
+FLAGS = stat.S_ISUID | stat.S_ISGID | stat.S_ISVTX
+NO_ATTRIBUTE = (errno.ENODATA, errno.ENOTSUP)
+PATH = os.O_PATH | os.O_NOFOLLOW | os.O_CLOEXEC
+
+
+class NotFound(Exception):
+    """A path no longer leads to a file of its own; the text says why."""
+
+    def __init__(self, text: bytes) -> None:
+        super().__init__(text)
+        self.text = text
+
+
+class Seen(NamedTuple):
+    """A file as it is: which file, its mode, how many names it has, its owner and group, and its lists."""
+
+    device: int
+    inode: int
+    birth: int
+    mode: int
+    names: int
+    owner: int
+    group: int
+    access: bytes
+    default: bytes
+
+    @property
+    def identity(self) -> Identity:
+        return Identity(self.device, self.inode, self.birth)
+
+    @property
+    def record(self) -> Record:
+        return Record(self.owner, self.group, self.mode & FLAGS, self.access, self.default)
+
+    @property
+    def is_directory(self) -> bool:
+        return stat.S_ISDIR(self.mode)
+
+
+class KnownLists(Dict[bytes, bytes]):
+    """Lists of the system, as they are compared."""
+
+    def __missing__(self, data: bytes) -> bytes:
+        self[data] = acl_bytes.canonical(data)
+        return self[data]
+
+
+LISTS = KnownLists()
+MINIMAL = [acl_bytes.minimal(mode) for mode in range(0o1000)]
+
+
+def attribute(name: bytes, attribute_name: bytes, follow: bool = True) -> Optional[bytes]:
+    """An extended attribute; None where the file or its file system has none."""
+    try:
+        return os.getxattr(name, attribute_name, follow_symlinks=follow)
+    except OSError as error:
+        if error.errno not in NO_ATTRIBUTE:
+            raise
+        return None
+
+
+def seen_of(status: Status, name: bytes, follow: bool = True) -> Seen:
+    """A file as it is, of its status and of a name for its attributes; NotFound where it is a link."""
+    mode, owner, group, names, device, inode, birth = status
+    if stat.S_ISLNK(mode):
+        raise NotFound(b"is a symbolic link now")
+    access = attribute(name, acl_bytes.ACCESS, follow)
+    default = attribute(name, acl_bytes.DEFAULT, follow) if stat.S_ISDIR(mode) else None
+    return Seen(device, inode, birth, mode, names, owner, group, MINIMAL[mode & 0o777] if access is None
+                else LISTS[access],
+                b"" if default is None else LISTS[default])
+
+
+class OpenFile:
+    """A file by its descriptor: the calls of the system that look at it and change it."""
+
+    def __init__(self, descriptor: int) -> None:
+        self.descriptor = descriptor
+        self.name = b"/proc/self/fd/%d" % descriptor
+
+    def close(self) -> None:
+        os.close(self.descriptor)
+
+    def look(self) -> Seen:
+        return seen_of(linux.status_of(self.descriptor), self.name)
+
+    def record(self) -> Record:
+        status = os.fstat(self.descriptor)
+        known = status.st_mode, status.st_uid, status.st_gid, status.st_nlink, status.st_dev, status.st_ino, 0
+        return seen_of(known, self.name).record
+
+    def mode(self) -> int:
+        return os.fstat(self.descriptor).st_mode
+
+    def takes_lists(self) -> bool:
+        """Whether its file system has lists."""
+        try:
+            os.getxattr(self.name, acl_bytes.ACCESS)
+        except OSError as error:
+            return error.errno != errno.ENOTSUP
+        return True
+
+    def set_access(self, data: bytes) -> None:
+        try:
+            self.set_attribute(acl_bytes.ACCESS, data)
+        except OSError as error:
+            if error.errno != errno.ENOTSUP or not acl_bytes.is_minimal(data):
+                raise
+            self.set_mode(self.mode() & FLAGS | acl_bytes.mode_of(data))
+
+    def set_attribute(self, attribute_name: bytes, data: bytes) -> None:
+        os.setxattr(self.name, attribute_name, data)
+
+    def set_default(self, data: bytes) -> None:
+        if data:
+            self.set_attribute(acl_bytes.DEFAULT, data)
+        else:
+            os.removexattr(self.name, acl_bytes.DEFAULT)
+
+    def set_owner(self, owner: int, group: int) -> None:
+        os.chown(self.name, owner, group)
+
+    def set_mode(self, mode: int) -> None:
+        os.chmod(self.name, mode)
+
+
+class Opener:
+    """Opens files by their paths. The directories of the last path are kept open, so in path order each is opened once;
+    of a long path the last ones alone."""
+
+    def __init__(self) -> None:
+        self.root = os.open(b"/", PATH | os.O_DIRECTORY)
+        self.parts: List[bytes] = []  # The directories from the root on,
+        self.open_ones: List[int] = []  # and the descriptors of the last of them.
+        self.above: Optional[bytes] = None  # The path of the last of them.
+
+    def __enter__(self) -> Opener:
+        return self
+
+    def __exit__(self, *_error: object) -> None:
+        self.close_to(0)
+        os.close(self.root)
+
+    def close_to(self, depth: int) -> None:
+        """Closes the directories below this depth."""
+        while len(self.parts) > depth:
+            self.parts.pop()
+            if self.open_ones:
+                os.close(self.open_ones.pop())
+
+    def last(self) -> int:
+        return self.open_ones[-1] if self.open_ones else self.root
+
+    def push(self, part: bytes) -> None:
+        descriptor = open_part(self.last(), part)
+        self.parts.append(part)
+        self.open_ones.append(descriptor)
+        if len(self.open_ones) > OPEN_LIMIT:
+            os.close(self.open_ones.pop(0))
+
+    def folder(self, path: bytes) -> int:
+        """Opens a directory."""
+        if path != self.above:
+            self.above = None
+            self.go_to(path.split(b"/") if path else [])
+            self.above = path
+        return self.last()
+
+    def go_to(self, parts: List[bytes]) -> None:
+        depth = 0
+        for one, other in zip(self.parts, parts):
+            if one != other:
+                break
+            depth += 1
+        self.close_to(depth)
+        if self.parts and not self.open_ones:  # It is too far from the directories that are open.
+            self.parts = []
+        for part in parts[len(self.parts) :]:
+            self.push(part)
+
+    def open(self, path: bytes) -> OpenFile:
+        """Opens a file, or the link that is there; NotFound where the path leads to none, or through a link."""
+        above, _, name = path.rpartition(b"/")
+        try:
+            return OpenFile(os.open(name or b"/", PATH, dir_fd=self.folder(above)))
+        except OSError as error:
+            raise not_found(error) from error
+
+    def look(self, path: bytes) -> Seen:
+        """A file as it is now, without opening it."""
+        above, _, name = path.rpartition(b"/")
+        try:
+            folder = self.folder(above)
+            return seen_of(linux.status_of(folder, name), b"/proc/self/fd/%d/%s" % (folder, name), follow=not name)
+        except OSError as error:
+            raise not_found(error) from error
+
+
+def not_found(error: OSError) -> NotFound:
+    """Why a path does not lead to a file."""
+    return NotFound(b"is gone" if isinstance(error, (FileNotFoundError, NotADirectoryError)) else b"cannot be opened: "
+                    + reason(error))
+
+
+def open_part(folder: int, part: bytes) -> int:
+    """Opens a directory in another one."""
+    try:
+        return os.open(part, PATH | os.O_DIRECTORY, dir_fd=folder)
+    except NotADirectoryError:
+        if stat.S_ISLNK(os.stat(part, dir_fd=folder, follow_symlinks=False).st_mode):
+            raise NotFound(b"is reached by a symbolic link now") from None
+        raise
+
+
+def check_proc() -> None:
+    """Fails where files cannot be reached by their descriptors."""
+    descriptor = os.open(b"/", PATH)
+    try:
+        if os.stat(b"/proc/self/fd/%d" % descriptor).st_ino != os.fstat(descriptor).st_ino:
+            raise FileNotFoundError
+    except OSError as error:
+        raise Failure(b"/proc is not mounted, by which files are reached") from error
+    finally:
+        os.close(descriptor)

@@ -1,0 +1,256 @@
+"""Files and folders that nobody else than root and the caller can have written.
+
+Each component on the way to a file, links and what they lead to included, belongs to root or to the caller, and no
+other user can write there; a sticky directory may be written by all, since what is in it belongs to its owner.
+"""
+from __future__ import annotations
+
+import errno
+import grp
+import os
+import pwd
+import re
+import stat
+from typing import IO, List, Optional
+
+from . import acl_bytes
+from .messages import Failure, reason
+
+PRIVATE = 0o600
+MOST = 1 << 30  # Bytes of a text of a snapshot, or of a file of a plan: a dump that the program loads has a quarter.
+MOST_WRITTEN = 64 << 20  # Bytes of what a person writes: rules, accepted findings, a script, as many as the program takes.
+PIECE = 1 << 20
+DESCRIPTOR = re.compile(rb"/(?:dev|proc/self)/fd/([0-9]{1,9})")
+LINKS_LIMIT = 40  # Symbolic links on one way, as in the kernel.
+
+
+def owner_name(uid: int) -> bytes:
+    try:
+        return pwd.getpwuid(uid).pw_name.encode()
+    except KeyError:
+        return b"user %d" % uid
+
+
+def is_own_group(gid: int, uid: int) -> bool:
+    """Whether a group has one member, the user of this id, whose name it has, and is nobody else's first group."""
+    try:
+        user, group = pwd.getpwuid(uid), grp.getgrgid(gid)
+    except KeyError:
+        return False
+    if user.pw_gid != gid or user.pw_name != group.gr_name or not set(group.gr_mem) <= {user.pw_name}:
+        return False
+    return all(it.pw_name == user.pw_name for it in pwd.getpwall() if it.pw_gid == gid)
+
+
+def has_list(descriptor: int) -> bool:
+    try:
+        return bool(os.getxattr(b"/proc/self/fd/%d" % descriptor, acl_bytes.ACCESS))
+    except OSError as error:
+        return error.errno not in (errno.ENODATA, errno.ENOTSUP)
+
+
+def fault_of(descriptor: int, look: os.stat_result) -> Optional[bytes]:
+    """Why somebody else can have written a file; None where nobody can."""
+    if look.st_uid not in (0, os.geteuid()):
+        return b"belongs to " + owner_name(look.st_uid)
+    if stat.S_ISLNK(look.st_mode) or stat.S_ISDIR(look.st_mode) and look.st_mode & stat.S_ISVTX:
+        return None
+    if look.st_mode & stat.S_IWOTH:
+        return b"can be written by everybody"
+    if look.st_mode & stat.S_IWGRP and (has_list(descriptor) or not is_own_group(look.st_gid, look.st_uid)):
+        return b"can be written by others (its group, or users and groups of its access list)"
+    return None
+
+
+class Way:
+    """The way to a file, component by component."""
+
+    def __init__(self, name: bytes) -> None:
+        self.name = name
+        self.links = 0
+        self.open: List[int] = []  # The directories from the root on.
+        self.shown: List[bytes] = []  # Their names.
+        self.step(b"/")
+
+    def step(self, part: bytes) -> None:
+        """Opens the next component, and looks at it; it may be a link."""
+        above = self.open[-1] if self.open else None
+        descriptor = os.open(part, os.O_PATH | os.O_NOFOLLOW | os.O_CLOEXEC, dir_fd=above)
+        self.open.append(descriptor)
+        self.shown.append(part.strip(b"/"))
+        fault = fault_of(descriptor, os.fstat(descriptor))
+        if fault is not None:
+            place = b"/" + b"/".join(self.shown[1:])
+            beside = b"" if place == os.path.abspath(self.name) else self.name + b": "
+            raise Failure(beside + place + b": " + fault + b", so it is not trusted")
+
+    def back(self) -> None:
+        os.close(self.open.pop())
+        self.shown.pop()
+
+    def target(self) -> Optional[bytes]:
+        """What the last component leads to where it is a link, which is taken off the way then."""
+        if not stat.S_ISLNK(os.fstat(self.open[-1]).st_mode):
+            return None
+        self.links += 1
+        if self.links > LINKS_LIMIT:
+            raise OSError(errno.ELOOP, os.strerror(errno.ELOOP))
+        target = os.readlink(b"", dir_fd=self.open[-1])
+        self.back()
+        return target
+
+    def go(self, name: bytes) -> None:
+        """Goes on by a name."""
+        rest = name.split(b"/")[::-1]
+        while rest:
+            part = rest.pop()
+            if part == b"..":
+                if len(self.open) > 1:
+                    self.back()
+            elif part not in (b"", b"."):
+                self.step(part)
+                target = self.target()
+                if target is not None:
+                    rest += target.split(b"/")[::-1]
+                    while target.startswith(b"/") and len(self.open) > 1:
+                        self.back()
+
+    def close(self) -> None:
+        while self.open:
+            os.close(self.open.pop())
+
+
+def open_trusted(name: bytes, flags: int) -> int:
+    """Opens a file or a folder by a name; fails where somebody else can have written it or the way to it."""
+    way = None
+    try:
+        way = Way(name)
+        if not name.startswith(b"/"):
+            way.go(os.getcwdb())
+        way.go(name)
+        return os.open(b"/proc/self/fd/%d" % way.open[-1], flags | os.O_CLOEXEC | os.O_NONBLOCK)
+    except OSError as error:
+        raise Failure(name + b": " + reason(error)) from error
+    finally:
+        if way is not None:
+            way.close()
+
+
+def open_folder(name: bytes) -> int:
+    return open_trusted(name, os.O_RDONLY | os.O_DIRECTORY)
+
+
+def open_file(name: bytes) -> int:
+    """Opens a file that nobody else can have written, which is no pipe or device; a folder cannot be read."""
+    descriptor = open_trusted(name, os.O_RDONLY)
+    mode = os.fstat(descriptor).st_mode
+    if stat.S_ISREG(mode) or stat.S_ISDIR(mode):
+        return descriptor
+    os.close(descriptor)
+    raise Failure(name + b": is no plain file")
+
+
+def read_all(file: IO[bytes], shown: bytes, most: int) -> bytes:
+    """What is in a file, which has a limit: its size may be any number, and it may grow."""
+    if os.fstat(file.fileno()).st_size > most:
+        raise too_large(shown, most)
+    pieces: List[bytes] = []
+    size = 0
+    while True:
+        piece = file.read(PIECE)
+        if piece is None:
+            raise Failure(shown + b": has nothing to read yet: give a descriptor that waits")
+        if not piece:
+            return b"".join(pieces)
+        size += len(piece)
+        if size > most:
+            raise too_large(shown, most)
+        pieces.append(piece)
+
+
+def too_large(shown: bytes, most: int) -> Failure:
+    return Failure(shown + b": has more than %d MiB, which is too large" % (most >> 20))
+
+
+def read_trusted(name: bytes, most: int = MOST) -> bytes:
+    """What is in a file that nobody else can have written."""
+    try:
+        with open(open_file(name), "rb") as file:
+            return read_all(file, name, most)
+    except OSError as error:  # Of a folder, or of a disk: it has no name.
+        raise Failure(name + b": " + reason(error)) from error
+
+
+def read_given(name: bytes) -> bytes:
+    """The same of a word of the caller, which may be a descriptor that came with the command, as `<(COMMAND)` of a shell:
+    that is trusted as standard input is. The command's own descriptors are none of these."""
+    match = DESCRIPTOR.fullmatch(name)
+    if match is None:
+        return read_trusted(name, MOST_WRITTEN)
+    try:
+        if not os.get_inheritable(int(match[1])):
+            raise OSError(errno.EBADF, os.strerror(errno.EBADF))
+        with open(int(match[1]), "rb", closefd=False) as file:
+            return read_all(file, name, MOST_WRITTEN)
+    except OSError as error:
+        raise Failure(name + b": " + reason(error)) from error
+
+
+def open_in(folder: int, shown: bytes, name: bytes) -> int:
+    """Opens a file of an open folder; `shown` is the folder's name in messages."""
+    try:
+        descriptor = os.open(name, os.O_RDONLY | os.O_NOFOLLOW | os.O_NONBLOCK | os.O_CLOEXEC, dir_fd=folder)
+    except OSError as error:
+        raise Failure(shown + b"/" + name + b": " + reason(error)) from error
+    look = os.fstat(descriptor)
+    fault = b"is no plain file" if not stat.S_ISREG(look.st_mode) else fault_of(descriptor, look)
+    if fault is not None:
+        os.close(descriptor)
+        raise Failure(shown + b"/" + name + b": " + fault + b", so it is not trusted")
+    return descriptor
+
+
+def read_in(folder: int, shown: bytes, name: bytes) -> bytes:
+    """Returns what is in a file of an open folder."""
+    with open(open_in(folder, shown, name), "rb") as file:
+        return read_all(file, shown + b"/" + name, MOST)
+
+
+# --- files that a command makes for itself, and believes later
+
+
+def fault_of_mark(look: os.stat_result) -> Optional[bytes]:
+    """Says why a file is none that a command of the caller made for itself; returns None if it can be one."""
+    if not stat.S_ISREG(look.st_mode):
+        return b"is no plain file"
+    if look.st_uid != os.geteuid():
+        return b"belongs to " + owner_name(look.st_uid)
+    if look.st_nlink != 1:
+        return b"has another name too"
+    mode = stat.S_IMODE(look.st_mode)
+    return None if mode == PRIVATE else b"has the mode %04o in place of %04o" % (mode, PRIVATE)
+
+
+def mark_failure(shown: bytes, name: bytes, fault: bytes) -> Failure:
+    return Failure(shown + b"/" + name + b": " + fault + b", so it is not trusted: look at it, and mend or remove it")
+
+
+def open_mark(folder: int, shown: bytes, name: bytes) -> int:
+    """Opens a mark of an open folder; fails if it is another file. A pipe or device is not opened."""
+    try:
+        is_plain = stat.S_ISREG(os.stat(name, dir_fd=folder, follow_symlinks=False).st_mode)
+        flags = os.O_RDONLY if is_plain else os.O_PATH
+        descriptor = os.open(name, flags | os.O_NOFOLLOW | os.O_NONBLOCK | os.O_CLOEXEC, dir_fd=folder)
+    except OSError as error:
+        raise Failure(shown + b"/" + name + b": " + reason(error)) from error
+    fault = fault_of_mark(os.fstat(descriptor))
+    if fault is not None:
+        os.close(descriptor)
+        raise mark_failure(shown, name, fault)
+    return descriptor
+
+
+def read_mark(folder: int, shown: bytes, name: bytes) -> bytes:
+    """Returns what is in a mark of an open folder."""
+    with open(open_mark(folder, shown, name), "rb") as file:
+        return read_all(file, shown + b"/" + name, MOST)

@@ -1,0 +1,78 @@
+"""Work on many paths that several processes share: each has a part of them, and sends the first one what came of it."""
+from __future__ import annotations
+
+import marshal
+import mmap
+import os
+import select
+import signal
+from typing import Any, Callable, List, Optional
+
+from . import linux
+from .messages import SIGNALS
+
+MANY = 20_000  # Paths for which one process takes half a second.
+MOST = 4  # Processes.
+OFTEN = 0.1  # Seconds between two looks at the signals that wait.
+Work = Callable[[], Any]  # Returns what marshal takes: numbers, bytes, and lists, tuples and dictionaries of them.
+
+
+class Stop:
+    """A mark that all processes see."""
+
+    def __init__(self) -> None:
+        self.memory = mmap.mmap(-1, 1)
+
+    def set(self) -> None:
+        self.memory[0] = 1
+
+    def is_set(self) -> bool:
+        return self.memory[0] == 1
+
+
+class Helper:
+    """A process that does a part of the work; it ends where the first one ends."""
+
+    def __init__(self, work: Work, keeps_signals: bool) -> None:
+        reader, writer = os.pipe()
+        parent = os.getpid()
+        self.process = os.fork()
+        if self.process == 0:
+            self.work(work, writer, parent, keeps_signals)
+        os.close(writer)
+        self.reader = open(reader, "rb")
+
+    def work(self, work: Work, writer: int, parent: int, keeps_signals: bool) -> None:
+        """Ends this process, which writes what came of the work."""
+        status = 1
+        try:
+            linux.end_with(parent)
+            for number in SIGNALS if not keeps_signals else ():
+                signal.signal(number, signal.SIG_DFL)
+            with open(writer, "wb") as file:
+                file.write(marshal.dumps(work()))
+            status = 0
+        finally:
+            os._exit(status)
+
+    def has_result(self) -> bool:
+        return bool(select.select([self.reader], [], [], OFTEN)[0])
+
+    def result(self) -> Optional[object]:
+        """What came of the work; None where the process ended before."""
+        try:
+            return marshal.loads(self.reader.read())  # type: ignore[no-any-return]
+        except (EOFError, ValueError, TypeError):
+            return None
+
+    def end(self) -> None:
+        self.reader.close()
+        os.kill(self.process, signal.SIGKILL)
+        os.waitpid(self.process, 0)
+
+
+def parts_of(paths: List[bytes]) -> List[List[bytes]]:
+    """Parts that follow each other, for a process each: one where there are few paths."""
+    count = 1 if len(paths) < MANY else min(MOST, os.cpu_count() or 1)
+    size = max(1, -(-len(paths) // count))
+    return [paths[place : place + size] for place in range(0, len(paths), size)]

@@ -1,0 +1,104 @@
+"""The commands that facl-daily runs one after another, and the signals that end it."""
+from __future__ import annotations
+
+import os
+import signal
+import subprocess
+from types import FrameType
+from typing import IO, Dict, List, NamedTuple, Optional, Sequence
+
+from ..base.environment import HOME
+from ..base.messages import SIGNALS, Interrupted
+
+SAID_LIMIT = 16 << 20  # Bytes that are kept of what a command prints.
+BINARIES = os.path.join(HOME, "..", "..", "bin")  # Of an installed command.
+
+
+class Done(NamedTuple):
+    status: int
+    said: bytes
+
+
+def environment() -> Dict[str, str]:
+    """That of the commands: those beside this one come first."""
+    path = os.pathsep.join([HOME, *[BINARIES] * os.path.exists(os.path.join(BINARIES, "facl-snapshot")),
+                            os.environ.get("PATH", os.defpath)])
+    return {**os.environ, "PATH": path, "LC_ALL": "C.UTF-8"}
+
+
+def read_some(stream: IO[bytes]) -> bytes:
+    """What a command prints, up to a limit."""
+    kept = stream.read(SAID_LIMIT)
+    more = 0
+    piece = stream.read(1 << 16)
+    while piece:
+        more += len(piece)
+        piece = stream.read(1 << 16)
+    return kept + (b"\n.. and %d bytes more\n" % more if more else b"")
+
+
+class Children:
+    """Runs commands; a signal is noted, ends the command that is at work, and then this one, at no other moment."""
+
+    def __init__(self) -> None:
+        self.number = 0  # Of the signal that came.
+        self.is_waiting = False
+        self.interrupted: List["subprocess.Popen[bytes]"] = []
+        for number in SIGNALS:
+            if signal.getsignal(number) != signal.SIG_IGN:
+                signal.signal(number, self.note)
+
+    def note(self, number: int, _frame: Optional[FrameType]) -> None:
+        self.number = self.number or number
+        if self.is_waiting:
+            self.is_waiting = False
+            raise Interrupted(self.number)
+
+    def ignore_signals(self) -> None:
+        """From here on nothing interrupts: the text was given, or the end has begun."""
+        self.number = 0
+        for number in SIGNALS:
+            signal.signal(number, signal.SIG_IGN)
+
+    def check(self) -> None:
+        if self.number:
+            raise Interrupted(self.number)
+
+    def run(self, words: Sequence[str], passed: Sequence[int] = ()) -> Done:
+        """Runs a command, which has the descriptors that are passed; a lock is held as long as one of its processes is there."""
+        self.check()
+        said: List[bytes] = []
+        child = subprocess.Popen(words, stdin=subprocess.DEVNULL, stdout=subprocess.PIPE, stderr=subprocess.STDOUT,
+                                 pass_fds=passed, env=environment())
+        status = self.status_of(child, said)
+        return Done(status, b"".join(said))
+
+    def wait_for_interrupted(self) -> None:
+        """Waits for the command that a signal ended, since it removes what it made."""
+        for child in self.interrupted:
+            child.wait()
+
+    def send(self, words: List[str], text: bytes) -> int:
+        """Gives a command a text as its standard input, which is complete before the command starts; returns its status."""
+        self.check()
+        with os.fdopen(os.memfd_create("mail"), "w+b") as file:
+            file.write(text)
+            file.seek(0)
+            child = subprocess.Popen(words, stdin=file)
+        return self.status_of(child)
+
+    def status_of(self, child: "subprocess.Popen[bytes]", said: Optional[List[bytes]] = None) -> int:
+        """Waits for a command; what it prints is added to `said`."""
+        try:
+            self.is_waiting = True
+            self.check()
+            if said is not None and child.stdout is not None:
+                with child.stdout:
+                    said.append(read_some(child.stdout))
+            return child.wait()
+        except Interrupted:
+            child.terminate()
+            self.interrupted.append(child)
+            raise
+        finally:
+            self.is_waiting = False

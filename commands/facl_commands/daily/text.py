@@ -1,0 +1,87 @@
+"""What facl-daily says of a run, printed or as a mail."""
+from __future__ import annotations
+
+import datetime
+import os
+import re
+import shutil
+from typing import List
+
+from ..base.messages import Command, Failure
+from ..base.names import shown
+from .children import Children, environment
+
+SUBJECT_LIMIT = 150  # Bytes.
+SOMETHING = b"something to look at"
+NO_SENDMAIL = b"--mail: there is no sendmail: install a mailer, or leave --mail out, so that cron sends what is printed"
+
+
+def find_sendmail() -> str:
+    """The name of sendmail, also where /usr/sbin is not on the path."""
+    found = shutil.which("sendmail", path=environment()["PATH"] + ":/usr/sbin:/usr/lib")
+    if found is None:
+        raise Failure(NO_SENDMAIL)
+    return found
+
+
+def in_subject(text: bytes) -> bytes:
+    """A text for the subject of a mail: one line of printable ASCII, cut where it is long."""
+    text = re.sub(rb"[^\x20-\x7e]", lambda found: b"\\%03o" % found[0][0], text.replace(b"\n", b" "))
+    return text if len(text) <= SUBJECT_LIMIT else text[:SUBJECT_LIMIT] + b".."
+
+
+class Text:
+    """The text of a run: its parts, and the reasons that the subject of a mail has."""
+
+    def __init__(self, folders: List[str]) -> None:
+        self.host = os.fsencode(os.uname().nodename)
+        self.day = datetime.date.today().isoformat().encode()
+        self.folders = b" ".join(map(os.fsencode, folders))
+        self.parts: List[bytes] = []
+        self.reasons: List[bytes] = []
+        self.has_something = False  # Something to look at.
+        self.has_fault = False
+
+    def add(self, title: bytes, said: bytes) -> None:
+        self.parts.append(b"\n== %s\n%s" % (title, said))
+
+    def note(self, reason: bytes, line: bytes) -> None:
+        """Adds a line of facl-daily itself, and a reason."""
+        self.reasons.append(reason)
+        self.has_something = True
+        self.add(b"facl-daily", shown(line) + b"\n")
+
+    def fail(self, title: bytes, status: int, said: bytes) -> None:
+        """Adds what a command said that failed; the last line of the first such command is a reason."""
+        said = said or b"(nothing was said)\n"
+        self.add(b"%s: status %d" % (title, status), said)
+        self.reasons += [] if self.has_fault else [said.splitlines()[-1]]
+        self.has_fault = True
+
+    def body(self) -> bytes:
+        head = b"facl on %s, %s" % (self.host, self.day) + (b": " + self.folders if self.folders else b"")
+        return shown(head) + b"\n" + b"".join(self.parts)
+
+    def mail(self, address: str) -> bytes:
+        subject = b"facl on %s: %s" % (self.host, b"; ".join(self.reasons) or SOMETHING)
+        return b"".join([
+            b"To: %s\nSubject: %s\n" % (address.encode(), in_subject(subject)),
+            b"MIME-Version: 1.0\nContent-Type: text/plain; charset=UTF-8\nContent-Transfer-Encoding: 8bit\n\n", self.body(),
+        ])
+
+    def give(self, command: Command, children: Children, address: str) -> bool:
+        """Prints or mails it; whether that was done."""
+        if not address:
+            command.fault = None
+            command.write(self.body())
+            command.flush()
+            if command.fault is not None:
+                command.say(b"standard output cannot be written")
+            return command.fault is None
+        text = self.mail(address)
+        status = children.send([find_sendmail(), "-i", "-t"], text)
+        if status != 0:
+            command.say(b"sendmail: status %d; this was to be sent:" % status)
+            command.put(command.messages, text)
+            command.put(command.messages)
+        return status == 0

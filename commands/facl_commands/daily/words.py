@@ -1,0 +1,122 @@
+"""The words of facl-daily."""
+from __future__ import annotations
+
+import os
+import re
+from typing import List, NamedTuple
+
+from ..base.messages import Failure
+
+USAGE = """\
+usage: facl-daily [--folder DIR] [--keep COUNT] [--rules FILE] [--accepted FILE] [--fail-on WEIGHT] [--mail ADDRESS]
+                  [--split COUNT] [--snapshot OPTIONS] FOLDER..
+"""
+HELP = USAGE + """
+Takes a snapshot of the FOLDERs by facl-snapshot, as DIR/YYYY-MM-DD, and says what there is to look at: what differs from
+the snapshot before (facl-diff), findings (facl-audit), and rules that do not hold (facl-check). Where there is nothing it
+prints nothing, so that cron sends no mail. Run it as root, once a day.
+
+  --folder DIR      where the snapshots are; without it /var/lib/facl. It is made, for root alone, where it is not there
+  --keep COUNT      how many snapshots stay; without it 30. Older ones go, of those that it made: the file
+                    made.by-facl-daily of DIR names them. Whatever else is in DIR stays
+  --rules FILE      the rules of facl-check; without it none are checked
+  --accepted FILE   the findings that are accepted, for facl-audit
+  --fail-on WEIGHT  says all findings where one has this weight or a greater one: high, which is so without it, middle,
+                    low, or none: no finding counts
+  --mail ADDRESS    sends the text by sendmail in place of printing it, and a mail also where the command fails or is ended
+                    by a signal
+  --split COUNT     for a tree above the limit of one snapshot, 1,048,576 files: DIR/YYYY-MM-DD has parts of at most COUNT files,
+                    by facl-snapshot --split. All that is said is of the whole tree. It may come and go from day to day, and
+                    COUNT may differ
+  --snapshot OPTIONS
+                    options of facl-snapshot, with blanks between them: --snapshot '--exclude *.tmp --cross-file-systems'.
+                    A file in them has its name from the root on
+  --help            prints this
+  --version         prints the version of facl
+
+DIR has to belong to the caller. DIR, the directories above it and symbolic links on the way have to belong to root or to
+the caller, and nobody else may be able to write there, but for directories above it that are sticky, as /tmp is. Two runs
+at once do not go on side by side: the later one ends with status 2.
+
+A snapshot is kept, and the next one compared with it, only once what changed was printed or mailed. Where that fails or is
+interrupted the snapshot goes, and the next run compares with the same one again. What a run leaves that SIGKILL or a power
+failure ended, the next run removes; it says that.
+
+The exit status is 0 where there is nothing to look at, 1 where there is, and 2 where the snapshot is not made, or
+something could not be asked or sent; that is said too. A signal gives 128 and its number.
+"""
+OPTIONS = ("--folder", "--keep", "--rules", "--accepted", "--fail-on", "--mail", "--split", "--snapshot")
+WEIGHTS = ("high", "middle", "low", "none")
+ADDRESS = re.compile(r"[A-Za-z0-9@._+][A-Za-z0-9@._+-]*")
+HINT = b"; facl-daily --help prints the options"
+
+
+class Words(NamedTuple):
+    folder: str
+    keep: int
+    rules: str  # Empty without the option, as are the next four.
+    accepted: str
+    weight: str
+    address: str
+    options: List[str]  # Of facl-snapshot.
+    folders: List[str]
+
+
+def address_of(words: List[str]) -> str:
+    """The address of a mail, also where other words are wrong; empty where there is none."""
+    pairs = [*zip(words, words[1:]), *(tuple(it.split("=", 1)) for it in words if it.startswith("--mail="))]
+    return next((it for option, it in reversed(pairs) if option == "--mail" and ADDRESS.fullmatch(it)), "")
+
+
+def read_options(words: List[str]) -> "tuple[dict[str, str], list[str]]":
+    """The values of options by their names, and the other words."""
+    values = {"--folder": "/var/lib/facl", "--keep": "30", "--fail-on": "high"}
+    rest = list(words)
+    while rest and rest[0].startswith("-"):
+        option, sign, value = rest.pop(0).partition("=")
+        if option == "--" and not sign:
+            break
+        if option not in OPTIONS:
+            raise Failure(os.fsencode(option) + b": is no option" + HINT)
+        if not sign:
+            if not rest:
+                raise Failure(os.fsencode(option) + b": takes a word" + HINT)
+            value = rest.pop(0)
+        values[option] = value
+    return values, rest
+
+
+def whole(name: str) -> str:
+    """A name of a file from the root on, as the commands that read it are not in the caller's folder."""
+    return os.path.join(os.getcwd(), name) if name else ""
+
+
+def check(values: "dict[str, str]", folders: List[str]) -> None:
+    keep, weight, address = (values.get(it, "") for it in ("--keep", "--fail-on", "--mail"))
+    fault = ""
+    if not folders:
+        fault = "a FOLDER is missing, as in: facl-daily /srv/project"
+    elif not values["--folder"]:
+        fault = "--folder: takes a word"
+    elif not re.fullmatch("[1-9][0-9]{0,8}", keep):
+        fault = f"--keep {keep}: is no number of snapshots"
+    elif weight not in WEIGHTS:
+        fault = f"--fail-on {weight}: give high, middle, low or none"
+    elif "--split" in values and not re.fullmatch("[1-9][0-9]{0,6}", values["--split"]):
+        fault = f"--split {values['--split']}: is no number from 1 to 9999999"
+    elif address and not ADDRESS.fullmatch(address):
+        fault = f"--mail {address}: is no address"
+    if fault:
+        raise Failure(os.fsencode(fault))
+    for name in folders:
+        if not name.startswith("/"):
+            raise Failure(os.fsencode(name) + b": give a FOLDER from the root on")
+
+
+def read_words(words: List[str]) -> Words:
+    values, folders = read_options(words)
+    check(values, folders)
+    rules, accepted = (whole(values.get(it, "")) for it in ("--rules", "--accepted"))
+    options = [*values.get("--snapshot", "").split(), *(["--split", values["--split"]] if "--split" in values else [])]
+    return Words(whole(values["--folder"]), int(values["--keep"]), rules, accepted, values["--fail-on"],
+                 values.get("--mail", ""), options, folders)

@@ -1,0 +1,67 @@
+"""Files that are judged alike: those with one record, in directories with one record each, up to the root.
+
+What a user may do with a file depends on its owner, group and list, and along its path on search on each directory
+above. So a question about one of such files is one about all of them.
+"""
+from __future__ import annotations
+
+from typing import Dict, Iterable, List, NamedTuple, Optional, Tuple
+
+from ..base.names import directories_above, parent_of
+from .records import File, Files
+
+TOP = 0  # The number of what is above the root.
+
+
+class Alike(NamedTuple):
+    """Some files, and what they have in common."""
+
+    file: File
+    paths: List[bytes]  # In the order in which they were given.
+
+    def first(self) -> bytes:
+        return self.paths[0]
+
+
+class Chains:
+    """Numbers of directories: two have one number where they, and all above them, have the same records."""
+
+    def __init__(self, files: Files) -> None:
+        self.files = files
+        self.numbers: Dict[bytes, int] = {}  # By path.
+        self.known: Dict[Tuple[int, Optional[bytes]], int] = {}
+
+    def number(self, path: bytes) -> int:
+        """Of a directory; of one that is not recorded, as of one without a record."""
+        if path not in self.numbers:
+            for it in [*directories_above(path)[::-1], path]:
+                if it not in self.numbers:
+                    above = self.numbers[parent_of(it)] if it else TOP
+                    file = self.files.get(it)
+                    pair = above, file.body if file else None
+                    self.numbers[it] = self.known.setdefault(pair, len(self.known) + 1)
+        return self.numbers[path]
+
+
+def alike_of(files: Files, paths: Iterable[bytes], is_alone: bool) -> List[Alike]:
+    """Some of the files by what they have in common; each file alone, or along its path."""
+    chains = Chains(files)
+    found: Dict[Tuple[int, File], Alike] = {}
+    for path in paths:
+        above = TOP if is_alone or not path else chains.number(parent_of(path))
+        file = files[path]
+        group = found.get((above, file))
+        if group is None:
+            group = found[above, file] = Alike(file, [])
+        group.paths.append(path)
+    return list(found.values())
+
+
+def at_or_below(paths: Iterable[bytes], folders: Iterable[bytes]) -> List[bytes]:
+    """The paths that are one of some folders or below one, in their order."""
+    tops = list(folders)
+    if b"" in tops:
+        return list(paths)
+    starts = tuple(top + b"/" for top in tops)
+    known = set(tops)
+    return [path for path in paths if path in known or path.startswith(starts)]

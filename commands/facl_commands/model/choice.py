@@ -1,0 +1,146 @@
+"""Which users and which folders a report is about: people alone or all users, and folders as a person writes them."""
+from __future__ import annotations
+
+import argparse
+import os
+from typing import Callable, Dict, Iterable, Iterator, List, Set
+
+from ..base.messages import Failure, counted
+from ..base.names import live_name, read_name, read_path, script_word, shown_path, write_user
+from ..program.protocol import LIST
+from ..program.session import Session
+from . import meta, sources
+from .people import rows_of
+from .superuser import ids_in
+
+# The ids of people; facl-snapshot, which is no Python, has the same numbers. login.defs(5) has them from 1000 to 60000, and
+# systemd (UIDS-GIDS) from 60001 to 60513 those of its own home directories. Up to 65535 follow service users, nobody and no user.
+# A directory service gives people ids above.
+FIRST_PERSON, LAST_PERSON = 1000, 60_513
+LAST_OF_SYSTEM = 65_535
+PEOPLE = f"ids from {FIRST_PERSON} to {LAST_PERSON}, and above {LAST_OF_SYSTEM}"
+MOST_NAMES = 5  # In a message.
+
+
+def add_choice(parser: argparse.ArgumentParser, folders: str = "*", default: str = "all files") -> None:
+    """Takes --all-users, --with-root and --file-alone; and FOLDERs, as many as the word for nargs says, or none. The
+    default is what is looked at without a FOLDER, in the words of --help."""
+    parser.add_argument("--all-users", action="store_true",
+                        help=f"all users, and not people alone ({PEOPLE})")
+    parser.add_argument("--with-root", action="store_true",
+                        help="also the users of uid 0, to whom the kernel grants nearly everything")
+    parser.add_argument("--file-alone", action="store_true",
+                        help="judge each file alone, without search on the directories above it")
+    if folders:
+        parser.add_argument("folders", metavar="FOLDER", nargs=folders, default=[],
+                            help="as on the live system, or from the root of the snapshot; without one, " + default)
+
+
+# --- users
+
+
+def is_person(uid: int) -> bool:
+    return FIRST_PERSON <= uid <= LAST_PERSON or uid > LAST_OF_SYSTEM
+
+
+def people_of(passwd: bytes) -> Set[bytes]:
+    """The names of the users who are people."""
+    return {name for name, uid in ids_in(passwd).items() if is_person(uid)}
+
+
+def is_chosen(uid: int, given: argparse.Namespace) -> bool:
+    if uid == 0:
+        return bool(given.with_root)
+    return bool(given.all_users) or is_person(uid)
+
+
+def kept(users: Iterable[bytes], given: argparse.Namespace, passwd: bytes) -> List[bytes]:
+    """Those of some users, by their names as the program prints them, whom a report is about."""
+    ids = ids_in(passwd)
+    return [user for user in users if read_name(user) in ids and is_chosen(ids[read_name(user)], given)]
+
+
+def notes(left_out: Iterable[bytes], passwd: bytes) -> Iterator[bytes]:
+    """What is said of users who have something to be printed, and are left out; root alone needs no word."""
+    ids = ids_in(passwd)
+    names: Dict[bool, List[bytes]] = {False: [], True: []}
+    for user in left_out:
+        names[ids.get(read_name(user)) == 0].append(user)
+    if names[False]:
+        yield b"left out: %s who %s no people (--all-users): %s" % (
+            counted(len(names[False]), "user"), b"is" if len(names[False]) == 1 else b"are", few(names[False]))
+    if names[True] not in ([], [b"root"]):
+        yield b"left out, with the uid 0 (--with-root): " + few(names[True])
+
+
+def few(names: List[bytes]) -> bytes:
+    """The first of some names."""
+    return b", ".join(names[:MOST_NAMES]) + (b" .." if len(names) > MOST_NAMES else b"")
+
+
+def in_order(users: Iterable[bytes], passwd: bytes) -> List[bytes]:
+    """Users, by their names as the program prints them, in the order of their rows."""
+    wanted = set(users)
+    return [user for user in (write_user(row[0]) for row in rows_of(passwd)) if user in wanted]
+
+
+# --- folders
+
+
+def paths_of(word: bytes) -> List[bytes]:
+    """What a word can mean: a name as the system has it, or as the program prints it."""
+    plain = read_path(word.replace(b"\\", b"\\\\"))
+    return list(dict.fromkeys([plain, read_path(word)]))
+
+
+def refuse_empty(word: bytes) -> None:
+    """Fails for a word without characters, as a variable that is not set leaves it: it would mean all files."""
+    if not word:
+        raise Failure(b"an empty word is no FILE or FOLDER; all files are those of /")
+
+
+def is_recorded(session: Session, path: bytes) -> bool:
+    """Whether the program has a file of this path; it has none of one with `..`, or of one that is too long."""
+    return not session.ask(LIST + b" " + script_word(shown_path(path)) + b"\n").messages
+
+
+def folders_made_of(session: Session) -> List[bytes]:
+    """The folders that a snapshot was made of, without the directories above them; its tops where that is not known."""
+    words = meta.meta_of(session.folder).folders
+    found = [path for path in map(read_path, words) if is_recorded(session, path)]  # As in the dump, with escapes.
+    return found if len(found) == len(words) and found else sources.find_tops(session, session.folder)
+
+
+def folder_of(session: Session, word: bytes) -> bytes:
+    """The path of a word of a person."""
+    refuse_empty(word)
+    for path in paths_of(word):
+        if is_recorded(session, path):
+            return path
+    folders = folders_made_of(session)
+    about = b": the snapshot is of " + few(list(map(live_name, folders))) if folders else b": the snapshot has no files"
+    raise Failure(word + b": is not recorded" + about)
+
+
+def folders_in(words: Iterable[str], recorded_of: Callable[[Set[bytes]], Set[bytes]]) -> List[bytes]:
+    """The paths of words of a person, in a snapshot that no session is over: recorded_of has those of some paths that it records."""
+    named = [*map(os.fsencode, words)]
+    for word in named:
+        refuse_empty(word)
+    recorded = recorded_of({path for word in named for path in paths_of(word)}) if named else set()
+    found = []
+    for word in named:
+        path = next((path for path in paths_of(word) if path in recorded), None)
+        if path is None:
+            raise Failure(word + b": is not recorded")
+        found.append(path)
+    return found
+
+
+def folders_of(session: Session, words: Iterable[str]) -> List[bytes]:
+    """The paths of some words; without words the tops of the snapshot, at or below which all files are."""
+    found = [folder_of(session, os.fsencode(word)) for word in words]
+    found = found or sources.find_tops(session, session.folder)
+    if not found:
+        raise Failure(b"the snapshot has no files: make one by facl-snapshot")
+    return found

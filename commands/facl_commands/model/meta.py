@@ -1,0 +1,70 @@
+"""What a snapshot is of: the host, the time and the folders, as facl-snapshot keeps them in the file `meta`."""
+from __future__ import annotations
+
+import os
+from typing import Dict, List, NamedTuple, Optional
+
+from ..base.names import json_text
+from ..base.trusted import read_trusted
+
+NAME = b"meta"
+FILES, USERS, GROUPS, LINKED = b"files", b"users", b"groups", b"linked-names"  # How many are recorded.
+EXCLUDED, UNREAD = b"excluded", b"unread"  # How many names are left out, and how many could not be read.
+PART = b"part"  # Of several snapshots, `001 of 003`.
+NUMBERS = (FILES, USERS, GROUPS, LINKED, EXCLUDED, UNREAD, PART)
+
+
+class Meta(NamedTuple):
+    host: bytes
+    date: bytes  # In UTC.
+    folders: List[bytes]
+    version: bytes = b""  # Of the facl that made it.
+    excludes: List[bytes] = []  # The globs of --exclude.
+    mounts: List[bytes] = []  # Mount points of other file systems, which are left out.
+    numbers: Dict[bytes, bytes] = {}  # Those of NUMBERS that it has.
+
+    def text(self) -> bytes:
+        """In a line of a command: of which host, and when."""
+        return b"of " + self.host + b", " + self.date
+
+
+UNKNOWN = Meta(b"", b"", [])
+
+
+def read_meta(text: bytes) -> Meta:
+    """Lines of a key and a value; UNKNOWN where host or date are not there."""
+    found: Dict[bytes, List[bytes]] = {}
+    for line in text.splitlines():
+        key, _, value = line.partition(b" ")
+        found.setdefault(key, []).append(value)
+    if b"host" not in found or b"date" not in found:
+        return UNKNOWN
+    return Meta(found[b"host"][0], found[b"date"][0], found.get(b"folder", []), found.get(b"version", [b""])[0],
+                found.get(b"exclude", []), found.get(b"other-file-system", []),
+                {key: found[key][0] for key in NUMBERS if key in found})
+
+
+def text_of(folder: bytes) -> bytes:
+    """The file of a snapshot or plan; empty where it has none."""
+    name = os.path.join(folder, NAME)
+    return read_trusted(name) if os.path.exists(name) else b""
+
+
+def meta_of(folder: bytes) -> Meta:
+    """That of a snapshot; UNKNOWN where it has none."""
+    return read_meta(text_of(folder))
+
+
+def fields_of(meta: Meta) -> Dict[str, Optional[str]]:
+    """For JSON."""
+    return {name: None if meta is UNKNOWN else json_text(text) for name,
+            text in (("host", meta.host), ("date", meta.date))}
+
+
+def is_of_another_host(meta: Meta) -> bool:
+    return meta is not UNKNOWN and meta.host != os.fsencode(os.uname().nodename)
+
+
+def named(name: bytes, meta: Meta) -> bytes:
+    """The name of a snapshot, with what it is of."""
+    return name if meta is UNKNOWN else name + b" (" + meta.text() + b")"

@@ -1,0 +1,176 @@
+"""What is in a snapshot: the numbers of its rows and files, and what makes answers differ from what a reader expects.
+
+The warnings are those of facl-snapshot, as far as the files of the snapshot show them.
+"""
+from __future__ import annotations
+
+import os
+import re
+from typing import Dict, Iterator, List, NamedTuple, Set
+
+from ..base.messages import Command, counted
+from ..base.names import live_name
+from ..base.trusted import read_trusted
+from ..program.protocol import EMPTY_MASK, FILE_HEAD, FREE_FILE_LINE, GROUP_ID_LINE, USER_ID_LINE
+from . import meta, split_tree
+from . import sources as source_texts
+from .people import plain_id, rows_of
+from .records import EMPTY_MASKS_OF_LISTS, OTHERS_WITH_SOMETHING
+from .snapshot import NEEDED, read_links
+from .sources import Source
+
+FILE_NAME = re.compile(b"^" + FREE_FILE_LINE, re.MULTILINE)
+GROUP_IDS = re.compile(GROUP_ID_LINE, re.MULTILINE)
+USER_IDS = re.compile(USER_ID_LINE, re.MULTILINE)
+EMPTY_MASKS = (b"lists with an empty mask whose others have something, which Linux grants to named users and groups "
+               b"too, and facl does not")
+
+
+class LoadedTexts(NamedTuple):
+    """The texts that the program loads, and the names that are one file."""
+
+    folder: bytes
+    passwd: bytes
+    group: bytes
+    dump: bytes
+    links: bytes
+
+
+def read_texts(folder: bytes) -> LoadedTexts:
+    passwd, group, dump = (read_trusted(os.path.join(folder, name)) for name in NEEDED)
+    links = os.path.join(folder, b"links")
+    return LoadedTexts(folder, passwd, group, dump, read_trusted(links) if os.path.exists(links) else b"")
+
+
+def summary(texts: LoadedTexts, name: bytes) -> bytes:
+    users, groups = (len(rows_of(text)) for text in (texts.passwd, texts.group))
+    files = sum(1 for _ in FILE_NAME.finditer(texts.dump))
+    return b"%s: %s, %s, %s" % (name, counted(users, "user"), counted(groups, "group"), counted(files, "file"))
+
+
+def open_empty_masks(dump: bytes) -> Iterator[bytes]:
+    """The files that have an empty mask, and something for others."""
+    if EMPTY_MASK not in dump:  # Which is quicker to see.
+        return
+    for mask in EMPTY_MASKS_OF_LISTS.finditer(dump):
+        start = dump.rfind(FILE_HEAD, 0, mask.start())
+        end = dump.find(b"\n\n", mask.end())
+        if start >= 0 and OTHERS_WITH_SOMETHING.search(dump[start : end if end >= 0 else len(dump)]):
+            yield dump[start + len(FILE_HEAD) : dump.index(b"\n", start)]
+
+
+def ids_without_row(texts: LoadedTexts) -> List[bytes]:
+    found: List[bytes] = []
+    for kind, pattern, rows in ((b"user", USER_IDS, texts.passwd), (b"group", GROUP_IDS, texts.group)):
+        known = {plain_id(row[2]) for row in rows_of(rows) if len(row) > 2}
+        ids: Set[bytes] = {match[1] for match in pattern.finditer(texts.dump)}
+        found += [kind + b" " + it for it in sorted(ids - known, key=int)]
+    return found
+
+
+def members_without_row(texts: LoadedTexts) -> List[bytes]:
+    users = {row[0] for row in rows_of(texts.passwd)}
+    members = {name for row in rows_of(texts.group) if len(row) > 3 for name in row[3].split(b",") if name}
+    return sorted(members - users)
+
+
+def users_with_one_id(texts: LoadedTexts) -> List[bytes]:
+    """The users with the id of another one, as ID NAME."""
+    names: Dict[bytes, List[bytes]] = {}
+    for row in rows_of(texts.passwd):
+        if len(row) > 2:
+            names.setdefault(plain_id(row[2]), []).append(row[0])
+    return sorted(uid + b" " + name for uid, its in names.items() if len(its) > 1 for name in its)
+
+
+def rows_with_returns(text: bytes) -> List[int]:
+    """The numbers of the lines that have a carriage return, from 1 on."""
+    return [number for number, row in enumerate(text.split(b"\n"), 1) if b"\r" in row] if b"\r" in text else []
+
+
+def counted_warning(text: bytes, number: int, first: bytes) -> bytes:
+    return b"warning: %s: %d, first: %s" % (text, number, first)
+
+
+def warning_of(text: bytes, names: List[bytes]) -> bytes:
+    """A warning with a number and the first name."""
+    return counted_warning(text, len(names), names[0])
+
+
+def warnings(texts: LoadedTexts) -> Iterator[bytes]:
+    """Each with a number and the first name."""
+    found = [
+        (b"names of files that have another name in the snapshot too (see links)",
+         [live_name(path) for names in read_links(texts.links) for path in names]),
+        (EMPTY_MASKS, list(open_empty_masks(texts.dump))),
+        (b"ids in the dump without a row in passwd or group", ids_without_row(texts)),
+        (b"members of groups without a row in passwd", members_without_row(texts)),
+        (b"users with an id that another user has too, as ID NAME", users_with_one_id(texts)),
+    ]
+    for text, names in found:
+        if names:
+            yield warning_of(text, names)
+
+
+def unknown(folder: bytes, dump: bytes) -> Iterator[bytes]:
+    """What a snapshot that facl-snapshot did not make cannot tell, and the names in it that have no row."""
+    found = source_texts.notice(folder, dump)
+    if found is not None:
+        yield found
+        yield from names_without_row(folder, dump)
+
+
+def names_without_row(folder: bytes, dump: bytes) -> Iterator[bytes]:
+    """A warning where a dump has such names, with which the program does not load it."""
+    passwd, group = (read_trusted(os.path.join(folder, name)) for name in (b"passwd", b"group"))
+    found = source_texts.names_without_row(passwd, group, dump)
+    if found.names:
+        yield counted_warning(b"users and groups in the dump without a row, with which the program does not load it",
+                              found.names, b"line %d" % found.line)
+
+
+def torn(texts: LoadedTexts) -> Iterator[bytes]:
+    """What is said of each text that has no users or files, another number of rows, files or names than facl-snapshot counted,
+    or carriage returns; and of meta where that is cut. It starts with the name in the folder."""
+    about = meta.meta_of(texts.folder)
+    recorded = about.numbers
+    if os.path.exists(os.path.join(texts.folder, b"inodes")) and (about is meta.UNKNOWN or meta.FILES not in recorded):
+        yield b"meta: is not as facl-snapshot wrote it, so numbers, hosts and FOLDERs are not compared"
+    for name, key, number, noun in (
+        (b"dump", meta.FILES, sum(1 for _ in FILE_NAME.finditer(texts.dump)), "file"),
+        (b"passwd", meta.USERS, texts.passwd.count(b"\n"), "row"),
+        (b"group", meta.GROUPS, texts.group.count(b"\n"), "row"),
+        (b"links", meta.LINKED, sum(map(len, read_links(texts.links))), "name"),
+    ):
+        if recorded.get(key, b"%d" % number) != b"%d" % number:
+            yield name + b": has " + counted(number, noun) + b", and facl-snapshot recorded " + recorded[key]
+        elif key == meta.FILES and number == 0:
+            yield name + b": has no files"
+        elif key == meta.USERS and not rows_of(texts.passwd):
+            yield name + b": has no users, so nobody is named"
+    for name, text in ((b"passwd", texts.passwd), (b"group", texts.group)):
+        rows = rows_with_returns(text)
+        if rows:
+            yield (name + b": " + counted(len(rows), "row has", "rows have") + b" a carriage return, which is taken for a part of "
+                   b"the last name, first: line %d" % rows[0])
+
+
+def torn_warnings(texts: LoadedTexts, source: Source) -> Iterator[bytes]:
+    """The same as warnings; files that are given in place of a snapshot are named by what they are."""
+    for text in torn(texts):
+        yield b"warning: " + (text if source.is_made else os.path.join(source.shown, text))
+
+
+def say_notices(command: Command, source: Source, has_masks: bool = True) -> None:
+    """What answers over this snapshot cannot tell, and the warning of empty masks, where there are any."""
+    names: Dict[bytes, None] = {}  # A directory can be in several parts of a snapshot.
+    for folder in split_tree.snapshots_in(source.folder):
+        part = source if folder == source.folder else Source(folder, folder, False)
+        found = read_texts(folder)
+        for text in unknown(folder, found.dump):
+            command.say(part.shown + b": " + text if not text.startswith(b"warning: ") else text)
+        for text in torn_warnings(found, part):
+            command.say(text)
+        names.update(dict.fromkeys(open_empty_masks(found.dump) if has_masks else ()))
+    if names:
+        command.say(warning_of(EMPTY_MASKS, [*names]))

@@ -1,0 +1,139 @@
+"""Users and groups, as far as commands that change them have to be written for the live system."""
+from __future__ import annotations
+
+from typing import Callable, Dict, List, NamedTuple, Optional, Set
+
+from ..base.names import number_of, read_name, shell_word
+from ..program.tools import Split, split
+
+ADD_MEMBER, REMOVE_MEMBER, CHANGE_GROUP = b"gpasswd -a", b"gpasswd -d", b"usermod -g"
+ADD_USER, REMOVE_USER = b"useradd", b"userdel"
+
+
+class User(NamedTuple):
+    name: bytes
+    uid: int
+    gid: int
+
+
+class Group(NamedTuple):
+    name: bytes
+    gid: int
+    members: List[bytes]
+
+
+class PeopleChange(NamedTuple):
+    """What an accepted line changes of users and groups: one of the kinds above."""
+
+    kind: bytes
+    user: User  # As before; one that is added, as afterwards.
+    group: bytes  # The group of the membership, or the primary group afterwards; empty for a user that is removed.
+    gid: int
+
+    def tool(self) -> bytes:
+        return self.kind.split(b" ")[0]
+
+
+def option_word(word: bytes) -> List[bytes]:
+    """An operand, after the end of the options where it looks like one of them."""
+    return [b"--", word] if word.startswith(b"-") else [word]
+
+
+def shown_change(change: PeopleChange) -> bytes:
+    """A change as the command that a person would write. A group whose name is digits alone is an id for the tools."""
+    group = b"%d" % change.gid if change.group.isdigit() else change.group
+    words = {
+        ADD_MEMBER: [b"-a", change.user.name, *option_word(change.group)],
+        REMOVE_MEMBER: [b"-d", change.user.name, *option_word(change.group)],
+        CHANGE_GROUP: [b"-g", group, *option_word(change.user.name)],
+        ADD_USER: [b"-u", b"%d" % change.user.uid, b"-g", group, *option_word(change.user.name)],
+        REMOVE_USER: option_word(change.user.name),
+    }
+    return b" ".join(shell_word(word) for word in [change.tool(), *words[change.kind]])
+
+
+def rows_of(text: bytes) -> List[List[bytes]]:
+    """The fields of the rows of passwd(5) or group(5); the first row of a name counts."""
+    found: Dict[bytes, List[bytes]] = {}
+    for row in text.split(b"\n"):
+        if row and not row.startswith(b"#"):
+            fields = row.split(b":")
+            found.setdefault(fields[0], fields)
+    return list(found.values())
+
+
+def plain_id(field: bytes) -> bytes:
+    """An id of a row without the zeros before it, as listings have it."""
+    return field.lstrip(b"0") or b"0"
+
+
+def user_word(passwd: bytes, name: bytes) -> Optional[bytes]:
+    """What names a user in a line: the name, or in the place of digits alone the id, which means the first user who has
+    it; None where that is another one."""
+    if not name.isdigit():
+        return name
+    rows = rows_of(passwd)
+    uid = number_of(next((fields[2] for fields in rows if fields[0] == name), name))
+    first = next((fields[0] for fields in rows if number_of(fields[2]) == uid), None)
+    return b"%d" % uid if first == name else None
+
+
+class People:
+    """The users and groups of a snapshot, and what accepted lines make of them."""
+
+    def __init__(self, passwd: bytes, group: bytes) -> None:
+        self.users = [User(row[0], int(row[2]), int(row[3])) for row in rows_of(passwd)]
+        self.groups = [Group(row[0], int(row[2]), [it for it in row[3].split(b",") if it]) for row in rows_of(group)]
+
+    def user(self, word: bytes) -> User:
+        name = read_name(word.strip(b" \t"))
+        return next(it for it in self.users if (it.uid == number_of(name) if name.isdigit() else it.name == name))
+
+    def group(self, word: bytes) -> Group:
+        name = read_name(word.strip(b" \t"))
+        return next(it for it in self.groups if (it.gid == number_of(name) if name.isdigit() else it.name == name))
+
+    def change(self, words: List[bytes]) -> Optional[PeopleChange]:
+        """Does what an accepted line does, and returns it; None where nothing changes."""
+        does: Dict[bytes, Callable[[Split], Optional[PeopleChange]]] = {
+            b"gpasswd": self.gpasswd, b"usermod": self.usermod, b"useradd": self.useradd, b"userdel": self.userdel
+        }
+        return does[words[0]](split(words))
+
+    def gpasswd(self, line: Split) -> Optional[PeopleChange]:
+        group, is_added = self.group(line.operands[0]), line.has(b"-a")
+        user = self.user(line.value(b"-a", b"-d"))
+        if (user.name in group.members) == is_added:
+            return None
+        group.members[:] = [it for it in group.members if it != user.name] + [user.name] * is_added
+        return PeopleChange(ADD_MEMBER if is_added else REMOVE_MEMBER, user, group.name, group.gid)
+
+    def usermod(self, line: Split) -> Optional[PeopleChange]:
+        user, group = self.user(line.operands[0]), self.group(line.value(b"-g"))
+        if user.gid == group.gid:
+            return None
+        self.users[self.users.index(user)] = user._replace(gid=group.gid)
+        return PeopleChange(CHANGE_GROUP, user, group.name, group.gid)
+
+    def useradd(self, line: Split) -> PeopleChange:
+        group = self.group(line.value(b"-g"))
+        user = User(read_name(line.operands[0]), int(line.value(b"-u")), group.gid)
+        self.users.append(user)
+        return PeopleChange(ADD_USER, user, group.name, group.gid)
+
+    def userdel(self, line: Split) -> PeopleChange:
+        user = self.user(line.operands[0])
+        self.users.remove(user)
+        for group in self.groups:
+            group.members[:] = [it for it in group.members if it != user.name]
+        return PeopleChange(REMOVE_USER, user, b"", user.gid)
+
+
+def groups_by_user(people: People) -> Dict[bytes, Set[int]]:
+    """By name: the primary group and those that list the user."""
+    found = {user.name: {user.gid} for user in people.users}
+    for group in people.groups:
+        for name in group.members:
+            if name in found:
+                found[name].add(group.gid)
+    return found

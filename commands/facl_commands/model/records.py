@@ -1,0 +1,146 @@
+"""The records of a listing: what getfacl prints of files, by the program or by the system, with ids as numbers."""
+from __future__ import annotations
+
+import re
+from functools import lru_cache
+from typing import Dict, Iterable, List, NamedTuple, Tuple
+
+from ..base.messages import Failure
+from ..base.names import read_path, script_word, shown_path, sorting_key, write_name
+from ..program.protocol import (
+    DEFAULT_ENTRY, EMPTY_MASK_LINE, FILE_HEAD, FLAGS_LINE, LIST_ALL, MASK_LINE, ONLY_DIRECTORIES, OPEN_OTHERS_LINE,
+    OWNER_LINES, OWNING_GROUP_LINE, SET_DEFAULT, has_text, lacks_file,
+)
+from ..program.session import Session
+
+EMPTY_MASKS_OF_LISTS = re.compile(EMPTY_MASK_LINE, re.MULTILINE)
+OTHERS_WITH_SOMETHING = re.compile(OPEN_OTHERS_LINE, re.MULTILINE)
+HEAD_OF_RECORD = re.compile(OWNER_LINES + b"(?:" + FLAGS_LINE + b")?")
+MASK, OWNING_GROUP = re.compile(MASK_LINE, re.MULTILINE), re.compile(OWNING_GROUP_LINE, re.MULTILINE)
+OWNER = re.compile(OWNER_LINES)
+
+
+class File(NamedTuple):
+    """A file: its kind, and the lines of its record after the first one."""
+
+    is_directory: bool
+    body: bytes
+
+
+Files = Dict[bytes, File]  # By path.
+
+
+class Listing(NamedTuple):
+    """The files of a listing, in its order, with their names as they are printed there."""
+
+    files: Files
+    names: List[bytes]
+
+
+class ChangedPaths(NamedTuple):
+    """The paths of files with another record, of new files, and of files that are gone; each in path order."""
+
+    changed: List[bytes]
+    made: List[bytes]
+    removed: List[bytes]
+
+
+def write_record(path: bytes, file: File) -> bytes:
+    return write_records({path: file}, [path])
+
+
+def write_records(files: Files, paths: Iterable[bytes]) -> bytes:
+    """The records of files for the live system; the name of a directory ends in a slash, and one without escapes is written
+    as it is."""
+    parts: List[bytes] = []
+    for path in paths:
+        is_directory, body = files[path]
+        if is_directory or b"\\" in path or b"\n" in path or b"\r" in path:
+            parts += (FILE_HEAD + b"/", write_name(path), b"/" * (is_directory and path != b""), b"\n", body, b"\n")
+        else:
+            parts += (FILE_HEAD + b"/", path, b"\n", body, b"\n")
+    return b"".join(parts)
+
+
+def path_of(name: bytes) -> bytes:
+    """The path that a name in a listing is; only one with an escape, or with a component that is none, has to be
+    read."""
+    if b"\\" in name or b"//" in name or b"/." in name or name[:1] == b".":
+        return read_path(name)
+    return name.strip(b"/")
+
+
+def paths_of(names: List[bytes]) -> List[bytes]:
+    """The paths that the names in a listing are, of which the first may be the root."""
+    text = b"/" + b"\n/".join(names[1:])
+    if b"\\" in text or b"//" in text or b"/." in text:
+        return [path_of(name) for name in names]
+    return [*map(path_of, names[:1]), *[name.strip(b"/") for name in names[1:]]]
+
+
+def read_bodies(text: bytes) -> Tuple[List[bytes], List[bytes]]:
+    """The names in the records of a listing, and their other lines; each different body is there once."""
+    names, bodies = [], []
+    known: Dict[bytes, bytes] = {}
+    for record in text.split(b"\n\n"):
+        if record:
+            first, _, rest = record.partition(b"\n")
+            names.append(first[len(FILE_HEAD) :])
+            body = known.get(rest)
+            if body is None:
+                body = known[rest] = rest + b"\n"
+            bodies.append(body)
+    return names, bodies
+
+
+def list_files(text: bytes) -> Listing:
+    """The files of a listing. A file is a directory by its name, its default entries, or another file below it. Files
+    of one kind with the same lines are one value."""
+    names, bodies = read_bodies(text)
+    paths = paths_of(names)
+    parents = {b"", *[path.rpartition(b"/")[0] for path in paths]}
+    known: Tuple[Dict[bytes, File], Dict[bytes, File]] = {}, {}
+    found: Files = {}
+    for path, name, body in zip(paths, names, bodies):
+        is_directory = name[-1:] == b"/" or path in parents
+        file = known[is_directory].get(body)
+        if file is None:
+            file = known[is_directory][body] = File(is_directory or DEFAULT_ENTRY in body, body)
+        found[path] = file
+    return Listing(found, names)
+
+
+def read_listing(text: bytes) -> Files:
+    return list_files(text).files
+
+
+def list_all(session: Session, top: bytes = b"") -> Listing:
+    """The files as they are now, a directory and those below it; none where it is not there, and so where the root was
+    removed, which removes all."""
+    answer = session.ask(LIST_ALL + b" " + script_word(shown_path(top)) + b"\n")
+    if answer.messages and not lacks_file(answer.messages):
+        raise Failure(b"the program refused to list the files: " + answer.messages[0])
+    return list_files(answer.output.read())
+
+
+def compare(old: Files, new: Files) -> ChangedPaths:
+    """What differs. A file in the place of a directory, or a directory in the place of a file, is a new one."""
+    both = [path for path, file in old.items() if path in new and file.is_directory == new[path].is_directory]
+    same_kind = set(both)
+    return ChangedPaths(
+        sorted((path for path in both if old[path] != new[path]), key=sorting_key),
+        sorted((path for path in new if path not in same_kind), key=sorting_key),
+        sorted((path for path in old if path not in same_kind), key=sorting_key),
+    )
+
+
+@lru_cache(maxsize=4096)
+def has_open_empty_mask(file: File) -> bool:
+    """Whether Linux grants named users and groups what others have, as the mask is empty."""
+    return bool(EMPTY_MASKS_OF_LISTS.search(file.body)) and bool(OTHERS_WITH_SOMETHING.search(file.body))
+
+
+def asks_as_directory(session: Session, path: bytes) -> bool:
+    """Whether the program takes a file for a directory, which a listing of it alone does not show."""
+    question = SET_DEFAULT + b" " + script_word(shown_path(path)) + b"\n"
+    return not any(has_text(message, ONLY_DIRECTORIES) for message in session.ask(question).messages)

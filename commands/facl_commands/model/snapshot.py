@@ -1,0 +1,117 @@
+"""A snapshot: the folder that facl-snapshot makes."""
+from __future__ import annotations
+
+import os
+from typing import Dict, List, NamedTuple
+
+from ..base import trusted
+from ..base.linux import Identity
+from ..base.messages import Failure
+from ..base.names import number_of, read_path
+from . import meta
+
+NEEDED = (b"passwd", b"group", b"dump")
+
+
+class Snapshot(NamedTuple):
+    folder: bytes
+    passwd: bytes
+    group: bytes
+    links: List[List[bytes]]  # Sets of paths that are one file.
+    boot: str  # The start of the system in which devices had their numbers.
+    inodes: Dict[bytes, Identity]  # By path; none where the snapshot does not have them.
+
+
+def read_links(text: bytes) -> List[List[bytes]]:
+    return [[read_path(name) for name in names.splitlines()] for names in text.split(b"\n\n") if names]
+
+
+def read_inodes(text: bytes) -> Dict[bytes, Identity]:
+    """The records after the first one, `DEVICE INODE BIRTH NAME`, each of which ends in a NUL byte."""
+    found = {}
+    if text and not text.endswith(b"\0"):
+        raise ValueError
+    for record in text.split(b"\0")[1:-1]:
+        device, inode, birth, name = record.split(b" ", 3)
+        found[name.strip(b"/")] = Identity(int(device), int(inode), nanoseconds(birth))
+    return found
+
+
+def check_inodes(folder: bytes, text: bytes, inodes: Dict[bytes, Identity]) -> None:
+    """Fails where the file inodes is cut: it has fewer names than facl-snapshot recorded, or not even its first record."""
+    recorded = meta.meta_of(folder).numbers.get(meta.FILES, b"0")
+    if not text.startswith(b"boot ") or not recorded.isdigit() or number_of(recorded) > len(inodes):
+        raise Failure(folder + b"/inodes: has fewer names than facl-snapshot recorded: make the snapshot again")
+
+
+def check_links(folder: bytes, links: List[List[bytes]], inodes: Dict[bytes, Identity]) -> None:
+    """Fails where links are not the sets of names that are one file by inodes."""
+    names = [name for its in links for name in its]
+    files = [{inodes[name][:2] if name in inodes else None for name in its} for its in links]
+    more = len(inodes) - len({it[:2] for it in inodes.values()})  # Names beside the first one of each file.
+    is_same = all(len(its) == 1 and None not in its for its in files) and len(set(names)) == len(names)
+    if not is_same or len(names) - len(links) != more:
+        raise Failure(folder + b"/links: has other names of files than inodes, so it is not as facl-snapshot wrote it: make the "
+                      b"snapshot again")
+
+
+def nanoseconds(text: bytes) -> int:
+    """A number of seconds with nine digits after its point, or 0."""
+    seconds, _, rest = text.partition(b".")
+    return int(seconds) * 1_000_000_000 + int(rest.ljust(9, b"0")) if seconds.isdigit() else 0
+
+
+def check_texts(folder: bytes) -> int:
+    """Opens the folder; fails where the program would not find its texts, or somebody else can have written them."""
+    if not os.path.isdir(folder) and not is_hidden(folder):
+        raise Failure(folder + b": no such folder: make a snapshot by facl-snapshot")
+    descriptor = trusted.open_folder(folder)
+    for name in NEEDED:
+        if not has(descriptor, name):
+            raise Failure(folder + b": is no snapshot: " + name + b" is not in it")
+        os.close(trusted.open_file(os.path.join(folder, name)))
+    return descriptor
+
+
+def is_hidden(folder: bytes) -> bool:
+    """Whether it cannot be seen what is there."""
+    try:
+        os.stat(folder)
+    except PermissionError:
+        return True
+    except OSError:
+        pass
+    return False
+
+
+def has(folder: int, name: bytes) -> bool:
+    try:
+        os.stat(name, dir_fd=folder)
+    except FileNotFoundError:
+        return False
+    return True
+
+
+def read_optional(folder: int, shown: bytes, name: bytes) -> bytes:
+    return trusted.read_trusted(os.path.join(shown, name)) if has(folder, name) else b""
+
+
+def read_snapshot(folder: bytes, needs_links: bool = True) -> Snapshot:
+    """A snapshot; one without links, which facl-snapshot did not make, only where these are not needed."""
+    descriptor = check_texts(folder)
+    if needs_links and not has(descriptor, b"links"):
+        raise Failure(folder + b": is no snapshot: links is not in it: make one by facl-snapshot")
+    passwd, group = (trusted.read_trusted(os.path.join(folder, name)) for name in (b"passwd", b"group"))
+    links = read_links(read_optional(descriptor, folder, b"links"))
+    has_inodes = has(descriptor, b"inodes")
+    text = read_optional(descriptor, folder, b"inodes")
+    os.close(descriptor)
+    boot = text.partition(b"\0")[0].partition(b" ")[2].decode("ascii", "replace") or "-"  # In the first record.
+    try:
+        inodes = read_inodes(text)
+    except ValueError as error:
+        raise Failure(folder + b"/inodes: is not as facl-snapshot wrote it: make the snapshot again") from error
+    if has_inodes:
+        check_inodes(folder, text, inodes)
+        check_links(folder, links, inodes)
+    return Snapshot(folder, passwd, group, links, boot, inodes)

@@ -1,0 +1,225 @@
+"""Any dump: a folder with passwd, group and dump alone, or three files by name, also without the directories above its
+files.
+
+A command calls add_source for its words and opens what is given by opened; then notice has what such a snapshot cannot
+tell, find_tops the files that no recorded directory is above, and list_below listings from these on.
+"""
+from __future__ import annotations
+
+import argparse
+import contextlib
+import os
+import re
+import subprocess
+from typing import Iterator, List, NamedTuple, Optional, Set
+
+from ..base import scratch
+from ..base.environment import environment_of_called
+from ..base.messages import Failure, reason
+from ..base.names import directories_above, path_order, read_name, read_path, script_word, shown_path
+from ..base.trusted import open_file, read_trusted
+from ..program.protocol import FILE_HEAD, FREE_FILE_LINE, LIST, LIST_ALL, lacks_file
+from ..program.session import OutputSlice, Session, parts_of
+from .people import rows_of
+
+DUMP = b"dump"
+DATABASES = ("passwd", "group")
+NAMED = {"passwd": re.compile(rb"[ \t]*(?:#[ \t]*owner:[ ]?|(?:d(?:efault)?:)?u(?:ser)?:)([^:#]+)"),
+         "group": re.compile(rb"[ \t]*(?:#[ \t]*group:[ ]?|(?:d(?:efault)?:)?g(?:roup)?:)([^:#]+)")}
+KEYS_AT_ONCE = 500  # Of getent.
+LIVE_ROOT = FILE_HEAD + b"/\n"  # As facl-snapshot writes it.
+FILE_NAME = re.compile(FREE_FILE_LINE, re.DOTALL)
+HAS_FILE = re.compile(rb"^[ \t]*#[ \t]*file:", re.MULTILINE)
+PIECE = 1 << 20
+ROOM = 60_000  # Bytes of names in a line, which may have 65,536.
+
+
+class Source(NamedTuple):
+    """What is asked of."""
+
+    folder: bytes  # Which has passwd, group and dump.
+    shown: bytes  # What a person gave.
+    is_made: bool  # Whether the folder is made here, and goes with the command.
+
+
+def add_source(parser: argparse.ArgumentParser, words: List[str]) -> None:
+    """Takes SNAPSHOT, or --dump FILE in its place; and which program is to answer."""
+    parser.add_argument("--program", metavar="FILE", help="the program facl; without it $FACL, or facl on the path")
+    parser.add_argument("--dump", metavar="FILE", help="a file of getfacl -R, in place of SNAPSHOT")
+    parser.add_argument("--passwd", metavar="FILE", help="with --dump: the users; without it those of the system")
+    parser.add_argument("--group", metavar="FILE", dest="group_file",
+                        help="with --dump: the groups; without it those of the system")
+    options = words[: words.index("--")] if "--" in words else words
+    if any(word == "--dump" or word.startswith("--dump=") for word in options):
+        parser.set_defaults(snapshot=None)
+    else:
+        parser.add_argument("snapshot", metavar="SNAPSHOT")
+
+
+def source_words(given: argparse.Namespace) -> List[str]:
+    """The words that gave it, for another command over the same."""
+    options = (("--program", given.program), ("--dump", given.dump), ("--passwd", given.passwd), ("--group", given.group_file))
+    words = [word for option, value in options if value is not None for word in (option, value)]
+    return words if given.dump is not None else [*words, given.snapshot]
+
+
+@contextlib.contextmanager
+def opened(given: argparse.Namespace) -> Iterator[Source]:
+    """A folder with the texts that are given; where they are files, one with links to them, which is removed at the
+    end."""
+    if given.dump is None:
+        if given.passwd is not None or given.group_file is not None:
+            raise Failure(b"--passwd and --group go with --dump: a SNAPSHOT has its own")
+        yield Source(os.fsencode(given.snapshot), os.fsencode(given.snapshot), False)
+        return
+    with scratch.folder("facl.") as work:
+        dump = read_dump(os.fsencode(given.dump))
+        for name, file in (("dump", given.dump), ("passwd", given.passwd), ("group", given.group_file)):
+            target = os.path.join(work, name)
+            if file is not None:
+                os.close(open_file(os.fsencode(file)))
+                os.symlink(os.path.join(os.getcwdb(), os.fsencode(file)), os.fsencode(target))
+            else:
+                with open(target, "wb") as made:
+                    made.write(rows_of_system(name, dump))
+        del dump  # Which is large.
+        source = Source(os.fsencode(work), os.fsencode(given.dump), True)
+        try:
+            yield source
+        except Failure as failure:
+            start = source.folder + b": "
+            if not failure.text.startswith(start):
+                raise
+            raise Failure(source.shown + b": " + failure.text[len(start) :], failure.status) from failure
+
+
+def read_dump(name: bytes) -> bytes:
+    """What is in a dump. Another file is refused at once, since names in a dump become words of getent, which all users can
+    see."""
+    found = read_trusted(name)
+    if found and HAS_FILE.search(found) is None:
+        raise Failure(name + b": is no dump: it has no line `# file: NAME`")
+    return found
+
+
+def getent(words: List[bytes]) -> bytes:
+    """Rows of the system; keys that nobody has give none."""
+    try:
+        return subprocess.run([b"getent", *words], stdin=subprocess.DEVNULL, stdout=subprocess.PIPE, check=False,
+                              env=environment_of_called()).stdout
+    except OSError as error:
+        raise Failure(b"getent: " + reason(error)) from error
+
+
+def pieces_of(dump: bytes) -> Iterator[List[bytes]]:
+    """The lines of a dump, some at once."""
+    place = 0
+    while place < len(dump):
+        end = dump.find(b"\n", place + PIECE)
+        end = end if end >= 0 else len(dump)
+        yield dump[place:end].split(b"\n")
+        place = end + 1
+
+
+def distinct_lines(dump: bytes) -> Set[bytes]:
+    """The lines of a dump without those of files' names; most of the others are there often."""
+    lines: Set[bytes] = set()
+    for piece in pieces_of(dump):
+        lines.update(line for line in set(piece) if line[:7] != FILE_HEAD[:7])
+    return lines
+
+
+def names_in(database: str, lines: Set[bytes]) -> Set[bytes]:
+    """The users or groups that lines of a dump name, of which some are ids."""
+    return {read_name(match[1].strip()) for match in map(NAMED[database].match, lines) if match is not None}
+
+
+def rows_of_system(database: str, dump: bytes) -> bytes:
+    """passwd or group of the system, also the rows that it gives only where it is asked for them by a name or id of the
+    dump."""
+    word = database.encode()
+    text = getent([word])
+    known = {field for row in rows_of(text) for field in (row[0], row[2])}
+    lacking = sorted(names_in(database, distinct_lines(dump)) - known)
+    for start in range(0, len(lacking), KEYS_AT_ONCE):
+        text += getent([word, b"--", *lacking[start : start + KEYS_AT_ONCE]])
+    return text
+
+
+class WithoutRow(NamedTuple):
+    """The users and groups that a dump names, and that have no row; ids need none."""
+
+    names: int
+    line: int  # The first line of the dump that names one of them, from 1 on.
+
+
+def names_without_row(passwd: bytes, group: bytes, dump: bytes) -> WithoutRow:
+    """Their number, and where the first one is. The file may be any: no name is given back."""
+    names, of_them = 0, set()
+    lines = distinct_lines(dump)
+    for database, rows in zip(DATABASES, (passwd, group)):
+        known = {row[0] for row in rows_of(rows)}
+        lacking = {name for name in names_in(database, lines) - known if not name.isdigit()}
+        names += len(lacking)
+        of_them |= {line for line in lines if names_in(database, {line}) & lacking} if lacking else set()
+    return WithoutRow(names, line_of(dump, of_them) if names else 0)
+
+
+def line_of(dump: bytes, wanted: Set[bytes]) -> int:
+    """The number of the first line that is one of some."""
+    number = 0
+    for piece in pieces_of(dump):
+        for line in piece:
+            number += 1
+            if line in wanted:
+                return number
+    return 0
+
+
+def notice(folder: bytes, dump: bytes) -> Optional[bytes]:
+    """What a snapshot cannot tell; None where facl-snapshot made it."""
+    found: List[bytes] = []
+    if not dump.startswith(LIVE_ROOT) and b"\n" + LIVE_ROOT not in dump:
+        found.append(b"the directories above are not recorded, so they are taken as open")
+    if not os.path.exists(os.path.join(folder, b"links")):
+        found.append(b"hard links are not known")
+    return b"; ".join(found) or None
+
+
+def names_of(dump: bytes) -> Iterator[bytes]:
+    """The names of its files, as they are written there."""
+    comments = (line for piece in pieces_of(dump) for line in piece if b"#" in line[:9])
+    return (match[1] for match in map(FILE_NAME.match, comments) if match is not None)
+
+
+def tops_of(dump: bytes) -> List[bytes]:
+    """The paths that no recorded directory is above, in path order; the root alone where it is recorded."""
+    recorded = set(map(read_path, names_of(dump)))
+    return sorted((path for path in recorded if recorded.isdisjoint(directories_above(path))), key=path_order)
+
+
+def find_tops(session: Session, folder: bytes) -> List[bytes]:
+    """The tops of the files that a session starts with."""
+    if not session.ask(LIST + b" .\n").messages:
+        return [b""]
+    return tops_of(read_trusted(os.path.join(folder, DUMP)))
+
+
+def operands_of(paths: List[bytes]) -> List[List[bytes]]:
+    """The words of paths, in groups that a line has room for."""
+    return list(parts_of([script_word(shown_path(path)) for path in paths], ROOM))
+
+
+def list_below(session: Session, tops: List[bytes]) -> List[OutputSlice]:
+    """Listings of the files as they are now, in path order, with ids as numbers; a top that is gone has none."""
+    return [output for words in operands_of(tops) for output in list_words(session, words)]
+
+
+def list_words(session: Session, words: List[bytes]) -> List[OutputSlice]:
+    """The listings of some tops, one by one where not all of them are there."""
+    answer = session.ask(b" ".join([LIST_ALL, *words]) + b"\n")
+    if not answer.messages:
+        return [answer.output]
+    if not lacks_file(answer.messages):
+        raise Failure(b"the program refused to list the files: " + answer.messages[0])
+    return [output for word in words for output in list_words(session, [word])] if len(words) > 1 else []

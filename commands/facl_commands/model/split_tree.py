@@ -1,0 +1,114 @@
+"""The parts of a tree, which facl-snapshot --split makes in one folder, read as one snapshot.
+
+The parts have the files in path order. Each part also has the directories above its first file, which the parts before it have
+too: a file is taken from the first part that has it.
+"""
+from __future__ import annotations
+
+import os
+from typing import Dict, Iterable, Iterator, List, Optional, Set, Tuple
+
+from ..base import trusted
+from ..base.messages import Failure
+from ..base.names import sorting_key, write_name
+from ..program.protocol import FILE_HEAD
+from . import meta
+from .snapshot import NEEDED, check_texts, read_links
+
+FIRST = b"001"  # The folder of the first part.
+DEVICE = 1 << 64  # An inode is less.
+
+
+def parts_in(folder: bytes) -> List[bytes]:
+    """The folders of the parts, in path order; none where the folder is a snapshot itself. Fails where a part is missing."""
+    if os.path.exists(os.path.join(folder, NEEDED[0])) or not os.path.isdir(os.path.join(folder, FIRST)):
+        return []
+    os.close(trusted.open_folder(folder))
+    names = sorted((name for name in os.listdir(folder) if name.isdigit()), key=int)
+    for number, name in enumerate(names, 1):
+        about = meta.meta_of(os.path.join(folder, name))
+        if int(name) != number or about.numbers.get(meta.PART) != b"%s of %03d" % (name, len(names)):
+            raise Failure(folder + b": lacks parts of its tree, or has parts of another one: make it again by facl-snapshot --split")
+    return [os.path.join(folder, name) for name in names]
+
+
+def snapshots_in(folder: bytes) -> List[bytes]:
+    """The folders of the parts; the folder alone where it is a snapshot."""
+    return parts_in(folder) or [folder]
+
+
+def check_all(folder: bytes) -> List[bytes]:
+    """The same, each of which has its texts; fails as check_texts does."""
+    found = snapshots_in(folder)
+    for it in found:
+        os.close(check_texts(it))
+    return found
+
+
+def meta_of_all(folders: List[bytes]) -> meta.Meta:
+    """What some parts are of, without the numbers of one of them."""
+    found = meta.meta_of(folders[0])
+    numbers = {key: found.numbers[key] for key in (meta.EXCLUDED,) if key in found.numbers}
+    unread = [meta.meta_of(it).numbers.get(meta.UNREAD, b"0") for it in folders]
+    numbers[meta.UNREAD] = b"%d" % sum(int(it) for it in unread if it.isdigit())
+    return found._replace(numbers=numbers)
+
+
+class Once:
+    """Lets the paths of parts through, a part after the other, those alone that come after all before."""
+
+    def __init__(self) -> None:
+        self.last: Optional[bytes] = None
+
+    def is_new(self, path: bytes) -> bool:
+        key = sorting_key(path)
+        if self.last is not None and key <= self.last:
+            return False
+        self.last = key
+        return True
+
+    def of_part(self, paths: Iterable[bytes]) -> List[bytes]:
+        """Those of the paths of the next part, which are in path order."""
+        return [path for path in paths if self.is_new(path)]
+
+
+def recorded_in(folders: Iterable[bytes], paths: Iterable[bytes]) -> Set[bytes]:
+    """Those of some paths that snapshots by facl-snapshot record."""
+    wanted, found = set(paths), {b""}
+    for folder in folders:
+        dump = b"\n" + trusted.read_trusted(os.path.join(folder, NEEDED[2]))
+        for path in wanted - found:
+            start = b"\n" + FILE_HEAD + b"/" + write_name(path)
+            if start + b"\n" in dump or start + b"/\n" in dump:
+                found.add(path)
+    return found & wanted
+
+
+# --- names of one file
+
+
+def files_in(folder: bytes) -> Iterator[Tuple[int, bytes]]:
+    """The names of a snapshot by the file `inodes`, each with a number that is its file's."""
+    name = os.path.join(folder, b"inodes")
+    text = trusted.read_trusted(name) if os.path.exists(name) else b""
+    for record in text.split(b"\0")[1:-1]:
+        device, inode, _, path = record.split(b" ", 3)
+        yield int(device) * DEVICE + int(inode), path
+
+
+def links_in(folders: List[bytes]) -> List[List[bytes]]:
+    """The sets of paths that are one file, in parts also those of several parts."""
+    if len(folders) == 1:
+        name = os.path.join(folders[0], b"links")
+        return read_links(trusted.read_trusted(name)) if os.path.exists(name) else []
+    known: Set[int] = set()
+    several: Set[int] = set()
+    for folder in folders:
+        for file, _ in files_in(folder):
+            (several if file in known else known).add(file)
+    names: Dict[int, Set[bytes]] = {file: set() for file in sorted(several)}
+    for folder in folders:
+        for file, name in files_in(folder):
+            if file in names:
+                names[file].add(name)  # A directory above the first file of a part is in several parts by one name.
+    return [[it.strip(b"/") for it in sorted(its)] for its in names.values() if len(its) > 1]

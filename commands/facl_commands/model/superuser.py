@@ -1,0 +1,51 @@
+"""Answers about people without the superuser, to whom the kernel grants nearly everything whatever a list says."""
+from __future__ import annotations
+
+from typing import Dict, Iterable, Iterator, Set
+
+from ..base.names import read_name
+from ..program.scripts import Unit
+from ..program.tools import ABOUT_USERS, split, user_in
+from .people import ADD_USER, rows_of
+
+NOTE = (b"left out of who, below, changes, gains and index: %s, to whom the kernel grants nearly everything; "
+        b"--with-root for all")
+
+
+class Superusers:
+    """The users of uid 0, who are left out; none of them where nobody is to be."""
+
+    def __init__(self, ids: Dict[bytes, int]) -> None:
+        self.names: Set[bytes] = {name for name, number in ids.items() if number == 0}
+        self.has_left_out = False
+
+    def follow(self, unit: Unit) -> None:
+        """A user whom an accepted line makes may be one too."""
+        if unit.is_of(ADD_USER):
+            line = split(unit.words)
+            if line.has(b"-u") and not line.value(b"-u").strip(b"0") and self.names:
+                self.names.update(map(read_name, line.operands[:1]))
+
+    def is_kept(self, user: bytes) -> bool:
+        is_kept = read_name(user) not in self.names
+        self.has_left_out = self.has_left_out or not is_kept
+        return is_kept
+
+    def rest(self, unit: Unit, lines: Iterable[bytes]) -> Iterator[bytes]:
+        """The lines of an answer without those about them; a question of one user is answered as it is."""
+        if not self.is_about_people(unit) or not self.names:
+            yield from lines
+        else:
+            yield from (line for line in lines if self.is_kept(user_in(unit.tool(), line)))
+
+    def is_about_people(self, unit: Unit) -> bool:
+        """Whether its answer has names of users."""
+        return unit.is_of(*ABOUT_USERS)
+
+    def note(self) -> bytes:
+        """What is said once, where somebody was left out."""
+        return NOTE % b", ".join(sorted(self.names))
+
+
+def ids_in(passwd: bytes) -> Dict[bytes, int]:
+    return {row[0]: int(row[2]) for row in rows_of(passwd) if len(row) > 2 and row[2].isdigit()}

@@ -1,0 +1,114 @@
+"""facl-report: one page of HTML about who may do what, which needs no network and no other file."""
+from __future__ import annotations
+
+import argparse
+import os
+from typing import TYPE_CHECKING, Iterator, List, Optional
+
+from ..base.messages import Command, Failure, counted, parser_of
+from ..base.new_file import NewFile
+from ..model import overview, sources
+from ..model.records import File, Files
+from ..model.snapshot import read_snapshot
+from ..model.sources import Source
+from ..program.scripts import Unit, read_text
+from ..program.session import Session, find_program
+from . import review
+from .data import data_of, list_files
+from .frame import page_of
+from .tree import Labels, ListedRecord, PageTree
+
+if TYPE_CHECKING:
+    from ..plan.replay import Replay
+
+WRITTEN, REFUSED = 0, 1
+HELP = """\
+Writes one page of HTML, to standard output or to a new FILE: a tree of the files of a snapshot, in which the rights
+of a user or a group are shown by colour, along the path of each file or on the file alone; the list of a file, and
+who may do what with it, by which entries; with SCRIPTs, what their edits change. The page needs no network. The
+SCRIPT - is standard input. With --for-review it is the page of one folder for its owner: what people may do there, and
+a box at each entry that can go.
+"""
+STATUS = """\
+The exit status is 0 where the page is written; 1 where lines were refused: then none is; 2 where the words, the
+snapshot or a script cannot be used, or FILE cannot be made; 5 where FILE is written, and a message was not.
+"""
+
+
+def parse(words: List[str]) -> argparse.Namespace:
+    parser = parser_of("facl-report", HELP, STATUS)
+    view = parser.add_mutually_exclusive_group()
+    view.add_argument("--file-alone", action="store_true",
+                      help="open the page with each file judged alone, and not along its path")
+    view.add_argument("--reach", action="store_true", help="open it along paths, as it does without a word")
+    parser.add_argument("--with-root", action="store_true",
+                        help="also the users of uid 0, to whom the kernel grants nearly everything")
+    parser.add_argument("--output", metavar="FILE", help="write the page to a new file that its owner alone may read")
+    sources.add_source(parser, words)
+    parser.add_argument("scripts", metavar="SCRIPT", nargs="*", default=[])
+    review.add_options(parser)
+    given = parser.parse_args(words)
+    review.check_options(parser, given)
+    return given
+
+
+def keep(records: Iterator[ListedRecord], wanted: List[List[bytes]], kept: Files) -> Iterator[ListedRecord]:
+    """The records, of which those of some paths are kept."""
+    paths = {path for names in wanted for path in names}
+    for record in records:
+        if record.path in paths:
+            kept[record.path] = File(record.is_directory, record.body + b"\n")
+        yield record
+
+
+def answer_scripts(command: Command, run: Replay, units: List[Unit]) -> int:
+    """Answers the scripts, and returns how many lines were refused."""
+    run.answer_all(units)
+    for message in run.messages:
+        command.say(message.unit.place() + b": " + message.text)
+    return sum(not message.is_warning for message in run.messages)
+
+
+def page_over(command: Command, given: argparse.Namespace, source: Source) -> Optional[bytes]:
+    """The page; None where lines were refused."""
+    snapshot = read_snapshot(source.folder, needs_links=False)
+    program = find_program(given.program)
+    units = [unit for name in given.scripts for unit in read_text(name).units()]
+    overview.say_notices(command, source)
+    tree = PageTree()
+    linked: Files = {}
+    with Session(program, snapshot.folder) as session:
+        labels = Labels()
+        tops = sources.find_tops(session, snapshot.folder)
+        records = list_files(session, tops)
+        if given.scripts:
+            records = keep(records, snapshot.links, linked)
+        listings = [(tree.add(records, labels), labels)]
+        if not tree.names:
+            raise Failure(source.shown + b": has no files: make a snapshot by facl-snapshot")
+        if given.scripts:
+            from ..plan.replay import Replay  # A page of one state needs none.
+
+            refusals = answer_scripts(command, Replay(session, snapshot, linked), units)
+            if refusals:
+                command.say(counted(refusals, "line was", "lines were") + b" refused, so no page is written")
+                return None
+            labels = Labels()
+            listings.append((tree.add(list_files(session, tops), labels), labels))
+    return page_of(data_of(program, snapshot._replace(folder=source.shown), tree, listings, units, given))
+
+
+def body(command: Command, words: List[str]) -> int:
+    given = parse(words)
+    target = NewFile(os.fsencode(given.output)) if given.output is not None else None
+    command.goes_on = target is not None
+    with sources.opened(given) as source:
+        page = review.page_over(command, given, source) if given.for_review else page_over(command, given, source)
+    if page is None:
+        return REFUSED
+    if target is None:
+        command.write(page)
+    else:
+        target.write(page)
+        command.tell(target.name + b": is written")
+    return WRITTEN

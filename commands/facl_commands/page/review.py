@@ -1,0 +1,279 @@
+"""facl-report --for-review: the page of one folder for its owner, with what people may do there, and a box at each
+entry of its lists that can go.
+
+Who may do what along paths is found by what the program answers of each list: a person gets to a file where all recorded
+directories above it grant search.
+"""
+from __future__ import annotations
+
+import argparse
+import os
+from collections import Counter
+from functools import lru_cache
+from typing import Counter as Counts
+from typing import Dict, Iterator, List, NamedTuple, Optional, Set, Tuple
+
+from ..base.messages import Command
+from ..base.names import directories_above, parent_of, script_word, shell_word, shown, shown_path, write_name
+from ..base.numbered import Numbered
+from ..base.trusted import read_trusted
+from ..model import choice, meta, overview, sources
+from ..model.entries import GROUP, MASK, OTHER, USER, Entry, NamesOfIds, read_record
+from ..model.label_answers import LabelAnswers, PeopleTexts, ask_labels
+from ..model.snapshot import check_texts
+from ..model.sources import Source
+from ..program.protocol import LIST_CUT, LIST_EFFECTIVE
+from ..program.session import Session, find_program
+from .frame import page_of
+from .tree import Labels, ListedRecord, PageTree, records_of
+
+READ, WRITE, SEARCH = 4, 2, 1  # Requests, which are bits of a byte of `index`.
+STYLE, SCRIPT = "review.css", "review.js"
+MOST, OTHERS = b"at most (mask)", b"everybody else"
+NOTHING = b"---"  # Of permissions, and of flags.
+
+
+class Reviewed(NamedTuple):
+    """The files at or below a folder, and the directories above it."""
+
+    path: bytes
+    records: List[ListedRecord]
+    above: List[ListedRecord]  # Those that are recorded, from the highest one down.
+
+
+class Person(NamedTuple):
+    name: bytes  # As the program prints it.
+    place: int  # In the answers.
+
+
+class Views(NamedTuple):
+    """What the program answers of lists, and who is looked at."""
+
+    answers: LabelAnswers
+    people: List[Person]
+
+    def granted(self, label: int, request: int) -> int:
+        """The people to whom a list grants a request: a bit for each."""
+        vector = self.answers.vectors[label]
+        return sum(1 << k for k, (_, place) in enumerate(self.people)
+                   if int(vector[2 * place : 2 * place + 2], 16) >> request & 1)
+
+
+def read_reviewed(session: Session, word: bytes) -> Reviewed:
+    path = choice.folder_of(session, word)
+    above = [it for it in directories_above(path)[::-1] if choice.is_recorded(session, it)]
+    records = [record for it in above for record in records_of(
+        session.ask_accepted(LIST_CUT + b" " + script_word(shown_path(it))))]
+    found = list(records_of(session.ask_accepted(LIST_EFFECTIVE + b" " + script_word(shown_path(path)))))
+    directories = {parent_of(record.path) for record in found[1:]}
+    return Reviewed(path, [it._replace(is_directory=it.is_directory or it.path in directories) for it in found], records)
+
+
+# --- who gets where
+
+
+class RightsByList(NamedTuple):
+    """On how many files the people have rights, by list; a bit of a number is a person."""
+
+    reads: Counts[int]
+    changes: Counts[int]
+    enters: Counts[int]
+    using: Dict[int, int]  # By list: those who get to one of its files at least.
+
+
+def bits(number: int) -> Iterator[int]:
+    """The places of its bits."""
+    while number:
+        last = number & -number
+        yield last.bit_length() - 1
+        number ^= last
+
+
+class Walk:
+    """The way over the files from the root down, with the people who get into each directory."""
+
+    def __init__(self, views: Views, is_alone: bool) -> None:
+        self.views, self.is_alone = views, is_alone
+        self.everybody = (1 << len(views.people)) - 1
+        self.inside: Dict[bytes, int] = {}
+        self.search: Dict[int, int] = {}
+
+    def reach(self, path: bytes) -> int:
+        """Who gets to a file: those who get into the nearest recorded directory above it."""
+        above = () if self.is_alone else directories_above(path)
+        return next((self.inside[it] for it in above if it in self.inside), self.everybody)
+
+    def enter(self, path: bytes, label: int) -> None:
+        """Takes a directory, before what is in it."""
+        if label not in self.search:
+            self.search[label] = self.views.granted(label, SEARCH)
+        self.inside[path] = self.reach(path) & self.search[label]
+
+
+def rights_of(reviewed: Reviewed, labels: Labels, views: Views, is_alone: bool) -> RightsByList:
+    walk = Walk(views, is_alone)
+    for record in reviewed.above:
+        walk.enter(record.path, labels.number(record.body))
+    classes: Counts[Tuple[int, bool, int]] = Counter()
+    for record in reviewed.records:
+        label = labels.number(record.body)
+        classes[label, record.is_directory, walk.reach(record.path)] += 1
+        if record.is_directory:
+            walk.enter(record.path, label)
+    return counted_by(classes, views)
+
+
+def counted_by(classes: Counts[Tuple[int, bool, int]], views: Views) -> RightsByList:
+    """The rights of each person, from files of one list to which the same people get."""
+    found = RightsByList(Counter(), Counter(), Counter(), {})
+    for (label, is_directory, reach), files in classes.items():
+        for request, counts in ((READ, found.reads), (WRITE, found.changes), (SEARCH, found.enters)):
+            if request == SEARCH and not is_directory:
+                continue
+            for place in bits(reach & views.granted(label, request)):
+                counts[place] += files
+        found.using[label] = found.using.get(label, 0) | reach
+    return found
+
+
+# --- the lists
+
+
+class ListOf(NamedTuple):
+    """What files have in common."""
+
+    label: int
+    is_directory: bool
+
+
+def text_of(text: bytes) -> str:
+    return shown(text).decode()
+
+
+def who_of(entry: Entry, names: Tuple[bytes, bytes], ids: NamesOfIds, is_default: bool) -> str:
+    """Of whom an entry is, in words; names has the owner and the group. A new file has an owner and a group of its
+    own."""
+    if entry.is_named():
+        return text_of(ids.shown(entry.key))
+    mine, its = (b"its owner", b"its group") if is_default else (b"owner " + names[0], b"owning group " + names[1])
+    return text_of({USER: mine, GROUP: its, MASK: MOST, OTHER: OTHERS}[entry.key[0]])
+
+
+@lru_cache(maxsize=None)
+def granting(reasons: bytes) -> Tuple[bytes, ...]:
+    """The entries that grant something, of those by which a user is judged; without what the mask leaves."""
+    return tuple(line.split(b"  ")[0] for line in reasons.splitlines() if not line.endswith(NOTHING))
+
+
+class Lists:
+    """The different lists of the files."""
+
+    def __init__(self, labels: Labels, views: Views, rights: RightsByList, ids: NamesOfIds) -> None:
+        self.bodies, self.views, self.rights, self.ids = labels.bodies(), views, rights, ids
+        self.sets: Numbered[Tuple[int, ...]] = Numbered()  # Of people.
+        self.by: Dict[int, Set[str]] = {}  # By person: the entries that grant something.
+
+    def fields(self, it: ListOf) -> Dict[str, object]:
+        record = read_record(self.bodies[it.label])
+        owner, group = (self.ids.shown(key).partition(b" ")[2] for key in ((USER, record.owner), (GROUP, record.group)))
+        known = self.people(it.label)
+        lines = [line for line in self.views.answers.lists[it.label].splitlines() if not line.startswith(b"#")]
+        entries = [self.entry(entry, who_of(entry, (owner, group), self.ids, False), b"", known.get(line, []))
+                   for entry, line in zip(record.access, lines)]
+        entries += [self.entry(entry, who_of(entry, (owner, group), self.ids, True), b"d:", [])
+                    for entry in record.default]
+        flags = "" if record.flags == NOTHING else record.flags.decode()
+        return {"folder": it.is_directory, "owner": text_of(owner), "group": text_of(group), "flags": flags,
+                "entries": entries}
+
+    def entry(self, entry: Entry, who: str, begin: bytes, people: List[int]) -> Dict[str, object]:
+        """An entry, with what setfacl takes it away by; nothing where it cannot go."""
+        for person in people:
+            self.by.setdefault(person, set()).add(who)
+        key = text_of(begin + self.ids.word(entry.key)) if entry.is_named() else ""
+        return {"who": who, "permissions": entry.permissions.decode(), "effective": entry.effective.decode(), "key": key,
+                "isDefault": begin != b"", "people": self.sets.number(tuple(people))}
+
+    def people(self, label: int) -> Dict[bytes, List[int]]:
+        """By the entries of a list: the people who get to a file of it, and to whom the entry grants something."""
+        found: Dict[bytes, List[int]] = {}
+        for person in bits(self.rights.using[label]):
+            for line in granting(self.views.answers.reasons[label][self.views.people[person].place]):
+                found.setdefault(line, []).append(person)
+        return found
+
+
+# --- the page
+
+
+def facts_of(reviewed: Reviewed, source: Source, name: str) -> List[List[str]]:
+    """What the page is of: names with their texts."""
+    about = meta.meta_of(source.folder)
+    folders = sum(record.is_directory for record in reviewed.records)
+    facts = [["host", text_of(about.host)], ["date", text_of(about.date)], ["folder", name],
+             ["version", text_of(about.version)], ["files", str(len(reviewed.records) - folders)],
+             ["folders", str(folders)]]
+    return [[title, text] for title, text in facts if text]
+
+
+def columns_of(reviewed: Reviewed, labels: Labels) -> Tuple[Dict[str, object], List[ListOf]]:
+    """The files by columns, in path order, and their different lists."""
+    tree, known = PageTree(), Labels()
+    tree.add(reviewed.records, known)
+    numbers: Dict[ListOf, int] = {}
+    lists = [numbers.setdefault(ListOf(labels.number(it.body), it.is_directory), len(numbers)) for it in reviewed.records]
+    names = [text_of(write_name(name)) for name in tree.names]
+    return {"parents": tree.parents, "names": names, "lists": lists}, list(numbers)
+
+
+def data_of(program: str, reviewed: Reviewed, source: Source, given: argparse.Namespace,
+            is_whole: bool) -> Dict[str, object]:
+    passwd, group = (read_trusted(os.path.join(source.folder, name)) for name in (b"passwd", b"group"))
+    labels = Labels()
+    for record in [*reviewed.above, *reviewed.records]:
+        labels.number(record.body)
+    answers = ask_labels(program, PeopleTexts(passwd, group, b""), labels.bodies())
+    places = {user: place for place, user in enumerate(answers.users)}
+    views = Views(answers, [Person(user, places[user]) for user in choice.kept(answers.users, given, passwd)])
+    rights = rights_of(reviewed, labels, views, given.file_alone)
+    files, kinds = columns_of(reviewed, labels)
+    lists = Lists(labels, views, rights, NamesOfIds(passwd, group))
+    fields = [lists.fields(it) for it in kinds]
+    people = [{"name": text_of(name), "reads": rights.reads[k], "changes": rights.changes[k], "enters": rights.enters[k],
+               "by": sorted(lists.by.get(k, ()))} for k, (name, _) in enumerate(views.people)]
+    prefix = "/" if is_whole else ""
+    return {
+        "facts": facts_of(reviewed, source, prefix + text_of(write_name(reviewed.path))), "alone": given.file_alone,
+        "prefix": prefix, "snapshot": "SNAPSHOT" if source.is_made else text_of(shell_word(source.shown)),
+        "people": people, "files": files, "lists": fields, "sets": lists.sets.values,
+    }
+
+
+def add_options(parser: argparse.ArgumentParser) -> None:
+    """Takes --for-review with its folder."""
+    parser.add_argument("--for-review", action="store_true",
+                        help="the page of one folder for its owner: what people may do there, and a box at each entry, "
+                        "of which it makes the lines that take the ticked ones away; needs --folder")
+    parser.add_argument("--folder", metavar="FOLDER",
+                        help="with --for-review: as on the live system, or from the root of the snapshot")
+    parser.add_argument("--all-users", action="store_true",
+                        help=f"with --for-review: all users, and not people alone ({choice.PEOPLE})")
+
+
+def check_options(parser: argparse.ArgumentParser, given: argparse.Namespace) -> None:
+    if given.for_review and given.folder is None:
+        parser.error("--for-review needs the folder: --folder FOLDER")
+    if not given.for_review and (given.folder is not None or given.all_users):
+        parser.error("--folder and --all-users go with --for-review")
+    if given.for_review and given.scripts:
+        parser.error("--for-review shows what is, and not what edits change: leave out the SCRIPTs")
+
+
+def page_over(command: Command, given: argparse.Namespace, source: Source) -> Optional[bytes]:
+    os.close(check_texts(source.folder))
+    program = find_program(given.program)
+    overview.say_notices(command, source)
+    with Session(program, source.folder) as session:
+        reviewed = read_reviewed(session, os.fsencode(given.folder))
+        is_whole = sources.find_tops(session, source.folder) == [b""]
+    return page_of(data_of(program, reviewed, source, given, is_whole), STYLE, [SCRIPT])

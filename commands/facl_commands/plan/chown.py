@@ -1,0 +1,249 @@
+"""chown and chgrp in a script of facl-plan: what they do, as the records that setfacl --restore takes. And what a user
+who is removed leaves behind."""
+from __future__ import annotations
+
+import re
+from collections import Counter
+from typing import Dict, Iterable, List, NamedTuple, Optional, Tuple, Union
+
+from ..base.messages import counted
+from ..base.names import SAFE, live_name, live_path, number_of, read_name, shell_word, shown, sorting_key, write_user
+from ..model.people import People
+from ..model.records import (
+    HEAD_OF_RECORD, MASK, OWNER, OWNING_GROUP, File, Files, asks_as_directory, read_listing, write_records,
+)
+from ..program.protocol import (
+    FLAGS_HEAD, GROUP_HEAD, LIST_ALL, LIST_NUMBERS, NAMED_USER_LINE, NO_GROUP, NO_USER, OWNER_HEAD, PROGRAM, RESTORE,
+    SET_FLAGS_LINE, TOO_MANY_FILES, USAGE, message_of,
+)
+from ..program.scripts import LINE_LIMIT, WORD, Unit, takes_text
+from ..program.session import Session, parts_of
+from ..program.tools import ALL, OPTIONS
+
+TEXT_LIMIT = 60 << 20  # A run of the program takes 64 MiB, of which others have a part.
+NO_ID = 0xFFFFFFFF  # chown(2) takes it for "stays".
+SET_FLAGS = re.compile(SET_FLAGS_LINE)
+NAMED_USER = re.compile(NAMED_USER_LINE, re.MULTILINE)
+
+
+class Refused(Exception):
+    """Why a line is refused, as a message of the program without the tool's name."""
+
+    def __init__(self, text: bytes) -> None:
+        super().__init__(text)
+        self.text = text
+
+
+class ChownLine(NamedTuple):
+    """What a line asks for."""
+
+    is_recursive: bool
+    user: Optional[bytes]  # None: the owner stays.
+    group: Optional[bytes]  # None: the group stays; empty: the user's primary group.
+    files: List[bytes]  # As they are written, with their quotes.
+
+
+class NewIds(NamedTuple):
+    """The new owner and group; None stays."""
+
+    uid: Optional[int]
+    gid: Optional[int]
+
+
+def restoring(session: Session, people: People, unit: Unit) -> Union[Unit, bytes]:
+    """The line of setfacl, with its text, that does what a line of chown or chgrp asks for; or the message of its
+    refusal."""
+    try:
+        unit.lines[0].decode("utf-8")
+    except UnicodeDecodeError:
+        return unit  # The program says so.
+    try:
+        line = read_line(unit)
+        ids = read_ids(line, people)
+        files = ask_files(session, line)
+    except Refused as refused:
+        is_of_line = refused.text.startswith(message_of(PROGRAM, b""))
+        return refused.text if is_of_line else message_of(unit.words[0], refused.text)
+    changed = changed_files(session, line, files, ids)
+    text = write_records(changed, changed)
+    if len(text) > TEXT_LIMIT:
+        return message_of(unit.words[0], TOO_MANY_FILES)
+    return Unit(unit.script, unit.number, RESTORE.split(b" "), [RESTORE, *text.split(b"\n")[:-1], b"."], True)
+
+
+# --- the words of a line
+
+
+def read_line(unit: Unit) -> ChownLine:
+    """The words of a line; an option may be anywhere before --, and once."""
+    if takes_text(unit.words):
+        raise Refused(USAGE)
+    options, operands = [], []
+    is_ended = False
+    for word, written in zip(unit.words[1:], WORD.findall(unit.lines[0])[1:]):
+        if is_ended or word[:1] != b"-":
+            operands.append((word, written))
+        elif word == b"--":
+            is_ended = True
+        else:
+            options.append(word)
+    if len(options) > 1 or not OPTIONS[unit.tool()].issuperset(options) or len(operands) < 2:
+        raise Refused(USAGE)
+    user, group = read_owner(unit.words[0], operands[0][0])
+    return ChownLine(bool(options), user, group, [written for _, written in operands[1:]])
+
+
+def read_owner(tool: bytes, word: bytes) -> Tuple[Optional[bytes], Optional[bytes]]:
+    """USER, USER:GROUP, USER: or :GROUP; of chgrp GROUP."""
+    if ALL[tool].operands.startswith("GROUP"):
+        user, colon, group = b"", b":", word
+    else:
+        user, colon, group = word.partition(b":")
+    is_login_group = bool(colon) and not group
+    if not user and not group or is_login_group and read_name(user.strip(b" \t")).isdigit():
+        raise Refused(USAGE)
+    return user or None, group if colon else None
+
+
+def read_ids(line: ChownLine, people: People) -> NewIds:
+    uid = gid = None
+    if line.user is not None:
+        uid = read_id(line.user, ((user.name, user.uid) for user in people.users), NO_USER)
+    if line.user is not None and line.group == b"":
+        gid = read_id(line.user, ((user.name, user.gid) for user in people.users), NO_USER)
+    elif line.group is not None:
+        gid = read_id(line.group, ((group.name, group.gid) for group in people.groups), NO_GROUP)
+    return NewIds(uid, gid)
+
+
+def read_id(word: bytes, rows: Iterable[Tuple[bytes, int]], fault: bytes) -> int:
+    """The id of a USER or a GROUP; digits alone are an id, also one without a row."""
+    name = read_name(word.strip(b" \t"))
+    found = number_of(name) if name.isdigit() else dict(reversed(list(rows))).get(name, NO_ID)
+    if found >= NO_ID:
+        raise Refused(write_user(name) + b": " + fault)
+    return found
+
+
+# --- the files
+
+
+def ask_files(session: Session, line: ChownLine) -> Files:
+    """The files of a line as they are now."""
+    found: Files = {}
+    begin = LIST_ALL if line.is_recursive else LIST_NUMBERS
+    place = 0
+    for words in parts_of(line.files, LINE_LIMIT - len(begin)):
+        answer = session.ask(b" ".join([begin, *words]) + b"\n")
+        if answer.messages:
+            raise Refused(fault_of(answer.messages[0], place))
+        found.update(read_listing(answer.output.read()))
+        place += len(words)
+    return found
+
+
+def fault_of(message: bytes, place: int) -> bytes:
+    """The fault of a listing as that of a line whose operands begin that much earlier."""
+    listing = message_of(LIST_ALL.split()[0], b"")
+    if not message.startswith(listing):
+        return message
+    fault = message[len(listing) :]
+    operand = re.match(rb"operand ([0-9]+)(: .*)", fault, re.DOTALL)
+    return fault if operand is None else b"operand %d" % (int(operand[1]) + place) + operand[2]
+
+
+def changed_files(session: Session, line: ChownLine, files: Files, ids: NewIds) -> Files:
+    """The files whose records change, with the new ones; files with one record are looked at once."""
+    known: Dict[Tuple[bytes, bool], File] = {}
+    found: Files = {}
+    for path, file in files.items():
+        is_unknown = not file.is_directory and not line.is_recursive and SET_FLAGS.search(file.body) is not None
+        keeps_flags = file.is_directory or is_unknown and asks_as_directory(session, path)
+        new = known.get((file.body, keeps_flags))
+        if new is None:
+            new = known[file.body, keeps_flags] = File(False, new_body(file.body, keeps_flags, ids))
+        if new.body != file.body:
+            found[path] = new
+    return found
+
+
+def new_body(body: bytes, keeps_flags: bool, ids: NewIds) -> bytes:
+    head = HEAD_OF_RECORD.match(body)
+    assert head is not None
+    old, flags = (int(head[1]), int(head[2])), b"".join(head.groups(b"-")[2:])
+    uid, gid = (now if new is None else new for now, new in zip(old, ids))
+    flags = flags if keeps_flags else cleared(flags, body)
+    owner = OWNER_HEAD + b"%d\n" % uid + GROUP_HEAD + b"%d\n" % gid
+    return owner + (b"" if flags == b"---" else FLAGS_HEAD + flags + b"\n") + body[head.end() :]
+
+
+def cleared(flags: bytes, body: bytes) -> bytes:
+    """The flags of a plain file after chown(2): set-group-ID stays where the group class may not execute, as it marks
+    mandatory locking then."""
+    group_class = MASK.search(body) or OWNING_GROUP.search(body)
+    assert group_class is not None
+    return b"-" + (b"-" if group_class[1].endswith(b"x") else flags[1:2]) + flags[2:]
+
+
+# --- what a user who is removed leaves
+
+
+def files_of(uid: int, gid: int, files: Iterable[File]) -> Tuple[int, int]:
+    """Counts the files that belong to the owner `uid`, and to the group `gid`."""
+    owned = grouped = 0
+    for body, count in Counter(file.body for file in files).items():
+        head = HEAD_OF_RECORD.match(body)
+        owned += count * (head is not None and int(head[1]) == uid)
+        grouped += count * (head is not None and int(head[2]) == gid)
+    return owned, grouped
+
+
+class Left(NamedTuple):
+    """A removed user, with the files that keep the id."""
+
+    name: bytes
+    uid: int
+    owned: List[bytes]  # In path order,
+    named: List[bytes]  # as those whose lists name the id.
+
+
+def left_behind(before: People, after: People, files: Files) -> List[Left]:
+    """The users who are removed and own files afterwards, or are named in lists; files are those after the edits."""
+    present = {user.uid for user in after.users}
+    gone = {user.uid: Left(user.name, user.uid, [], []) for user in reversed(before.users) if user.uid not in present}
+    if gone:
+        for path in sorted(files, key=sorting_key):
+            owner = OWNER.match(files[path].body)
+            if owner is not None and int(owner[1]) in gone:
+                gone[int(owner[1])].owned.append(path)
+            for uid in {int(word) for word in NAMED_USER.findall(files[path].body)} & set(gone):
+                gone[uid].named.append(path)
+    return [left for left in gone.values() if left.owned or left.named][::-1]
+
+
+def notes(left: Left) -> List[bytes]:
+    """The lines of a report."""
+    return [b"%s is removed and still %s %s, first: %s" % (shown(left.name), how, counted(len(paths), "file"),
+                                                           live_name(paths[0]))
+            for how, paths in ((b"owns", left.owned), (b"named in the lists of", left.named)) if paths]
+
+
+def comments(left: Left) -> List[bytes]:
+    """The lines of by_hand, all of them comments: who owns the files next is for a person to decide."""
+    if not left.owned:
+        return []
+    top = shell_word(live_path(folder_of(left.owned)))
+    owned = counted(len(left.owned), "file")
+    return [b"# %s (uid %d) still owns %s. Put the new owner for NEWOWNER:" % (shown(left.name), left.uid, owned),
+            b"# chown -R -h --from=%d NEWOWNER -- %s" % (left.uid, top)]
+
+
+def folder_of(paths: List[bytes]) -> bytes:
+    """The folder that all of them are in, or the one path; its name has no character that ends or hides a line."""
+    first, last = paths[0].split(b"/"), paths[-1].split(b"/")
+    same = []
+    for one, other in zip(first, last):
+        if one != other or not SAFE.match(one):
+            break
+        same.append(one)
+    return b"/".join(same)

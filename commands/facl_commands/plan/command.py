@@ -1,0 +1,249 @@
+"""facl-plan: what edits would change in who may do what, and a plan for facl-apply."""
+from __future__ import annotations
+
+import argparse
+import grp
+import os
+import re
+from typing import Dict, List, Set
+
+from ..base.messages import Command, Failure, counted, parser_of
+from ..base.names import live_path, number_of, write_user
+from ..model import label_answers, meta, overview, people, rights, sources
+from ..model.records import ChangedPaths, Listing, compare, has_open_empty_mask, write_records
+from ..model.snapshot import Snapshot, read_snapshot
+from ..planned import plan_folder
+from ..program.scripts import Script, Unit, read_text
+from ..program.session import Session, find_program
+from . import chown, no_gain
+from .records_file import work_text
+from .replay import Replay, list_below
+from .report import answers_text, json_report, text_report
+from .report import Outcome as Outcome
+
+SOMETHING, REFUSED, NOTHING = 0, 1, 3
+# In a dump: a name that does not start at the root.
+RELATIVE_NAME = re.compile(rb"^[ \t]*#[ \t]*file:(?! ?/)", re.MULTILINE)
+HELP = """\
+Answers the lines of each SCRIPT over a snapshot, as facl does, and prints what would change in who may do what: one
+line for each user and kind of change, with the number of files and the first of them. A right counts where the user
+can get to the file: with search on each directory above. A user who is named by an edit and gains nothing, since a
+directory above is closed, has a line with the edit that opens it. It reads the snapshot alone, and changes nothing on
+the live system. The SCRIPT - is standard input.
+
+What facl-apply needs is written to a folder, SNAPSHOT.plan:
+
+  edits      the lines, as they were given
+  files      the files whose owner, group, flags or lists change, with their inodes and the bytes of both lists
+  old, new   their records, as they are and as they would be, for a person and for setfacl --restore
+  by_hand    what facl-apply does not do, as a script of sh: users and memberships, files that go, files that are made
+
+Questions in a SCRIPT are answered, and are no part of the plan. An edit of a file that has other names in the
+snapshot is planned for all of them.
+"""
+STATUS = """\
+The exit status is 0 where there is something to do, and 3 where there is nothing; 1 where lines were refused: then no
+plan is written, but with --keep-going; 2 where the words, the snapshot or a script cannot be used; 5 where the plan is
+written, and what is printed of it could not be.
+"""
+
+
+def parse(words: List[str]) -> argparse.Namespace:
+    parser = parser_of("facl-plan", HELP, STATUS)
+    parser.add_argument("--plan", metavar="DIR", help="the folder of the plan, in place of SNAPSHOT.plan")
+    parser.add_argument("--full", action="store_true", help="print each user and file")
+    view = parser.add_mutually_exclusive_group()
+    view.add_argument("--file-alone", action="store_true",
+                      help="judge each file alone, also where nobody can get to it")
+    view.add_argument("--reach", action="store_true",
+                      help="with search on the directories above each file, as without it")
+    parser.add_argument("--with-root", action="store_true", help="judge users of the id 0 by the lists too")
+    parser.add_argument("--json", action="store_true",
+                        help="print one JSON object; bytes that are no UTF-8 are escapes")
+    parser.add_argument("--keep-going", action="store_true", help="plan the other lines where some were refused")
+    parser.add_argument("--readers", metavar="GROUP", help="let the members of a group read the plan")
+    sources.add_source(parser, words)
+    parser.add_argument("scripts", metavar="SCRIPT", nargs="+")
+    return parser.parse_args(words)
+
+
+def users_of_id_0(*sides: people.People) -> Set[bytes]:
+    return {write_user(user.name) for side in sides for user in side.users if user.uid == 0}
+
+
+def find_no_gain(session: Session, program: str, snapshot: Snapshot, old: Listing, new: Listing,
+                 people_before: people.People, run: Replay, left_out: Set[bytes], is_whole: bool) -> List[no_gain.NoGain]:
+    """Asks what is granted by the records that come into it, by files of their own."""
+    bodies = no_gain.bodies_to_judge(old.files, new.files, no_gain.has_joined(people_before, run.people))
+    lines = label_answers.PeopleTexts(snapshot.passwd, snapshot.group, run.changes_of_people)
+    before, after = label_answers.ask_vectors(program, lines, bodies)
+    sides = [no_gain.Side(listing.files, rights.answers_of(listing, *its), who) for listing, its, who in
+             ((old, before, people_before), (new, after, run.people))]
+    return no_gain.find(session, sides[0], sides[1], left_out, is_whole)
+
+
+def answer_scripts(given: argparse.Namespace, snapshot: Snapshot, units: List[Unit], is_whole: bool = True,
+                   is_full: bool = False) -> Outcome:
+    program, along_paths = find_program(given.program), not given.file_alone
+    changes = rights.RightsChanges([], [])
+    with Session(program, snapshot.folder) as session:
+        tops = sources.find_tops(session, snapshot.folder)
+        old = list_below(session, tops)
+        before = rights.ask_rights(session, old) if is_full else None
+        run = Replay(session, snapshot, old.files)
+        people_before = people.People(snapshot.passwd, snapshot.group)
+        run.answer_all(units)
+        new = list_below(session, tops)
+        left_out = set() if given.with_root else users_of_id_0(people_before, run.people)
+        names = [write_user(user.name) for side in (people_before, run.people) for user in side.users]
+        users = list(dict.fromkeys(names))
+        kinds = rights.ask_kinds(session, along_paths, users, left_out)
+        if before is not None:
+            changes = rights.changes(before, rights.ask_rights(session, new), along_paths, left_out)
+        closed = find_no_gain(session, program, snapshot, old, new, people_before, run, left_out,
+                              is_whole) if along_paths else []
+    left = chown.left_behind(people_before, run.people, new.files)
+    return Outcome(old.files, new.files, kinds, changes, closed, users, run.asked, run.messages, run.commands, left,
+                   is_whole, meta.meta_of(snapshot.folder))
+
+
+def say_messages(command: Command, outcome: Outcome, scripts: List[Script]) -> None:
+    """Refused lines, warnings, and what is likely to surprise."""
+    for message in outcome.messages:
+        command.say(message.unit.place() + b": " + message.text)
+        command.explain(message.cause())
+    for name, text in scripts:
+        if b"\r" in text:
+            command.say(b"warning: " + name + b": has carriage returns, each of which is a part of its word")
+
+
+def warn_of_empty_masks(command: Command, changes: ChangedPaths, outcome: Outcome) -> None:
+    found = [outcome.name_of(path) for path in changes.changed if has_open_empty_mask(outcome.new[path])]
+    if found:
+        command.say(overview.warning_of(overview.EMPTY_MASKS, found))
+
+
+def group_of(word: str) -> int:
+    """The id of a group; digits are an id."""
+    try:
+        found = number_of(word.encode()) if re.fullmatch("[0-9]+", word) else grp.getgrnam(word).gr_gid
+    except KeyError as error:
+        raise Failure(os.fsencode(word) + b": no such group") from error
+    if found >= chown.NO_ID:
+        raise Failure(os.fsencode(word) + b": no such group")
+    return found
+
+
+def say_refused(command: Command, outcome: Outcome, keep_going: bool) -> bool:
+    """Whether lines were refused, so that there is no plan."""
+    count = len(outcome.refusals())
+    if any(message.is_final for message in outcome.messages):
+        command.say(b"nothing is written: edit one of those names alone, since the others are the same file")
+        return True
+    if count and not keep_going:
+        command.say(counted(count, "line was", "lines were") + b" refused, so nothing is written: mend "
+                    + (b"it" if count == 1 else b"them") + b", or plan the other lines by --keep-going")
+    return count > 0 and not keep_going
+
+
+def beside(folder: bytes) -> bytes:
+    """The folder of the plan where none is given."""
+    name = folder.rstrip(b"/")
+    return (os.path.abspath(folder) if os.path.basename(name) in (b"", b".", b"..") else name) + b".plan"
+
+
+def say_unknown(command: Command, source: sources.Source) -> bool:
+    """Says what a snapshot that facl-snapshot did not make cannot tell; whether there can be a plan, which has names
+    from the root of the file system."""
+    read = overview.read_texts(source.folder)
+    for warning in overview.torn_warnings(read, source):
+        command.say(warning)
+    found = sources.notice(source.folder, read.dump)
+    is_whole = found is None or RELATIVE_NAME.search(read.dump) is None
+    if found is not None:
+        rest = b"; names do not start at the root of the file system, so no plan is written for facl-apply"
+        command.say(source.shown + b": " + found + rest * (not is_whole))
+        for warning in overview.names_without_row(source.folder, read.dump):
+            command.say(warning)
+    return is_whole
+
+
+def commands_by_hand(outcome: Outcome, changes: ChangedPaths) -> List[bytes]:
+    if not outcome.commands and not changes.made and not changes.removed:
+        return []
+    from .by_hand import commands_of  # Few plans need it.
+
+    return commands_of(outcome.commands, changes, outcome.old, outcome.new)
+
+
+def plan_files(
+    program: str, snapshot: Snapshot, scripts: List[Script], outcome: Outcome, changes: ChangedPaths
+) -> Dict[bytes, bytes]:
+    by_hand = by_hand_undo = b""
+    if outcome.commands or changes.made or changes.removed:
+        from .by_hand import script_of, undo_script_of
+
+        things = outcome.commands, changes, outcome.old, outcome.new, snapshot.inodes
+        by_hand, by_hand_undo = script_of(*things), undo_script_of(*things)
+    comments = [line + b"\n" for left in outcome.left for line in chown.comments(left)]
+    return {
+        b"edits": b"".join(text + b"\n" * (text[-1:] not in (b"", b"\n")) for _, text in scripts),
+        b"old": write_records(outcome.old, changes.changed),
+        b"new": write_records(outcome.new, changes.changed),
+        b"files": work_text(program, snapshot, changes, outcome.old, outcome.new),
+        b"by_hand": by_hand + b"".join(comments),
+        b"by_hand_undo": by_hand_undo,
+        meta.NAME: meta.text_of(snapshot.folder),
+    }
+
+
+def check_inodes(snapshot: Snapshot, changes: ChangedPaths) -> None:
+    """Fails where a snapshot has the inodes of other files, and not of each one that changes."""
+    lacking = [path for path in changes.changed if path not in snapshot.inodes] if snapshot.inodes else []
+    if lacking:
+        raise Failure(snapshot.folder + b"/inodes: has no " + live_path(lacking[0])
+                      + b", so it is not as facl-snapshot wrote it: make the snapshot again")
+
+
+def body(command: Command, words: List[str]) -> int:
+    given = parse(words)
+    with sources.opened(given) as source:
+        return plan_over(command, given, source)
+
+
+def plan_over(command: Command, given: argparse.Namespace, source: sources.Source) -> int:
+    snapshot = read_snapshot(source.folder, needs_links=False)
+    name = beside(source.shown) if given.plan is None else os.fsencode(given.plan)
+    group = None if given.readers is None else group_of(given.readers)
+    scripts = list(map(read_text, given.scripts))
+    target = plan_folder.open_target(name)
+    units = [unit for script in scripts for unit in script.units()]
+    is_whole = say_unknown(command, source)
+    outcome = answer_scripts(given, snapshot, units, is_whole, given.full)
+    changes = compare(outcome.old, outcome.new)
+    commands = commands_by_hand(outcome, changes if is_whole else ChangedPaths([], [], []))
+    say_messages(command, outcome, scripts)
+    if not given.json:
+        command.write(answers_text(outcome.asked))
+    has_work = bool(changes.changed or changes.made or changes.removed or commands)
+    is_shown = not say_refused(command, outcome, given.keep_going) and has_work
+    written = name if is_shown and is_whole else None
+    if is_shown:
+        warn_of_empty_masks(command, changes, outcome)
+    if written is not None:
+        check_inodes(snapshot, changes)
+        files = plan_files(find_program(given.program), snapshot, scripts, outcome, changes)
+        kept = plan_folder.write_plan(target, files, group)
+        if kept is not None:
+            command.say(b"the plan that was there is " + kept + b" now")
+    if given.json:
+        for part in json_report(outcome, given.full, changes, commands, written):
+            command.write(part)
+    elif is_shown:
+        if outcome.about is not meta.UNKNOWN:
+            command.tell(meta.named(source.shown, outcome.about))
+        for part in text_report(given, outcome, changes, commands, written):
+            command.write(part)
+    if not has_work and not outcome.refusals():
+        command.say(b"nothing to do: no line changes a list, an owner, a flag, a file or a user")
+    return REFUSED if outcome.refusals() else SOMETHING if has_work else NOTHING

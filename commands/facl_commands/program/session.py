@@ -1,0 +1,168 @@
+"""Runs the program over a snapshot, and asks it line by line."""
+from __future__ import annotations
+
+import contextlib
+import os
+import re
+import shutil
+import subprocess
+from types import TracebackType
+from typing import IO, Callable, Iterable, Iterator, List, NamedTuple, Optional, Type
+
+from ..base import scratch
+from ..base.environment import HOME
+from ..base.messages import Failure
+from .exchange import end_program, exchange, how_it_ended, pipes_of
+from .protocol import DUMP_NOT_READ, IN_LINE, PROBE, PROBE_REFUSED, SETUP, UNKNOWN_TOOL, has_text
+
+OLDER = b": it is older than this command, so install both anew"
+FILE_LIMIT = 268_435_456  # Bytes of a text that the program loads.
+LONGEST_CAUSE = 1_000  # Bytes of the last message that are quoted.
+NUMBER = re.compile(rb"\Aline [0-9]+: ")  # The beginning of a message.
+INSTALLED = os.path.join(HOME, "..", "..", "bin", "facl")
+BUILT = os.path.join(HOME, "..", "crates", "facl_cli", "out", "facl_cli")
+
+
+def find_program(given: Optional[str]) -> str:
+    """The program: the given one, $FACL, facl on the path, or the one that is installed or built beside the
+    commands."""
+    wanted = given or os.environ.get("FACL", "")
+    if wanted:
+        found = shutil.which(wanted)
+        if found is None:
+            raise Failure(os.fsencode(wanted) + b": no such program")
+        return os.path.abspath(found)
+    found = shutil.which("facl") or shutil.which(INSTALLED) or shutil.which(BUILT)
+    if found is None:
+        raise Failure(b"the program facl is not on the path: give it by --program FILE")
+    return os.path.abspath(found)
+
+
+def lines_of(pieces: Iterable[bytes], end: bytes = b"\n", longest: Optional[int] = None) -> Iterator[bytes]:
+    """The lines of a text that comes in pieces, without their ends; ValueError where more than `longest` bytes have
+    none."""
+    rest = b""
+    for piece in pieces:
+        *whole, rest = (rest + piece).split(end)
+        yield from whole
+        if longest is not None and len(rest) > longest:
+            raise ValueError
+
+
+class OutputSlice(NamedTuple):
+    """A part of what the program printed."""
+
+    file: IO[bytes]
+    start: int
+    end: int
+
+    def read(self) -> bytes:
+        return b"".join(self.pieces())
+
+    def pieces(self) -> Iterator[bytes]:
+        place = self.start
+        while place < self.end:
+            piece = os.pread(self.file.fileno(), min(1 << 20, self.end - place), place)
+            place += len(piece)
+            yield piece
+
+    def lines(self, end: bytes = b"\n") -> Iterator[bytes]:
+        """Its lines, without their ends."""
+        return lines_of(self.pieces(), end)
+
+    def records(self) -> Iterator[bytes]:
+        """The records of a listing, without the empty line after each and the end of the last one."""
+        return self.lines(b"\n\n")
+
+
+class Answer(NamedTuple):
+    """What the program printed for lines, and its messages without their line numbers."""
+
+    output: OutputSlice
+    messages: List[bytes]
+
+
+class Session:
+    """A run of the program over the texts of a snapshot's folder.
+
+    What it prints goes to a file, so that it never waits for a reader. A line that it has to refuse, with a word that
+    nobody can guess, comes after each of ours: when its message is read, all before it is answered.
+    """
+
+    def __init__(self, program: str, folder: bytes) -> None:
+        words = [program, "--passwd", "passwd", "--group", "group", "--dump", "dump"]
+        self.folder = folder
+        self.number = 0
+        self.output = scratch.new_file("facl-session.")
+        self.pipes = pipes_of(subprocess.Popen(
+            words, bufsize=0, cwd=folder, env={"LC_ALL": "C", "PATH": os.environ.get("PATH", os.defpath)},
+            stdin=subprocess.PIPE, stdout=self.output, stderr=subprocess.PIPE, start_new_session=True,
+        ))
+
+    def __enter__(self) -> Session:
+        return self
+
+    def __exit__(
+        self, kind: Optional[Type[BaseException]], error: Optional[BaseException], trace: Optional[TracebackType]
+    ) -> None:
+        end_program(self.pipes)
+        self.output.close()
+
+    def ask(self, lines: bytes) -> Answer:
+        """Answers whole lines with their texts."""
+        token = os.urandom(16).hex().encode()
+        start = os.fstat(self.output.fileno()).st_size
+        self.number += lines.count(b"\n") + 1
+        end = IN_LINE % self.number + PROBE_REFUSED % token + b"\n"
+        messages = exchange(self.pipes, lines + PROBE % token + b"\n", end)
+        if not messages.endswith(end):
+            raise self.early_end(messages)
+        output = OutputSlice(self.output, start, os.fstat(self.output.fileno()).st_size)
+        # The numbers are those of our own stream of lines.
+        return Answer(output, [NUMBER.sub(b"", it) for it in messages.split(b"\n")[:-2]])
+
+    def ask_accepted(self, line: bytes) -> OutputSlice:
+        """Answers a line of our own, which cannot be refused."""
+        answer = self.ask(line + b"\n")
+        if answer.messages:
+            is_old = has_text(answer.messages[0], UNKNOWN_TOOL)
+            raise Failure(b"the program refused `%s`: %s" % (line.split(b"\n")[0], answer.messages[0]) + OLDER * is_old)
+        return answer.output
+
+    def early_end(self, messages: bytes) -> Failure:
+        """Why the program ended before it was asked to."""
+        last = (messages.rstrip(b"\n").rpartition(b"\n")[2] or how_it_ended(self.pipes))[:LONGEST_CAUSE]
+        if last.startswith(SETUP):
+            return Failure(b"%s: the program does not load it: %s" % (self.folder, last))
+        if last == DUMP_NOT_READ and os.path.getsize(os.path.join(self.folder, b"dump")) > FILE_LIMIT:
+            return Failure(self.folder + b": its dump has more than 268,435,456 bytes, the most that the program "
+                                         b"reads: take several "
+                           b"snapshots by facl-snapshot --split")
+        return Failure(b"the program ended early: %s" % last)
+
+
+@contextlib.contextmanager
+def session_over(program: str, passwd: bytes, group: bytes, dump: bytes) -> Iterator[Session]:
+    """A session over texts, which are in a folder of their own as long as it goes on."""
+    with scratch.folder("facl-texts.") as folder:
+        for name, text in (("passwd", passwd), ("group", group), ("dump", dump)):
+            with open(os.path.join(folder, name), "wb") as file:
+                file.write(text)
+        with Session(program, os.fsencode(folder)) as session:
+            yield session
+
+
+def parts_of(items: Iterable[bytes], room: int, word_of: Callable[[bytes], bytes] = bytes) -> Iterator[List[bytes]]:
+    """Items in their order, as many in each part as a line has room for, with a blank for the word of each; one that is
+    too long is alone."""
+    part: List[bytes] = []
+    size = 0
+    for item in items:
+        length = len(word_of(item)) + 1
+        if part and size + length > room:
+            yield part
+            part, size = [], 0
+        part.append(item)
+        size += length
+    if part:
+        yield part

@@ -1,0 +1,230 @@
+"""facl-audit: what is wrong with the lists of a tree, by weight, and the lines that mend it."""
+from __future__ import annotations
+
+import argparse
+import os
+from typing import List, Optional, Set
+
+from ...base.messages import Command, Failure, parser_of
+from ...base.names import parent_of, read_path, shell_word, shown, shown_path
+from ...base.new_file import NewFile
+from ...base.tables import add_output, paged, write_json, write_table
+from ...model import choice, overview, sources, split_tree
+from ...model.alike import at_or_below
+from ...model.entries import NamesOfIds
+from ...model.everybody import World, listing_of, world_of
+from ...model.meta import Meta, meta_of
+from ...model.sources import Source
+from ...program.session import find_program
+from .accepted import Accepted, Unused, read_accepted, sort_out, why_unused
+from .findings import KINDS, WEIGHTS, Findings, FoundFile, edits_of
+from .lists import of_lists
+from .report import SCHEMA, AuditReport, json_of, lines_of, table_of, table_of_files
+from .rights import Audited, entries_without_effect, of_everybody, of_writers
+
+NONE = "none"
+HELP = """\
+Looks for what is wrong with the access lists of a snapshot, or of FOLDERs in it: findings by weight, each with the
+number of files, the first of them, and a line for facl-plan that mends it. Rights are those along paths, as the program
+answers: "everybody" is a user whom no list names and who is in no group of the tree.
+
+It changes nothing. A finding that is as it should be is accepted by a line of the FILE of --accepted,
+
+    FINDING PATH REASON
+
+where a PATH with a slash at its end is a folder and all below it, any other one that file alone. A line that accepts
+nothing is said.
+
+The findings:
+"""
+STATUS = """\
+The exit status is 1 where something of the weight of --fail-on, or of a greater one, is found and not accepted; 0 where
+not; 2 where the words, the snapshot or FILE cannot be used.
+
+    facl-snapshot before /srv/project                       first, as root
+    facl-audit before                                       what is wrong
+    facl-audit --list mask-cuts-entry before                all files of one finding
+    facl-audit --edits mask-cuts-entry before >edits        and the lines that mend them
+    facl-plan before edits
+"""
+
+
+def help_text() -> str:
+    width = max(len(kind.name) for kind in KINDS)
+    return HELP + "".join("    %-6s  %-*s  %s\n" % (kind.weight, width, kind.name, kind.meaning) for kind in KINDS)
+
+
+def parse(words: List[str]) -> argparse.Namespace:
+    parser = parser_of("facl-audit", help_text(), STATUS)
+    names = [kind.name for kind in KINDS]
+    one = parser.add_mutually_exclusive_group()
+    one.add_argument("--list", metavar="FINDING", choices=names, help="print all files of one finding")
+    one.add_argument("--edits", metavar="FINDING", choices=names,
+                     help="print the lines of a script that mend all files of one finding, and nothing else")
+    parser.add_argument("--accepted", metavar="FILE", help="what is accepted, and why")
+    parser.add_argument("--page", metavar="FILE",
+                        help="also write a page to look at, as facl-report does, with the findings, to a new file")
+    parser.add_argument("--fail-on", metavar="WEIGHT", choices=[*WEIGHTS, NONE], default=WEIGHTS[0],
+                        help="high (as without it), middle, low or none: see the exit status")
+    add_output(parser)
+    sources.add_source(parser, words)
+    choice.add_choice(parser, default="those that the snapshot was made of")
+    return parser.parse_args(words)
+
+
+def audited_folders(world: World, given: argparse.Namespace) -> List[bytes]:
+    """The FOLDERs; without one those that the snapshot was made of, without the directories above them."""
+    if given.folders:
+        return choice.folders_of(world.session, given.folders)
+    return choice.folders_made_of(world.session) or choice.folders_of(world.session, [])
+
+
+def folders_in_parts(parts: List[bytes], about: Meta, given: argparse.Namespace) -> List[bytes]:
+    """The same of a snapshot in parts, any of which may record them."""
+    if given.folders:
+        return choice.folders_in(given.folders, lambda paths: split_tree.recorded_in(parts, paths))
+    found = [*map(read_path, about.folders)]
+    return found if found and split_tree.recorded_in(parts, found) == {*found} else [b""]
+
+
+# --- hard links
+
+
+def across_folders(sets: List[List[bytes]], paths: List[bytes]) -> List[FoundFile]:
+    """Those of some plain files that are in another folder than the first name; a folder that is mounted at two places is
+    one folder."""
+    first_of = {name: names[0] for names in sets for name in names}
+    known, found = set(paths), []
+    for names in sets:
+        folders = [first_of.get(parent_of(name), parent_of(name)) for name in names]
+        found += [FoundFile(name, b"is one file with " + shown_path(names[0]), b"rm")
+                  for name, folder in zip(names, folders) if folder != folders[0] and name in known]
+    return found
+
+
+# --- all of it
+
+
+def findings_of(audited: Audited, program: str, links: List[List[bytes]]) -> Findings:
+    found: Findings = {**of_everybody(audited), **of_writers(audited)}
+    for name, look in of_lists(audited.files, audited.paths, audited.ids).items():
+        found[name] = list(look())
+    found["entry-without-effect"] = list(entries_without_effect(audited, program))
+    plain = [path for path in audited.paths if not audited.is_directory(path)]
+    found["links-across-folders"] = across_folders(links, plain)
+    return found
+
+
+def is_about(line: Accepted, folders: List[bytes], recorded: Set[bytes]) -> bool:
+    """Whether a line that accepts nothing is said: it is about what is audited, or its path is not in the snapshot."""
+    path = line.path()
+    if path and path not in recorded:
+        return True
+    return bool(at_or_below([path], folders) or line.is_folder() and at_or_below(folders, [path]))
+
+
+class AllFindings:
+    """What is found in all parts of a snapshot, or in one that has none."""
+
+    def __init__(self, given: argparse.Namespace, parts: List[bytes], about: Meta) -> None:
+        self.given = given
+        self.lines = read_accepted(given.accepted) if given.accepted is not None else []
+        self.folders = folders_in_parts(parts, about, given) if parts else []
+        self.once = split_tree.Once()
+        self.found: Findings = {}
+        self.files = 0  # Those that are audited.
+        self.recorded: Set[bytes] = set()  # The paths of lines that are in the snapshot.
+        self.is_whole = False
+
+    def add(self, world: World, program: str, links: List[List[bytes]]) -> None:
+        """Adds what is found in the next part."""
+        self.folders = self.folders or audited_folders(world, self.given)
+        files = listing_of(world).files
+        paths = at_or_below(self.once.of_part(files), self.folders)
+        audited = Audited(world, self.given, files, paths, NamesOfIds(world.texts.passwd, world.texts.group))
+        for name, found in findings_of(audited, program, links).items():
+            self.found.setdefault(name, []).extend(found)
+        self.files += len(paths)
+        self.recorded.update(path for path in (line.path() for line in self.lines) if path in files)
+        self.is_whole = sources.find_tops(world.session, world.session.folder) == [b""]
+
+
+def report_of(given: argparse.Namespace, source: Source, program: str) -> AuditReport:
+    parts = split_tree.parts_in(source.folder)
+    about = split_tree.meta_of_all(parts) if parts else meta_of(source.folder)
+    found = AllFindings(given, parts, about)
+    links = split_tree.links_in(parts or [source.folder])
+    for folder in parts or [source.folder]:
+        with world_of(program, source._replace(folder=folder)) as world:
+            found.add(world, program, links)
+    rest = sort_out(found.found, found.lines)
+    unused = [Unused(line, why_unused(line, found.found), line.path() in found.recorded) for line in rest.unused
+              if is_about(line, found.folders, found.recorded)]
+    of_edits = given if not parts else argparse.Namespace(**{**vars(given), "snapshot": os.fsdecode(parts[0])})
+    return AuditReport(source.shown, about, found.folders, found.files, rest.rest, rest.accepted, unused, found.is_whole,
+                       written(words_again(given)), written(words_again(of_edits)), written(sources.source_words(of_edits)),
+                       bool(parts))
+
+
+def words_again(given: argparse.Namespace) -> List[str]:
+    """The words that say what the findings are of, for another run."""
+    flags = [name for name, is_given in (("--all-users", given.all_users), ("--with-root", given.with_root),
+                                         ("--file-alone", given.file_alone)) if is_given]
+    accepted = [] if given.accepted is None else ["--accepted", given.accepted]
+    return [*flags, *accepted, *sources.source_words(given), *given.folders]
+
+
+def written(words: List[str]) -> bytes:
+    """Words for a shell."""
+    return shown(b" ".join(shell_word(os.fsencode(word)) for word in words))
+
+
+def page_of(given: argparse.Namespace, report: AuditReport, source: Source, program: str) -> Optional[bytes]:
+    """The page, where one is asked for."""
+    if given.page is None:
+        return None
+    if report.is_split:
+        raise Failure(b"--page: a snapshot in parts has none")
+    from .page import page_with  # Few runs need it.
+
+    return page_with(report, source, program, given)
+
+
+def write(command: Command, given: argparse.Namespace, report: AuditReport) -> None:
+    only: Optional[str] = given.list or given.edits
+    if given.json:
+        write_json(command, SCHEMA, json_of(report, only))
+    elif given.edits:
+        for line in edits_of(report.findings[given.edits], report.is_whole):
+            command.write(line + b"\n")
+    elif given.list:
+        write_table(command, given, table_of_files(report.findings[given.list], report.is_whole))
+    elif given.tsv:
+        write_table(command, given, table_of(report))
+    else:
+        for line in lines_of(report):
+            command.write(line + b"\n")
+
+
+def fails_on(weight: str) -> List[str]:
+    """The weights that make the status 1."""
+    return [] if weight == NONE else list(WEIGHTS[: WEIGHTS.index(weight) + 1])
+
+
+def body(command: Command, words: List[str]) -> int:
+    given = parse(words)
+    target = NewFile(os.fsencode(given.page)) if given.page is not None else None
+    with sources.opened(given) as source:
+        split_tree.check_all(source.folder)
+        overview.say_notices(command, source, has_masks=False)
+        program = find_program(given.program)
+        report = report_of(given, source, program)
+        page = page_of(given, report, source, program)
+    for it in report.unused:
+        command.say(it.said)
+    with paged(command, not given.no_pager):
+        write(command, given, report)
+    if target is not None and page is not None:
+        target.write(page)
+        command.say(target.name + b": is written")
+    return int(report.has(fails_on(given.fail_on)))

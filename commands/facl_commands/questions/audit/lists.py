@@ -1,0 +1,138 @@
+"""Findings of facl-audit that the records of files show: owners, flags, entries without rows, masks and default lists.
+
+Nothing is judged here: what a mask takes away is as the program prints it.
+"""
+from __future__ import annotations
+
+from functools import partial
+from typing import Callable, Dict, Iterable, Iterator, List, Optional, Tuple
+
+from ...base.names import parent_of, shown_path
+from ...model.entries import (
+    GROUP, USER, Entry, Key, NamesOfIds, ReadRecord, cut_letters, digits, flag_digit, named, read_record,
+)
+from ...model.records import File, Files, has_open_empty_mask
+from .findings import FoundFile
+
+SET_USER, SET_GROUP = 4, 2  # In the first digit of a mode.
+SUPERUSER = b"0"
+OfFile = Optional[Tuple[bytes, bytes]]  # What is found of a file, and its edit.
+Look = Callable[[File, ReadRecord, NamesOfIds], OfFile]
+
+
+def set_user_id(file: File, record: ReadRecord, _ids: NamesOfIds) -> OfFile:
+    return without_flag(file, record, SET_USER)
+
+
+def set_group_id(file: File, record: ReadRecord, _ids: NamesOfIds) -> OfFile:
+    return without_flag(file, record, SET_GROUP)
+
+
+def without_flag(file: File, record: ReadRecord, flag: int) -> OfFile:
+    flags = flag_digit(record.flags)
+    if file.is_directory or not flags & flag:
+        return None
+    return b"", b"chmod " + digits(record, flags & ~flag)
+
+
+def mask_cuts_entry(_file: File, record: ReadRecord, ids: NamesOfIds) -> OfFile:
+    """Entries of users and groups of which r or w is cut; the edit says what they grant, and grants nobody more."""
+    cut = [(it, begin) for begin, entries in ((b"", record.access), (b"d:", record.default)) for it in entries
+           if it.is_named() and cut_letters(it).strip(b"x")]
+    if not cut:
+        return None
+    text = b", ".join(b"default " * (begin != b"") + b"%s: %s is %s" % (
+        ids.shown(it.key), it.permissions, it.effective) for it, begin in cut)
+    words = b",".join(ids.entry(it._replace(permissions=it.effective), begin) for it, begin in cut)
+    return text, b"setfacl -n -m " + words
+
+
+def empty_mask(file: File, record: ReadRecord, _ids: NamesOfIds) -> OfFile:
+    """The edit takes from others what Linux gives the others in their place too."""
+    if not has_open_empty_mask(file):
+        return None
+    return b"others have " + record.permissions(b"other"), b"setfacl -n -m o::---"
+
+
+def owner_without_row(_file: File, record: ReadRecord, ids: NamesOfIds) -> OfFile:
+    """The edit gives it to the superuser: who shall have it is for a person to say."""
+    lacks_user, lacks_group = not ids.has((USER, record.owner)), not ids.has((GROUP, record.group))
+    if not lacks_user and not lacks_group:
+        return None
+    text = b", ".join([b"user " + record.owner] * lacks_user + [b"group " + record.group] * lacks_group)
+    if not lacks_user:
+        return text, b"chgrp " + SUPERUSER
+    return text, b"chown " + SUPERUSER + (b":" + SUPERUSER) * lacks_group
+
+
+def entry_without_row(_file: File, record: ReadRecord, ids: NamesOfIds) -> OfFile:
+    lacking = [(it.key, begin) for begin, entries in ((b"", record.access), (b"d:", record.default))
+               for it in entries if it.is_named() and not ids.has(it.key)]
+    if not lacking:
+        return None
+    text = b", ".join(b"default " * (begin != b"") + ids.shown(key) for key, begin in lacking)
+    return text, b"setfacl -n -x " + b",".join(begin + ids.word(key) for key, begin in lacking)
+
+
+def default_differs(_file: File, record: ReadRecord, ids: NamesOfIds) -> OfFile:
+    """The edit gives the default list the names of the access list, which changes nobody's present rights."""
+    access, default = named(record.access), named(record.default)
+    lacking, more = [key for key in access if key not in default], [key for key in default if key not in access]
+    if not record.default or not lacking and not more:
+        return None
+    text = b"; ".join(begin + b", ".join(map(ids.shown, keys)) for begin, keys in
+                      ((b"new files get no entry of ", lacking), (b"new files alone get one of ", more)) if keys)
+    words = [b"-m " + b",".join(ids.entry(access[key], b"d:") for key in lacking)] * bool(lacking)
+    words += [b"-x " + b",".join(b"d:" + ids.word(key) for key in more)] * bool(more)
+    return text, b"setfacl -n " + b" ".join(words)
+
+
+LOOKS: Dict[str, Look] = {
+    "set-user-id": set_user_id, "set-group-id": set_group_id, "mask-cuts-entry": mask_cuts_entry,
+    "empty-mask": empty_mask, "owner-without-row": owner_without_row, "entry-without-row": entry_without_row,
+    "default-differs": default_differs,
+}
+
+
+def found_by(look: Look, files: Files, paths: Iterable[bytes], ids: NamesOfIds) -> Iterator[FoundFile]:
+    """What a look finds; files with one record are looked at once."""
+    known: Dict[File, OfFile] = {}
+    for path in paths:
+        file = files[path]
+        if file not in known:
+            known[file] = look(file, read_record(file.body), ids)
+        found = known[file]
+        if found is not None:
+            yield FoundFile(path, *found)
+
+
+def default_not_inherited(files: Files, paths: Iterable[bytes], ids: NamesOfIds) -> Iterator[FoundFile]:
+    """Directories that lack default entries which the directory above has."""
+    known: Dict[Tuple[bytes, bytes], List[Entry]] = {}
+    for path in paths:
+        above = files.get(parent_of(path)) if path else None
+        if above is None or not files[path].is_directory:
+            continue
+        pair = above.body, files[path].body
+        if pair not in known:
+            known[pair] = lacking_defaults(*map(read_record, pair))
+        if known[pair]:
+            keys = b", ".join(ids.shown(it.key) for it in known[pair] if it.is_named())
+            text = b"lacks %s of %s" % (keys or b"the default list", shown_path(parent_of(path)))
+            yield FoundFile(path, text, b"setfacl -n -m " + b",".join(ids.entry(it, b"d:") for it in known[pair]))
+
+
+def lacking_defaults(above: ReadRecord, record: ReadRecord) -> List[Entry]:
+    """The named default entries of a directory that one in it lacks; where that has no default list, all."""
+    if not record.default:
+        return list(above.default)
+    present: Dict[Key, Entry] = named(record.default)
+    return [it for it in above.default if it.is_named() and it.key not in present]
+
+
+def of_lists(files: Files, paths: List[bytes], ids: NamesOfIds) -> Dict[str, Callable[[], Iterator[FoundFile]]]:
+    """The findings, by their names."""
+    found: Dict[str, Callable[[], Iterator[FoundFile]]] = {
+        name: partial(found_by, look, files, paths, ids) for name, look in LOOKS.items()}
+    found["default-not-inherited"] = partial(default_not_inherited, files, paths, ids)
+    return found

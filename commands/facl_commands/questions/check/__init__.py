@@ -1,0 +1,1 @@
+"""facl-check: whether the rules of a file hold in a snapshot."""

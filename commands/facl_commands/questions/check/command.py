@@ -1,0 +1,166 @@
+"""facl-check: whether the rules of a file hold in a snapshot, for whom they do not, and by which entries."""
+from __future__ import annotations
+
+import argparse
+import os
+from typing import Dict, List, Set, Tuple
+
+from ...base.messages import UNUSABLE, Command, Failure, parser_of
+from ...base.names import shown, write_user
+from ...base.tables import add_output, paged, write_json, write_table
+from ...model import choice, overview, sources, split_tree
+from ...model.everybody import World, listing_of, world_of
+from ...model.meta import meta_of, named
+from ...model.people import rows_of
+from ...model.sources import Source
+from ...model.superuser import ids_in
+from ...program.session import find_program
+from .answers import Rights, RuleOutcome, outcome
+from .proposal import lines_of as lines_of_rules
+from .report import SCHEMA, CheckReport, json_of, lines_of, table_of
+from .rules import INPUT, Faults, Rule, RuleReader
+
+HELP = """\
+Checks that rules hold in a snapshot. RULES is a file of lines
+
+    never   xaver           read   srv/finance/     # a contractor
+    only    anna bert @hr   read   srv/hr/payroll/
+    always  mara            write  srv/legal/cases/
+    never   others          write  /
+
+never: none of these may, on any file at or below the path. only: no other user may, and nobody else. always: each of
+these may, on every file at or below it. A user is a name or an id, @GROUP its members, `people` all users whom the
+check is about, and `others` a user whom no list names. Rights are those along paths.
+
+A rule that does not hold is printed with the users for whom it does not, the first files, the entries that decide
+there, and who else may. With --write the rules that hold are printed, of FOLDERs in place of RULES, as a start.
+"""
+STATUS = """\
+The exit status is 0 where all rules hold, 1 where one does not, 2 where the words, the snapshot or a rule cannot be
+used: a rule with a name or a path that the snapshot does not have is never passed over.
+
+    facl-snapshot before /srv/project                       first, as root
+    facl-check --write before >rules                        the rules that hold: read them, and leave those that shall
+    facl-check before rules
+"""
+
+
+def parse(words: List[str]) -> argparse.Namespace:
+    parser = parser_of("facl-check", HELP, STATUS)
+    parser.add_argument("--write", action="store_true", help="print the rules that hold on FOLDERs, and check nothing")
+    parser.add_argument("--quiet", action="store_true", help="print nothing where all rules hold")
+    add_output(parser)
+    sources.add_source(parser, words)
+    choice.add_choice(parser, "")
+    is_writing = "--write" in words
+    parser.add_argument("rules", metavar="FOLDER" if is_writing else "RULES", nargs="*" if is_writing else "?",
+                        help="a file of rules, or - for standard input; with --write folders, without one those that the "
+                             "snapshot was made of")
+    return parser.parse_args(words)
+
+
+def chosen_users(world: World, given: argparse.Namespace) -> List[bytes]:
+    """The users whom the check is about, in the order of their rows."""
+    ids = ids_in(world.texts.passwd)
+    return [row[0] for row in rows_of(world.texts.passwd) if row[0] in ids and choice.is_chosen(ids[row[0]], given)]
+
+
+def write_rules(command: Command, world: World, given: argparse.Namespace, source: Source) -> int:
+    chosen = chosen_users(world, given)
+    files = listing_of(world).files
+    rights = Rights(world, given, files, files, chosen)
+    tops = choice.folders_of(world.session, given.rules)
+    if not given.rules:
+        tops = choice.folders_made_of(world.session) or tops
+    command.write(b"# These rules hold in %s; see FACL-CHECK of man facl-commands.\n" % shown(
+        named(source.shown, meta_of(source.folder))))
+    for line in lines_of_rules(rights, RuleReader(world, set(chosen), given.with_root), tops):
+        command.write(line + b"\n")
+    return 0
+
+
+class AllOutcomes:
+    """The rules, and whether they hold in all parts of a snapshot, or in one that has none."""
+
+    def __init__(self, given: argparse.Namespace, parts: List[bytes]) -> None:
+        self.given, self.parts = given, parts
+        self.once = split_tree.Once()
+        self.rules: List[Rule] = []
+        self.notes: List[bytes] = []
+        self.outcomes: Dict[int, RuleOutcome] = {}  # By the number of the line.
+        self.left_out: Set[bytes] = set()
+        self.passwd = b""
+
+    def read(self, world: World, chosen: List[bytes]) -> None:
+        parts = self.parts
+        reader = RuleReader(world, set(chosen), self.given.with_root,
+                            (lambda path: bool(split_tree.recorded_in(parts, [path]))) if parts else None)
+        self.rules, self.notes, self.passwd = reader.read(self.given.rules), reader.notes, world.texts.passwd
+
+    def add(self, world: World) -> None:
+        """Adds what the next part says. A rule on a path that it does not have is not about its files."""
+        chosen = chosen_users(world, self.given)
+        if not self.rules:
+            self.read(world, chosen)
+        files = listing_of(world).files
+        rights = Rights(world, self.given, files, self.once.of_part(files), chosen)
+        for rule in self.rules:
+            if not self.parts or rule.path in files or not rule.path:
+                found = outcome(rights, rule)
+                known = self.outcomes.get(rule.number)
+                self.outcomes[rule.number] = found if known is None else known.joined(found)
+        self.left_out |= rights.left_out
+
+
+def report_of(given: argparse.Namespace, source: Source, program: str) -> Tuple[CheckReport, bytes]:
+    """The report, and the users of the snapshot."""
+    parts = split_tree.parts_in(source.folder)
+    found = AllOutcomes(given, parts)
+    for folder in parts or [source.folder]:
+        with world_of(program, source._replace(folder=folder)) as world:
+            found.add(world)
+    left_out = choice.in_order(map(write_user, found.left_out), found.passwd)
+    name = b"standard input" if given.rules == INPUT else os.fsencode(given.rules)
+    about = split_tree.meta_of_all(parts) if parts else meta_of(source.folder)
+    outcomes = [found.outcomes[rule.number] for rule in found.rules]
+    return CheckReport(source.shown, about, name, outcomes, left_out, found.notes), found.passwd
+
+
+def write(command: Command, given: argparse.Namespace, report: CheckReport) -> None:
+    if given.json:
+        write_json(command, SCHEMA, json_of(report))
+    elif given.tsv:
+        write_table(command, given, table_of(report))
+    elif report.broken() or not given.quiet:
+        for line in lines_of(report):
+            command.write(line + b"\n")
+
+
+def body(command: Command, words: List[str]) -> int:
+    given = parse(words)
+    if not given.write and given.rules is None:
+        raise Failure(b"RULES is missing: facl-check --write SNAPSHOT FOLDER >rules writes a file of those that hold")
+    if given.write and (given.json or given.tsv):
+        raise Failure(b"--write prints rules: leave out --json and --tsv")
+    with sources.opened(given) as source:
+        folders = split_tree.check_all(source.folder)
+        overview.say_notices(command, source, has_masks=not given.quiet)
+        program = find_program(given.program)
+        if given.write:
+            if folders != [source.folder]:
+                raise Failure(b"--write: takes one part of a snapshot, as " + folders[0])
+            with world_of(program, source) as world:
+                return write_rules(command, world, given, source)
+        try:
+            report, passwd = report_of(given, source, program)
+        except Faults as faults:
+            for text in faults.texts:
+                command.say(text)
+            return UNUSABLE
+    for note in report.notes:
+        command.say(b"warning: " + note)
+    for note in () if given.json or given.quiet else choice.notes(report.left_out, passwd):
+        command.say(note)
+    with paged(command, not given.no_pager):
+        write(command, given, report)
+    return int(bool(report.broken()))

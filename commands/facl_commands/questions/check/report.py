@@ -1,0 +1,112 @@
+"""What facl-check prints: the rules that do not hold, for whom, on which files and by which entries."""
+from __future__ import annotations
+
+from typing import Dict, Iterator, List, NamedTuple
+
+from ...base.messages import counted
+from ...base.names import json_text, shown_path, write_user
+from ...base.tables import Column, Paint, Table, fitting_line
+from ...model.meta import Meta, fields_of, named
+from .answers import Block, RuleOutcome, Violation
+from .rules import ALWAYS
+
+SCHEMA = "facl-check/1"
+FIRST = 3  # Files of a user.
+NAMES = 8  # Users who may else.
+
+
+class CheckReport(NamedTuple):
+    snapshot: bytes  # As it was given.
+    meta: Meta
+    rules: bytes  # The name of the file.
+    outcomes: List[RuleOutcome]
+    left_out: List[bytes]  # Users who are no people, and may what rules give to others only; as printed.
+    notes: List[bytes]  # On groups of whom nobody is checked.
+
+    def broken(self) -> List[RuleOutcome]:
+        """The rules that do not hold."""
+        return [it for it in self.outcomes if it.violations]
+
+
+def names_of(names: List[bytes], most: int) -> bytes:
+    text = b", ".join(names[:most])
+    return text + (b" and %d more" % (len(names) - most) if len(names) > most else b"")
+
+
+def what_is_wrong(outcome: RuleOutcome, found: Violation) -> bytes:
+    """Who may, or may not, and on how many files."""
+    verb = b"may not " if outcome.rule.kind == ALWAYS else b"may "
+    files = counted(len(found.paths), "file")
+    of_all = b" of %d" % outcome.files if outcome.rule.kind == ALWAYS else b""
+    return b"%s %s%s %s%s, first: %s" % (write_user(found.user), verb, outcome.rule.right, files, of_all,
+                                         names_of([shown_path(path) for path in found.paths], FIRST))
+
+
+def entry_text(entry: bytes) -> bytes:
+    """An entry as `why` prints it, in one line."""
+    words = entry.split(b"\t")
+    return words[0] + (b" (%s)" % words[-1].lstrip(b"#").replace(b":", b" ") if len(words) > 1 else b"")
+
+
+def block_text(block: Block) -> bytes:
+    return shown_path(block.path) + b": " + b", ".join(map(entry_text, block.entries))
+
+
+def lines_of_violation(outcome: RuleOutcome, found: Violation) -> Iterator[bytes]:
+    yield b"    " + what_is_wrong(outcome, found)
+    for place, block in enumerate(found.blocks):
+        yield (b"        by  " if place == 0 else b"            ") + block_text(block)
+    if outcome.rule.kind == ALWAYS:
+        yield b"        who may: " + (names_of([write_user(it) for it in found.others], NAMES) or b"(nobody)")
+    elif found.others:
+        yield b"        who else may: " + names_of([write_user(it) for it in found.others], NAMES)
+
+
+def summary(report: CheckReport) -> bytes:
+    broken, number = len(report.broken()), len(report.outcomes)
+    name = named(report.snapshot, report.meta)
+    if not broken:
+        return b"%s: %s %s" % (name, counted(number, "rule"), b"holds" if number == 1 else b"hold")
+    return b"%s: %d of %s %s not hold" % (name, broken, counted(number, "rule"), b"does" if broken == 1 else b"do")
+
+
+def lines_of(report: CheckReport) -> Iterator[bytes]:
+    paint = Paint()
+    for outcome in report.broken():
+        rule = outcome.rule
+        yield paint.red(fitting_line(b"%s, line %d: %s" % (report.rules, rule.number, rule.text())))
+        for found in outcome.violations:
+            for line in lines_of_violation(outcome, found):
+                yield fitting_line(line)
+    text = fitting_line(summary(report))
+    yield paint.bold(text) if report.broken() else paint.green(text)
+
+
+def table_of(report: CheckReport) -> Table:
+    """A row for each user for whom a rule does not hold."""
+    rows = [[b"%d" % outcome.rule.number, outcome.rule.text(), write_user(found.user), b"%d" % len(found.paths),
+             shown_path(found.paths[0]), block_text(found.blocks[-1]) if found.blocks else b""]
+            for outcome in report.broken() for found in outcome.violations]
+    columns = [Column("LINE", True), Column("RULE"), Column("USER"), Column("FILES", True), Column("FIRST"),
+               Column("BY")]
+    return Table(columns, rows)
+
+
+def json_of_violation(found: Violation) -> Dict[str, object]:
+    return {
+        "user": json_text(write_user(found.user)),
+        "count": len(found.paths),
+        "files": [json_text(shown_path(path)) for path in found.paths[:FIRST]],
+        "entries": [{"path": json_text(shown_path(block.path)), "entries": [json_text(entry_text(it)) for it in
+                                                                            block.entries]} for block in found.blocks],
+        "who_else": [json_text(write_user(name)) for name in found.others],
+    }
+
+
+def json_of(report: CheckReport) -> Dict[str, object]:
+    snapshot: Dict[str, object] = {"name": json_text(report.snapshot), **fields_of(report.meta)}
+    rules = [{"line": it.rule.number, "rule": json_text(it.rule.text()), "files": it.files,
+              "holds": not it.violations, "violations": [json_of_violation(found) for found in it.violations]}
+             for it in report.outcomes]
+    return {"snapshot": snapshot, "rules": rules, "broken": len(report.broken()),
+            "left_out": [json_text(name) for name in report.left_out]}

@@ -1,0 +1,208 @@
+"""The rules of facl-check: a line says who never, only or always has a right on all files at or below a path.
+
+The file may be one that the caller cannot read, as by sudo: what is said of a line that is no rule has no word of it.
+"""
+from __future__ import annotations
+
+import os
+import re
+from typing import Callable, List, NamedTuple, Optional, Set, Tuple
+
+from ...base.messages import Failure
+from ...base.names import number_of, plain_word, read_name, read_path, shown_path, write_name
+from ...base.trusted import read_given
+from ...model.choice import is_recorded
+from ...model.everybody import World
+from ...model.people import Group, People, User
+from ...model.superuser import ids_in
+from ...program.scripts import WORD, lines_with_numbers, read_text, words_of
+
+NEVER, ONLY, ALWAYS = b"never", b"only", b"always"
+READ, WRITE, ENTER = b"read", b"write", b"enter"
+OTHERS, PEOPLE = b"others", b"people"  # A user without entries; all users whom the check is about.
+IN_GROUP = b"@"
+KINDS, RIGHTS = (NEVER, ONLY, ALWAYS), (READ, WRITE, ENTER)
+COMMENT = re.compile(rb"(?:^|(?<=[ \t]))#")
+FORM = b"a rule is never|only|always WHO.. read|write|enter PATH"
+LEAST = 4  # Words of a rule.
+IS_ROOT = (b"a user of the uid 0, to whom the kernel grants nearly everything: leave it out, or give --with-root to judge it "
+           b"as any other user")
+NO_MEMBERS = b"a group that has no members in the snapshot"
+INPUT = "-"  # The name of standard input.
+
+
+class Rule(NamedTuple):
+    """A line, with its words looked up."""
+
+    number: int
+    words: List[bytes]  # As they are written.
+    kind: bytes
+    users: Set[bytes]  # Names; without those of uid 0 whom a group brings.
+    has_others: bool
+    right: bytes
+    path: bytes
+
+    def text(self) -> bytes:
+        return b" ".join(self.words)
+
+
+class Faults(Exception):
+    """What is wrong with lines of a file of rules, one text each."""
+
+    def __init__(self, texts: List[bytes]) -> None:
+        super().__init__(texts)
+        self.texts = texts
+
+
+class BadRule(Exception):
+    """What is wrong with a line, or with one of its words."""
+
+    def __init__(self, text: bytes) -> None:
+        super().__init__(text)
+        self.text = text
+
+
+def raw_words(line: bytes) -> List[bytes]:
+    """The words of a line with their quotes, up to a comment."""
+    if words_of(line) is None:
+        starts = (match.start() for match in COMMENT.finditer(line))  # A quote in a comment is no quote.
+        before = next((line[:start] for start in starts if words_of(line[:start]) is not None), None)
+        if before is None:
+            raise BadRule(b"a single quote is open: in a name write it as \\047")
+        line = before
+    found: List[bytes] = []
+    for word in WORD.findall(line):
+        if word.startswith(b"#"):
+            break
+        found.append(word)
+    return found
+
+
+class RuleReader:
+    """Reads rules, and looks up their names."""
+
+    def __init__(self, world: World, chosen: Set[bytes], with_root: bool,
+                 is_in_part: Optional[Callable[[bytes], bool]] = None) -> None:
+        self.world, self.chosen, self.with_root = world, chosen, with_root
+        self.is_in_part = is_in_part  # Of a snapshot in parts: whether one of them records a path.
+        self.people = People(world.texts.passwd, world.texts.group)
+        self.notes: List[bytes] = []  # On groups of whom nobody is checked.
+        self.roots = {name for name, uid in ids_in(world.texts.passwd).items() if uid == 0} if not with_root else set()
+
+    def members(self, group: Group) -> Set[bytes]:
+        """The users of a group, by its row and as their primary group; without those of uid 0."""
+        rows = {user.name for user in self.people.users}
+        primary = {user.name for user in self.people.users if user.gid == group.gid}
+        return (primary | set(group.members) & rows) - self.roots
+
+    def members_asked(self, place: int, group: Group) -> Set[bytes]:
+        """The users of a group that a word of a rule names, with a note where there are none."""
+        found = self.members(group)
+        if not found:
+            self.notes.append(of_word(place, NO_MEMBERS + b" but users of the uid 0" * self.has_roots(group)))
+        return found
+
+    def has_roots(self, group: Group) -> bool:
+        return any(it.name in self.roots and (it.gid == group.gid or it.name in group.members) for it in self.people.users)
+
+    def who(self, place: int, raw: bytes) -> Tuple[Set[bytes], bool]:
+        """The users that a word means, and whether it is the word for others."""
+        if raw == OTHERS:
+            return set(), True
+        if raw == PEOPLE:
+            return set(self.chosen), False
+        word = raw.replace(b"'", b"")
+        if raw.startswith(IN_GROUP):
+            return self.members_asked(place, self.group(place, word[1:], b"'" in raw)), False
+        return {self.user(place, word, b"'" in raw)}, False
+
+    def group(self, place: int, word: bytes, is_quoted: bool) -> Group:
+        name = read_name(word)
+        found = next((it for it in self.people.groups if is_named(it.name, it.gid, name, is_quoted)), None)
+        if found is None:
+            raise BadRule(of_word(place, b"no such group in the snapshot"))
+        return found
+
+    def user(self, place: int, word: bytes, is_quoted: bool) -> bytes:
+        name = read_name(word)
+        found: Optional[User] = next(
+            (it for it in self.people.users if is_named(it.name, it.uid, name, is_quoted)), None)
+        if found is None:
+            is_group = any(it.name == name for it in self.people.groups)
+            more = b", but a group: write @ before it" if is_group else b""
+            raise BadRule(of_word(place, b"no such user in the snapshot" + more))
+        if found.name in self.roots:
+            raise BadRule(of_word(place, IS_ROOT))
+        return found.name
+
+    def path(self, place: int, word: bytes) -> bytes:
+        if b".." in word.split(b"/"):
+            raise BadRule(of_word(place, b"write the path from the root, without .."))
+        if not word:
+            raise BadRule(b"an empty word is no PATH; all files are those of /")
+        path = read_path(word)
+        if path and not (self.is_in_part(path) if self.is_in_part else is_recorded(self.world.session, path)):
+            raise BadRule(of_word(place, b"no such file in the snapshot"))
+        return path
+
+    def rule(self, number: int, raw: List[bytes]) -> Rule:
+        """A line that has words."""
+        if len(raw) < LEAST or raw[0] not in KINDS or raw[-2] not in RIGHTS:
+            raise BadRule(FORM)
+        users: Set[bytes] = set()
+        has_others = False
+        for place, word in enumerate(raw[1:-2], 2):
+            names, is_others = self.who(place, word)
+            users |= names
+            has_others = has_others or is_others
+        return Rule(number, raw, raw[0], users, has_others, raw[-2],
+                    self.path(len(raw), raw[-1].replace(b"'", b"")))
+
+    def read(self, name: str) -> List[Rule]:
+        """The rules of a file; fails with what is wrong in all of its lines."""
+        shown = b"standard input" if name == INPUT else os.fsencode(name)
+        text = read_text(name).text if name == INPUT else read_given(shown)
+        found: List[Rule] = []
+        faults: List[bytes] = []
+        for number, line in lines_with_numbers(text):
+            try:
+                words = raw_words(line)
+                known = len(self.notes)
+                found += [self.rule(number, words)] if words else []
+                self.notes[known:] = [b"%s, line %d: %s" % (shown, number, it) for it in self.notes[known:]]
+            except BadRule as error:
+                faults.append(b"%s, line %d: %s" % (shown, number, error.text))
+        if faults:
+            raise Faults(faults)
+        if not found:
+            raise Failure(shown + b": has no rules: facl-check --write SNAPSHOT FOLDER writes those that hold")
+        return found
+
+
+def of_word(place: int, text: bytes) -> bytes:
+    """What is said of a word of a line, by its number from 1 on."""
+    return b"word %d: %s" % (place, text)
+
+
+def is_named(name: bytes, number: int, word: bytes, is_quoted: bool) -> bool:
+    """Whether a row is meant by a word; digits alone are an id, unless they are quoted."""
+    return number == number_of(word) if word.isdigit() and not is_quoted else name == word
+
+
+# --- words that mean a user, a group or a path
+
+
+def user_word(name: bytes) -> bytes:
+    is_special = name in (OTHERS, PEOPLE) or name.isdigit() or name[:1] in (IN_GROUP, b"#")
+    word = plain_word(write_name(name))
+    return b"'" + word + b"'" if is_special and not word.startswith(b"'") else word
+
+
+def group_word(group: Group) -> bytes:
+    name = b"%d" % group.gid if group.name.isdigit() else group.name
+    word = plain_word(IN_GROUP + write_name(name))
+    return word if not word.startswith(b"'") else IN_GROUP + b"'" + word[2:]
+
+
+def path_word(path: bytes, is_directory: bool) -> bytes:
+    return plain_word(b"/" if not path else shown_path(path) + b"/" * is_directory)

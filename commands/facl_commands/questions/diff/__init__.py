@@ -1,0 +1,1 @@
+"""facl-diff: who gained and lost what between two snapshots, and why."""

@@ -1,0 +1,257 @@
+"""facl-diff: who gained and lost what between two snapshots."""
+from __future__ import annotations
+
+import argparse
+import os
+from typing import Dict, Iterable, List, NamedTuple, Optional, Set, Tuple
+
+from ...base import scratch, tables
+from ...base.messages import Command, Failure, parser_of
+from ...base.names import write_user
+from ...base.new_file import NewFile
+from ...model import choice, overview, sources
+from ...model.people import rows_of as rows_of_text
+from ...model.records import path_of
+from ...program.session import OutputSlice, Session, find_program
+from . import report
+from .edits import CannotLead, Edits, group_text
+from .gains import Gain, ask_gains, rows_of
+from .labels import LabelDifferences, Shapes, is_in, records_of_folders
+from .moved import Moved, find_moved
+from .reasons import ask_records, reasons_of
+from .report import Compared
+from .states import (
+    Pair, State, counts_of, is_same_text, listing_of_all, members_of, name_of, pairs_of, people_counts, read_state,
+    records_in, session_of, tops_of,
+)
+
+SAME, DIFFERS = 0, 1
+BY_GAINS, BY_INDEX = "gains", "index"
+HELP = """\
+Says who gained and lost what between two snapshots by facl-snapshot: by other lists, owners, groups, memberships and
+users, and by files that are new, gone or moved. People of one change are on one line, those of most files first:
+
+  BEFORE, AFTER  the rights, as rw-; `none`; or `absent`, where the file or the user is not there
+  FILES, FIRST   on how many files, and on which first
+  WHY            why it is so on the first file, where that is plain
+
+A right counts where the user can get to the file: with search on each directory above. Without FOLDER all files are
+looked at. Users who are no people are left out, and root. A folder of the parts that facl-snapshot --split makes is
+compared as one snapshot, also with one that has no parts.
+"""
+STATUS = """\
+The exit status is 0 where nobody of those who are looked at gained or lost anything, 1 where somebody did, and 2 where
+the words or the snapshots cannot be used.
+"""
+
+
+class Differences(NamedTuple):
+    """What differs between two snapshots, as far as it is looked at."""
+
+    by: str
+    gains: List[Gain]
+    pairs: List[Pair]
+    people: List[bytes]  # The lines of the edits that change users and groups.
+    listing: List[OutputSlice]  # The files after the edits; none where there are no edits.
+
+
+def parse(words: List[str]) -> argparse.Namespace:
+    parser = parser_of("facl-diff", HELP, STATUS)
+    parser.add_argument("--program", metavar="FILE", help="the program facl; without it $FACL, or facl on the path")
+    parser.add_argument("--any-host", action="store_true", help="also snapshots of two servers")
+    parser.add_argument("--page", metavar="FILE",
+                        help="also write a page to look at, as facl-report does, to a new file")
+    parser.add_argument("before", metavar="BEFORE", help="a snapshot, or the folder of the parts of one")
+    parser.add_argument("after", metavar="AFTER", help="a later one")
+    choice.add_choice(parser)
+    tables.add_output(parser)
+    given = parser.parse_args(words)
+    if given.page is not None and given.folders:
+        parser.error("--page shows all files: leave out the FOLDERs")
+    return given
+
+
+def check_hosts(old: State, new: State, given: argparse.Namespace) -> None:
+    hosts = old.about.host, new.about.host
+    if all(hosts) and hosts[0] != hosts[1] and not given.any_host:
+        raise Failure(b"%s is of %s, and %s of %s: --any-host compares them" % (old.folder, hosts[0], new.folder,
+                                                                             hosts[1]))
+
+
+def folders_of(sessions: Tuple[Session, Session], words: Iterable[str]) -> List[bytes]:
+    """The paths of words; each is recorded before or after."""
+    found = []
+    for word in map(os.fsencode, words):
+        choice.refuse_empty(word)
+        paths = [path for path in choice.paths_of(word) if any(choice.is_recorded(it, path) for it in sessions)]
+        found.append(paths[0] if paths else choice.folder_of(sessions[1], word))
+    return found
+
+
+class Comparison:
+    """Two snapshots by their listings."""
+
+    def __init__(self, program: str, states: Tuple[State, State], listings: List[List[OutputSlice]],
+                 given: argparse.Namespace) -> None:
+        self.program, self.states, self.listings, self.given = program, states, listings, given
+        self.is_alone: bool = given.file_alone
+        self.folders: List[bytes] = []  # Those that are looked at; none where all files are.
+        self.is_whole = False  # Whether paths start at the root of the file system.
+
+    def records_of(self, paths: List[bytes]) -> Dict[bytes, bytes]:
+        """The later records of some paths."""
+        wanted = set(paths)
+        both = ((path_of(name_of(record)), record) for record in records_in(self.listings[1]))
+        return {path: record for path, record in both if path in wanted}
+
+    def pairs(self, is_all: bool = False) -> Iterable[Pair]:
+        """What differs in the files that are looked at, and the directories above them; or all of these."""
+        old, new = (records_of_folders(records_in(it), self.folders or [b""]) for it in self.listings)
+        return pairs_of(old, new, is_all)
+
+    def answer(self) -> Differences:
+        return self.by_labels(list(self.pairs()))
+
+    def by_labels(self, pairs: List[Pair]) -> Differences:
+        shapes = Shapes()
+        shapes.add(self.pairs(is_all=True), self.folders or [b""])
+        labels = LabelDifferences(self.program, self.states[0], self.states[1], shapes, self.is_alone)
+        return Differences(BY_INDEX, labels.gains(), pairs, [], [])
+
+    def compared(self, answered: Differences) -> Compared:
+        old, new = self.states
+        chosen = chosen_users(old, new, self.given)
+        place = {user: number for number, user in enumerate(chosen)}
+        gains = sorted((it for it in answered.gains if it.user in place), key=lambda it: place[it.user])
+        counted = [pair for pair in answered.pairs if is_in(pair.path, self.folders or [b""])]
+        moved: List[Moved] = find_moved(old, new, counted)
+        reasons = reasons_of(self.program, self.states, self.records_of, {it.path: it for it in answered.pairs}, gains,
+                             self.is_alone, self.is_whole)
+        reasons.moved_from = {it.new: it.old for it in moved}
+        reasons.moved_to = {it.old: it.new for it in moved}
+        left_out = list(dict.fromkeys(it.user for it in answered.gains if it.user not in place))
+        return Compared(old, new, self.folders, self.is_alone, self.is_whole, answered.by, rows_of(gains, reasons.of),
+                        set(chosen), left_out, counts_of(counted),
+                        people_counts(members_of(old.people()), members_of(new.people())), moved)
+
+
+class OfSessions(Comparison):
+    """Two snapshots, each with a session."""
+
+    def __init__(self, program: str, states: Tuple[State, State], sessions: Tuple[Session, Session],
+                 given: argparse.Namespace) -> None:
+        super().__init__(program, states, [sources.list_below(session, sources.find_tops(session, state.folder))
+                                           for session, state in zip(sessions, states)], given)
+        self.sessions = sessions
+        self.tops = tops_of((sessions[0], states[0]), (sessions[1], states[1]))
+        self.folders, self.is_whole = folders_of(sessions, given.folders), self.tops == [b""]
+
+    def records_of(self, paths: List[bytes]) -> Dict[bytes, bytes]:
+        return ask_records(self.sessions[1], paths)
+
+    def answer(self) -> Differences:
+        pairs = list(self.pairs())
+        if self.folders:
+            return self.by_labels(pairs)
+        try:
+            return self.by_edits(pairs)
+        except CannotLead as error:
+            if self.given.page is not None:
+                raise Failure(b"no page is made, as no edits lead from one snapshot to the other: "
+                              + error.text) from error
+            return self.by_labels(pairs)
+
+    def by_edits(self, pairs: List[Pair]) -> Differences:
+        edits = Edits(self.states[0], self.states[1], pairs)
+        edits.answer(self.sessions[0])
+        listing = sources.list_below(self.sessions[0], self.tops)
+        if not is_same_text(listing, self.listings[1]):
+            raise CannotLead(b"the files are others then")
+        return Differences(BY_GAINS, ask_gains(self.sessions[0], self.is_alone), pairs, edits.people, listing)
+
+    def page(self, answered: Differences) -> Optional[bytes]:
+        if self.given.page is None:
+            return None
+        from .page import page_of  # Few runs need it.
+
+        group = group_text(*self.states)
+        listings = [self.listings[0], answered.listing]
+        return page_of(self.program, self.states[0], self.states[1], group, answered.people, listings, self.given)
+
+
+class OfParts(Comparison):
+    """Two snapshots of which at least one has parts. One session has no room for the files of all of them."""
+
+    def __init__(self, program: str, states: Tuple[State, State], given: argparse.Namespace) -> None:
+        if given.page is not None:
+            raise Failure(b"--page: a snapshot in parts has none")
+        super().__init__(program, states, [[listing_of_all(program, state)] for state in states], given)
+        firsts = [next(records_in(it), b"") for it in self.listings]
+        self.is_whole = b"" in [path_of(name_of(record)) for record in firsts if record]
+        self.folders = choice.folders_in(given.folders, self.recorded_of)
+
+    def close(self) -> None:
+        for listing in self.listings:
+            listing[0].file.close()
+
+    def recorded_of(self, paths: Set[bytes]) -> Set[bytes]:
+        """Those of some paths that are there before or after."""
+        return {path for it in self.listings for path in (path_of(name_of(record)) for record in records_in(it)) if path in paths}
+
+
+def chosen_users(old: State, new: State, given: argparse.Namespace) -> List[bytes]:
+    """Those who are looked at, as the program prints their names, by their id before or after."""
+    found = [*choice.kept(names_of(old), given, old.passwd), *choice.kept(names_of(new), given, new.passwd)]
+    return list(dict.fromkeys(found))
+
+
+def names_of(state: State) -> List[bytes]:
+    return [write_user(row[0]) for row in rows_of_text(state.passwd)]
+
+
+def compare(command: Command, given: argparse.Namespace) -> Tuple[Compared, Optional[bytes]]:
+    """What differs, and the page where one is asked for."""
+    program = find_program(given.program)
+    old, new = read_state(os.fsencode(given.before)), read_state(os.fsencode(given.after))
+    check_hosts(old, new, given)
+    for text in report.warnings(old, new):
+        command.say(text)
+    for state in (old, new):
+        overview.say_notices(command, sources.Source(state.folder, state.folder, False), has_masks=state is new)
+    if old.is_split() or new.is_split():
+        parts = OfParts(program, (old, new), given)
+        try:
+            return parts.compared(parts.answer()), None
+        finally:
+            parts.close()
+    with scratch.folder("facl-diff.") as work:
+        with session_of(program, old, work, group_text(old, new)) as before, session_of(program, new, work) as after:
+            comparison = OfSessions(program, (old, new), (before, after), given)
+            answered = comparison.answer()
+            return comparison.compared(answered), comparison.page(answered)
+
+
+def write(command: Command, given: argparse.Namespace, compared: Compared) -> None:
+    if given.json:
+        tables.write_json(command, report.SCHEMA, report.object_of(compared))
+        return
+    if given.tsv:
+        tables.write_table(command, given, report.fields_table(compared))
+    else:
+        with tables.paged(command, not given.no_pager):
+            if compared.rows:
+                tables.write_table(command, given, report.table_of(compared))
+            command.tell(report.summary(compared))
+    for note in choice.notes(compared.left_out, compared.new.passwd + b"\n" + compared.old.passwd):
+        command.say(note)
+
+
+def body(command: Command, words: List[str]) -> int:
+    given = parse(words)
+    target = NewFile(os.fsencode(given.page)) if given.page is not None else None
+    compared, page = compare(command, given)
+    write(command, given, compared)
+    if target is not None and page is not None:
+        target.write(page)
+        command.say(target.name + b": is written")
+    return DIFFERS if compared.rows else SAME

@@ -1,0 +1,33 @@
+"""The page of facl-report over two snapshots: what it has of one snapshot and scripts, of the edits that lead to the
+other one."""
+from __future__ import annotations
+
+import argparse
+from typing import List
+
+from ...model.snapshot import Snapshot
+from ...page import data as page_data
+from ...page.columns import shown
+from ...page.frame import page_of as html_of
+from ...page.tree import Labels, PageTree, records_of
+from ...program.scripts import read_script
+from ...program.session import OutputSlice
+from .states import State
+
+EDITS = b"edits"
+
+
+def page_of(program: str, old: State, new: State, group: bytes, people: List[bytes], listings: List[List[OutputSlice]],
+            given: argparse.Namespace) -> bytes:
+    """The page; the lines of people are those of the edits, and the groups those of their session."""
+    tree = PageTree()
+    found = []
+    for outputs in listings:
+        labels = Labels()
+        found.append((tree.add((it for output in outputs for it in records_of(output)), labels), labels))
+    units = read_script(EDITS, b"".join(line + b"\n" for line in people))
+    snapshot = Snapshot(old.folder, old.passwd, group, [], "-", {})
+    data = page_data.data_of(program, snapshot, tree, found, units, given)
+    data["title"] = shown(old.named() + b" -> " + new.named())
+    data["heads"] = [page_data.head_of(state.folder, state.folder) for state in (old, new)]
+    return html_of(data)

@@ -1,0 +1,194 @@
+"""What facl-diff prints: a table for a person, rows for a script, or one object."""
+from __future__ import annotations
+
+from typing import Callable, Dict, Iterable, Iterator, List, NamedTuple, Sequence, Set, Tuple
+
+from ...base.names import json_text, live_name, shown_path, write_user
+from ...base.tables import Column, Table
+from ...model.meta import EXCLUDED, PART, UNREAD, Meta, fields_of
+from ...model.records import path_of
+from ...model.rights import ABSENT
+from .gains import ChangeRow
+from .moved import Moved
+from .states import FileCounts, PeopleCounts, State
+
+SCHEMA = "facl-diff/1"
+COLUMNS = [Column("BEFORE"), Column("AFTER"), Column("WHO"), Column("FILES", True), Column("FIRST"), Column("WHY")]
+MOST_NAMES = 8  # In a row for a person,
+MOST_FOLDERS = 3  # and in a warning.
+FEWEST = 2  # People who are called everybody.
+
+
+class Compared(NamedTuple):
+    """What differs between two snapshots."""
+
+    old: State
+    new: State
+    folders: List[bytes]  # Those that are looked at; none where all files are.
+    is_alone: bool
+    is_whole: bool  # Whether paths start at the root of the file system.
+    by: str  # What the changes are from: `gains` of a session, or `index`.
+    rows: List[ChangeRow]
+    chosen: Set[bytes]  # The users that rows are about, as the program prints them.
+    left_out: List[bytes]  # Other users who have changes.
+    files: FileCounts
+    people: PeopleCounts
+    moved: List[Moved]
+
+    def name_of(self, path: bytes) -> bytes:
+        """The name of a file on the live system, where the snapshots start at the root; else as the program has it."""
+        return live_name(path) if self.is_whole else shown_path(path)
+
+    def first_of(self, row: ChangeRow) -> bytes:
+        return self.name_of(path_of(row.first))
+
+
+# --- for a person
+
+
+class AllUsers:
+    """All users that a row can be about: those who are there before and after, or at the time at which the file is."""
+
+    def __init__(self, compared: Compared) -> None:
+        sides = [{write_user(user.name) for user in state.people().users} for state in (compared.old, compared.new)]
+        self.before, self.after = (compared.chosen & side for side in sides)
+
+    def of(self, row: ChangeRow) -> Set[bytes]:
+        if ABSENT in (row.old, row.new):
+            return self.after if row.old == ABSENT else self.before
+        return self.before & self.after
+
+
+def who_of(row: ChangeRow, everybody: AllUsers) -> bytes:
+    if len(row.users) >= FEWEST and set(row.users) == everybody.of(row):
+        return b"everybody (%d)" % len(row.users)
+    rest = len(row.users) - MOST_NAMES
+    return b" ".join(row.users[:MOST_NAMES]) + (b" and %d more" % rest if rest > 0 else b"")
+
+
+def fields_of_row(compared: Compared, row: ChangeRow, who: bytes) -> List[bytes]:
+    return [row.old.encode(), row.new.encode(), who, b"%d" % row.files, compared.first_of(row), row.why]
+
+
+def table_of(compared: Compared) -> Table:
+    everybody = AllUsers(compared)
+    return Table(COLUMNS, [fields_of_row(compared, row, who_of(row, everybody)) for row in compared.rows])
+
+
+def numbers(kind: bytes, *parts: Tuple[int, bytes, Sequence[bytes]]) -> List[bytes]:
+    """Numbers of one kind, each with its word and the first names; nothing where all are 0."""
+    found = []
+    for number, word, names in parts:
+        shown = b", ".join(names[:MOST_NAMES]) + b" .." * (len(names) > MOST_NAMES)
+        if number:
+            found.append(b"%d %s" % (number, word) + (b" (" + shown + b")" if names else b""))
+    return [kind + b": " + b", ".join(found)] if found else []
+
+
+def summary(compared: Compared) -> bytes:
+    """What differs in the files and users, whether somebody may do otherwise or not."""
+    files, people = compared.files, compared.people
+    users = [list(map(write_user, names)) for names in people[:3]]
+    parts = [*numbers(b"files", (files.changed, b"with another owner, group, flags or list", []),
+                      (files.made, b"new", []), (files.removed, b"gone", []),
+                      (len(compared.moved), b"of these moved", [])),
+             *numbers(b"users", (len(users[0]), b"new", users[0]), (len(users[1]), b"gone", users[1]),
+                      (len(users[2]), b"with another id", users[2])),
+             *numbers(b"memberships", (people.joined, b"new", []), (people.left, b"gone", []))]
+    if not parts:
+        return b"nothing differs: the same users, groups of users, files and lists"
+    return (b"" if compared.rows else b"nobody gained or lost anything; ") + b"; ".join(parts)
+
+
+# --- for a script
+
+
+def fields_table(compared: Compared) -> Table:
+    """A row for each user of a change."""
+    return Table(COLUMNS, [fields_of_row(compared, row, user) for row in compared.rows for user in row.users])
+
+
+def texts(names: Sequence[bytes], write: Callable[[bytes], bytes] = bytes) -> List[str]:
+    return [json_text(write(name)) for name in names]
+
+
+def snapshot_json(state: State) -> Dict[str, object]:
+    return {"snapshot": json_text(state.folder), **fields_of(state.about)}
+
+
+def row_json(compared: Compared, row: ChangeRow) -> Dict[str, object]:
+    return {"before": row.old, "after": row.new, "users": texts(row.users), "files": row.files,
+            "first": json_text(compared.first_of(row)), "why": json_text(row.why) or None}
+
+
+def object_of(compared: Compared) -> Dict[str, object]:
+    """The object of --json, whose schema is in the manual page."""
+    people = compared.people
+    return {
+        "before": snapshot_json(compared.old), "after": snapshot_json(compared.new),
+        "folders": texts(compared.folders, compared.name_of), "along_paths": not compared.is_alone,
+        "answered_by": compared.by,
+        "changes": [row_json(compared, row) for row in compared.rows],
+        "left_out": texts(compared.left_out),
+        "files": {"changed": compared.files.changed, "new": compared.files.made, "removed": compared.files.removed,
+                  "moved": [{"from": json_text(compared.name_of(it.old)), "to": json_text(compared.name_of(it.new))}
+                            for it in compared.moved]},
+        "users": {"new": texts(people.made, write_user), "removed": texts(people.removed, write_user),
+                  "other_id": texts(people.renumbered, write_user)},
+        "memberships": {"new": people.joined, "removed": people.left},
+    }
+
+
+# --- warnings
+
+MAY = b", so what is there may be new or gone for that alone: "
+SCOPES: List[Tuple[bytes, Callable[[Meta], List[bytes]]]] = [
+    (b"recorded in %s alone" + MAY, lambda about: about.folders),
+    (b"left out of %s alone by --exclude" + MAY, lambda about: about.excludes),
+    (b"left out of %s alone as another file system" + MAY, lambda about: about.mounts),
+]
+NOT_READ = b"warning: %s lacks what could not be read (unread %s in its meta)" + MAY[:-2]
+
+
+def is_within(folder: bytes, others: Iterable[bytes]) -> bool:
+    """Whether a folder is one of others, or below one."""
+    return any(folder == it or folder.startswith(it.rstrip(b"/") + b"/") for it in others)
+
+
+def scope_warnings(text: bytes, states: Tuple[State, State], names: Callable[[Meta], List[bytes]]) -> Iterator[bytes]:
+    """The names that one of two snapshots has alone, in its meta; of globs where they left something out."""
+    for state, other in (states, states[::-1]):
+        if names(state.about) == state.about.excludes and state.about.numbers.get(EXCLUDED) == b"0":
+            continue
+        only = sorted(name for name in set(names(state.about)) if not is_within(name, names(other.about)))
+        if only:
+            shown = b", ".join(only[:MOST_FOLDERS]) + b" .." * (len(only) > MOST_FOLDERS)
+            yield b"warning: " + text % state.folder + shown
+
+
+def unread_warnings(states: Tuple[State, State]) -> Iterator[bytes]:
+    """What only one of two snapshots could read."""
+    unread = [state.about.numbers.get(UNREAD, b"0") for state in states]
+    for state, count in zip(states, unread):
+        if count != b"0" and unread[0] != unread[1]:
+            yield NOT_READ % (state.folder, count)
+
+
+def part_warnings(states: Tuple[State, State]) -> Iterator[bytes]:
+    """What is a part of several snapshots."""
+    for state in states:
+        if PART in state.about.numbers:
+            yield (b"warning: " + state.folder + b": is part " + state.about.numbers[PART]
+                   + b", so files of the other parts are not looked at")
+
+
+def warnings(old: State, new: State) -> List[bytes]:
+    """What is likely not meant: snapshots in the wrong order, of other folders, or parts of several ones."""
+    found = []
+    if old.about.date and new.about.date and new.about.date < old.about.date:
+        found.append(b"warning: the second snapshot is older than the first one: " + new.named())
+    if old.about.folders and new.about.folders:
+        for text, names in SCOPES:
+            found += scope_warnings(text, (old, new), names)
+    found += [*unread_warnings((old, new)), *part_warnings((old, new))]
+    return found

@@ -1,0 +1,242 @@
+"""Two snapshots for facl-diff: their files record by record, their users and groups, and what differs between them."""
+from __future__ import annotations
+
+import contextlib
+import itertools
+import os
+from typing import Dict, FrozenSet, Iterable, Iterator, List, NamedTuple, Optional, Tuple
+
+from ...base import scratch
+from ...base.messages import Failure
+from ...base.names import path_order, sorting_key
+from ...base.trusted import read_trusted
+from ...model import meta, sources, split_tree
+from ...model.people import People, groups_by_user
+from ...model.records import path_of
+from ...model.snapshot import NEEDED
+from ...program.protocol import DEFAULT_ENTRY, FILE_HEAD
+from ...program.session import OutputSlice, Session
+
+
+class State(NamedTuple):
+    """A snapshot: what the program loads of it, and of which system it is."""
+
+    folder: bytes
+    passwd: bytes
+    group: bytes
+    about: meta.Meta
+    folders: List[bytes]  # Those of its parts; of a snapshot that has none its own.
+
+    def is_split(self) -> bool:
+        return self.folders != [self.folder]
+
+    def named(self) -> bytes:
+        return meta.named(self.folder, self.about)
+
+    def people(self) -> People:
+        """Its users and groups."""
+        try:
+            return People(self.passwd, self.group)
+        except (IndexError, ValueError) as error:
+            raise Failure(self.folder + b": passwd or group has a row that the program does not load: facl-ask "
+                          + self.folder + b" says which") from error
+
+
+class ListedFile(NamedTuple):
+    """A file as the program lists it: its record without the empty line at the end."""
+
+    record: bytes
+    is_directory: bool
+
+    def name(self) -> bytes:
+        return name_of(self.record)
+
+    def body(self) -> bytes:
+        return self.record.partition(b"\n")[2] + b"\n"
+
+
+class Pair(NamedTuple):
+    """A path, with its file before and after; one of them is None where it is not there."""
+
+    path: bytes
+    old: Optional[ListedFile]
+    new: Optional[ListedFile]
+
+    def is_of_other_kind(self) -> bool:
+        """Whether a file is in the place of a directory, or a directory in that of a file."""
+        return self.old is not None and self.new is not None and self.old.is_directory != self.new.is_directory
+
+
+class Member(NamedTuple):
+    """A user, with all groups."""
+
+    uid: int
+    primary: int
+    groups: FrozenSet[int]
+
+
+Members = Dict[bytes, Member]  # By name.
+
+
+def read_state(folder: bytes) -> State:
+    folders = split_tree.check_all(folder)
+    passwd, group = (read_trusted(os.path.join(folders[0], name)) for name in NEEDED[:2])
+    about = split_tree.meta_of_all(folders) if folders != [folder] else meta.meta_of(folder)
+    return State(folder, passwd, group, about, folders)
+
+
+def members_of(people: People) -> Members:
+    groups = groups_by_user(people)
+    return {user.name: Member(user.uid, user.gid, frozenset(groups[user.name])) for user in people.users}
+
+
+# --- a session over a snapshot
+
+
+@contextlib.contextmanager
+def session_of(program: str, state: State, work: str, group: Optional[bytes] = None) -> Iterator[Session]:
+    """A session over a snapshot; with other groups in the place of its own over a folder that is made in work."""
+    folder = state.folder
+    if group is not None:
+        folder = os.fsencode(work)
+        for name in (b"passwd", b"dump"):
+            os.symlink(os.path.join(os.getcwdb(), state.folder, name), os.path.join(folder, name))
+        with open(os.path.join(folder, b"group"), "wb") as file:
+            file.write(group)
+    with Session(program, folder) as session:
+        session.folder = state.folder  # By which messages name it.
+        yield session
+
+
+def tops_of(*sides: Tuple[Session, State]) -> List[bytes]:
+    """The paths of both snapshots that no recorded directory is above."""
+    found = {path for session, state in sides for path in sources.find_tops(session, state.folder)}
+    return sorted((path for path in found if not any(is_below(path, it) for it in found)), key=path_order)
+
+
+def listing_of_all(program: str, state: State) -> OutputSlice:
+    """The files of all parts of a snapshot, each once, in path order."""
+    file, once = scratch.new_file("facl-parts."), split_tree.Once()
+    last = b""
+    for folder in state.folders:
+        with Session(program, folder) as session:
+            for record in records_in(sources.list_below(session, sources.find_tops(session, folder))):
+                if once.is_new(path_of(name_of(record))):
+                    file.write(as_listed(last, record))
+                    last = record
+    file.write(as_listed(last, b""))
+    file.flush()
+    return OutputSlice(file, 0, file.tell())
+
+
+def as_listed(record: bytes, following: bytes) -> bytes:
+    """A record as it is in the listing of a whole tree, where the name of a directory ends in a slash only if nothing is in it."""
+    name = name_of(record)
+    if name[-1:] == b"/" and following.startswith(FILE_HEAD + name):
+        record = FILE_HEAD + name[:-1] + record[len(FILE_HEAD + name) :]
+    return record + b"\n\n" if record else b""
+
+
+def is_below(path: bytes, above: bytes) -> bool:
+    return path != above and (above == b"" or path.startswith(above + b"/"))
+
+
+# --- records
+
+
+def name_of(record: bytes) -> bytes:
+    return record[len(FILE_HEAD) :].partition(b"\n")[0]
+
+
+def records_in(listing: Iterable[OutputSlice]) -> Iterator[bytes]:
+    """The records of a listing in path order."""
+    return (record for output in listing for record in output.records() if record)
+
+
+def is_directory(record: bytes, following: Optional[bytes]) -> bool:
+    """Whether a record is that of a directory: by its name, its default entries, or the next file, which is in it."""
+    name = name_of(record)
+    if name[-1:] == b"/" or name == b"." or DEFAULT_ENTRY in record:
+        return True
+    return following is not None and following.startswith(FILE_HEAD + name + b"/")
+
+
+def found_of(record: Optional[bytes], following: Optional[bytes]) -> Optional[ListedFile]:
+    return None if record is None else ListedFile(record, is_directory(record, following))
+
+
+def is_first(record: bytes, other: Optional[bytes]) -> bool:
+    """Whether a record comes before another one in path order, or has its path."""
+    return other is None or sorting_key(path_of(name_of(record))) <= sorting_key(path_of(name_of(other)))
+
+
+def pairs_of(old: Iterator[bytes], new: Iterator[bytes], is_all: bool = False) -> Iterator[Pair]:
+    """The paths of two listings whose files differ, or all of them, in path order."""
+    before, after = next(old, None), next(new, None)
+    while before is not None or after is not None:
+        has_old = before is not None and is_first(before, after) if before != after else True
+        has_new = after is not None and is_first(after, before) if before != after else True
+        next_old = next(old, None) if has_old else before
+        next_new = next(new, None) if has_new else after
+        if is_all or before != after or next_old != next_new:
+            pair = pair_of(found_of(before, next_old) if has_old else None,
+                           found_of(after, next_new) if has_new else None)
+            if is_all or before != after or pair.is_of_other_kind():
+                yield pair
+        before, after = next_old, next_new
+
+
+def pair_of(old: Optional[ListedFile], new: Optional[ListedFile]) -> Pair:
+    found = old or new
+    assert found is not None
+    return Pair(path_of(found.name()), old, new)
+
+
+def is_same_text(one: List[OutputSlice], other: List[OutputSlice]) -> bool:
+    """Whether two listings are the same, to the byte."""
+    if [it.end - it.start for it in one] != [it.end - it.start for it in other]:
+        return False
+    both = zip(one, other)
+    return all(here == there for it, that in both for here, there in itertools.zip_longest(it.pieces(), that.pieces()))
+
+
+# --- what differs
+
+
+class FileCounts(NamedTuple):
+    """How many files differ, and how."""
+
+    changed: int
+    made: int
+    removed: int
+
+
+class PeopleCounts(NamedTuple):
+    """The names of users who came and went, and of those with another id; and how many memberships came and went, of
+    users who are in both snapshots."""
+
+    made: List[bytes]
+    removed: List[bytes]
+    renumbered: List[bytes]
+    joined: int
+    left: int
+
+
+def counts_of(pairs: Iterable[Pair]) -> FileCounts:
+    changed = made = removed = 0
+    for pair in pairs:
+        is_kept = pair.old is not None and pair.new is not None and not pair.is_of_other_kind()
+        changed += pair.old is not None and pair.new is not None and is_kept and pair.old.body() != pair.new.body()
+        made += not is_kept and pair.new is not None
+        removed += not is_kept and pair.old is not None
+    return FileCounts(changed, made, removed)
+
+
+def people_counts(old: Members, new: Members) -> PeopleCounts:
+    both = [name for name in old if name in new]
+    return PeopleCounts(
+        [name for name in new if name not in old], [name for name in old if name not in new],
+        [name for name in both if old[name].uid != new[name].uid],
+        sum(len(new[name].groups - old[name].groups) for name in both),
+        sum(len(old[name].groups - new[name].groups) for name in both),
+    )

@@ -1,0 +1,63 @@
+"""What an answer of facl-who is: a table, the same for JSON, and what is said where it is empty; and whom a word means."""
+from __future__ import annotations
+
+import difflib
+from typing import Dict, List, NamedTuple, Tuple
+
+from ...base.messages import Failure
+from ...base.names import number_of, read_name, write_user
+from ...base.tables import Table
+from ...model.people import rows_of
+from .asking import Asker
+
+
+class WhoAnswer(NamedTuple):
+    question: str  # Its name in JSON.
+    table: Table
+    fields: Dict[str, object]  # Those of JSON beside the ones that all answers have.
+    empty: bytes  # The line in the place of an empty table.
+    left_out: List[bytes] = []  # Users who would have a row, as the program prints their names.
+    after: Tuple[bytes, ...] = ()  # Lines after the table, for a person.
+
+
+def spoken_folders(asker: Asker, folders: List[bytes]) -> bytes:
+    names = list(map(asker.name_of, folders[:3]))
+    return b"at or below " + b", ".join(names) + (b" and %d more" % (len(folders) - 3) if len(folders) > 3 else b"")
+
+
+class NamedUser(NamedTuple):
+    """A user whom a person names."""
+
+    shown: bytes  # As the program prints the name; the id where there is no row.
+    uid: int
+    has_row: bool = True
+
+
+def user_of(asker: Asker, word: bytes) -> NamedUser:
+    """As the program reads USER: digits alone are an id, which is that of the first user who has it."""
+    rows = rows_of(asker.passwd)
+    if word.isdigit():
+        names = [write_user(row[0]) for row in rows if number_of(row[2]) == number_of(word)]
+        return NamedUser(names[0] if names else word, number_of(word), bool(names))
+    for name in (word, read_name(word)):
+        for row in rows:
+            if row[0] == name:
+                return NamedUser(write_user(name), int(row[2]))
+    raise Failure(word + b": is no user of the snapshot" + like(word, [row[0] for row in rows]))
+
+
+def like(word: bytes, names: List[bytes]) -> bytes:
+    """The end of a message: names that a person may have meant."""
+    texts = [name.decode("latin-1") for name in names]
+    found = [write_user(text.encode("latin-1")) for text in difflib.get_close_matches(word.decode("latin-1"), texts)]
+    return b": there is " + b", ".join(found) if found else b""
+
+
+def user_with_row(asker: Asker, word: bytes) -> NamedUser:
+    """A user whom the program can be asked of."""
+    found = user_of(asker, word)
+    if not found.has_row:
+        raise Failure(word + b": is the id of no user of the snapshot")
+    if asker.word_of(found.shown) is None:
+        raise Failure(word + b": no question can name this user: digits alone are an id, and an earlier row has this one's id")
+    return found

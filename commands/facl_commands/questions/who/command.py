@@ -1,0 +1,176 @@
+"""facl-who: who may do what with the files of a snapshot, and by which entries; what one user may do, owns or is named on;
+who can remove a file; which list a new file gets."""
+from __future__ import annotations
+
+import argparse
+import os
+from typing import Dict, List
+
+from ...base import tables
+from ...base.messages import Command, Failure, parser_of
+from ...base.names import json_text, number_of, read_name, shell_word
+from ...base.trusted import read_trusted
+from ...model import choice, meta, overview, sources
+from ...model.snapshot import NEEDED, check_texts, is_hidden
+from ...model.sources import Source
+from ...model.superuser import ids_in
+from ...program.session import Session, find_program
+from . import of_files, of_folder, of_rights, of_user
+from .answers import WhoAnswer, user_of, user_with_row
+from .asking import Asker, read_rights
+
+SCHEMA = "facl-who/1"
+SOMEBODY, NOBODY = 0, 1
+# The words of each question; all but the first are named by an option.
+QUESTIONS: Dict[str, str] = {
+    "": "PERMS[,PERMS..] SNAPSHOT [FOLDER..]",
+    "--user": "--user USER [--depth N] SNAPSHOT [FOLDER..]",
+    "--owner": "--owner USER SNAPSHOT [FOLDER..]",
+    "--names": "--names USER SNAPSHOT [FOLDER..]",
+    "--remove": "--remove FILE SNAPSHOT",
+    "--new-file": "--new-file FOLDER USER [--umask MASK] SNAPSHOT",
+}
+WITHOUT_FOLDERS = ("--remove", "--new-file")
+HELP = """\
+Says who may do what with the files of a snapshot: a row for each person, with the number of files at or below the
+FOLDERs, the first of them, and the entries of its list by which the person may. PERMS is read, write, enter, or
+letters of rwx, which are asked for at once. By other options: what one user may do, by folder; which files somebody
+owns, or is named on; who can remove a file; which lists a new file and a new folder of a user get.
+
+A FOLDER is written as on the live system, or from the root of the snapshot, and may be a file; without one those that
+the snapshot was made of are looked at. A user needs search on all directories above a file, unless --file-alone is
+given. USER is a name or an id. Nothing is changed.
+"""
+STATUS = """\
+The exit status is 0 where there is an answer; 1 where it is empty: nobody, or nothing; 2 where the words or the
+snapshot cannot be used.
+
+    facl-snapshot before /srv/project          first, as root
+    facl-who write before /srv/project         who can change what is there
+    facl-who read,write before /srv/project/notes.txt
+    facl-who --user mara before                what mara may do, by folder
+"""
+
+
+def question_of(words: List[str]) -> str:
+    """The option that names the question; nothing where PERMS is asked for."""
+    options = words[: words.index("--")] if "--" in words else words
+    return next((name for name in QUESTIONS for word in options
+                 if name and (word == name or word.startswith(name + "="))), "")
+
+
+def usage() -> str:
+    return "\n".join("%sfacl-who [OPTION].. %s" % ("       " * bool(name), words) for name, words in QUESTIONS.items())
+
+
+def add_questions(parser: argparse.ArgumentParser) -> None:
+    form = parser.add_mutually_exclusive_group()
+    form.add_argument("--user", metavar="USER", help="what a user may do, by folder")
+    form.add_argument("--owner", metavar="USER", help="the files that a user owns; an id needs no user")
+    form.add_argument("--names", metavar="USER", help="the files of which an entry names a user; an id needs no user")
+    form.add_argument("--remove", metavar="FILE", help="who can remove a file")
+    form.add_argument("--new-file", metavar=("FOLDER", "USER"), nargs=2,
+                      help="which lists a new file and a new folder of a user get there")
+    parser.add_argument("--depth", metavar="N", type=depth, default=2,
+                        help="with --user: folders so far below each FOLDER; 2 without it")
+    parser.add_argument("--umask", metavar="MASK", type=mask, default="022",
+                        help="with --new-file: where there is no default list; 022 without it")
+
+
+def depth(word: str) -> int:
+    if not word.isdecimal() or not word.isascii() or int(word) > 1000:
+        raise argparse.ArgumentTypeError("%r is no number up to 1000" % word)
+    return int(word)
+
+
+def mask(word: str) -> str:
+    if not 1 <= len(word) <= 4 or set(word) - set("01234567") or int(word, 8) > 0o777:
+        raise argparse.ArgumentTypeError("%r is no mask of octal digits up to 0777" % word)
+    return word
+
+
+def parse(words: List[str]) -> argparse.Namespace:
+    parser = parser_of("facl-who", HELP, STATUS)
+    parser.usage = usage()
+    question = question_of(words)
+    add_questions(parser)
+    if not question:
+        parser.add_argument("perms", metavar="PERMS", help="read, write, enter or letters of rwx; commas between several")
+    sources.add_source(parser, words)
+    choice.add_choice(parser, "" if question in WITHOUT_FOLDERS else "*", "those that the snapshot was made of")
+    tables.add_output(parser)
+    given = parser.parse_intermixed_args(words)
+    given.question = question
+    return given
+
+
+def check_source(source: Source, given: argparse.Namespace) -> None:
+    """Fails where there is no snapshot, with the order of the words, which are easily exchanged."""
+    words = b"; the words here are: facl-who " + QUESTIONS[given.question].encode()
+    if os.path.isfile(source.folder):
+        raise Failure(source.shown + b": is a file, and no snapshot; a file of getfacl -R comes by --dump "
+                      + shell_word(source.shown) + words)
+    names = [os.path.join(source.folder, name) for name in NEEDED]
+    if not all(os.path.exists(name) or is_hidden(name) for name in names):
+        raise Failure(source.shown + b": is no snapshot, which is made as root by facl-snapshot DIR FOLDER" + words)
+    os.close(check_texts(source.folder))
+
+
+def answer_of(asker: Asker) -> WhoAnswer:
+    given, session = asker.given, asker.session
+    if given.remove is not None:
+        return of_folder.answer_remove(asker, of_folder.removed_path(asker, given.remove))
+    if given.new_file is not None:
+        folder, user = map(os.fsencode, given.new_file)
+        return of_folder.answer_new_file(asker, choice.folder_of(session, folder), user_with_row(asker, user))
+    folders = choice.folders_of(session, given.folders) if given.folders else choice.folders_made_of(session)
+    if given.user is not None:
+        return of_user.answer(asker, user_with_row(asker, os.fsencode(given.user)), folders)
+    for question, word in (("owner", given.owner), ("names", given.names)):
+        if word is not None:
+            return of_files.answer(asker, question, user_of(asker, os.fsencode(word)), folders)
+    return of_rights.answer(asker, read_rights(given.perms), folders)
+
+
+def write_answer(command: Command, asker: Asker, answer: WhoAnswer) -> None:
+    given = asker.given
+    if given.json:
+        about = meta.fields_of(meta.meta_of(asker.session.folder))
+        tables.write_json(command, SCHEMA, {
+            "snapshot": about, "question": answer.question, "along_paths": not given.file_alone, **answer.fields,
+            "left_out": list(map(json_text, answer.left_out))})
+    elif given.tsv or answer.table.rows:
+        tables.write_table(command, given, answer.table)
+    else:
+        command.tell(answer.empty)
+    if not given.json and not given.tsv:
+        for line in answer.after if answer.table.rows else ():
+            command.tell(line)
+
+
+def is_superuser(word: bytes, passwd: bytes) -> bool:
+    """Whether a word names a user of the uid 0, or is this id."""
+    ids = ids_in(passwd)
+    return ids.get(read_name(word), number_of(word) if word.isdigit() else None) == 0
+
+
+def body(command: Command, words: List[str]) -> int:
+    given = parse(words)
+    if not given.question:
+        read_rights(given.perms)  # Before anything is loaded.
+    with sources.opened(given) as source:
+        check_source(source, given)
+        program = find_program(given.program)
+        overview.say_notices(command, source)
+        passwd = read_trusted(os.path.join(source.folder, b"passwd"))
+        with Session(program, source.folder) as session:
+            asker = Asker(session, given, passwd)
+            answer = answer_of(asker)
+            with tables.paged(command, not given.no_pager):
+                write_answer(command, asker, answer)
+        for note in () if given.json else choice.notes(answer.left_out, passwd):
+            command.say(note)
+        if given.user is not None and not given.with_root and is_superuser(os.fsencode(given.user), passwd):
+            command.say(os.fsencode(given.user) + b": has the uid 0, to which the kernel grants nearly everything; "
+                        b"this is what lists grant it")
+    return SOMEBODY if answer.table.rows else NOBODY

@@ -1,0 +1,152 @@
+"""facl-who --remove: who can remove a file; and --new-file: the lists that a new file and a new folder of a user would get."""
+from __future__ import annotations
+
+import os
+import re
+from typing import Dict, List, NamedTuple, Optional
+
+from ...base.messages import Failure
+from ...base.names import json_text, parent_of, read_name, script_word
+from ...base.tables import Column, Table
+from ...model import choice
+from ...model.records import asks_as_directory
+from ...model.superuser import ids_in
+from ...program.protocol import (
+    CAN, DEFAULT_ENTRY, FLAGS_HEAD, GROUP_HEAD, LIST_BELOW, LIST_NAMED, LIST_NUMBERS, MAKE_DIRECTORY, MAKE_FILE,
+    OWNER_HEAD, OWNER_LINES, WHO,
+)
+from .answers import NamedUser, WhoAnswer
+from .asking import Asker, Reasons, Right, plain_entry, word_of_path
+
+CHANGE = Right("-wx", 3)  # Of the folder above, to make or remove a file.
+OWNERS = re.compile(OWNER_LINES)
+STICKY = re.compile(FLAGS_HEAD + rb"..t$", re.MULTILINE)
+KINDS = {"file": (MAKE_FILE, b"0666"), "folder": (MAKE_DIRECTORY, b"0777")}
+
+
+# --- who can remove a file
+
+
+class Removed(NamedTuple):
+    """A file and the folder above it, as far as their owners and the sticky bit decide who may remove the file."""
+
+    owner: int
+    folder_owner: int
+    is_sticky: bool
+    is_full: bool  # Whether something is recorded below the file.
+
+    def role(self, uid: int) -> Optional[bytes]:
+        """As whom a user who may change the folder may remove the file: anybody, or one of the owners. None where the
+        sticky bit keeps the user from it."""
+        if not self.is_sticky:
+            return b""
+        if uid == self.owner:
+            return b"owner of the file"
+        return b"owner of the folder" if uid == self.folder_owner else None
+
+
+def ask_removed(asker: Asker, path: bytes) -> Removed:
+    records = asker.records([LIST_NUMBERS + b" " + word_of_path(it) for it in (path, parent_of(path))])
+    (owner, _), (folder_owner, _) = (OWNERS.findall(it)[0] for it in records)
+    below = asker.session.ask_accepted(LIST_BELOW + b" " + word_of_path(path)).records()
+    is_full = sum(1 for _, _ in zip(below, range(2))) > 1
+    return Removed(int(owner), int(folder_owner), STICKY.search(records[1]) is not None, is_full)
+
+
+def removed_path(asker: Asker, word: str) -> bytes:
+    """The path of FILE, above which a folder is recorded."""
+    path = choice.folder_of(asker.session, os.fsencode(word))
+    if not path:
+        raise Failure(b"/: cannot be removed")
+    if not choice.is_recorded(asker.session, parent_of(path)):
+        raise Failure(asker.name_of(path) + b": the folder above it is not recorded, so nobody knows who may change it: "
+                      b"make a snapshot by facl-snapshot")
+    return path
+
+
+def answer_remove(asker: Asker, path: bytes) -> WhoAnswer:
+    folder = parent_of(path)
+    removed, ids = ask_removed(asker, path), ids_in(asker.passwd)
+    users = list(asker.lines_of(WHO, CHANGE.letters(), word_of_path(folder)))
+    roles = {user: removed.role(ids[read_name(user)]) for user in users}
+    users = [user for user in users if roles[user] is not None]
+    kept = choice.kept(users, asker.given, asker.passwd)
+    reasons = Reasons(asker, [(user, folder) for user in kept])
+    rows = [[user, reasons.text((user, folder), CHANGE), *filter(None, [roles[user]])] for user in kept]
+    columns = [Column("USER"), Column("BY"), *[Column("AS")] * removed.is_sticky]
+    name = asker.name_of(path)
+    notes = [name + b": is not empty, so what is in it has to be removed before"] if removed.is_full else []
+    notes += [asker.name_of(folder) + b": is sticky, so only the owners of the file and of the folder may"] * removed.is_sticky
+    return WhoAnswer(
+        "remove", Table(columns, rows),
+        {"file": json_text(name), "sticky": removed.is_sticky, "empty": not removed.is_full,
+         "users": [{"user": json_text(user), "as": json_text(roles[user] or b"") or None,
+                    "by": [json_text(plain_entry(it)) for it in reasons.granting((user, folder), CHANGE)]} for user in kept]},
+        b"nobody may remove " + name, [it for it in users if it not in kept], tuple(notes))
+
+
+# --- what a new file gets
+
+
+class Made(NamedTuple):
+    """A file that a user would make, with its record, and who may read and write it."""
+
+    kind: str
+    lines: List[bytes]
+    readers: List[bytes]
+    writers: List[bytes]
+    left_out: List[bytes]  # Others who may.
+
+    def value(self, head: bytes) -> bytes:
+        """What its record has after a head; nothing where it is not there."""
+        return next((line[len(head) :] for line in self.lines if line.startswith(head)), b"")
+
+    def as_object(self) -> Dict[str, object]:
+        return {"kind": self.kind, "owner": json_text(self.value(OWNER_HEAD)), "group": json_text(self.value(GROUP_HEAD)),
+                "flags": json_text(self.value(FLAGS_HEAD)) or None,
+                "entries": [json_text(plain_entry(line)) for line in self.lines if not line.startswith(b"#")],
+                "readers": list(map(json_text, self.readers)), "writers": list(map(json_text, self.writers))}
+
+    def summary(self) -> bytes:
+        users = [b", ".join(its) or b"nobody" for its in (self.readers, self.writers)]
+        return b"the new %s may be read by %s, and written by %s" % (self.kind.encode(), *users)
+
+
+def make(asker: Asker, folder: bytes, user: bytes, kind: str) -> Made:
+    """Makes a file in the session, which goes with it."""
+    line, mode = KINDS[kind]
+    path = b"/".join([*filter(None, [folder]), b"new-" + os.urandom(8).hex().encode()])
+    word = word_of_path(path)
+    asker.session.ask_accepted(line % (user, mode, asker.given.umask.encode()) + b" " + word)
+    record = asker.records([LIST_NAMED + b" " + word])[0]
+    who = [list(asker.lines_of(WHO, letter, word)) for letter in (b"r", b"w")]
+    readers, writers = (choice.kept(users, asker.given, asker.passwd) for users in who)
+    left_out = [user for user in who[0] + who[1] if user not in readers + writers]
+    return Made(kind, record.splitlines(), readers, writers, left_out)
+
+
+def has_default_list(asker: Asker, folder: bytes) -> bool:
+    return DEFAULT_ENTRY in asker.records([LIST_NUMBERS + b" " + word_of_path(folder)])[0]
+
+
+def check_folder(asker: Asker, folder: bytes) -> None:
+    if not asks_as_directory(asker.session, folder):
+        raise Failure(asker.name_of(folder) + b": is no folder")
+
+
+def answer_new_file(asker: Asker, folder: bytes, user: NamedUser) -> WhoAnswer:
+    check_folder(asker, folder)
+    word = script_word(asker.word_of(user.shown) or user.shown)
+    name = asker.name_of(folder)
+    granted = b"".join(asker.lines_of(CAN, word, word_of_path(folder))).split(b" ")
+    is_allowed = b"-wx" in granted
+    made = [make(asker, folder, word, kind) for kind in KINDS] if is_allowed else []
+    umask = asker.given.umask.encode()
+    origin = (b"by the default list of " + name if has_default_list(asker, folder)
+              else name + b" has no default list, so the umask counts, taken as " + umask)
+    rows = [[it.kind.encode(), plain_entry(line)] for it in made for line in it.lines]
+    left_out = list(dict.fromkeys(user for it in made for user in it.left_out))
+    return WhoAnswer(
+        "new-file", Table([Column("NEW"), Column("LIST")], rows),
+        {"folder": json_text(name), "user": json_text(user.shown), "new": [it.as_object() for it in made]},
+        user.shown + b" may make no file in " + name, left_out, (origin, *(it.summary() for it in made)))

@@ -1,0 +1,111 @@
+"""Records of files as `getfacl -n -p` of Debian 12 prints them, of the bytes of their lists.
+
+The kernel takes lists with several entries of one user or group, and lists with more entries than the program takes.
+getfacl prints both, and the program loads no dump with one of them. So a list of the first kind is recorded as the kernel
+judges by it, and a file with one of the second kind is not recorded.
+"""
+from __future__ import annotations
+
+import re
+import stat
+import struct
+from typing import Dict, FrozenSet, NamedTuple, Optional, Tuple
+
+from ..base import acl_bytes
+from ..base.acl_bytes import ENTRY, GROUP, GROUP_CLASS, GROUP_OBJ, HEAD, MASK, NAMED, NO_ID, OTHER, USER, USER_OBJ
+
+MOST_ENTRIES = 4096  # Of a list, which the program takes.
+MOST_KEPT = 4096  # Lists whose texts are kept.
+PERMISSIONS = [b"".join(letter if bits >> place & 1 else b"-" for letter, place in ((b"r", 2), (b"w", 1), (b"x", 0)))
+               for bits in range(8)]
+TAGS = {USER_OBJ: b"user:", USER: b"user:", GROUP_OBJ: b"group:", GROUP: b"group:", MASK: b"mask:", OTHER: b"other:"}
+ESCAPES = {b"\\": b"\\\\", b"\n": b"\\012", b"\r": b"\\015"}
+FLAGS = ((stat.S_ISUID, b"s"), (stat.S_ISGID, b"s"), (stat.S_ISVTX, b"t"))
+
+
+class NoList(Exception):
+    """A file has bytes that cannot be recorded as its list; the text says why."""
+
+    def __init__(self, text: bytes) -> None:
+        super().__init__(text)
+        self.text = text
+
+
+class ListText(NamedTuple):
+    """The lines of a list, and whom its entries name."""
+
+    lines: bytes
+    users: FrozenSet[int]
+    groups: FrozenSet[int]
+    has_empty_mask: bool  # And others have something.
+    is_repeated: bool  # Whether it has several entries of one user or group.
+
+
+def shown_name(name: bytes) -> bytes:
+    """A name as getfacl prints it."""
+    return re.sub(rb"[\\\n\r]", lambda found: ESCAPES[found[0]], name)
+
+
+def entries_of(data: bytes) -> Tuple[acl_bytes.Entries, bool]:
+    """The entries of a list as the kernel judges by them, and whether it has several of one user or group: of a user the
+    first one counts, and each one of a group grants what it has."""
+    found: acl_bytes.Entries = {}
+    try:
+        if data[:4] != HEAD:
+            raise NoList(b"has a list that is none")
+        for tag, bits, number in ENTRY.iter_unpack(data[4:]):
+            key = tag, number if tag in NAMED else NO_ID
+            found[key] = found.get(key, 0) | bits if tag == GROUP else found.get(key, bits)
+    except struct.error as error:
+        raise NoList(b"has a list that is none") from error
+    if len(found) > MOST_ENTRIES:
+        raise NoList(b"has a list of more than %d entries, which facl does not take" % MOST_ENTRIES)
+    return found, len(found) != (len(data) - len(HEAD)) // ENTRY.size
+
+
+def text_of(data: bytes, prefix: bytes) -> ListText:
+    """The text of a list; NoList where there can be none."""
+    entries, is_repeated = entries_of(data)
+    mask = entries.get((MASK, NO_ID), 7)
+    lines = []
+    for (tag, number), bits in sorted(entries.items()):
+        line = prefix + TAGS[tag] + (b"%d" % number if tag in NAMED else b"") + b":" + PERMISSIONS[bits]
+        lines.append(line + (b"\t#effective:" + PERMISSIONS[bits & mask] if tag in GROUP_CLASS and bits & ~mask else b""))
+    users, groups = (frozenset(number for tag, number in entries if tag == kind) for kind in (USER, GROUP))
+    return ListText(b"\n".join(lines) + b"\n", users, groups, mask == 0 < entries.get((OTHER, NO_ID), 0), is_repeated)
+
+
+class KnownTexts(Dict[bytes, ListText]):
+    """The texts of the lists that came last, by their bytes."""
+
+    def __init__(self, prefix: bytes) -> None:
+        super().__init__()
+        self.prefix = prefix
+
+    def __missing__(self, data: bytes) -> ListText:
+        if len(self) >= MOST_KEPT:
+            self.clear()
+        self[data] = text_of(data, self.prefix)
+        return self[data]
+
+
+ACCESS_TEXTS, DEFAULT_TEXTS = KnownTexts(b""), KnownTexts(b"default:")
+NO_LIST = ListText(b"", frozenset(), frozenset(), False, False)
+MINIMAL = [acl_bytes.minimal(mode) for mode in range(0o1000)]
+
+
+class FileText(NamedTuple):
+    """The record of a file, and its two lists."""
+
+    text: bytes
+    access: ListText
+    default: ListText
+
+
+def record_of(name: bytes, mode: int, owner: int, group: int, access: Optional[bytes], default: Optional[bytes]) -> FileText:
+    """The record of a file; without an access list the mode has its entries."""
+    flags = b"# flags: " + b"".join(letter if mode & bit else b"-" for bit, letter in FLAGS) + b"\n" if mode & 0o7000 else b""
+    first = ACCESS_TEXTS[MINIMAL[mode & 0o777] if access is None else access]
+    second = DEFAULT_TEXTS[default] if default else NO_LIST
+    head = b"# file: %s\n# owner: %d\n# group: %d\n" % (shown_name(name), owner, group)
+    return FileText(b"".join((head, flags, first.lines, second.lines, b"\n")), first, second)
