@@ -14,7 +14,7 @@ const MOST_FILES: usize = 64;
 
 /// A path, or the nearest one above it at or below which another path is; that it is the nearest is in no clause, since a
 /// higher one costs time alone. Fails only if memory runs out.
-pub fn enclosing(alloc: Global, top: Path, path: &Path) -> Result<Path, AllocError>
+fn enclosing(alloc: Global, top: Path, path: &Path) -> Result<Path, AllocError>
     ensures holds { IfOk result (λ new. encloses new path.now ≡ true) }
     ensures wider { IfOk result (λ new. encloses new top ≡ true) }
 {

@@ -181,30 +181,13 @@ impl<'a, J: Judge> Verdicts<'a, J> {
         index.file_rows(self.along)
     }
 
-    /// Each file with its class, in path order: files of a class have the same row. Allocates nothing.
-    pub fn classes(&self, alloc: Global) -> FileClasses<'a>
-        ensures { result ≡ ([], rows_granted J.verdict_of self.now.along self.now.state.now) }
-    {
-        let index = self.state.index();
-        index.file_classes(alloc, self.along)
-    }
-
-    /// Each file that is not before a path with its class, in path order: files of a class have the same row. Fails only if
-    /// memory runs out.
-    pub fn classes_from(&self, alloc: Global, top: &Path) -> Result<FileClasses<'a>, AllocError>
-        ensures { IfOk result (λ classes. classes.1 ≡ from top.now (rows_granted J.verdict_of self.now.along self.now.state.now)) }
+    /// Each file that is not before a path with its class, in path order: files of a class have the same row. Allocates
+    /// nothing.
+    pub fn classes_from(&self, alloc: Global, top: &Path) -> FileClasses<'a>
+        ensures { result ≡ ([], from top.now (rows_granted J.verdict_of self.now.along self.now.state.now)) }
     {
         let index = self.state.index();
         index.file_classes_from(alloc, self.along, top)
-    }
-
-    /// Each file that is not before a path with what each user may do with it, in path order. Fails only if memory runs
-    /// out.
-    pub fn rows_from(&self, alloc: Global, top: &Path) -> Result<FileRows<'a>, AllocError>
-        ensures { IfOk result (λ rows. rows ≡ from top.now (rows_granted J.verdict_of self.now.along self.now.state.now)) }
-    {
-        let index = self.state.index();
-        index.file_rows_from(alloc, self.along, top)
     }
 }
 

@@ -45,7 +45,6 @@ mod many_rows;
 mod questions;
 mod stage;
 
-pub use changed_part::enclosing;
 pub use index::{Index, Rows};
 pub use indexed::{IndexedState, IndexedStates, States, Verdicts};
 pub use judge::{Judge, Posix};

@@ -215,31 +215,12 @@ impl<J: Judge> Index<J> {
         now.rows.rows.file_classes(alloc, along)
     }
 
-    /// Each file that is not before a path with its class, in path order, as [`Index::file_classes`] has them. Fails only if
-    /// memory runs out.
-    pub fn file_classes_from(
-        &self,
-        alloc: Global,
-        along: bool,
-        top: &Path,
-    ) -> Result<FileClasses<'_>, NoMemory>
-        ensures { IfOk result (λ classes. classes.1 ≡ from top.now (rows_along along self.now.rows)) }
+    /// Each file that is not before a path with its class, in path order, as [`Index::file_classes`] has them. Allocates
+    /// nothing.
+    pub fn file_classes_from(&self, alloc: Global, along: bool, top: &Path) -> FileClasses<'_>
+        ensures { result ≡ ([], from top.now (rows_along along self.now.rows)) }
     {
         let now = &self.table;
         now.rows.rows.file_classes_from(alloc, along, top)
-    }
-
-    /// Each file that is not before a path with what each user may do with it, in path order; with `along` only where the
-    /// user can search each recorded directory above the file. Fails only if memory runs out.
-    pub fn file_rows_from(
-        &self,
-        alloc: Global,
-        along: bool,
-        top: &Path,
-    ) -> Result<FileRows<'_>, NoMemory>
-        ensures { IfOk result (λ rows. rows ≡ from top.now (rows_along along self.now.rows)) }
-    {
-        let now = &self.table;
-        now.rows.rows.file_rows_from(alloc, along, top)
     }
 }

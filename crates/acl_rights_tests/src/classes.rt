@@ -69,7 +69,8 @@ static ALONG: [Wanted; 6] = [
 /// Whether the next file is this one, and its class has this row.
 fn is_next(alloc: Global, classes: &mut FileClasses<'_>, wanted: &Wanted) -> Option<bool> {
     let (path, class) = classes.next(alloc).ok()??;
-    let row = bytes(alloc, classes.row(class)?)?;
+    let cells = classes.row(alloc, class).ok()??;
+    let row = bytes(alloc, cells.as_slice())?;
     let wanted_path = read_path(alloc, wanted.0).ok()??;
     Some(path.order(&wanted_path) == Ordering::Equal && row.as_slice() == wanted.1.as_slice())
 }
@@ -82,7 +83,9 @@ fn are(alloc: Global, classes: FileClasses<'_>, all: &[Wanted], count: usize) ->
             return Some(false);
         }
     }
-    Some(count > 0 && rest.row(count - 1).is_some() && rest.row(count).is_none())
+    let last = rest.row(alloc, count.checked_sub(1)?).ok()?;
+    let none = rest.row(alloc, count).ok()?;
+    Some(last.is_some() && none.is_none())
 }
 
 #[test]
@@ -105,9 +108,9 @@ fn each_file_from_a_path_on_has_a_class(rt: HostRuntime) {
     let file = read_path(alloc, b"a/f").expect(&rt, "memory");
     let top = file.expect(&rt, "a path");
     let alone = world.index.file_classes_from(alloc, false, &top);
-    let is_alone = are(alloc, alone.expect(&rt, "memory"), ALONE.split_at(2).1, 2);
+    let is_alone = are(alloc, alone, ALONE.split_at(2).1, 2);
     let along = world.index.file_classes_from(alloc, true, &top);
-    let is_along = are(alloc, along.expect(&rt, "memory"), ALONG.split_at(2).1, 3);
+    let is_along = are(alloc, along, ALONG.split_at(2).1, 3);
     drop(world);
     assert!(rt; (is_alone, is_along) == (Some(true), Some(true)));
 }

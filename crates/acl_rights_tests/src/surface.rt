@@ -5,7 +5,7 @@ use crate::judge::OwnerAlone;
 use crate::small_tree::{load, path};
 use acl_rights::{
     Acl, Cells, Command, FileClasses, FileRow, FileRows, Id, Index, Judge, Label, Membership,
-    NoMemory, Path, Perm, Posix, Requests, Subject, enclosing, read_name,
+    NoMemory, Path, Perm, Posix, Requests, Subject, read_name,
 };
 use std::alloc::Global;
 use std::cmp::Ordering;
@@ -111,8 +111,8 @@ fn expect_classes(rt: &impl Abort, alloc: Global, index: &Index<OwnerAlone>) {
     assert!(rt; next.expect(rt, "the root").components().is_empty());
     let root: Option<(&Path, usize)> = classes.next(alloc).expect(rt, "memory");
     let (path, class) = root.expect(rt, "the root");
-    let row: Option<&[Requests]> = classes.row(class);
-    assert!(rt; path.components().is_empty() && row.expect(rt, "a class").len() == 3);
+    let row: Option<Cells> = classes.row(alloc, class).expect(rt, "memory");
+    assert!(rt; path.components().is_empty() && row.expect(rt, "a class").as_slice().len() == 3);
 }
 
 #[test]
@@ -127,16 +127,6 @@ fn verdicts_and_questions(rt: HostRuntime) {
     expect_rows(&rt, rt.alloc(), &index);
     expect_classes(&rt, rt.alloc(), &index);
     drop(index);
-}
-
-#[test]
-fn the_nearest_path_that_encloses(rt: HostRuntime) {
-    let other: Path = path(&rt, rt.alloc(), b"a/c/d");
-    let top: Path = path(&rt, rt.alloc(), b"a/b");
-    let found: Path = enclosing(rt.alloc(), top, &other).expect(&rt, "memory");
-    assert!(rt; found.order(&path(&rt, rt.alloc(), b"a")) == Ordering::Equal);
-    let itself: Path = enclosing(rt.alloc(), found, &other).expect(&rt, "memory");
-    assert!(rt; itself.order(&path(&rt, rt.alloc(), b"a")) == Ordering::Equal);
 }
 
 #[test]

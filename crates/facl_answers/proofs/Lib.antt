@@ -1,5 +1,7 @@
 pub mod AfterPaths
 pub mod AskedFiles
+pub mod BothLines
+pub mod BothRows
 pub mod ChangeLines
 pub mod DecidedAlong
 pub mod Deciding
@@ -8,8 +10,8 @@ pub mod Gained
 pub mod GainsAndLosses
 pub mod IndexLines
 pub mod NextFile
-pub mod SideBySide
+pub mod PartRows
+pub mod PathShown
 pub mod Spaced
 pub mod Unchanged
 pub mod UserLines
-pub mod PartLines

@@ -32,7 +32,7 @@ use Rattle.facl_answers.specs.Requests.{requests_granted}
 use Rattle.facl_answers.specs.Answers.{line}
 use Rattle.acl_rights.specs.Verdicts.{granted, can_requests}
 use Rattle.facl_answers.specs.ChangesText.{requests_gained, after_comma, change_line, change_lines, users_of_both, shown_files, files_of_both, place_of, granted_to, changes_text, IsUnchanged}
-use Rattle.facl_answers.proofs.ChangeLines.{paths, order_by_paths, shown}
+use Rattle.facl_answers.proofs.ChangeLines.{shown, shown_order}
 
 -- ---- lists
 
@@ -198,10 +198,6 @@ module _ (name : List ℕ) where
 
 -- ---- files by path
 
-pub shown_paths : (t es : Files) → paths (map shown (found_in t es)) ≡ paths es
-shown_paths t [] = refl
-shown_paths t (e ∷ es) = ap (λ l. e.0 ∷ l) (shown_paths t es)
-
 shown_there : (p : PathOf) (t es : Files) (n : Node) → find path_cmp p es ≡ Some n → (path : List ℕ) × (find path_cmp p (map shown (found_in t es)) ≡ Some path)
 shown_there p t [] n h = absurd (cc h)
 shown_there p t (e ∷ es) n h = by (is_eq (path_cmp p e.0)) (shown_there p t es n) h
@@ -261,11 +257,8 @@ module _ (V : Verdict) (along : Bool) where
     pub none_differs : IsInOrder now.tree.files → changes_text V along loaded now ≡ [] → IsUnchanged V along loaded now
     none_differs order none name p = by (find path_cmp p now.tree.files) (find path_cmp p loaded.tree.files) refl refl
       where
-        in_order : IsInOrder (shown_files now)
-        in_order = subst (λ b. b ≡ true) (sym (order_by_paths (shown_files now) now.tree.files (shown_paths now.tree.files now.tree.files))) order
-
         both : find path_cmp p (files_of_both loaded now) ≡ option_or (find path_cmp p (shown_files now)) (find path_cmp p (shown_files loaded))
-        both = find_put_all p (shown_files now) (shown_files loaded) in_order
+        both = find_put_all p (shown_files now) (shown_files loaded) (shown_order now.tree.files order)
 
         on_file : (path : List ℕ) → find path_cmp p (files_of_both loaded now) ≡ Some path → IsSame name p
         on_file path is =

@@ -1,12 +1,9 @@
 -- For inner functions: no public contract names these definitions.
-use Rattle.std.specs.Prelude.{ℕ, ◌==◌, Bool, true, false, if◌then◌else◌, List, [], ◌∷◌, ◌++◌, zip, drop, position, slice_get, Option, Some, None, is_some, option_map, option_and_then, unwrap_or}
+use Rattle.std.specs.Prelude.{ℕ, ◌==◌, Bool, true, false, not, if◌then◌else◌, List, [], ◌∷◌, ◌++◌, zip, position, slice_get, Option, Some, None, is_some, option_map, option_and_then, unwrap_or}
 use Rattle.std.specs.List.{flat_map, list_any}
 use Rattle.std.specs.Option.{option_map_or}
 use Rattle.std.specs.Ordering.{eq_by_cmp}
-use Rattle.std.specs.declared.cmp.Ordering.{Ordering}
-use Rattle.std.specs.declared.cmp.Ordering.TheVariants.{Less, Equal, Greater}
 use Rattle.std.specs.FinMap as maps
-use Rattle.std.specs.FinMap.{find}
 use Rattle.acl_entry.specs.Check.{is_for}
 use Rattle.acl_entry.specs.Keys.{same_key}
 use Rattle.acl_entry.specs.Lists.{IsValid, entries}
@@ -21,7 +18,6 @@ use Rattle.acl_tree.specs.Walks.{ancestors}
 use Rattle.acl_tree.specs.Files.{Files}
 use Rattle.acl_names.specs.Below.{is_above}
 use Rattle.path_map.specs.Entries.{first}
-use Rattle.path_map.specs.Merged.{put_all}
 use Rattle.acl_names.specs.Names.{escaped}
 use Rattle.acl_people.specs.KnownPeople.{KnownPeople, users_of}
 use Rattle.acl_people.specs.NameTables.{is_name}
@@ -29,6 +25,7 @@ use Rattle.acl_tree.specs.Found.{FoundFile, found_file}
 use Rattle.path_classes.specs.Rows.{Rows}
 use Rattle.facl_output.specs.Listings.{path_shown}
 use Rattle.facl_answers.specs.Answers.{user_line, verdict_line}
+use Rattle.facl_answers.specs.BothStates.{RowsOfFile}
 use Rattle.facl_answers.specs.ChangesText.{change_lines}
 use Rattle.facl_answers.specs.declared.placed_users.PlacedUser.{PlacedUser}
 use Rattle.facl_answers.specs.declared.row_walk.FileWithRow.{FileWithRow}
@@ -106,9 +103,20 @@ keeps_place user = same_place user.before user.after
 abbrev pub verdict_or_none : List ℕ → Option ℕ → ℕ
 verdict_or_none row place = unwrap_or (option_and_then (slice_get row) place) 0
 
+-- whether what a user is granted differs
+abbrev pub differs : (before after : List ℕ) → PlacedUser → Bool
+differs before after user = not (verdict_or_none before user.before == verdict_or_none after user.after)
+
 -- the lines of a file, by its rows before and after
 abbrev pub lines_between : List PlacedUser → (path before after : List ℕ) → List ℕ
 lines_between users path before after = flat_map (λ user. change_lines path user.name.items (verdict_or_none before user.before) (verdict_or_none after user.after)) users
+
+-- the lines of a file of two states, and those of some files, by how paths are printed; nobody is granted anything where a file is not there
+abbrev pub lines_of_file : List PlacedUser → (text_of : PathOf → List ℕ) → PathOf × RowsOfFile → List ℕ
+lines_of_file users text_of file = lines_between users (text_of file.0) (unwrap_or file.1.0 []) (unwrap_or file.1.1 [])
+
+abbrev pub lines_of_files : List PlacedUser → (text_of : PathOf → List ℕ) → List (PathOf × RowsOfFile) → List ℕ
+lines_of_files users text_of files = flat_map (lines_of_file users text_of) files
 
 -- ---- a walk over files with their rows
 
@@ -139,46 +147,3 @@ lines_of_walk names files = flat_map (λ file. row_lines file.1.0 names file.1.1
 
 abbrev pub shown_row : FileWithRow → List ℕ × List ℕ
 shown_row step = (shown_before (option_map (λ next. next.now) step.next) (step.path.now, step.node.now), step.requests)
-
--- ---- two walks side by side
-
--- the row of a path; it is empty where there is none
-abbrev pub row_in : Walked → PathOf → List ℕ
-row_in files p = option_map_or (λ file. file.1) (find path_cmp p files) []
-
--- the lines of the files of two walks
-abbrev pub lines_of_both : List PlacedUser → (before after : Walked) → List ℕ
-lines_of_both users before after = flat_map (λ file. lines_between users file.1.0 (row_in before file.0) (row_in after file.0)) (put_all after before)
-
--- how the first path of one walk is to that of another one; it is before it where the other walk is over
-abbrev pub next_order : (before after : Walked) → Option Ordering
-next_order [] [] = None
-next_order [] (new ∷ after) = Some Greater
-next_order (old ∷ before) [] = Some Less
-next_order (old ∷ before) (new ∷ after) = Some (path_cmp old.0 new.0)
-
--- the lines of a file that went, of one that came, and of one that is in both
-abbrev pub gone_lines : List PlacedUser → Option (PathOf × (List ℕ × List ℕ)) → List ℕ
-gone_lines users file = option_map_or (λ old. lines_between users old.1.0 old.1.1 []) file []
-
-abbrev pub new_lines : List PlacedUser → Option (PathOf × (List ℕ × List ℕ)) → List ℕ
-new_lines users file = option_map_or (λ new. lines_between users new.1.0 [] new.1.1) file []
-
-abbrev pub kept_lines : List PlacedUser → (before after : Option (PathOf × (List ℕ × List ℕ))) → List ℕ
-kept_lines users before after = option_map_or (λ old. option_map_or (λ new. lines_between users new.1.0 old.1.1 new.1.1) after []) before []
-
--- the lines of the first path of both, and what is left of both
-abbrev pub next_lines : List PlacedUser → Ordering → (before after : Walked) → List ℕ
-next_lines users Less before after = gone_lines users (first before)
-next_lines users Equal before after = kept_lines users (first before) (first after)
-next_lines users Greater before after = new_lines users (first after)
-
-abbrev pub left_before : Ordering → Walked → Walked
-left_before Less before = drop 1 before
-left_before Equal before = drop 1 before
-left_before Greater before = before
-
-abbrev pub left_after : Ordering → Walked → Walked
-left_after Less after = after
-left_after Equal after = drop 1 after
-left_after Greater after = drop 1 after

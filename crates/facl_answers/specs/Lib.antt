@@ -1,6 +1,7 @@
 pub mod Answers
+pub mod BothStates
 pub mod ChangesText
 pub mod Inner
 pub mod Requests
 pub mod WhyText
-pub mod PartWalks
+pub mod PathTexts

@@ -1,15 +1,16 @@
 //! The lines of one file that `changes` prints: for each user those of the requests that the user gains and loses.
 
-ghost use Rattle.std.specs.Prelude.{◌≡◌, ◌&&◌, IfOk, ◌∷◌, not};
-ghost use Rattle.std.specs.List.{flat_map};
+ghost use Rattle.std.specs.Prelude.{◌≡◌, ◌&&◌, ℕ, IfOk, List, [], ◌∷◌, false, not, true};
+ghost use Rattle.std.specs.List.{flat_map, list_all, list_any};
 ghost use Rattle.acl_entry.specs.Check.{has};
 ghost use Rattle.acl_names.specs.Appends.{Appends};
 ghost use Rattle.facl_answers.specs.ChangesText.{requests_gained, after_comma, change_line, change_lines};
-ghost use Rattle.facl_answers.specs.Inner.{lines_between, verdict_or_none};
+ghost use Rattle.facl_answers.specs.Inner.{differs, keeps_place, lines_between, verdict_or_none};
 
 use crate::placed_users::PlacedUser;
 use crate::requests::NUMBERS;
 use acl_entry::{Perm, Requests};
+use acl_rights::same_row;
 use std::alloc::{AllocError, Global};
 
 /// Whether a request is granted after, and was not before.
@@ -129,6 +130,39 @@ fn verdict_or_none(row: &[Requests], place: Option<usize>) -> Requests
     match row.get(at) {
         Some(requests) => *requests,
         None => Requests::none(),
+    }
+}
+
+/// Whether what a user is granted differs.
+fn differs(user: &PlacedUser, before: &[Requests], after: &[Requests]) -> bool
+    ensures { result ≡ differs before.now after.now user.now }
+{
+    let had = verdict_or_none(before, user.before);
+    let has = verdict_or_none(after, user.after);
+    had.bits() != has.bits()
+}
+
+/// Whether what some user is granted differs.
+fn some_differs(users: &[PlacedUser], before: &[Requests], after: &[Requests]) -> bool
+    ensures { result ≡ list_any (differs before.now after.now) users.now }
+{
+    users.iter().any(|user| differs(user, before, after))
+}
+
+/// Whether a file with these rows may have lines. Where all users keep their places, the rows are compared at once.
+pub(crate) fn has_lines(
+    users: &[PlacedUser],
+    keep_places: bool,
+    before: &[Requests],
+    after: &[Requests],
+) -> bool
+    requires { keep_places ≡ true → list_all keeps_place users.now ≡ true }
+    ensures { result ≡ false → (path : List ℕ) → lines_between users.now path before.now after.now ≡ [] }
+{
+    if keep_places {
+        !same_row(before, after)
+    } else {
+        some_differs(users, before, after)
     }
 }
 

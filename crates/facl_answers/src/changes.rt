@@ -1,177 +1,88 @@
 //! What `changes` prints: what each user may do with each file, beside what the user might do before; and its lines.
 
-ghost use Rattle.std.specs.Prelude.{◌≡◌, [], true, drop, option_map, IfOk, OnOk};
-ghost use Rattle.acl_names.specs.Appends.{Appends};
+ghost use Rattle.std.specs.Prelude.{◌≡◌, [], false, option_map, true, unwrap_or, IfOk};
 ghost use Rattle.std.specs.List.{list_all};
+ghost use Rattle.std.specs.Option.{option_copied};
+ghost use Rattle.acl_names.specs.Appends.{Appends};
+ghost use Rattle.acl_names.specs.Below.{encloses};
+ghost use Rattle.acl_names.specs.Paths.{PathOf};
+ghost use Rattle.path_map.specs.Entries.{IsInOrder};
 ghost use Rattle.acl_rights.specs.Outside.{SameOutside};
-ghost use Rattle.path_map.specs.Below.{within};
-ghost use Rattle.path_map.specs.Entries.{first, IsInOrder};
-ghost use Rattle.facl_answers.specs.PartWalks.{files_granted};
+ghost use Rattle.facl_answers.specs.BothStates.{both_of, front, rows_at, rows_in_both, rows_of_both, rows_of_key};
 ghost use Rattle.facl_answers.specs.ChangesText.{changes_text};
-ghost use Rattle.facl_answers.specs.Inner.{keeps_place, shown_row, lines_between, lines_of_both, next_order, gone_lines, new_lines, kept_lines, next_lines, left_before, left_after};
+ghost use Rattle.facl_answers.specs.Inner.{keeps_place, lines_of_file, lines_of_files};
+ghost use Rattle.facl_answers.specs.PathTexts.{text_in};
 
-use crate::change_lines::push_rows;
-use crate::index::shown;
-use crate::part_walk::PartWalk;
+use crate::both_classes::{BothClasses, Sides};
+use crate::change_lines::{has_lines, push_rows};
+use crate::path_texts::{root, text_of};
 use crate::placed_users::{PlacedUser, keep_places, users_of_both};
-use crate::row_walk::FileWithRow;
 use acl_entry::Requests;
 use acl_names::Path;
-use acl_rights::{IndexedState, Judge, Verdicts, same_row};
+use acl_rights::{Cells, IndexedState, Judge, Verdicts};
+use acl_tree::Tree;
 use std::alloc::{AllocError, Global};
-use std::cmp::Ordering;
 
-/// Adds the lines of a file, with its path as it is printed.
+/// A row, or that of nobody where there is none.
+fn row_or_none(row: &Option<Cells>) -> &[Requests]
+    ensures { result.now ≡ unwrap_or row.now [] }
+{
+    match row {
+        Some(row) => row.as_slice(),
+        None => &[],
+    }
+}
+
+/// Adds the lines of a file of either tree, by the rows of its classes. The path is printed only where there may be lines.
 fn push_file(
     alloc: Global,
     text: &mut Vec<u8>,
     users: &[PlacedUser],
-    file: &FileWithRow<'_>,
-    before: &[Requests],
-    after: &[Requests],
-) -> Result<(), AllocError>
-    ensures { Appends result text.old text.new (lines_between users.now (shown_row file.now).0 before.now after.now) }
-{
-    let path = shown(alloc, file)?;
-    push_rows(alloc, text, users, &path, before, after)
-}
-
-/// Adds the lines of a file that went.
-#[tactic(auto, using(crate::proofs::NextFile::gone_none, crate::proofs::NextFile::gone_some))]
-fn push_gone(
-    alloc: Global,
-    text: &mut Vec<u8>,
-    users: &[PlacedUser],
-    before: &mut PartWalk<'_, '_>,
-) -> Result<(), AllocError>
-    ensures lines { Appends result text.old text.new (gone_lines users.now (first before.old)) }
-    ensures rest { OnOk result (before.new ≡ drop 1 before.old) }
-{
-    let Some(file) = before.next(alloc)? else {
-        return Ok(());
-    };
-    push_file(alloc, text, users, &file, file.requests.as_slice(), &[])?;
-    Ok(())
-}
-
-/// Adds the lines of a file that came.
-#[tactic(auto, using(crate::proofs::NextFile::new_none, crate::proofs::NextFile::new_some))]
-fn push_new(
-    alloc: Global,
-    text: &mut Vec<u8>,
-    users: &[PlacedUser],
-    after: &mut PartWalk<'_, '_>,
-) -> Result<(), AllocError>
-    ensures lines { Appends result text.old text.new (new_lines users.now (first after.old)) }
-    ensures rest { OnOk result (after.new ≡ drop 1 after.old) }
-{
-    let Some(file) = after.next(alloc)? else {
-        return Ok(());
-    };
-    push_file(alloc, text, users, &file, &[], file.requests.as_slice())?;
-    Ok(())
-}
-
-/// Adds the lines of a file that is in both states. There are none where its row and the users are the same.
-#[tactic(auto, using(crate::proofs::NextFile::kept_without_old, crate::proofs::NextFile::kept_without_new, crate::proofs::NextFile::kept_some))]
-fn push_kept(
-    alloc: Global,
-    text: &mut Vec<u8>,
-    users: &[PlacedUser],
     keep_places: bool,
-    before: &mut PartWalk<'_, '_>,
-    after: &mut PartWalk<'_, '_>,
+    trees: (&Tree, &Tree),
+    both: &BothClasses<'_>,
+    path: &Path,
+    classes: Sides,
 ) -> Result<(), AllocError>
-    requires same { keep_places ≡ true → list_all keeps_place users.now ≡ true }
-    ensures lines { Appends result text.old text.new (kept_lines users.now (first before.old) (first after.old)) }
-    ensures before { OnOk result (before.new ≡ drop 1 before.old) }
-    ensures after { OnOk result (after.new ≡ drop 1 after.old) }
+    requires { keep_places ≡ true → list_all keeps_place users.now ≡ true }
+    ensures { Appends result text.old text.new (lines_of_file users.now (text_in trees.entry.0.now trees.entry.1.now) (path.now, rows_of_key (both_of both.now) classes)) }
 {
-    let old = before.next(alloc)?;
-    let new = after.next(alloc)?;
-    let Some(old) = old else {
-        return Ok(());
-    };
-    let Some(new) = new else {
-        return Ok(());
-    };
-    let had = old.requests.as_slice();
-    let has = new.requests.as_slice();
-    if keep_places && same_row(had, has) {
+    if keep_places && both.keeps_row(classes) {
         return Ok(());
     }
-    push_file(alloc, text, users, &new, had, has)?;
-    Ok(())
-}
-
-/// How the next path of one walk is to that of another one; before it where the other walk is over. None where both are.
-fn next_order(before: &PartWalk<'_, '_>, after: &PartWalk<'_, '_>) -> Option<Ordering>
-    ensures { result ≡ next_order before.now after.now }
-{
-    match before.path() {
-        Some(old) => match after.path() {
-            Some(new) => Some(old.order(new)),
-            None => Some(Ordering::Less),
-        },
-        None => match after.path() {
-            Some(_) => Some(Ordering::Greater),
-            None => None,
-        },
+    let before = both.row_before(alloc, classes.0)?;
+    let after = both.row_after(alloc, classes.1)?;
+    let had = row_or_none(&before);
+    let has = row_or_none(&after);
+    if !has_lines(users, keep_places, had, has) {
+        return Ok(());
     }
+    let path = text_of(alloc, trees.0, trees.1, path)?;
+    push_rows(alloc, text, users, &path, had, has)
 }
 
-/// Adds the lines of the next path of both walks.
-fn push_next(
-    alloc: Global,
-    text: &mut Vec<u8>,
-    users: &[PlacedUser],
-    keep_places: bool,
-    order: Ordering,
-    before: &mut PartWalk<'_, '_>,
-    after: &mut PartWalk<'_, '_>,
-) -> Result<(), AllocError>
-    requires same { keep_places ≡ true → list_all keeps_place users.now ≡ true }
-    ensures lines { Appends result text.old text.new (next_lines users.now order before.old after.old) }
-    ensures before { OnOk result (before.new ≡ left_before order before.old) }
-    ensures after { OnOk result (after.new ≡ left_after order after.old) }
-{
-    match order {
-        Ordering::Less => push_gone(alloc, text, users, before),
-        Ordering::Equal => push_kept(alloc, text, users, keep_places, before, after),
-        Ordering::Greater => push_new(alloc, text, users, after),
-    }
-}
-
-/// Adds the lines of the files of two walks, in one pass over both.
+/// Adds the lines of the files of both that are to come, as long as they are at a path or below it.
 fn push_both(
     alloc: Global,
     text: &mut Vec<u8>,
     users: &[PlacedUser],
-    before: PartWalk<'_, '_>,
-    after: PartWalk<'_, '_>,
+    trees: (&Tree, &Tree),
+    both: &mut BothClasses<'_>,
+    top: &Path,
 ) -> Result<(), AllocError>
-    requires before { IsInOrder before }
-    requires after { IsInOrder after }
-    ensures { Appends result text.old text.new (lines_of_both users.now before.entry after.entry) }
+    requires before { IsInOrder both.old.before.1 }
+    requires after { IsInOrder both.old.after.1 }
+    ensures { Appends result text.old text.new (lines_of_files users.now (text_in trees.entry.0.now trees.entry.1.now)
+        (front top.now (rows_of_both both.old.before.1 both.old.after.1))) }
 {
     let keep_places = keep_places(users);
-    let mut rest_before = before;
-    let mut rest_after = after;
-    while let Some(order) = next_order(&rest_before, &rest_after) {
-        push_next(
-            alloc,
-            text,
-            users,
-            keep_places,
-            order,
-            &mut rest_before,
-            &mut rest_after,
-        )?;
+    while let Some((path, classes)) = both.next_within(alloc, top)? {
+        push_file(alloc, text, users, keep_places, trees, both, path, classes)?;
     }
     Ok(())
 }
 
-/// Adds the lines of the files at a path or below it.
+/// Adds the lines of all files, where no other file has lines than those at a path or below it.
 fn push_within<J: Judge>(
     alloc: Global,
     text: &mut Vec<u8>,
@@ -180,37 +91,14 @@ fn push_within<J: Judge>(
     verdicts: &Verdicts<'_, J>,
     top: &Path,
 ) -> Result<(), AllocError>
-    ensures { Appends result text.old text.new (lines_of_both users.now
-        (within top.now (files_granted J.verdict_of verdicts.now.along loaded.now))
-        (within top.now (files_granted J.verdict_of verdicts.now.along verdicts.now.state.now))) }
+    requires silent { (p : PathOf) → encloses top.now p ≡ false
+        → lines_of_file users.now (text_in loaded.now.tree verdicts.now.state.now.tree) (p, rows_at J.verdict_of verdicts.now.along loaded.now verdicts.now.state.now p) ≡ [] }
+    ensures { Appends result text.old text.new (lines_of_files users.now (text_in loaded.now.tree verdicts.now.state.now.tree)
+        (rows_in_both J.verdict_of verdicts.now.along loaded.now verdicts.now.state.now)) }
 {
-    let verdicts_before = loaded.verdicts(verdicts.along);
-    let before = PartWalk::of_verdicts(alloc, &verdicts_before, top)?;
-    let after = PartWalk::of_verdicts(alloc, verdicts, top)?;
-    push_both(alloc, text, users, before, after)
-}
-
-/// The path of the root.
-fn root(alloc: Global) -> Path
-    ensures { result ≡ [] }
-{
-    Path::new(Vec::new(alloc)).unwrap()
-}
-
-/// Adds the lines of all files.
-fn push_all<J: Judge>(
-    alloc: Global,
-    text: &mut Vec<u8>,
-    users: &[PlacedUser],
-    loaded: &IndexedState<J>,
-    verdicts: &Verdicts<'_, J>,
-) -> Result<(), AllocError>
-    ensures { Appends result text.old text.new (lines_of_both users.now
-        (files_granted J.verdict_of verdicts.now.along loaded.now)
-        (files_granted J.verdict_of verdicts.now.along verdicts.now.state.now)) }
-{
-    let root = root(alloc);
-    push_within(alloc, text, users, loaded, verdicts, &root)
+    let mut both = BothClasses::of_states(alloc, loaded, verdicts, top);
+    let trees = (loaded.state().tree(), verdicts.state.state().tree());
+    push_both(alloc, text, users, trees, &mut both, top)
 }
 
 /// Adds the lines of all files, where users may do the same outside a part of the tree. Where no user has another place
@@ -226,12 +114,12 @@ fn push_part<J: Judge>(
     requires same { SameOutside J.verdict_of (option_map (λ p. p.now) changed) loaded.now verdicts.now.state.now }
     requires before { IsInOrder loaded.now.tree.files }
     requires after { IsInOrder verdicts.now.state.now.tree.files }
-    ensures { Appends result text.old text.new (lines_of_both users.now
-        (files_granted J.verdict_of verdicts.now.along loaded.now)
-        (files_granted J.verdict_of verdicts.now.along verdicts.now.state.now)) }
+    ensures { Appends result text.old text.new (lines_of_files users.now (text_in loaded.now.tree verdicts.now.state.now.tree)
+        (rows_in_both J.verdict_of verdicts.now.along loaded.now verdicts.now.state.now)) }
 {
     if !keep_places(users) {
-        return push_all(alloc, text, users, loaded, verdicts);
+        let root = root(alloc);
+        return push_within(alloc, text, users, loaded, verdicts, &root);
     }
     match changed {
         Some(top) => push_within(alloc, text, users, loaded, verdicts, top),

@@ -75,7 +75,7 @@ pub fn path_shown(alloc: Global, file: &FoundFile<'_>) -> Result<Vec<u8>, AllocE
 }
 
 /// The path of a file as it is printed.
-pub(crate) fn shown(alloc: Global, file: &FileWithRow<'_>) -> Result<Vec<u8>, AllocError>
+fn shown(alloc: Global, file: &FileWithRow<'_>) -> Result<Vec<u8>, AllocError>
     ensures { IfOk result (λ path. path.items ≡ (shown_row file.now).0) }
 {
     let found = file.found();

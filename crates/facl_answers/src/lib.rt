@@ -6,18 +6,21 @@
 //! permissions that the words name.
 #![tactic(auto)]
 
+mod both_classes;
 mod change_lines;
 mod changes;
 mod index;
 mod laws;
 mod may;
-mod part_walk;
+mod path_texts;
 mod placed_users;
 mod requests;
 mod row_walk;
+mod two_paths;
 mod who;
 mod why;
 
+pub use both_classes::{BothClasses, Sides};
 pub use changes::{write_changes, write_changes_within};
 pub use index::{path_shown, push_hex, write_index, written_names};
 pub use laws::{
@@ -25,6 +28,7 @@ pub use laws::{
     deciding_entries_are_the_reach,
 };
 pub use may::{push_file, write_may};
+pub use path_texts::{files_at, root, text_of};
 pub use placed_users::{PlacedUser, same_place, users_of_both};
 pub use requests::append_requests;
 pub use who::write_who;

@@ -58,13 +58,6 @@ impl<'a> Model for Walk<'a> {
 }
 
 impl<'a> Walk<'a> {
-    /// Files with their rows.
-    pub fn of_parts(files: FilesIter<'a>, rows: FileRows<'a>) -> Walk<'a>
-        ensures { result ≡ walk_of files.entry rows.entry }
-    {
-        Walk { files, rows }
-    }
-
     /// All files of a tree, with their rows.
     pub fn of(tree: &'a Tree, rows: FileRows<'a>) -> Walk<'a>
         ensures { result ≡ walk_of tree.now.files rows.entry }
@@ -78,23 +71,11 @@ impl<'a> Walk<'a> {
     /// The files of a state with their rows of verdicts.
     pub fn of_verdicts<J: Judge>(verdicts: &Verdicts<'a, J>) -> Walk<'a>
         ensures all { result ≡ walk_of verdicts.now.state.now.tree.files (rows_granted J.verdict_of verdicts.now.along verdicts.now.state.now) }
-        ensures order { IsInOrder result }
         ensures tree { IsInOrder verdicts.now.state.now.tree.files }
     {
         let state = verdicts.state.state();
         state.tree().soundness_law();
         Walk::of(state.tree(), verdicts.rows())
-    }
-
-    /// The path of the next file.
-    pub fn path(&self) -> Option<&'a Path>
-        ensures { option_map (λ path. path.now) result ≡ option_map (λ file. file.0) (first self.now) }
-    {
-        let path = self.rows.path()?;
-        match self.files.peek() {
-            Some(_) => Some(path),
-            None => None,
-        }
     }
 
     /// The next file. Fails only if memory runs out.

@@ -1,9 +1,9 @@
 pub mod BelowLines
-pub mod BothRows
+pub mod BothCounts
 pub mod ClassFiles
 pub mod GainLines
+pub mod OperandTops
 pub mod PartGains
-pub mod PathShown
 pub mod Rekeyed
 pub mod SideSums
 pub mod SilentGains

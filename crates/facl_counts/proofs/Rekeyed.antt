@@ -4,7 +4,8 @@ use Rattle.std.specs.Prelude.{option_map}
 use Rattle.std.specs.List.{find}
 use Rattle.std.specs.Option.{option_map_or}
 use Rattle.acl_names.specs.Paths.{PathOf}
-use Rattle.facl_counts.specs.Tallies.{Tallied, Sides, SaysAs, count_where, first_where}
+use Rattle.facl_answers.specs.BothStates.{Sides}
+use Rattle.facl_counts.specs.Tallies.{Tallied, SaysAs, count_where, first_where}
 use Rattle.facl_counts.specs.InnerGains.{keyed, rekeyed}
 
 abbrev Ts : Type 0

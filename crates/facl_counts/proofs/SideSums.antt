@@ -4,7 +4,7 @@ use Rattle.std.specs.Prelude.{◌&&◌}
 use Rattle.std.proofs.lemmas.Bool.{cases_eq, eq-eqb, ne_eqb}
 use Rattle.facl_counts.specs.GainsLaws.{sum_up_to, sum_by_sides}
 use Rattle.facl_counts.specs.GainsText.{is_same, is_same_side, side_of, number_of_sides, lines_up_to, lines_by_sides}
-use Rattle.facl_counts.specs.Tallies.{Sides}
+use Rattle.facl_answers.specs.BothStates.{Sides}
 
 -- ---- a sum over numbers
 

@@ -22,7 +22,7 @@ use Rattle.facl_answers.specs.ChangesText.{after_comma, change_line, change_line
 use Rattle.facl_counts.specs.GainsLaws.{AreBytes, IsWithoutChange, changed_files, changed_pairs, counted, is_changed}
 use Rattle.facl_counts.specs.GainsText.{files_with, gain_line, gain_lines, gains_text, granted_in, is_change, is_gained, is_kept, is_same, lines_up_to, number_of_sides, side_of, side_text, sides_of}
 use Rattle.facl_answers.specs.Requests.{requests_granted}
-use Rattle.facl_counts.specs.Tallies.{Sides}
+use Rattle.facl_answers.specs.BothStates.{Sides}
 use Rattle.facl_counts.proofs.GainLines.{no_lines}
 use Rattle.facl_counts.proofs.SideSums.{IsByte, each_once, no_left, no_right, silent_sides}
 

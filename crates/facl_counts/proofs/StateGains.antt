@@ -1,18 +1,13 @@
 -- The lines of the counts of all users are those of the changes between two states.
-use Rattle.std.proofs.Common.{◌≡◌, ℕ, suc, ◌+◌, arith, Bool, true, false, not, cond, List, [], ◌∷◌, ◌++◌, append_assoc, map, filter, length, take, drop, Option, Some, None, is_some}
-use Rattle.std.proofs.Common.{Less, refl, sym, ap, subst, ◌∙◌}
-use Rattle.std.specs.Prelude.{◌&&◌, option_map, option_and_then, unwrap_or, decimal}
+use Rattle.std.proofs.Common.{◌≡◌, ℕ, suc, ◌+◌, arith, Bool, true, false, not, cond, List, [], ◌∷◌, ◌++◌, append_assoc, map, filter, length, take, drop, Option, Some, None}
+use Rattle.std.proofs.Common.{refl, sym, ap, subst, ◌∙◌}
+use Rattle.std.specs.Prelude.{◌&&◌, option_map, option_and_then, decimal}
 use Rattle.std.specs.List.{flat_map}
 use Rattle.std.specs.List as lists
-use Rattle.std.specs.Ordering.{is_eq}
-use Rattle.std.specs.FinMap.{find, put, is_sorted}
-use Rattle.std.specs.FinMap.Entries.{is_sorted-put}
-use Rattle.std.proofs.lemmas.Cmp.{tied_itself}
+use Rattle.std.specs.FinMap.{find}
 use Rattle.std.proofs.Math.Seq.{take-append_seam}
 use Rattle.acl_names.specs.Names.{escaped}
 use Rattle.acl_names.specs.Paths.{PathOf, path_cmp}
-use Rattle.acl_names.proofs.PathOrder.{path_total}
-use Rattle.acl_names.proofs.Basics.{from_T, to_T}
 use Rattle.acl_people.specs.KnownPeople.{KnownPeople, users_of}
 use Rattle.acl_people.specs.NameTables.{has_name}
 use Rattle.acl_text.specs.declared.rows.PasswdRow.{PasswdRow}
@@ -21,55 +16,22 @@ use Rattle.path_classes.specs.Rows.{Rows}
 use Rattle.acl_rights.specs.Rows.{Verdict}
 use Rattle.acl_rights.specs.Verdicts.{can_requests, rows_granted}
 use Rattle.path_map.specs.Entries.{IsInOrder}
-use Rattle.path_map.specs.Inner.{After}
 use Rattle.path_map.specs.Merged.{put_all}
-use Rattle.path_map.proofs.Merges.{later_after}
-use Rattle.path_map.proofs.Places.{above}
-use Rattle.path_map.proofs.Rows.{find_put_all}
 use Rattle.facl_answers.specs.Answers.{line}
-use Rattle.facl_answers.specs.ChangesText.{users_of_both, shown_files, files_of_both, place_of}
+use Rattle.facl_answers.specs.ChangesText.{users_of_both, files_of_both, place_of}
 use Rattle.facl_counts.specs.GainsText.{is_change, is_same, side_of, side_text, number_of_sides, lines_up_to, lines_by_sides, gain_line, granted_in, sides_of, is_kept, has_change, files_with}
 use Rattle.facl_counts.specs.GainsText.{gain_lines, gains_text}
 use Rattle.facl_answers.specs.Inner.{Placed, placed_of, placed_in}
-use Rattle.facl_counts.specs.InnerGains.{AllOfBoth, Gained, HasChanges, HaveChanges, RowsOfFile}
+use Rattle.facl_answers.specs.BothStates.{RowsOfFile, Sides, rows_in_both}
+use Rattle.facl_counts.specs.InnerGains.{AllOfBoth, Gained, HasChanges, HaveChanges}
 use Rattle.facl_counts.specs.InnerGains.{verdict_given, cells_of_both, change_of, changes_of, count_line, counted_line, gained_of, keyed, lines_of_user}
-use Rattle.facl_counts.specs.InnerGains.{rows_in_both, tally_line}
-use Rattle.facl_counts.specs.PathTexts.{text_in}
-use Rattle.facl_counts.specs.Tallies.{Tallied, Sides, SaysAs, one, count_where, first_where}
+use Rattle.facl_counts.specs.InnerGains.{tally_line}
+use Rattle.facl_answers.specs.PathTexts.{text_in}
+use Rattle.facl_counts.specs.Tallies.{Tallied, SaysAs, one, count_where, first_where}
 use Rattle.facl_answers.specs.declared.placed_users.PlacedUser.{PlacedUser}
 use Rattle.facl_counts.specs.declared.user_gains.UserGains.{UserGains}
-use Rattle.facl_answers.proofs.AfterPaths.{rest_in_order}
-use Rattle.facl_answers.proofs.ChangeLines.{paths, order_by_paths, part_put_all, table_of, whole_table, rows_paths, cell_along}
+use Rattle.facl_answers.proofs.ChangeLines.{paths, same_paths, some_by_paths, table_of, whole_table, rows_paths, cell_along, texts_are}
 use Rattle.facl_counts.proofs.GainLines.{lines_same, same_line}
-use Rattle.facl_answers.proofs.Unchanged.{shown_paths}
-
--- ---- the first of some entries that pass a test
-
-order_put_all : {V : Type 0} (ps es : List (PathOf × V)) → IsInOrder es → IsInOrder (put_all ps es)
-order_put_all [] es h = h
-order_put_all (p ∷ ps) es h =
-    order_put_all ps (put path_cmp p.0 p.1 es) (from_T (is_sorted path_cmp (put path_cmp p.0 p.1 es)) (is_sorted-put path_cmp path_total p.0 p.1 es (to_T (is_sorted path_cmp es) h)))
-
-module _ {V : Type 0} (test : PathOf × V → Bool) where
-  passing_after : (q : PathOf) (es : List (PathOf × V)) (e : PathOf × V) (rest : List (PathOf × V)) → After q es → filter test es ≡ e ∷ rest → path_cmp q e.0 ≡ Less
-  passing_after q [] e rest h is = absurd (cc is)
-  passing_after q (x ∷ es) e rest h is = by (test x) is (passing_after q es e rest h.1)
-    where
-      by : (b : Bool) → cond b (x ∷ filter test es) (filter test es) ≡ e ∷ rest → (filter test es ≡ e ∷ rest → path_cmp q e.0 ≡ Less) → path_cmp q e.0 ≡ Less
-      by true is more = let same : x ≡ e = cc in subst (λ (y : PathOf × V). path_cmp q y.0 ≡ Less) same h.0
-      by false is more = more is
-
-  found_passing : (es : List (PathOf × V)) (e : PathOf × V) (rest : List (PathOf × V)) → IsInOrder es → filter test es ≡ e ∷ rest → find path_cmp e.0 es ≡ Some e.1
-  found_passing [] e rest order is = absurd (cc is)
-  found_passing (x ∷ es) e rest order is = by (test x) is (found_passing es e rest (rest_in_order x es order))
-    where
-      by : (b : Bool) → cond b (x ∷ filter test es) (filter test es) ≡ e ∷ rest → (filter test es ≡ e ∷ rest → find path_cmp e.0 es ≡ Some e.1) → find path_cmp e.0 (x ∷ es) ≡ Some e.1
-      by true is more =
-          let same : x ≡ e = cc in
-          subst (λ (y : PathOf × V). find path_cmp y.0 (x ∷ es) ≡ Some y.1) same (ap (λ o. cond (is_eq o) (Some x.1) (find path_cmp x.0 es)) (tied_itself path_total x.0))
-      by false is more =
-          ap (λ o. cond (is_eq o) (Some x.1) (find path_cmp e.0 es)) (above x.0 e.0 (passing_after x.0 es e rest (later_after x es order) is))
-          ∙ more is
 
 -- ---- a line by the files that have a change
 
@@ -112,57 +74,29 @@ module _ (V : Verdict) (along : Bool) (loaded now : State) (before_order : IsInO
   abbrev all_shown : List (PathOf × List ℕ)
   all_shown = files_of_both loaded now
 
-  -- ---- the paths
+  abbrev all_rows : Rows
+  all_rows = put_all rows_after rows_before
 
-  abbrev bare : {A : Type 0} → PathOf × A → PathOf × Bool
-  bare e = (e.0, true)
+  abbrev text_of : PathOf → List ℕ
+  text_of p = text_in loaded.tree now.tree p
 
-  bare_paths : {A B : Type 0} (xs : List (PathOf × A)) (ys : List (PathOf × B)) → paths xs ≡ paths ys → map bare xs ≡ map bare ys
-  bare_paths [] [] h = refl
-  bare_paths [] (y ∷ ys) h = absurd (cc h)
-  bare_paths (x ∷ xs) [] h = absurd (cc h)
-  bare_paths (x ∷ xs) (y ∷ ys) h =
-      let here : x.0 ≡ y.0 = cc in
-      let later : paths xs ≡ paths ys = cc in
-      λ i. (here i, true) ∷ bare_paths xs ys later i
+  abbrev with_text : PathOf × List ℕ → PathOf × List ℕ
+  with_text row = (row.0, text_of row.0)
 
-  paths_bare : {A : Type 0} (xs : List (PathOf × A)) → paths (map bare xs) ≡ paths xs
-  paths_bare [] = refl
-  paths_bare (x ∷ xs) = ap (λ l. x.0 ∷ l) (paths_bare xs)
+  all_texts : map with_text all_rows ≡ all_shown
+  all_texts = texts_are V along loaded now before_order after_order
 
-  rows_shown : (s : State) → paths (rows_granted V along s) ≡ paths (shown_files s)
-  rows_shown s = rows_paths V along s (table_of V s) (whole_table V s) ∙ sym (shown_paths s.tree.files s.tree.files)
-
-  shown_order : (s : State) → IsInOrder s.tree.files → IsInOrder (shown_files s)
-  shown_order s order = subst (λ b. b ≡ true) (sym (order_by_paths (shown_files s) s.tree.files (shown_paths s.tree.files s.tree.files))) order
-
-  all_order : IsInOrder all_shown
-  all_order = order_put_all (shown_files now) (shown_files loaded) (shown_order loaded before_order)
-
-  both_paths : paths (put_all rows_after rows_before) ≡ paths all_shown
-  both_paths =
-      sym (paths_bare (put_all rows_after rows_before))
-      ∙ ap paths
-      (part_put_all (λ _. true) rows_after rows_before
-      ∙ (λ i. put_all (bare_paths rows_after (shown_files now) (rows_shown now) i) (bare_paths rows_before (shown_files loaded) (rows_shown loaded) i))
-      ∙ sym (part_put_all (λ _. true) (shown_files now) (shown_files loaded)))
-      ∙ paths_bare all_shown
+  -- the first file that passes is printed by its path
+  told : (test : PathOf × List ℕ → Bool) (rows : Rows) (file : PathOf × List ℕ) (more : List (PathOf × List ℕ)) → filter test (map with_text rows) ≡ file ∷ more → text_of file.0 ≡ file.1
+  told test [] file more is = absurd (cc is)
+  told test (row ∷ rows) file more is = by (test (with_text row)) is (told test rows file more)
+    where
+      by : (b : Bool) → cond b (with_text row ∷ filter test (map with_text rows)) (filter test (map with_text rows)) ≡ file ∷ more
+          → (filter test (map with_text rows) ≡ file ∷ more → text_of file.0 ≡ file.1) → text_of file.0 ≡ file.1
+      by true is later = let same : with_text row ≡ file = cc in subst (λ (f : PathOf × List ℕ). text_of f.0 ≡ f.1) same refl
+      by false is later = later is
 
   -- ---- a file of a user
-
-  some_by_paths : {A B : Type 0} (p : PathOf) (xs : List (PathOf × A)) (ys : List (PathOf × B)) → paths xs ≡ paths ys → is_some (find path_cmp p xs) ≡ is_some (find path_cmp p ys)
-  some_by_paths p [] [] h = refl
-  some_by_paths p [] (y ∷ ys) h = absurd (cc h)
-  some_by_paths p (x ∷ xs) [] h = absurd (cc h)
-  some_by_paths p (x ∷ xs) (y ∷ ys) h =
-      let here : x.0 ≡ y.0 = cc in
-      let later : paths xs ≡ paths ys = cc in
-      by (is_eq (path_cmp p x.0)) (some_by_paths p xs ys later)
-      ∙ ap (λ q. is_some (cond (is_eq (path_cmp p q)) (Some y.1) (find path_cmp p ys))) here
-    where
-      by : (b : Bool) → is_some (find path_cmp p xs) ≡ is_some (find path_cmp p ys) → is_some (cond b (Some x.1) (find path_cmp p xs)) ≡ is_some (cond b (Some y.1) (find path_cmp p ys))
-      by true more = refl
-      by false more = more
 
   cell_is : (s : State) (name : List ℕ) (p : PathOf) → verdict_given (find path_cmp p (rows_granted V along s)) (place_of s name) ≡ granted_in V along loaded now s name p
   cell_is s name p = by (place_of s name)
@@ -241,22 +175,18 @@ module _ (V : Verdict) (along : Bool) (loaded now : State) (before_order : IsInO
           by true false is more = ap picked is ∙ more
           by false b is more = more
 
-      -- the text of a path
-      text_found : (p : PathOf) → text_in loaded.tree now.tree p ≡ unwrap_or (find path_cmp p all_shown) []
-      text_found p = ap (λ o. unwrap_or o []) (sym (find_put_all p (shown_files now) (shown_files loaded) (shown_order now after_order)))
-
       line_is : tally_line (text_in loaded.tree now.tree) (escaped name) (at_paths (paths all_shown)) sides ≡ gain_line (escaped name) sides (files_with V along loaded now name sides)
       line_is =
           (λ i. counted_line (text_in loaded.tree now.tree) (escaped name) sides (counts all_shown i) (firsts all_shown i))
-          ∙ line_of_files (text_in loaded.tree now.tree) (escaped name) sides (filter has_it all_shown)
-          (λ file more is. text_found file.0 ∙ ap (λ o. unwrap_or o []) (found_passing has_it all_shown file more all_order is))
+          ∙ line_of_files text_of (escaped name) sides (filter has_it all_shown) (λ file more is. told has_it all_rows file more (ap (filter has_it) all_texts ∙ is))
 
     -- ---- a user
 
     pub user_is : (gained : List (Tallied Sides)) → SaysAs gained (changes_of places (rows_in_both V along loaded now))
         → lines_by_sides (tally_line (text_in loaded.tree now.tree) (escaped name) gained) ≡ gain_lines V along loaded now name
     user_is gained says =
-        let ones : changes_of places (rows_in_both V along loaded now) ≡ at_paths (paths all_shown) = ones_by_paths (put_all rows_after rows_before) ∙ ap at_paths both_paths in
+        let ones : changes_of places (rows_in_both V along loaded now) ≡ at_paths (paths all_shown) =
+        ones_by_paths all_rows ∙ ap at_paths (sym (same_paths (λ row. text_of row.0) all_rows) ∙ ap paths all_texts) in
         let of_side : (sides : Sides) → tally_line (text_in loaded.tree now.tree) (escaped name) gained sides ≡ gain_line (escaped name) sides (files_with V along loaded now name sides) =
         λ sides.
         same_line (text_in loaded.tree now.tree) (escaped name) gained (changes_of places (rows_in_both V along loaded now)) says sides
@@ -281,10 +211,6 @@ module _ (V : Verdict) (along : Bool) (loaded now : State) (before_order : IsInO
       let here = ap (λ n. lines_by_sides (tally_line (text_in loaded.tree now.tree) n user.tallies)) name ∙ user_is row.name user.tallies says in
       let more = users_are rows users h.1 in
       λ i. here i ++ more i
-
--- the rows of a state are in order
-pub rows_order : (V : Verdict) (along : Bool) (s : State) → IsInOrder s.tree.files → IsInOrder (rows_granted V along s)
-rows_order V along s order = subst (λ b. b ≡ true) (sym (order_by_paths (rows_granted V along s) s.tree.files (rows_paths V along s (table_of V s) (whole_table V s)))) order
 
 beside_none : {A : Type 0} (f : A → Placed) (xs : List A) → map {B = Gained} (λ x. (f x, [])) xs ≡ map {B = Gained} (λ (p : Placed). (p, [])) (map f xs)
 beside_none f [] = refl

@@ -1,5 +1,5 @@
 -- The sums of users out of counts by classes are those out of all files.
-use Rattle.std.proofs.Common.{◌≡◌, ℕ, zero, suc, ◌+◌, Bool, true, false, cond, List, [], ◌∷◌, map, Option, Some, None, refl, sym}
+use Rattle.std.proofs.Common.{◌≡◌, ℕ, zero, suc, ◌+◌, Bool, true, false, cond, List, [], ◌∷◌, ◌++◌, map, Option, Some, None, refl, sym}
 use Rattle.std.proofs.Common.{ap, ◌∙◌, arith}
 use Rattle.std.specs.Prelude.{option_map, slice_get, count_by}
 use Rattle.std.specs.Option.{option_map_or, option_or}
@@ -8,9 +8,31 @@ use Rattle.std.proofs.lemmas.Option.{slice_get-map}
 use Rattle.std.proofs.lemmas.List.Sums.{sum_by-cons}
 use Rattle.acl_entry.specs.Perms.{Perms}
 use Rattle.acl_names.specs.Paths.{PathOf}
-use Rattle.facl_counts.specs.Tallies.{Tallied, Sides, count_where, first_where}
+use Rattle.facl_answers.specs.BothStates.{Sides}
+use Rattle.facl_counts.specs.Tallies.{Tallied, count_where, first_where}
 use Rattle.path_classes.specs.Rows.{Rows, grants, grants_to}
 use Rattle.facl_counts.specs.Sums.{Sum, no_sum, added, after_row, row_of, after_tally, after_tallies, Keyed, one_of, AreCounted, sum_in, AreSums}
+
+-- counts and first ones of two lists
+count_two : {A : Type 0} (test : A → Bool) (xs ys : List A) → count_by test (xs ++ ys) ≡ count_by test xs + count_by test ys
+count_two test [] ys = omega arith
+count_two test (x ∷ xs) ys =
+    let more = count_two test xs ys in
+    let here = sum_by-cons (λ r. cond (test r) 1 0) x (xs ++ ys) in
+    let there = sum_by-cons (λ r. cond (test r) 1 0) x xs in
+    omega (arith, more, here, there)
+
+first_two : (test : PathOf × List ℕ → Bool) (xs ys : Rows) → option_map (λ (r : PathOf × List ℕ). r.0) (find test (xs ++ ys))
+    ≡ option_or (option_map (λ (r : PathOf × List ℕ). r.0) (find test xs)) (option_map (λ (r : PathOf × List ℕ). r.0) (find test ys))
+first_two test [] ys = refl
+first_two test (x ∷ xs) ys = by (test x) (first_two test xs ys)
+  where
+    by : (b : Bool) → option_map (λ (r : PathOf × List ℕ). r.0) (find test (xs ++ ys))
+        ≡ option_or (option_map (λ (r : PathOf × List ℕ). r.0) (find test xs)) (option_map (λ (r : PathOf × List ℕ). r.0) (find test ys))
+        → option_map (λ (r : PathOf × List ℕ). r.0) (cond b (Some x) (find test (xs ++ ys)))
+        ≡ option_or (option_map (λ (r : PathOf × List ℕ). r.0) (cond b (Some x) (find test xs))) (option_map (λ (r : PathOf × List ℕ). r.0) (find test ys))
+    by true more = refl
+    by false more = more
 
 module _ (q : Perms) (user : ℕ) where
   at_row : (t : Tallied Sides) (row : List ℕ) (sums : List Sum) (u : ℕ) → slice_get (after_row q t row sums) u ≡ option_map (λ s. cond (grants q u row) (added t s) s) (slice_get sums u)
@@ -97,21 +119,25 @@ module _ (q : Perms) (user : ℕ) where
         by true more = refl
         by false more = more
 
-module _ {A : Type 0} (q : Perms) (classes : List (List ℕ)) (rows : Rows) (ts : List (Tallied Sides)) (users : List A) where
-  pub sums_are : AreCounted classes rows ts → AreSums q rows users (after_tallies classes q ts (map no_sum users))
-  sums_are are user =
-      at_tallies q user classes ts (map no_sum users)
-      ∙ ap (option_map (summed q user classes ts)) (slice_get-map no_sum users user)
-      ∙ by (slice_get users user)
+-- the sums of users on files, and on others after them
+module _ {A : Type 0} (q : Perms) (users : List A) where
+  pub no_sums_are : (sums : List Sum) → sums ≡ map no_sum users → AreSums q [] users sums
+  no_sums_are sums are user = ap (λ l. slice_get l user) are ∙ slice_get-map no_sum users user
+
+  pub sums_more : (classes : List (List ℕ)) (seen rows : Rows) (ts : List (Tallied Sides)) (sums : List Sum) → AreCounted classes rows ts → AreSums q seen users sums
+      → AreSums q (seen ++ rows) users (after_tallies classes q ts sums)
+  sums_more classes seen rows ts sums are were user =
+      at_tallies q user classes ts sums ∙ ap (option_map (summed q user classes ts)) (were user) ∙ by (slice_get users user)
     where
-      sum : summed q user classes ts (0, None) ≡ sum_in q user rows
+      sum : summed q user classes ts (sum_in q user seen) ≡ sum_in q user (seen ++ rows)
       sum =
-          let n : 0 + count_where (test q user classes) ts ≡ count_where (test q user classes) ts = omega arith in
-          let count = n ∙ are.says.counts (test q user classes) ∙ counts_are q user classes are.files are.have ∙ ap (count_by (grants_to q user)) are.are in
+          let count = are.says.counts (test q user classes) ∙ counts_are q user classes are.files are.have ∙ ap (count_by (grants_to q user)) are.are in
           let first = are.says.firsts (test q user classes) ∙ firsts_are q user classes are.files are.have
           ∙ ap (λ (rs : Rows). option_map (λ (r : PathOf × List ℕ). r.0) (find (grants_to q user) rs)) are.are in
-          λ i. (count i, first i)
+          let counts = ap (λ n. count_by (grants_to q user) seen + n) count ∙ sym (count_two (grants_to q user) seen rows) in
+          let firsts = ap (option_or (option_map (λ (r : PathOf × List ℕ). r.0) (find (grants_to q user) seen))) first ∙ sym (first_two (grants_to q user) seen rows) in
+          λ i. (counts i, firsts i)
 
-      by : (o : Option A) → option_map (summed q user classes ts) (option_map no_sum o) ≡ option_map (λ _. sum_in q user rows) o
+      by : (o : Option A) → option_map (summed q user classes ts) (option_map (λ _. sum_in q user seen) o) ≡ option_map (λ _. sum_in q user (seen ++ rows)) o
       by None = refl
       by (Some a) = ap Some sum

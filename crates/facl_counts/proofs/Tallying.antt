@@ -10,7 +10,8 @@ use Rattle.acl_names.specs.Paths.{PathOf}
 use Rattle.facl_counts.specs.Counting.{tallied, HasKey}
 use Rattle.facl_answers.specs.Inner.{same_place}
 use Rattle.facl_counts.specs.declared.tallies.Tally.{Tally}
-use Rattle.facl_counts.specs.Tallies.{Tallied, Sides, SaysAs, count_where, first_where}
+use Rattle.facl_answers.specs.BothStates.{Sides}
+use Rattle.facl_counts.specs.Tallies.{Tallied, SaysAs, count_where, first_where}
 
 pub same_of : (some other : Option ℕ) → same_place some other ≡ true → some ≡ other
 same_of None None h = refl

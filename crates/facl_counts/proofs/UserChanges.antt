@@ -10,11 +10,13 @@ use Rattle.acl_entry.specs.Perms.{Perms, numbered}
 use Rattle.acl_names.specs.Paths.{PathOf}
 use Rattle.facl_counts.specs.GainsText.{is_gained, is_change}
 use Rattle.facl_answers.specs.Inner.{Placed, same_place}
-use Rattle.facl_counts.specs.InnerGains.{AllOfBoth, BothClassed, Gained, IsCountedFor, IsPassed, ArePassed, RowStays, RowsOfFile, AreCountedFor, verdict_given}
+use Rattle.facl_answers.specs.BothStates.{BothClassed, RowsOfFile}
+use Rattle.facl_counts.specs.InnerGains.{AllOfBoth, Gained, IsCountedFor, IsPassed, ArePassed, RowStays, AreCountedFor, verdict_given}
 use Rattle.facl_counts.specs.InnerGains.{cells_of_both, change_of, gained_of, keeps}
-use Rattle.facl_counts.specs.InnerGains.{keyed, row_given, rekeyed, rows_of_key}
+use Rattle.facl_counts.specs.InnerGains.{keyed, row_given, rekeyed}
 use Rattle.facl_counts.specs.Counting.{tallied}
-use Rattle.facl_counts.specs.Tallies.{Tallied, Sides, SaysAs}
+use Rattle.facl_answers.specs.BothStates.{Sides, rows_of_key}
+use Rattle.facl_counts.specs.Tallies.{Tallied, SaysAs}
 use Rattle.facl_counts.specs.declared.tallies.Tally.{Tally}
 use Rattle.facl_counts.specs.declared.user_gains.GivenRow.{GivenRow}
 use Rattle.facl_counts.specs.declared.user_gains.UserGains.{UserGains}
@@ -55,21 +57,25 @@ no_gain n = none_any (has n) (map numbered (1 ∷ 2 ∷ 3 ∷ 4 ∷ 5 ∷ 6 ∷ 
 no_change : (cell : Option ℕ) → is_change true (cell, cell) ≡ false
 no_change cell = λ i. no_gain (unwrap_or cell 0) i || no_gain (unwrap_or cell 0) i
 
-pub unchanged : (places : Sides) (row : List ℕ) → same_place places.0 places.1 ≡ true → change_of places (Some row, Some row) ≡ None
-unchanged places row same =
+pub unchanged : (places : Sides) (row : Option (List ℕ)) → same_place places.0 places.1 ≡ true → change_of places (row, row) ≡ None
+unchanged places None same = refl
+unchanged places (Some row) same =
     let place = same_of places.0 places.1 same in
     let cell = verdict_given (Some row) places.0 in
     let kept : is_change true (cells_of_both places (Some row, Some row)) ≡ false = ap (λ p. is_change true (cell, verdict_given (Some row) p)) (sym place) ∙ no_change cell in
     ap (λ b. cond b (Some (cells_of_both places (Some row, Some row))) None) kept
 
--- nothing is counted where a row stays and the users are the same
-pub counted_none : (rows : RowsOfFile) (count : ℕ) (first : PathOf) → RowStays rows → (users : List UserGains) → list_all keeps users ≡ true → AreCountedFor rows count first users users
-counted_none rows count first stays [] h = tt
-counted_none rows count first stays (user ∷ users) h =
+-- nothing is counted where the row and the users are the same
+pub counted_none : (rows : RowsOfFile) (count : ℕ) (first : PathOf) → rows.0 ≡ rows.1 → (users : List UserGains) → list_all keeps users ≡ true → AreCountedFor rows count first users users
+counted_none rows count first same [] h = tt
+counted_none rows count first same (user ∷ users) h =
     let parts = and_parts (keeps user) (list_all keeps users) h in
     let placed = gained_of user in
-    let none : change_of placed.0.1 rows ≡ None = ap (change_of placed.0.1) stays.1 ∙ unchanged placed.0.1 stays.0 parts.0 in
-    ((refl, λ others says. subst (λ l. SaysAs placed.1 l) (sym (ap (λ o. others ++ keyed o count first) none ∙ append-nil others)) says), counted_none rows count first stays users parts.1)
+    let none : change_of placed.0.1 rows ≡ None = ap (λ row. change_of placed.0.1 (row, rows.1)) same ∙ unchanged placed.0.1 rows.1 parts.0 in
+    ((refl, λ others says. subst (λ l. SaysAs placed.1 l) (sym (ap (λ o. others ++ keyed o count first) none ∙ append-nil others)) says), counted_none rows count first same users parts.1)
+
+pub same_row : (rows : RowsOfFile) → RowStays rows → rows.0 ≡ rows.1
+same_row rows stays = ap (λ (r : RowsOfFile). r.0) stays.1 ∙ sym (ap (λ (r : RowsOfFile). r.1) stays.1)
 
 -- ---- the places of users
 

@@ -8,7 +8,7 @@ use Rattle.acl_tree.specs.State.{State}
 use Rattle.acl_rights.specs.Rows.{Verdict}
 use Rattle.facl_answers.specs.ChangesText.{users_of_both, files_of_both}
 use Rattle.facl_counts.specs.GainsText.{is_change, is_kept, side_of, sides_of, number_of_sides, files_with}
-use Rattle.facl_counts.specs.Tallies.{Sides}
+use Rattle.facl_answers.specs.BothStates.{Sides}
 
 -- each verdict is a byte, as that of acl(5)'s check is
 abbrev pub AreBytes : Verdict → Type 0

@@ -11,7 +11,7 @@ use Rattle.acl_rights.specs.Verdicts.{can_requests}
 use Rattle.facl_answers.specs.Answers.{line, hex_digits}
 use Rattle.facl_answers.specs.ChangesText.{users_of_both, files_of_both, place_of}
 use Rattle.facl_answers.specs.Requests.{requests_granted}
-use Rattle.facl_counts.specs.Tallies.{Sides}
+use Rattle.facl_answers.specs.BothStates.{Sides}
 
 -- ---- what a user may do with a file before and after
 

@@ -4,7 +4,6 @@ pub mod Counting
 pub mod GainsLaws
 pub mod GainsText
 pub mod InnerGains
-pub mod PathTexts
 pub mod SumLists
 pub mod Sums
 pub mod Tallies

@@ -1,5 +1,5 @@
 -- For inner functions of `below`: what is added to each user's sum, row by row.
-use Rattle.std.specs.Prelude.{◌≡◌, ℕ, ◌+◌, true, false, if◌then◌else◌, List, [], ◌∷◌, ◌++◌, map, filter, slice_get, count_by, zip, Option, Some, None, option_map, option_and_then}
+use Rattle.std.specs.Prelude.{◌≡◌, ℕ, ◌+◌, true, false, if◌then◌else◌, List, [], ◌∷◌, ◌++◌, map, slice_get, count_by, zip, Option, Some, None, option_map, option_and_then}
 use Rattle.std.specs.Option.{option_map_or, option_or}
 use Rattle.std.specs.List.{AllByRecursion, find, flat_map}
 use Rattle.acl_entry.specs.Check.{has}
@@ -10,12 +10,12 @@ use Rattle.path_classes.specs.Classes.{Classed, IsFileTaken}
 use Rattle.path_classes.specs.Rows.{Rows, grants_to}
 use Rattle.acl_tree.specs.Found.{files_found}
 use Rattle.acl_tree.specs.Files.{Files}
-use Rattle.acl_tree.specs.Operands.{is_file}
 use Rattle.facl_answers.specs.Answers.{file_line}
 use Rattle.facl_counts.specs.CountTexts.{count_text}
-use Rattle.facl_answers.specs.PartWalks.{front}
+use Rattle.facl_answers.specs.BothStates.{front}
 use Rattle.facl_counts.specs.declared.sums.UserSum.{UserSum}
-use Rattle.facl_counts.specs.Tallies.{Tallied, Sides, SaysAs, one}
+use Rattle.facl_answers.specs.BothStates.{Sides}
+use Rattle.facl_counts.specs.Tallies.{Tallied, SaysAs, one}
 
 -- how many files, and the first of them, if there is one
 abbrev pub Sum : Type 0
@@ -69,11 +69,11 @@ abbrev pub TakesWithin : PathOf → Classed → Option (PathOf × ℕ) → Class
 TakesWithin top old None new = (front top old.1 ≡ []) × (new ≡ old)
 TakesWithin top old (Some file) new = (encloses top file.0 ≡ true) × IsFileTaken old file new
 
--- after some files at or below a path, the counts are of those of them that are at or below some paths
-pub record IsCounting (top : PathOf) (paths : List PathOf) (all : Rows) (left : Classed) (ts : List (Tallied Sides)) : Type 0 where
+-- after some of the files at or below a path, the counts are of those
+pub record IsCounting (top : PathOf) (all : Rows) (left : Classed) (ts : List (Tallied Sides)) : Type 0 where
   pub seen : Rows
   pub whole : seen ++ front top left.1 ≡ all
-  pub counted : AreCounted left.0 (filter (λ row. is_file true paths row.0) seen) ts
+  pub counted : AreCounted left.0 seen ts
 
 -- on how many of some files a user is granted a request, and the first of them
 abbrev pub sum_in : Perms → ℕ → Rows → Sum

@@ -26,7 +26,3 @@ first_where test ts = option_map (λ t. t.first) (find (λ t. test t.key) ts)
 pub record SaysAs {K : Type 0} (some others : List (Tallied K)) : Type 0 where
   pub counts : (test : K → Bool) → count_where test some ≡ count_where test others
   pub firsts : (test : K → Bool) → first_where test some ≡ first_where test others
-
--- what is there before and after: nothing on the side where it is not there
-abbrev pub Sides : Type 0
-Sides = Option ℕ × Option ℕ

@@ -1,24 +1,27 @@
 //! What `below` prints: on how many files at or below some paths each user is granted a request, and on which first.
 
-ghost use Rattle.std.specs.Prelude.{◌≡◌, ◌≢◌, ◌++◌, None, true, map, filter, IfOk, IfErr, OnOk};
+ghost use Rattle.std.specs.Prelude.{◌≡◌, ◌≢◌, ◌++◌, None, map, IfOk, IfErr, OnOk};
 ghost use Rattle.std.specs.List.{flat_map};
-ghost use Rattle.acl_names.specs.Below.{encloses};
 ghost use Rattle.acl_names.specs.Paths.{PathOf};
+ghost use Rattle.path_map.specs.Below.{within};
+ghost use Rattle.path_map.specs.Entries.{IsInOrder};
+ghost use Rattle.path_classes.specs.ClassesWithin.{paths_seen, is_inside, inside, AreTops};
+ghost use Rattle.path_classes.specs.Rows.{Rows};
 ghost use Rattle.acl_rights.specs.Verdicts.{rows_granted};
-ghost use Rattle.acl_tree.specs.Operands.{first_missing, is_file, IsMissing};
+ghost use Rattle.acl_tree.specs.Operands.{first_missing, IsMissing};
 ghost use Rattle.facl_answers.specs.Answers.{file_line};
 ghost use Rattle.facl_counts.specs.BelowText.{below_text};
 ghost use Rattle.facl_counts.specs.Sums.{sum_of, sum_line, sum_lines, AreSums};
 
 use crate::class_counts::{add_tallies, count_files};
 use crate::count_texts::push_count;
-use crate::path_texts::{files_at, root};
 use crate::sums::{UserSum, UserSums};
 use acl_entry::Perm;
 use acl_names::Path;
-use acl_rights::{Judge, Verdicts, enclosing};
+use acl_rights::{Judge, Verdicts};
 use acl_tree::{FoundFile, Paths, Selection, Tree, TreeFault};
-use facl_answers::{push_file, written_names};
+use facl_answers::{files_at, push_file, written_names};
+use path_classes::tops_of;
 use std::alloc::{AllocError, Global};
 
 /// Adds the lines of files.
@@ -67,51 +70,57 @@ fn push_sums(
     Ok(())
 }
 
-/// Whether each path is recorded; else the first that isn't.
-fn look_up(alloc: Global, tree: &Tree, paths: &Paths) -> Result<(), TreeFault>
-    ensures there { OnOk result (first_missing paths.now tree.now.files ≡ None) }
-    ensures reported { IfErr result (λ fault. fault ≢ TreeFault.NoMemory → IsMissing fault (first_missing paths.now tree.now.files)) }
+/// The paths of files that are below none of the others, in path order. Fails only if memory runs out.
+fn tops<'a>(alloc: Global, files: &[FoundFile<'a>]) -> Result<Vec<&'a Path>, AllocError>
+    requires { IsInOrder (map (λ file. (file.path, file.node)) files.now) }
+    ensures tops { IfOk result (λ tops. AreTops (paths_seen tops.items)) }
+    ensures covers { IfOk result (λ tops. (q : PathOf) → is_inside (paths_seen tops.items) q ≡ is_inside (map (λ file. file.path) files.now) q) }
 {
-    let selection = Selection {
-        operands: paths,
-        recursive: false,
-    };
-    let _files = tree.files(alloc, &selection)?;
+    let mut paths = Vec::new(alloc);
+    for file in files {
+        paths.push((file.path(), ()))?;
+    }
+    let none: Vec<(&Path, ())> = Vec::new(alloc);
+    let tops = tops_of(alloc, &paths, &none)?;
+    Ok(tops)
+}
+
+/// Adds the files at a path or below it to the sums of users, where files before them were added.
+fn add_below<'a, J: Judge>(
+    alloc: Global,
+    sums: &mut UserSums<'a>,
+    verdicts: &Verdicts<'a, J>,
+    request: Perm,
+    names: &[Vec<u8>],
+    top: &Path,
+) -> Result<(), AllocError>
+    ensures { OnOk result ((seen : Rows) → AreSums request seen names.now sums.old
+        → AreSums request (seen ++ within top.now (rows_granted J.verdict_of verdicts.now.along verdicts.now.state.now)) names.now sums.new) }
+{
+    verdicts.state.state().tree().soundness_law();
+    let mut classes = verdicts.classes_from(alloc, top);
+    let tallies = count_files(alloc, &mut classes, top)?;
+    add_tallies(alloc, sums, &classes, request, tallies.as_slice())?;
     Ok(())
 }
 
-/// The nearest path at or below which some paths are; the root where there are none. That it is the nearest is in no
-/// clause, since a higher one costs time alone.
-fn top_of(alloc: Global, paths: &[Path]) -> Result<Path, AllocError>
-    ensures { IfOk result (λ top. (q : PathOf) → is_file true paths.now q ≡ true → encloses top q ≡ true) }
-{
-    let mut top = match paths.first() {
-        Some(path) => path.try_clone(alloc)?,
-        None => root(alloc),
-    };
-    for path in paths {
-        top = enclosing(alloc, top, path)?;
-    }
-    Ok(top)
-}
-
-/// For each user on how many files at or below some paths a request is granted, and the first of these files. Outside the
-/// folder that they have in common the directories above it alone are looked at, along paths.
+/// For each user on how many files at or below some paths a request is granted, and the first of these files: path by path,
+/// so that no other file is looked at.
 fn sums_below<'a, J: Judge>(
     alloc: Global,
     verdicts: &Verdicts<'a, J>,
     request: Perm,
-    paths: &[Path],
+    tops: &[&Path],
     names: &[Vec<u8>],
 ) -> Result<UserSums<'a>, AllocError>
-    ensures { IfOk result (λ sums. AreSums request (filter (λ row. is_file true paths.now row.0) (rows_granted J.verdict_of verdicts.now.along verdicts.now.state.now)) names.now sums) }
+    requires { AreTops (paths_seen tops.now) }
+    ensures { IfOk result (λ sums. AreSums request (inside (paths_seen tops.now) (rows_granted J.verdict_of verdicts.now.along verdicts.now.state.now)) names.now sums) }
 {
     verdicts.state.state().tree().soundness_law();
-    let top = top_of(alloc, paths)?;
-    let mut classes = verdicts.classes_from(alloc, &top)?;
-    let tallies = count_files(alloc, &mut classes, &top, paths)?;
     let mut sums = UserSums::new(alloc, names)?;
-    add_tallies(&mut sums, &classes, request, tallies.as_slice())?;
+    for top in tops {
+        add_below(alloc, &mut sums, verdicts, request, names, *top)?;
+    }
     Ok(sums)
 }
 
@@ -133,9 +142,14 @@ pub fn write_below<J: Judge>(
 {
     let state = verdicts.state.state();
     state.tree().soundness_law();
-    look_up(alloc, state.tree(), paths)?;
+    let selection = Selection {
+        operands: paths,
+        recursive: false,
+    };
+    let files = state.tree().files(alloc, &selection)?;
+    let tops = tops(alloc, &files)?;
     let names = written_names(alloc, state.people())?;
-    let sums = sums_below(alloc, verdicts, request, paths.as_slice(), &names)?;
+    let sums = sums_below(alloc, verdicts, request, &tops, &names)?;
     let mut text = Vec::new(alloc);
     push_sums(alloc, &mut text, state.tree(), &names, &sums)?;
     Ok(text)

@@ -1,19 +1,19 @@
 //! Files at or below some paths, counted by their classes, and what they add to the sums of users.
 
 ghost use Rattle.std.specs.Prelude.{◌≡◌, ◌++◌, ◌∷◌, [], List, None, Some, true, map, filter, option_map, IfOk, OnOk};
-ghost use Rattle.std.specs.Option.{option_copied};
 ghost use Rattle.path_map.specs.Entries.{seen};
-ghost use Rattle.acl_tree.specs.Operands.{is_file};
 ghost use Rattle.facl_counts.specs.Counting.{tallied};
-ghost use Rattle.facl_answers.specs.PartWalks.{front};
+ghost use Rattle.facl_answers.specs.BothStates.{front};
 ghost use Rattle.facl_counts.specs.Sums.{row_of, after_tally, after_tallies, AreCounted, TakesWithin};
-ghost use Rattle.facl_counts.specs.Tallies.{Tallied, Sides, SaysAs, one};
+ghost use Rattle.facl_answers.specs.BothStates.{Sides};
+ghost use Rattle.facl_counts.specs.Tallies.{Tallied, SaysAs, one};
 
 use crate::sums::UserSums;
-use crate::tallies::{Key, Tallies, Tally};
-use acl_entry::{Perm, Requests};
+use crate::tallies::{Tallies, Tally};
+use acl_entry::Perm;
 use acl_names::Path;
-use acl_rights::FileClasses;
+use acl_rights::{Cells, FileClasses};
+use facl_answers::Sides;
 use std::alloc::{AllocError, Global};
 
 /// Counts of files by their classes, and for each class a hint at the place of its count.
@@ -66,13 +66,6 @@ impl<'a> Counter<'a> {
     }
 }
 
-/// Whether a file is at one of some paths, or below one.
-fn lies_in(paths: &[Path], path: &Path) -> bool
-    ensures { result ≡ is_file true paths.now path.now }
-{
-    paths.iter().any(|top| path.is_within(top))
-}
-
 /// The next file with its class, if it is at a path or below it.
 fn next_within<'a>(
     alloc: Global,
@@ -87,36 +80,38 @@ fn next_within<'a>(
     }
 }
 
-/// Counts the files at or below some paths by their classes, of those that come first and are at a path or below it.
+/// Counts the files at or below a path by their classes, as long as they come first.
 pub(crate) fn count_files<'a>(
     alloc: Global,
     classes: &mut FileClasses<'a>,
     top: &Path,
-    paths: &[Path],
 ) -> Result<Tallies<'a>, AllocError>
-    ensures { IfOk result (λ tallies. AreCounted classes.new.0 (filter (λ row. is_file true paths.now row.0) (front top.now classes.old.1)) tallies) }
+    ensures { IfOk result (λ tallies. AreCounted classes.new.0 (front top.now classes.old.1) tallies) }
 {
     let mut counter = Counter::new(alloc);
     while let Some((path, class)) = next_within(alloc, classes, top)? {
-        if lies_in(paths, path) {
-            counter.count(class, path)?;
-        }
+        counter.count(class, path)?;
     }
     Ok(counter.tallies)
 }
 
-/// The row of the class of a key, if there is one.
-fn row_of<'a>(classes: &'a FileClasses<'_>, key: &Key) -> Option<&'a [Requests]>
-    ensures { option_copied result ≡ row_of classes.now.0 key.now }
+/// The row of the class of a key, if there is one. Fails only if memory runs out.
+fn row_of(
+    alloc: Global,
+    classes: &FileClasses<'_>,
+    key: &Sides,
+) -> Result<Option<Cells>, AllocError>
+    ensures { IfOk result (λ row. row ≡ row_of classes.now.0 key.now) }
 {
     match key.1 {
-        Some(class) => classes.row(class),
-        None => None,
+        Some(class) => classes.row(alloc, class),
+        None => Ok(None),
     }
 }
 
 /// Adds files of a class to the sums.
 fn add_tally<'a>(
+    alloc: Global,
     sums: &mut UserSums<'a>,
     classes: &FileClasses<'a>,
     request: Perm,
@@ -124,14 +119,15 @@ fn add_tally<'a>(
 ) -> Result<(), AllocError>
     ensures { OnOk result (sums.new ≡ after_tally classes.now.0 request (tallied tally.now) sums.old) }
 {
-    match row_of(classes, &tally.key) {
-        Some(row) => sums.add_row(row, request, tally),
+    match row_of(alloc, classes, &tally.key)? {
+        Some(row) => sums.add_row(row.as_slice(), request, tally),
         None => Ok(()),
     }
 }
 
 /// Adds all counted files to the sums.
 pub(crate) fn add_tallies<'a>(
+    alloc: Global,
     sums: &mut UserSums<'a>,
     classes: &FileClasses<'a>,
     request: Perm,
@@ -140,7 +136,7 @@ pub(crate) fn add_tallies<'a>(
     ensures { OnOk result (sums.new ≡ after_tallies classes.now.0 request (map tallied tallies.now) sums.old) }
 {
     for tally in tallies {
-        add_tally(sums, classes, request, tally)?;
+        add_tally(alloc, sums, classes, request, tally)?;
     }
     Ok(())
 }

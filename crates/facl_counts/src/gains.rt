@@ -6,26 +6,24 @@ ghost use Rattle.acl_names.specs.Appends.{Appends};
 ghost use Rattle.path_map.specs.Entries.{IsInOrder};
 ghost use Rattle.acl_names.specs.Below.{encloses};
 ghost use Rattle.acl_names.specs.Paths.{PathOf};
-ghost use Rattle.path_map.specs.Below.{from};
 ghost use Rattle.acl_rights.specs.Outside.{SameOutside};
-ghost use Rattle.acl_rights.specs.Verdicts.{rows_granted};
 ghost use Rattle.facl_answers.specs.Answers.{line};
 ghost use Rattle.facl_counts.specs.CountTexts.{count_text, spaced};
 ghost use Rattle.facl_counts.specs.Counting.{tallied};
 ghost use Rattle.facl_counts.specs.GainsText.{gains_text, is_same, is_same_side, side_of, side_text};
-ghost use Rattle.facl_counts.specs.InnerGains.{AreSilentOn, HaveChanges, count_line, is_before, rows_at, rows_in_both, lines_after, lines_of_user, tally_line, tally_lines};
-ghost use Rattle.facl_counts.specs.PathTexts.{text_in};
+ghost use Rattle.facl_answers.specs.BothStates.{rows_at, rows_in_both};
+ghost use Rattle.facl_counts.specs.InnerGains.{AreSilentOn, HaveChanges, count_line, is_before, lines_after, lines_of_user, tally_line, tally_lines};
+ghost use Rattle.facl_answers.specs.PathTexts.{text_in};
 ghost use Rattle.facl_counts.specs.Tallies.{count_where, first_where};
 
-use crate::both_classes::BothClasses;
+use crate::both_counts::count_within;
 use crate::count_texts::{push_count, push_path};
-use crate::path_texts::{root, text_of};
-use crate::tallies::{Key, Tally, together};
+use crate::tallies::{Tally, together};
 use crate::user_gains::{UserGains, count_changes, keep_places, without_counts};
 use acl_names::Path;
-use acl_rights::{FileClasses, IndexedState, Judge, Verdicts};
+use acl_rights::{IndexedState, Judge, Verdicts};
 use acl_tree::Tree;
-use facl_answers::{push_hex, users_of_both};
+use facl_answers::{BothClasses, Sides, push_hex, root, text_of, users_of_both};
 use std::alloc::{AllocError, Global};
 
 /// The number of sides: not there, or one of 256 bytes.
@@ -60,7 +58,7 @@ fn is_same_side(side: Option<u8>, other: Option<usize>) -> bool
 }
 
 /// Whether a key is this one.
-fn is_same(granted: Granted, key: Key) -> bool
+fn is_same(granted: Granted, key: Sides) -> bool
     ensures { result ≡ is_same granted key }
 {
     is_same_side(granted.0, key.0) && is_same_side(granted.1, key.1)
@@ -259,20 +257,6 @@ fn push_users(
     Ok(())
 }
 
-/// The files of a state that are not before a path, by classes.
-fn classes_from<'a, J: Judge>(
-    alloc: Global,
-    verdicts: &Verdicts<'a, J>,
-    top: &Path,
-) -> Result<FileClasses<'a>, AllocError>
-    ensures all { IfOk result (λ classes. classes.1 ≡ from top.now (rows_granted J.verdict_of verdicts.now.along verdicts.now.state.now)) }
-    ensures order { IfOk result (λ classes. IsInOrder classes.1) }
-    ensures tree { IsInOrder verdicts.now.state.now.tree.files }
-{
-    verdicts.state.state().tree().soundness_law();
-    verdicts.classes_from(alloc, top)
-}
-
 /// Counts each user's changes on the files at or below a path, where no user has one on another file.
 fn count_part<'x, J: Judge>(
     alloc: Global,
@@ -284,13 +268,9 @@ fn count_part<'x, J: Judge>(
     requires silent { (p : PathOf) → encloses top.now p ≡ false → AreSilentOn (rows_at J.verdict_of verdicts.now.along loaded.now verdicts.now.state.now p) users.old }
     ensures { OnOk result (HaveChanges (rows_in_both J.verdict_of verdicts.now.along loaded.now verdicts.now.state.now) users.old users.new) }
 {
-    let verdicts_before = loaded.verdicts(verdicts.along);
-    let mut both = BothClasses {
-        before: classes_from(alloc, &verdicts_before, top)?,
-        after: classes_from(alloc, verdicts, top)?,
-    };
-    let tallies = both.count_within(alloc, top)?;
-    count_changes(users, &both, tallies.as_slice())
+    let mut both = BothClasses::of_states(alloc, loaded, verdicts, top);
+    let tallies = count_within(alloc, &mut both, top)?;
+    count_changes(alloc, users, &both, tallies.as_slice())
 }
 
 /// Counts each user's changes. Where no user has another place than before, only the files of the part are looked at

@@ -5,15 +5,13 @@
 #![tactic(auto)]
 
 mod below;
-mod both_classes;
+mod both_counts;
 mod class_counts;
 mod count_texts;
 mod gains;
 mod laws;
-mod path_texts;
 mod sums;
 mod tallies;
-mod two_paths;
 mod user_gains;
 
 pub use below::write_below;

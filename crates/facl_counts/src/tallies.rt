@@ -2,21 +2,18 @@
 
 ghost use Rattle.std.specs.Prelude.{◌≡◌, ◌+◌, ◌++◌, ◌∷◌, [], List, true, IfOk, map};
 ghost use Rattle.facl_counts.specs.Counting.{tallied, HasKey};
-ghost use Rattle.facl_counts.specs.Tallies.{Tallied, Sides, SaysAs};
+ghost use Rattle.facl_answers.specs.BothStates.{Sides};
+ghost use Rattle.facl_counts.specs.Tallies.{Tallied, SaysAs};
 
 use acl_names::Path;
-use facl_answers::same_place;
+use facl_answers::{Sides, same_place};
 use std::alloc::{AllocError, Global};
 use std::marker::Model;
-
-/// What is there before and after, by numbers: classes of files, or requests that are granted. `None` on the side where it is
-/// not there.
-pub(crate) type Key = (Option<usize>, Option<usize>);
 
 /// How many files have a key, and the first of them.
 #[derive(Drop)]
 pub(crate) struct Tally<'a> {
-    pub key: Key,
+    pub key: Sides,
     pub count: u64,
     pub first: &'a Path,
 }
@@ -61,7 +58,7 @@ impl<'a> Tallies<'a> {
     }
 
     /// Whether the count at a place has a key.
-    fn has(&self, at: usize, key: Key) -> bool
+    fn has(&self, at: usize, key: Sides) -> bool
         ensures { result ≡ true → HasKey self.now at key }
     {
         match self.list.get(at) {
@@ -75,7 +72,7 @@ impl<'a> Tallies<'a> {
     pub fn add(
         &mut self,
         at: usize,
-        key: Key,
+        key: Sides,
         count: u64,
         first: &'a Path,
     ) -> Result<usize, AllocError>

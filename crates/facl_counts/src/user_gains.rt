@@ -6,14 +6,14 @@ ghost use Rattle.std.specs.List.{list_all};
 ghost use Rattle.facl_counts.specs.Counting.{tallied};
 ghost use Rattle.facl_counts.specs.GainsText.{is_change, is_gained};
 ghost use Rattle.facl_answers.specs.Inner.{placed_of};
-ghost use Rattle.facl_counts.specs.InnerGains.{AreCountedFor, ArePassed, IsCountedFor, RowStays, both_of, verdict_given, change_of, gained_of, is_gained_by, keeps, row_given, rows_of_key};
+ghost use Rattle.facl_answers.specs.BothStates.{both_of, rows_of_key};
+ghost use Rattle.facl_counts.specs.InnerGains.{AreCountedFor, ArePassed, IsCountedFor, RowStays, verdict_given, change_of, gained_of, is_gained_by, keeps, row_given};
 
-use crate::both_classes::BothClasses;
-use crate::tallies::{Key, Tallies, Tally};
+use crate::tallies::{Tallies, Tally};
 use acl_entry::{Perm, Requests};
 use acl_names::Path;
-use acl_rights::same_row;
-use facl_answers::{PlacedUser, same_place};
+use acl_rights::{Cells, same_row};
+use facl_answers::{BothClasses, PlacedUser, Sides, same_place};
 use std::alloc::{AllocError, Global};
 
 /// A user of either state, with counts of the files that have a change.
@@ -31,13 +31,13 @@ pub(crate) struct GivenRow<'r> {
 }
 
 /// A row, if there is one.
-fn given(row: Option<&[Requests]>) -> GivenRow<'_>
-    ensures { row_given result ≡ option_copied row.entry }
+fn given(row: &Option<Cells>) -> GivenRow<'_>
+    ensures { row_given result ≡ row.now }
 {
     match row {
         Some(row) => GivenRow {
             is_there: true,
-            row,
+            row: row.as_slice(),
         },
         None => GivenRow {
             is_there: false,
@@ -105,6 +105,9 @@ fn is_change(is_kept: bool, before: Option<Requests>, after: Option<Requests>) -
     }
     let had = or_none(before);
     let has = or_none(after);
+    if had.bits() == has.bits() {
+        return false;
+    }
     is_gained(had, has) || is_gained(has, had)
 }
 
@@ -119,7 +122,7 @@ fn side(granted: Option<Requests>) -> Option<usize>
 }
 
 /// The change of a file with these rows for a user, if it is one.
-fn change_of(user: &PlacedUser, before: &GivenRow<'_>, after: &GivenRow<'_>) -> Option<Key>
+fn change_of(user: &PlacedUser, before: &GivenRow<'_>, after: &GivenRow<'_>) -> Option<Sides>
     ensures { result ≡ change_of (placed_of user.now).1 (row_given before.now, row_given after.now) }
 {
     let had = cell(before, user.before);
@@ -132,7 +135,7 @@ fn change_of(user: &PlacedUser, before: &GivenRow<'_>, after: &GivenRow<'_>) -> 
 }
 
 /// The place of the count of a key, if there is one.
-fn place_of(tallies: &[Tally<'_>], key: Key) -> usize {
+fn place_of(tallies: &[Tally<'_>], key: Sides) -> usize {
     let mut place = tallies.len();
     for at in 0..tallies.len() {
         if same_place(tallies[at].key.0, key.0) && same_place(tallies[at].key.1, key.1) {
@@ -219,6 +222,7 @@ fn count_rows<'a>(
 
 /// Counts so many files more with the rows of a key for each user, who all keep their places or may not.
 fn count_tally<'a>(
+    alloc: Global,
     users: &mut [UserGains<'a>],
     is_kept: bool,
     both: &BothClasses<'_>,
@@ -227,13 +231,24 @@ fn count_tally<'a>(
     requires kept { is_kept ≡ true → list_all keeps users.old ≡ true }
     ensures { OnOk result (AreCountedFor (rows_of_key (both_of both.now) tally.now.key) tally.now.count tally.now.first.now users.old users.new) }
 {
-    let before = given(both.row_before(tally.key.0));
-    let after = given(both.row_after(tally.key.1));
-    count_rows(users, is_kept, &before, &after, tally.count, tally.first)
+    if is_kept && both.keeps_row(tally.key) {
+        return Ok(());
+    }
+    let before = both.row_before(alloc, tally.key.0)?;
+    let after = both.row_after(alloc, tally.key.1)?;
+    count_rows(
+        users,
+        is_kept,
+        &given(&before),
+        &given(&after),
+        tally.count,
+        tally.first,
+    )
 }
 
 /// Counts the changes of each user, out of counts of files by classes.
 pub(crate) fn count_changes<'a>(
+    alloc: Global,
     users: &mut [UserGains<'a>],
     both: &BothClasses<'_>,
     tallies: &[Tally<'a>],
@@ -242,7 +257,7 @@ pub(crate) fn count_changes<'a>(
 {
     let is_kept = keep_places(users);
     for tally in tallies {
-        count_tally(users, is_kept, both, tally)?;
+        count_tally(alloc, users, is_kept, both, tally)?;
     }
     Ok(())
 }

@@ -93,7 +93,7 @@ there_kept tags_of k0 k keeps n is = let y = keeps n is.0 is.1 in (y.0, y.1.0)
 
 module _ {N : Type 0} (tags_of : N → List ℕ) (k0 k k3 : KindsOf N) (ns : Numbers) (sound : AreSound k0 ns) (keeps : KeepsTags tags_of k0 k)
     (nodes : (n : ℕ) → 0 < count_at k3 n → node_at k3 n ≡ node_at k n) where
-  -- where so many paths have a number as before, its node has the same tags
+  -- where the number of paths with a number is the same as before, its node has the same tags
   pub tags_kept : (n : ℕ) → count_at k3 n ≡ count_at k0 n → tags_at tags_of k3 n ≡ tags_at tags_of k0 n
   tags_kept n same = by (nat_lt 0 (count_at k0 n)) refl
     where

@@ -28,9 +28,6 @@ counted_more : (b : Bool) (c : ℕ) → cond b (c + 1) 0 ≡ cond b c 0 + cond b
 counted_more true c = refl
 counted_more false c = refl
 
-again : Met → Met
-again m = record m { count = m.count + 1 }
-
 before_again : (n : ℕ) (ms : List Met) (at : ℕ) (d : Met) → at < length ms
     → met_before n (set ms at (record (get_or ms at d) { count = (get_or ms at d).count + 1 })) ≡ met_before n ms + one_if n (get_or ms at d).old
 before_again n [] at d lt = absurd (omega arith)
@@ -162,20 +159,6 @@ module _ {N F : Type 0} (edit : NodeEdit N F) where
         news = λ n. after_more n met m ∙ ap (λ k. k + one_if n number) (h.news n) ∙ sym (one_more n puts (e.0, number));
         made = made_more before k' done puts e number one.node y (h.made ∙ ap (λ l. Ok l) (sym (entries_extend k k' puts ext h.used))) is_before one.makes is_after;
       }
-
-  pub none_edited : (k : KindsOf N) → AreEdited edit k [] k [] []
-  none_edited k = record {
-    extends = λ n x h. h;
-    counts = λ n. refl;
-    others = λ n none. refl;
-    known = tt;
-    paths = refl;
-    used = tt;
-    few = omega arith;
-    olds = λ n. refl;
-    news = λ n. refl;
-    made = refl;
-  }
 
   -- where an edit fails
   pub fails_at : (before k : KindsOf N) (done later puts : Numbers) (met : List Met) (e : PathOf × ℕ) (fault : (PathOf × F)) → AreEdited edit before done k met puts → IsNode before e.1

@@ -1,78 +1,22 @@
 -- Numbers given in turn: the nodes that they have, and the counts of their paths.
-use Rattle.std.proofs.Common.{◌≡◌, ℕ, Bool, true, false, ◌+◌, ◌<◌, cond, List, [], ◌∷◌, ◌++◌, Some, refl, sym, ap, subst, ◌∙◌, arith}
-use Rattle.std.specs.Prelude.{◌==◌}
+use Rattle.std.proofs.Common.{◌≡◌, ℕ, ◌+◌, List, [], ◌∷◌, ◌++◌, Some, sym, ap, subst, ◌∙◌, arith}
 use Rattle.std.specs.FinMap.{is_sorted}
-use Rattle.std.proofs.lemmas.List.{map-append}
 use Rattle.acl_names.specs.Paths.{path_cmp, PathOf}
 use Rattle.acl_names.proofs.Basics.{all_end}
 use Rattle.path_map.specs.Entries.{IsInOrder}
-use Rattle.kinds.specs.Kinds.{KindsOf, node_at, count_at, IsNode, Adds, Grants}
-use Rattle.kinds.specs.Numbered.{Numbers, entries_by, one_if, AreUsed, AreSound}
-use Rattle.kinds.specs.Inner.{Extends, HasNumber, CountsRun, GivesNumber, AddsBut, pending_at, AddsAll}
-use Rattle.kinds.proofs.Numbers.{eq_swap}
+use Rattle.kinds.specs.Kinds.{KindsOf, node_at, IsNode, Adds, Grants}
+use Rattle.kinds.specs.Numbered.{Numbers, entries_by, AreSound}
+use Rattle.kinds.specs.Inner.{Extends, HasNumber, CountsRun, GivesNumber, AddsBut, AddsAll}
 use Rattle.kinds.proofs.EntriesBy.{entry_first, entries_append, entries_extend, used_extend, adds_extends, adds_here, paths_with-append}
-use Rattle.kinds.proofs.Counts.{sorted_paths}
-use Rattle.kinds.proofs.Chosen.{sorted_same, paths_same}
-
-pub granted_one : (n at : ℕ) → cond (n == at) 1 0 ≡ one_if n at
-granted_one n at = ap (λ b. cond b 1 0) (eq_swap n at)
-
-pub one_pending_more : (n last p : ℕ) → pending_at n last (p + 1) ≡ pending_at n last p + one_if n last
-one_pending_more n last p = by (n == last) refl
-  where
-    by : (b : Bool) → (n == last) ≡ b → cond b (p + 1) 0 ≡ cond b p 0 + one_if n last
-    by true is = let one : one_if n last ≡ 1 = sym (granted_one n last) ∙ ap (λ b. cond b 1 0) is in omega (arith, one)
-    by false is = let one : one_if n last ≡ 0 = sym (granted_one n last) ∙ ap (λ b. cond b 1 0) is in omega (arith, one)
+use Rattle.kinds.proofs.Chosen.{sorted_same}
 
 module _ {N : Type 0} where
-  pub none_added : (k : KindsOf N) → AddsBut k [] k [] 0 0
-  none_added k = record {
-    extends = λ n x h. h;
-    counts = λ n. by (n == 0) (count_at k n);
-    used = tt;
-    made = refl;
-    there = λ lt. absurd (omega (arith, lt));
-  }
-    where
-      by : (b : Bool) (c : ℕ) → c + cond b 0 0 ≡ c + 0
-      by true c = refl
-      by false c = refl
-
-  -- no path more
-  pub grants_none : (k : KindsOf N) (at more : ℕ) → more ≡ 0 → Grants k at more k
-  grants_none k at more none = record {
-    nodes = λ n. refl;
-    counts = λ n. by (n == at) (count_at k n);
-  }
-    where
-      by : (b : Bool) (c : ℕ) → c ≡ c + cond b more 0
-      by true c = omega (arith, none)
-      by false c = omega arith
-
   pub added : (k k1 : KindsOf N) (x : N) (at : ℕ) → Adds k x at k1 → HasNumber k x at k1
   added k k1 x at adds = record {
     extends = adds_extends k k1 x at adds;
     counts = adds.counts;
     here = adds_here k k1 x at adds;
   }
-
-  pub run_more : (k : KindsOf N) (last pending number : ℕ) → number ≡ last → CountsRun k last pending number k (pending + 1)
-  run_more k last pending number same = subst (λ m. CountsRun k last pending m k (pending + 1)) (sym same) (record {
-    nodes = λ n. refl;
-    counts = λ n. let a = one_pending_more n last pending in omega (arith, a);
-  })
-
-  pub run_ends : (k k1 : KindsOf N) (last pending number : ℕ) → Grants k last pending k1 → CountsRun k last pending number k1 1
-  run_ends k k1 last pending number grants = record {
-    nodes = grants.nodes;
-    counts = λ n.
-        let a = grants.counts n in
-        let b = granted_one n number in
-        omega (arith, a, b);
-  }
-
-  pub there_given : (k k1 : KindsOf N) (x : N) (at last pending : ℕ) → (0 < pending → IsNode k last) → HasNumber k x at k1 → 0 < pending → IsNode k1 last
-  there_given k k1 x at last pending there one lt = let is = there lt in (is.0, one.extends last is.0 is.1)
 
   pub adds_more : (k0 k k1 k2 : KindsOf N) (puts : List (PathOf × N)) (entries : Numbers) (p : PathOf) (x : N) (at last pending count : ℕ)
       → AddsBut k0 puts k entries last pending → HasNumber k x at k1 → CountsRun k1 last pending at k2 count
@@ -129,13 +73,6 @@ module _ {N : Type 0} (k0 k k2 : KindsOf N) (entries : Numbers) (p : PathOf) (x 
 
   pub given_order : IsInOrder (entries_by k entries ++ (p, x) ∷ []) → IsInOrder (entries ++ (p, at) ∷ [])
   given_order order = sym (sorted_same k2 (entries ++ (p, at) ∷ []) more.used) ∙ ap (is_sorted path_cmp) given_entries ∙ order
-
--- the order of the paths does not depend on what they have
-pub order_more : {N : Type 0} (k : KindsOf N) (entries : Numbers) (p : PathOf) (at : ℕ) (x : N) → AreUsed k entries
-    → is_sorted path_cmp (entries ++ (p, at) ∷ []) ≡ is_sorted path_cmp (entries_by k entries ++ (p, x) ∷ [])
-order_more {N} k entries p at x used =
-    sorted_paths (entries ++ (p, at) ∷ []) (entries_by k entries ++ (p, x) ∷ [])
-    (map-append (λ e. e.0) entries ((p, at) ∷ []) ∙ ap (λ ps. ps ++ p ∷ []) (sym (paths_same k entries used)) ∙ sym (map-append (λ (e : PathOf × N). e.0) (entries_by k entries) ((p, x) ∷ [])))
 
 -- ---- all entries, of no map before
 

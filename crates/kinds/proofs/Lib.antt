@@ -31,4 +31,3 @@ pub mod SameNodes
 pub mod TagCounts
 pub mod OtherNumbers
 pub mod CountedPuts
-pub mod Outside

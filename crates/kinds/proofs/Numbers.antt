@@ -5,7 +5,7 @@ use Rattle.std.specs.Prelude.{◌==◌, nat_lt, slice_get, unwrap_or, if◌then�
 use Rattle.std.proofs.lemmas.Option.{slice_get_within}
 use Rattle.std.proofs.lemmas.List.{get_or_past, map-set, map-append, length-map}
 use Rattle.std.proofs.lemmas.Bool.Decides.{nat_tests}
-use Rattle.kinds.specs.Kinds.{kinds_of, IsNode, HasRoom, Adds, Grants, Releases}
+use Rattle.kinds.specs.Kinds.{kinds_of, HasRoom, Adds, Releases}
 
 pub eq_self : (n : ℕ) → (n == n) ≡ true
 eq_self n = grind (arith, nat_tests)
@@ -128,17 +128,6 @@ grown {N} slots x = record {
   counts = λ n. ap (λ l. get_or l n 0) (map-append (λ (s : Option N × ℕ). s.1) slots ((Some x, 0) ∷ [])) ∙ push_default (map (λ s. s.1) slots) n 0;
 }
 
-pub granted : {N : Type 0} (slots : List (Option N)) (counts : List ℕ) (at more count : ℕ) → at < length counts → count ≡ get_or counts at 0 + more
-    → Grants (slots, counts) at more (slots, set counts at count)
-granted slots counts at more count lt is = record {
-  nodes = λ n. refl;
-  counts = λ n. set_read counts at n count 0 lt ∙ by n (n == at) refl;
-}
-  where
-    by : (n : ℕ) (b : Bool) → (n == at) ≡ b → cond b count (get_or counts n 0) ≡ get_or counts n 0 + cond b more 0
-    by n true same = is ∙ ap (λ k. get_or counts k 0 + more) (sym (eq_true n at same))
-    by n false same = omega arith
-
 less_counts : (counts : List ℕ) (at fewer count : ℕ) → count ≡ get_or counts at 0 - fewer → (n : ℕ) → get_or (set counts at count) n 0 ≡ get_or counts n 0 - (if n == at then fewer else 0)
 less_counts counts at fewer count is n = by (nat_lt at (length counts)) refl (n == at) refl
   where
@@ -149,9 +138,6 @@ less_counts counts at fewer count is n = by (nat_lt at (length counts)) refl (n 
         let none : get_or counts n 0 ≡ 0 = ap (λ k. get_or counts k 0) (eq_true n at same) ∙ get_or_past counts at 0 (ltb-false _ _ ge) in
         set_none counts at n count 0 (ltb-false _ _ ge) ∙ omega arith
     by false ge false same = set_none counts at n count 0 (ltb-false _ _ ge) ∙ omega arith
-
-pub released : {N : Type 0} (slots : List (Option N)) (counts : List ℕ) (at fewer count : ℕ) → count ≡ get_or counts at 0 - fewer → Releases (slots, counts) at fewer (slots, set counts at count)
-released slots counts at fewer count is = record { nodes = λ n _. refl; counts = less_counts counts at fewer count is }
 
 pub freed : {N : Type 0} (slots : List (Option N)) (counts : List ℕ) (at fewer count : ℕ) → count ≡ get_or counts at 0 - fewer → get_or counts at 0 ≤ fewer
     → Releases (slots, counts) at fewer (set slots at None, set counts at count)
@@ -166,10 +152,6 @@ freed slots counts at fewer count is le = record { nodes = λ n lt. kept n lt; c
 -- a slot that is free
 pub freed_at : {N : Type 0} (slots : List (Option N × ℕ)) (at : ℕ) → kinds_of (set slots at (None, 0)) ≡ (set (kinds_of slots).0 at None, set (kinds_of slots).1 at 0)
 freed_at {N} slots at = λ i. (map-set (λ (s : Option N × ℕ). s.0) slots at (None, 0) i, map-set (λ (s : Option N × ℕ). s.1) slots at (None, 0) i)
-
--- numbers of nodes are among the counts
-pub counted_within : {N : Type 0} (slots : List (Option N × ℕ)) (n : ℕ) → IsNode (kinds_of slots) n → n < length (kinds_of slots).1
-counted_within slots n is = let lt = node_within (kinds_of slots).0 n is.0 is.1 in omega (arith, lt, room slots)
 
 pub eq_swap : (n m : ℕ) → (n == m) ≡ (m == n)
 eq_swap n m = by (n == m) refl (m == n) refl

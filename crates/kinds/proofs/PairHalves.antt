@@ -1,5 +1,5 @@
 -- Parts in two halves: what is in each of them, and in both.
-use Rattle.std.proofs.Common.{◌≡◌, ℕ, ◌+◌, ◌<◌, ◌≤◌, List, [], ◌∷◌, ◌++◌, length, map, get_or, take, drop, flat_map, refl, sym, ap, subst, ◌∙◌, arith}
+use Rattle.std.proofs.Common.{◌≡◌, ℕ, ◌+◌, ◌<◌, List, [], ◌∷◌, ◌++◌, length, map, get_or, take, drop, flat_map, refl, sym, ap, subst, ◌∙◌, arith}
 use Rattle.std.proofs.Common.{append_assoc, append-nil, take-append-drop}
 use Rattle.std.specs.List.{AllZip}
 use Rattle.std.proofs.lemmas.Grind.{flat_map-append}
@@ -59,11 +59,6 @@ module _ {A : Type 0} (f : A → List Pair) where
     pub changed_in_both : (cs first last : List Change) → AreSplit m first last cs → changed first (flat_map f left) ++ changed last (flat_map f right) ≡ changed cs (flat_map f parts)
     changed_in_both cs first last s =
         sym (changed_join m first last (flat_map f left) (flat_map f right) s.before s.from h.before h.from) ∙ (λ i. changed (s.joined i) (h.joined i))
-
-  pub one_part : (parts : List A) (part : A) → 1 ≤ length parts → length parts < 2 → part ≡ get_or parts 0 part → flat_map f parts ≡ f part
-  one_part [] part some few is = absurd (omega arith)
-  one_part (x ∷ []) part some few is = append-nil (f x) ∙ ap f (sym is)
-  one_part (x ∷ y ∷ parts) part some few is = absurd (omega arith)
 
   pub no_part : (parts : List A) → length parts ≡ 0 → flat_map f parts ≡ []
   no_part [] is = refl

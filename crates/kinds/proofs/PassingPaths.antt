@@ -1,12 +1,11 @@
 -- Paths whose nodes pass a test, by a table of the numbers.
-use Rattle.std.proofs.Common.{◌≡◌, ℕ, zero, suc, ◌+◌, ◌<◌, Bool, true, false, cond, List, [], ◌∷◌, ◌++◌, length, map, take, get_or, Option, None, refl, sym, ap, ◌∙◌}
+use Rattle.std.proofs.Common.{◌≡◌, ℕ, zero, suc, Bool, true, false, cond, List, [], ◌∷◌, map, get_or, Option, None, refl, sym, ap, ◌∙◌}
 use Rattle.std.specs.Prelude.{filter}
 use Rattle.acl_names.specs.Paths.{PathOf}
-use Rattle.kinds.specs.Kinds.{KindsOf, node_at}
+use Rattle.kinds.specs.Kinds.{KindsOf}
 use Rattle.kinds.specs.Numbered.{Numbers, entries_by, AreUsed}
 use Rattle.kinds.specs.Passing.{passed}
-use Rattle.kinds.proofs.EntriesBy.{entry_first, items_more}
-use Rattle.kinds.proofs.InBlocks.{any_default}
+use Rattle.kinds.proofs.EntriesBy.{entry_first}
 
 pub table_read : {A : Type 0} (g : Option A → Bool) → g None ≡ false → (xs : List (Option A)) (n : ℕ) → get_or (map g xs) n false ≡ g (get_or xs n None)
 table_read g none [] n = sym none
@@ -14,12 +13,6 @@ table_read g none (x ∷ xs) zero = refl
 table_read g none (x ∷ xs) (suc n) = table_read g none xs n
 
 module _ {N : Type 0} (test : N → Bool) (k : KindsOf N) where
-  -- one number more
-  pub table_more : (n : ℕ) (b : Bool) → n < length k.0 → b ≡ passed test (node_at k n) → map (passed test) (take (n + 1) k.0) ≡ map (passed test) (take n k.0) ++ b ∷ []
-  table_more n b lt is =
-      items_more (passed test) k.0 n (node_at k n) lt (any_default k.0 n None (node_at k n) lt)
-      ∙ ap (λ c. map (passed test) (take n k.0) ++ c ∷ []) (sym is)
-
   -- the paths that the table gives are those of the entries that pass
   pub paths_passing : (ns : Numbers) → AreUsed k ns → map (λ e. e.0) (filter (λ e. get_or (map (passed test) k.0) e.1 false) ns) ≡ map (λ e. e.0) (filter (λ e. test e.1) (entries_by k ns))
   paths_passing [] used = refl

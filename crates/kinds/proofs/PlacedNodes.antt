@@ -26,14 +26,6 @@ all_places P [] d h = tt
 all_places P (x ∷ xs) d h = (h 0 (omega arith), all_places P xs d (λ i lt. h (suc i) (omega (arith, lt))))
 
 module _ {N : Type 0} where
-  pub nodes_none : (k : KindsOf N) → AddsNodes k [] [] k
-  nodes_none k = record {
-    extends = λ n x h. h;
-    counts = λ n. refl;
-    long = refl;
-    here = λ i x h. cc;
-  }
-
   -- a node more that has a number
   number_more : (k0 k k1 : KindsOf N) (nodes : List (Option N)) (numbers : List ℕ) (o : Option N) (at : ℕ) → AddsNodes k0 nodes numbers k
       → Extends k k1 → ((n : ℕ) → count_at k1 n ≡ count_at k n) → ((x : N) → o ≡ Some x → node_at k1 at ≡ Some x) → AddsNodes k0 (nodes ++ o ∷ []) (numbers ++ at ∷ []) k1

@@ -1,6 +1,5 @@
 -- Entries put among those of a map, and others removed: their numbers have nodes, and the counts of their paths.
-use Rattle.std.proofs.Common.{◌≡◌, ℕ, Bool, true, false, ◌+◌, ◌-◌, ◌<◌, not, cond, List, [], ◌∷◌, ◌++◌, Option, Some, None, refl, sym, subst, ◌∙◌, arith}
-use Rattle.std.specs.Prelude.{◌==◌}
+use Rattle.std.proofs.Common.{◌≡◌, ℕ, ◌+◌, ◌-◌, ◌<◌, not, List, [], ◌∷◌, ◌++◌, Option, ◌∙◌, arith}
 use Rattle.acl_names.specs.Paths.{PathOf}
 use Rattle.path_map.specs.Entries.{IsInOrder, found}
 use Rattle.path_map.specs.Merged.{has, put_all, without_all}
@@ -8,7 +7,6 @@ use Rattle.path_map.proofs.Merges.{in_order-put_all}
 use Rattle.kinds.specs.Kinds.{KindsOf, count_at, Releases}
 use Rattle.kinds.specs.Numbered.{Numbers, entries_by, paths_with, AreUsed, AreSound}
 use Rattle.kinds.specs.Inner.{AddsAll, ReleasesAll, ReleasesRun, ReleasesBut, found_if, found_with}
-use Rattle.kinds.proofs.InTurn.{granted_one, one_pending_more}
 use Rattle.kinds.proofs.EntriesBy.{entries_extend, used_extend}
 use Rattle.kinds.proofs.Counts.{count_put_all, entries_put_all, used_put_all, kept_entries, kept_used}
 use Rattle.kinds.proofs.Chosen.{in_order-filter, entries_filter, used_filter}
@@ -19,50 +17,6 @@ found_more n [] o = omega arith
 found_more n (x ∷ os) o = let h = found_more n os o in omega (arith, h)
 
 module _ {N : Type 0} where
-  pub releases_none : (k : KindsOf N) (last : ℕ) → Releases k last 0 k
-  releases_none k last = record {
-    nodes = λ n lt. refl;
-    counts = λ n. by (n == last) (count_at k n);
-  }
-    where
-      by : (b : Bool) (m : ℕ) → m ≡ m - cond b 0 0
-      by true m = omega arith
-      by false m = omega arith
-
-  pub none_released : (k : KindsOf N) → ReleasesBut k [] k 0 0
-  none_released k = record {
-    nodes = λ n lt. refl;
-    counts = λ n. by (n == 0) (count_at k n);
-  }
-    where
-      by : (b : Bool) (m : ℕ) → m - cond b 0 0 ≡ m - 0
-      by true m = omega arith
-      by false m = omega arith
-
-  pub run_passed : (k : KindsOf N) (last pending : ℕ) → ReleasesRun k last pending None k last pending
-  run_passed k last pending = record {
-    nodes = λ n lt. refl;
-    fewer = λ n. omega arith;
-    counts = λ n. omega arith;
-  }
-
-  pub run_longer : (k : KindsOf N) (last pending number : ℕ) → number ≡ last → ReleasesRun k last pending (Some number) k number (pending + 1)
-  run_longer k last pending number same = subst (λ m. ReleasesRun k last pending (Some m) k m (pending + 1)) (sym same) (record {
-    nodes = λ n lt. refl;
-    fewer = λ n. omega arith;
-    counts = λ n. let a = one_pending_more n last pending in omega (arith, a);
-  })
-
-  pub run_begins : (k k1 : KindsOf N) (last pending number : ℕ) → Releases k last pending k1 → ReleasesRun k last pending (Some number) k1 number 1
-  run_begins k k1 last pending number releases = record {
-    nodes = releases.nodes;
-    fewer = λ n. let a = releases.counts n in omega (arith, a);
-    counts = λ n.
-        let a = releases.counts n in
-        let b = granted_one n number in
-        omega (arith, a, b);
-  }
-
   -- one path more has its number no longer
   pub releases_more : (k0 k k1 : KindsOf N) (os : List (Option ℕ)) (o : Option ℕ) (last pending number count : ℕ) → ReleasesBut k0 os k last pending → ReleasesRun k last pending o k1 number count
       → ReleasesBut k0 (os ++ o ∷ []) k1 number count

@@ -9,18 +9,12 @@ use Rattle.kinds.specs.declared.memo.Met.{Met}
 use Rattle.kinds.specs.Kinds.{KindsOf, node_at, count_at, IsNode}
 use Rattle.kinds.specs.Numbered.{Numbers, entries_by, paths_with, AreUsed, AreSound}
 use Rattle.kinds.specs.Inner.{AreAmong}
-use Rattle.kinds.specs.Memo.{NodeEdit, edit_each, AreEdited, ArePut, IsEdited, Moves, GrantsMet, ReleasesMet}
+use Rattle.kinds.specs.Memo.{NodeEdit, edit_each, AreEdited, ArePut, IsEdited, Moves}
 use Rattle.kinds.proofs.EntriesBy.{all_weaker, entries_same, entries_extend, used_extend}
 use Rattle.kinds.proofs.Replaced.{there, put_all_there, puts_counted, used_same}
 use Rattle.kinds.proofs.Counts.{count_put_all, found_among, sorted_paths, used_put_all, entries_put_all, kept_entries, kept_used}
 
 module _ {N : Type 0} where
-  pub moved : (k0 k1 k2 : KindsOf N) (met : List Met) → GrantsMet k0 met k1 → ReleasesMet k1 met k2 → Moves k0 met k2
-  moved k0 k1 k2 met g r = record {
-    nodes = λ n lt. r.nodes n lt ∙ g.nodes n;
-    counts = λ n. let a = r.counts n in let b = g.counts n in omega (arith, a, b);
-  }
-
   -- the new numbers of those that were seen have nodes
   pub met_used : {F : Type 0} (edit : NodeEdit N F) (k0 k1 : KindsOf N) (met : List Met) → AllByRecursion (λ m. IsEdited edit k0 k1 m.old m.new) met → AllByRecursion (λ m. IsNode k1 m.new) met
   met_used edit k0 k1 met h = all_weaker (λ m. IsEdited edit k0 k1 m.old m.new) (λ m. IsNode k1 m.new) (λ m h. (h.edited, h.is_after)) met h

@@ -13,7 +13,7 @@ use Rattle.std.proofs.lemmas.Map.Keys.{sorted_from_strictly_increasing}
 use Rattle.acl_names.proofs.Basics.{times_one, times_none}
 use Rattle.kinds.specs.declared.pairs.pair.Pair.{Pair}
 use Rattle.kinds.specs.PairSets.{has, seconds_of, tagged_pairs}
-use Rattle.kinds.specs.Kinds.{KindsOf, node_at, count_at, IsNode}
+use Rattle.kinds.specs.Kinds.{KindsOf, node_at, count_at}
 use Rattle.kinds.specs.Given.{used_at}
 use Rattle.kinds.specs.Numbered.{Numbers, entries_by, AreSound}
 use Rattle.kinds.specs.Renewed.{one_where, changed_where, weight_at, weight_before, Renews}
@@ -29,9 +29,6 @@ or_false true = refl
 or_false false = refl
 
 -- ---- some numbers
-
-pub one_more : (n : ℕ) (xs : List ℕ) (i : ℕ) (d : ℕ) → i < length xs → is_one n (take (i + 1) xs) ≡ (is_one n (take i xs) || ((get_or xs i d == n) || false))
-one_more n xs i d lt = ap (is_one n) (take_more xs i d lt) ∙ list_any-append (λ m. m == n) (take i xs) (get_or xs i d ∷ [])
 
 pub all_one : (P : ℕ → Type 0) (xs : List ℕ) → ((n : ℕ) → is_one n xs ≡ true → P n) → AllByRecursion P xs
 all_one P [] h = tt
@@ -63,7 +60,7 @@ any_none : {A : Type 0} (xs : List A) → list_any (λ x. false) xs ≡ false
 any_none [] = refl
 any_none (x ∷ xs) = any_none xs
 
--- whether some of these are some of those, asked for one after another of those
+-- whether some of these are some of those, by a search for each of those
 pub meets_swap : (xs ys : List ℕ) → list_any (λ y. is_one y xs) ys ≡ meets xs ys
 meets_swap xs [] = sym (any_none xs)
 meets_swap xs (y ∷ ys) =
@@ -350,14 +347,6 @@ module _ {N : Type 0} (tags_of : N → List ℕ) where
 
         pub no_files : length numbers ≡ 0 → count_by (λ (e : PathOf × N). wants e.1) (entries_by k ns) ≡ 0
         no_files none = sym counts_all ∙ tagged_none none
-
-  -- a number that had a node has one, as some nodes become others
-  pub node_tagged : (f : N → N) (wanted : List ℕ) (old new : KindsOf N) → ChangesTagged f tags_of wanted old new → (n : ℕ) → IsNode old n → IsNode new n
-  node_tagged f wanted old new h n there = by (meets (tags_at tags_of old n) wanted) (h.nodes n)
-    where
-      by : (b : Bool) → node_at new n ≡ cond b (option_map f (node_at old n)) (node_at old n) → IsNode new n
-      by true is = (f there.0, is ∙ ap (option_map f) there.1)
-      by false is = (there.0, is ∙ there.1)
 
   -- where no path is, there are no pairs
   pub no_pairs : (k : KindsOf N) (ns : Numbers) → AreSound k ns → entries_by k ns ≡ [] → AreTagsOf tags_of k []

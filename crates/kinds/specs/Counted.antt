@@ -9,17 +9,17 @@ pub record CountsOne (old : List ℕ) (number : Option ℕ) (new : List ℕ) : T
   pub long : length new ≡ length old
   pub counts : (n : ℕ) → n < length old → get_or new n 0 ≡ get_or old n 0 + found_if n number
 
--- how many of some paths, that were looked up, have each of so many numbers
+-- a table has, for each number below `numbers`, how many looked-up paths have it
 pub record CountsFound (numbers : ℕ) (found : List (Option ℕ)) (table : List ℕ) : Type 0 where
   pub long : length table ≡ numbers
   pub counts : (n : ℕ) → n < numbers → get_or table n 0 ≡ found_with n found
 
--- for each number so many paths have it no longer
+-- each number has fewer paths, by the table `fewer`
 pub record ReleasesEach {N : Type 0} (old : KindsOf N) (fewer : List ℕ) (new : KindsOf N) : Type 0 where
   pub nodes : (n : ℕ) → 0 < count_at new n → node_at new n ≡ node_at old n
   pub counts : (n : ℕ) → count_at new n ≡ count_at old n - get_or fewer n 0
 
--- how many of some paths have each of so many numbers
+-- a table has, for each number below `numbers`, how many paths of entries have it
 pub record CountsPaths (numbers : ℕ) (entries : Numbers) (table : List ℕ) : Type 0 where
   pub long : length table ≡ numbers
   pub counts : (n : ℕ) → n < numbers → get_or table n 0 ≡ paths_with n entries
@@ -28,7 +28,7 @@ pub record CountsPaths (numbers : ℕ) (entries : Numbers) (table : List ℕ) : 
 abbrev pub AreNodes : {N : Type 0} → KindsOf N → List ℕ → Type 0
 AreNodes k table = (n : ℕ) → 0 < get_or table n 0 → IsNode k n
 
--- for each number so many paths more have it
+-- each number has more paths, by the table `more`
 pub record GrantsEach {N : Type 0} (old : KindsOf N) (more : List ℕ) (new : KindsOf N) : Type 0 where
   pub nodes : (n : ℕ) → node_at new n ≡ node_at old n
   pub counts : (n : ℕ) → count_at new n ≡ count_at old n + get_or more n 0

@@ -45,16 +45,16 @@ pub record HasNumber {N : Type 0} (old : KindsOf N) (x : N) (at : ℕ) (new : Ki
   pub counts : (n : ℕ) → count_at new n ≡ count_at old n
   pub here : node_at new at ≡ Some x
 
--- so many paths have a number and are not counted
+-- the number of paths with the number n that are not counted: pending, if n is the last number
 abbrev pub pending_at : ℕ → ℕ → ℕ → ℕ
 pending_at n last pending = if n == last then pending else 0
 
--- one path more has a number: so many are not counted, where they were so many of another one
+-- one path more has a number: `count` of its paths are not counted, where `pending` paths of the last number were not
 pub record CountsRun {N : Type 0} (old : KindsOf N) (last pending number : ℕ) (new : KindsOf N) (count : ℕ) : Type 0 where
   pub nodes : (n : ℕ) → node_at new n ≡ node_at old n
   pub counts : (n : ℕ) → count_at new n + pending_at n number count ≡ (count_at old n + pending_at n last pending) + one_if n number
 
--- a number for one path more, and so many paths that got it and are not counted, where they were so many of another one
+-- a number for one path more: `count` of the paths that got it are not counted, where `pending` paths of the last number were not
 pub record GivesNumber {N : Type 0} (old : KindsOf N) (last pending : ℕ) (x : N) (number : ℕ) (new : KindsOf N) (count : ℕ) : Type 0 where
   pub between : KindsOf N
   pub has : HasNumber old x number between
@@ -68,7 +68,8 @@ pub record AddsBut {N : Type 0} (old : KindsOf N) (puts : List (PathOf × N)) (n
   pub made : entries_by new entries ≡ puts
   pub there : 0 < pending → IsNode new last
 
--- one path that was looked up has its number no longer: so many are counted still, where they were so many of another one
+-- one path that was looked up has its number no longer: `count` of the paths that lost it are still counted, where `pending`
+-- paths of the last number were
 pub record ReleasesRun {N : Type 0} (old : KindsOf N) (last pending : ℕ) (found : Option ℕ) (new : KindsOf N) (number count : ℕ) : Type 0 where
   pub nodes : (n : ℕ) → 0 < count_at new n → node_at new n ≡ node_at old n
   pub fewer : (n : ℕ) → count_at new n ≤ count_at old n

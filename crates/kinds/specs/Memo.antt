@@ -59,7 +59,7 @@ pub record AreEdited {N F : Type 0} (edit : NodeEdit N F) (before : KindsOf N) (
   pub news : (n : ℕ) → met_after n met ≡ paths_with n puts
   pub made : edit_each edit (entries_by before done) ≡ Ok (entries_by after puts)
 
--- where so many were edited, one more was
+-- where some entries were edited, one more was
 abbrev pub EditsOneMore : {N F : Type 0} → NodeEdit N F → PathOf × ℕ → KindsOf N → List Met → Numbers → KindsOf N → List Met → Numbers → Type 0
 EditsOneMore {N} edit e k met puts k' met' puts' =
     (before : KindsOf N) (done : Numbers) → IsNode before e.1 → AreEdited edit before done k met puts → AreEdited edit before (done ++ e ∷ []) k' met' puts'

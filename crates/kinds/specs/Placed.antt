@@ -25,7 +25,7 @@ AreGiven {N} k nodes = AllByRecursion (λ node. (x : N) × (given k node ≡ Som
 abbrev pub IsOfEntry : {N : Type 0} → N → List (PathOf × N) → Type 0
 IsOfEntry x es = (at : ℕ) × (slice_get (map (λ e. e.1) es) at ≡ Some x)
 
--- each place is one of so many
+-- each place is below n
 abbrev pub ArePlaces : ℕ → Numbers → Type 0
 ArePlaces n es = AllByRecursion (λ e. e.1 < n) es
 

@@ -23,7 +23,7 @@ changed_where test f x = if test x then f x else x
 
 -- ---- by numbers; for inner functions
 
--- what a node becomes, if so many paths are some
+-- what a node becomes, if at least one path has it
 abbrev pub renewed_if : {N M : Type 0} → (N → M) → Option N → ℕ → Option M
 renewed_if f None paths = None
 renewed_if f (Some x) paths = if nat_lt 0 paths then Some (f x) else None

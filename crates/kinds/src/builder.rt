@@ -1,8 +1,6 @@
 //! A map built of entries that come in path order: nodes that are the same get one number.
 
 ghost use Rattle.std.specs.Prelude.{◌≡◌, ◌++◌, ◌∷◌, [], IfOk};
-ghost use Rattle.std.specs.FinMap.{is_sorted};
-ghost use Rattle.acl_names.specs.Paths.{path_cmp};
 ghost use Rattle.path_map.specs.Entries.{IsInOrder};
 ghost use Rattle.kinds.specs.Numbered.{entries_in};
 
@@ -43,13 +41,6 @@ impl<N> KindMapBuilder<N> {
             numbering: Numbering::new(alloc, Kinds::new(alloc)),
             numbers: PathMapBuilder::new(alloc),
         }
-    }
-
-    /// Whether a path is after those of all entries so far: then `push` takes it. Allocates nothing.
-    pub fn takes(&self, path: &Path) -> bool
-        ensures { (node : N) → result ≡ is_sorted path_cmp (self.now ++ (path.now, node) ∷ []) }
-    {
-        self.numbers.takes(path)
     }
 }
 

@@ -28,7 +28,7 @@ fn count_one(counts: &mut Vec<usize>, number: Option<usize>) -> Result<(), Alloc
     Ok(())
 }
 
-/// How many of some paths, that were looked up, have each of so many numbers.
+/// Counts, for each number below `numbers`, the looked-up paths that have it.
 pub(crate) fn counts_found(
     alloc: Global,
     numbers: usize,
@@ -43,7 +43,7 @@ pub(crate) fn counts_found(
     Ok(counts)
 }
 
-/// How many of some paths have each of so many numbers.
+/// Counts, for each number below `numbers`, the paths of entries that have it.
 pub(crate) fn counts_of(
     alloc: Global,
     numbers: usize,

@@ -186,7 +186,7 @@ impl<N: Drop> Kinds<N> {
         Ok((kinds, number))
     }
 
-    /// So many files more have a number. Fails only if memory runs out, or if they are more than can be counted.
+    /// Counts `more` files more for a number. Fails only if memory runs out, or if they are more than can be counted.
     pub fn grant(self, number: usize, more: usize) -> Result<Kinds<N>, AllocError>
         requires { IsNode self number }
         ensures { IfOk result (λ new. Grants self number more new) }
@@ -199,7 +199,7 @@ impl<N: Drop> Kinds<N> {
         Ok(Kinds { slots, free })
     }
 
-    /// So many files fewer have a number; where there are no more, its node is gone, and it is free. Fails only if memory
+    /// Counts `fewer` files fewer for a number; where there are no more, its node is gone, and it is free. Fails only if memory
     /// runs out.
     pub fn release(self, number: usize, fewer: usize) -> Result<Kinds<N>, AllocError>
         ensures { IfOk result (λ new. Releases self number fewer new) }

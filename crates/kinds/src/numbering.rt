@@ -131,8 +131,8 @@ fn is_looked_for(marks: &Marks) -> bool {
     marks.missed < MANY || marks.missed % SELDOM == 0
 }
 
-/// The number of a node: the one that was given last, where so many paths got it; or one by its mark; or a new one. No path
-/// is counted.
+/// Finds the number of a node: `last`, the one that was given last, to `pending` paths; or one by its mark; or a new one.
+/// Counts no path.
 fn number_for<N: Drop, L: Likeness<N>>(
     alloc: Global,
     kinds: Kinds<N>,
@@ -158,7 +158,7 @@ fn number_for<N: Drop, L: Likeness<N>>(
     number_noted(alloc, kinds, marks, node, likeness)
 }
 
-/// So many paths more have a number, if any.
+/// Counts `more` paths more for a number, if `more` is not 0.
 fn grant_if<N: Drop>(kinds: Kinds<N>, number: usize, more: usize) -> Result<Kinds<N>, AllocError>
     requires { 0 < more → IsNode kinds number }
     ensures { IfOk result (λ new. Grants kinds number more new) }
@@ -169,7 +169,7 @@ fn grant_if<N: Drop>(kinds: Kinds<N>, number: usize, more: usize) -> Result<Kind
     kinds.grant(number, more)
 }
 
-/// For each number so many paths more have it.
+/// Counts, for each number, as many paths more as `counts` has at the place of the number.
 pub(crate) fn grant_each<N: Drop>(kinds: Kinds<N>, counts: &[usize]) -> Result<Kinds<N>, AllocError>
     requires { AreNodes kinds counts.now }
     ensures { IfOk result (λ new. GrantsEach kinds counts.now new) }
@@ -181,7 +181,8 @@ pub(crate) fn grant_each<N: Drop>(kinds: Kinds<N>, counts: &[usize]) -> Result<K
     Ok(kinds)
 }
 
-/// One path more has a number, after a run of paths that have one and are not counted yet: so many are not, of this number.
+/// Adds one path with the number `number`, after a run of `pending` paths with the number `last` that are not counted yet. Returns
+/// how many paths of `number` are not counted yet.
 fn count_run<N: Drop>(
     kinds: Kinds<N>,
     last: usize,

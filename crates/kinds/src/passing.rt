@@ -63,17 +63,6 @@ fn paths_of<'a>(
 }
 
 impl<N> KindMap<N> {
-    /// For each number whether it has a node that passes a test: each kind is tested once. Fails only if memory runs out.
-    pub fn table_where<T: KindTest<N>>(
-        &self,
-        alloc: Global,
-        test: &T,
-    ) -> Result<Vec<bool>, AllocError>
-        ensures { IfOk result (λ table. table.items ≡ map (passed (T.passes test.now)) self.now.0.0) }
-    {
-        table_of(alloc, self.kinds(), test)
-    }
-
     /// The paths whose nodes pass a test, in path order: each kind is tested once. Fails only if memory runs out.
     pub fn paths_where<T: KindTest<N>>(
         &self,

@@ -9,7 +9,7 @@ use crate::counted::counts_found;
 use crate::kinds::Kinds;
 use std::alloc::{AllocError, Global};
 
-/// So many paths have a number no longer, if any.
+/// Counts `fewer` paths fewer for a number, if `fewer` is not 0.
 fn release_if<N: Drop>(kinds: Kinds<N>, number: usize, fewer: usize) -> Result<Kinds<N>, AllocError>
     ensures { IfOk result (λ new. Releases kinds number fewer new) }
 {
@@ -19,8 +19,8 @@ fn release_if<N: Drop>(kinds: Kinds<N>, number: usize, fewer: usize) -> Result<K
     kinds.release(number, fewer)
 }
 
-/// A path that was looked up has its number no longer, after a run of paths of one number that are counted still: so many
-/// are, of this number.
+/// Takes the number of a path away that was looked up, after a run of `pending` paths of the number `last` that are still
+/// counted. Returns the number of the run that follows, and how many of its paths are still counted.
 fn release_run<N: Drop>(
     kinds: Kinds<N>,
     last: usize,
@@ -56,7 +56,7 @@ fn release_runs<N: Drop>(kinds: Kinds<N>, found: &[Option<usize>]) -> Result<Kin
     Ok(kinds)
 }
 
-/// For each number so many paths have it no longer.
+/// Takes each number away from as many paths as `counts` has at the place of the number.
 fn release_each<N: Drop>(kinds: Kinds<N>, counts: &[usize]) -> Result<Kinds<N>, AllocError>
     ensures { IfOk result (λ new. ReleasesEach kinds counts.now new) }
 {

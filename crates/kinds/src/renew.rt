@@ -21,7 +21,7 @@ pub trait Renewal<N, M, S> {
     /// Whether just this counts; else it may be less.
     ghost is_exact: { Bool };
 
-    /// What a node becomes that so many paths have. Fails only if memory runs out.
+    /// Makes what a node becomes, which `paths` paths have. Fails only if memory runs out.
     fn renew(&self, alloc: Global, state: &mut S, node: &N, paths: usize) -> Result<M, AllocError>
         requires some { 0 < paths }
         requires room { counted state.old + paths * weight self.now node.now < 2 ^ 64 }

@@ -76,8 +76,10 @@ impl<N: Drop> KindMap<N> {
         Ok(map)
     }
 
-    /// The map of `put_counted`, and the numbers that the paths had: those that are gone, and then those that are put and are
-    /// not gone.
+    /// The map where some paths have other numbers, which are counted, and others are gone, and the numbers that the paths had:
+    /// those that are gone, and then those that are put and are not gone. Both lists are in path order, and a path in both is put.
+    /// Of `kinds` some nodes are others than before and some were added, but none is gone. This map stays as it is. Fails only if
+    /// memory runs out, or if paths are more than can be counted.
     pub(crate) fn put_found(
         &self,
         alloc: Global,
@@ -100,26 +102,5 @@ impl<N: Drop> KindMap<N> {
         let kinds = release_all(alloc, left, &put_found)?;
         let map = KindMap::of(alloc, kinds, numbers)?;
         Ok((map, gone_found, put_found))
-    }
-
-    /// The map where some paths have other numbers, which are counted, and others are gone; both lists are in path order, and a
-    /// path in both is put. Of `kinds` some nodes are others than before and some were added, but none is gone. This map stays as
-    /// it is. Fails only if memory runs out, or if paths are more than can be counted.
-    pub fn put_counted(
-        &self,
-        alloc: Global,
-        kinds: Kinds<N>,
-        puts: &[(&Path, usize)],
-        gone: &[(&Path, usize)],
-    ) -> Result<KindMap<N>, AllocError>
-        requires there { (n : ℕ) → IsNode self.now.0 n → IsNode kinds n }
-        requires counts { (n : ℕ) → count_at kinds n ≡ count_at self.now.0 n }
-        requires used { AreUsed kinds (map seen puts.now) }
-        requires puts { IsInOrder (map seen puts.now) }
-        requires gone { IsInOrder (map seen gone.now) }
-        ensures { IfOk result (λ new. IsPut self.now kinds (map seen puts.now) (map seen gone.now) new) }
-    {
-        let (map, _gone_found, _put_found) = self.put_found(alloc, kinds, puts, gone)?;
-        Ok(map)
     }
 }

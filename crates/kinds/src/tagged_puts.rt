@@ -24,7 +24,7 @@ fn numbers_of(alloc: Global, entries: &[(&Path, usize)]) -> Result<Vec<usize>, A
 }
 
 impl<N: Tagged + Drop> TaggedMap<N> {
-    /// The map of [`KindMap::put_counted`], where a number that had a node has one with the same tags. Only the tags of numbers
+    /// The map of [`KindMap::put_found`], where a number that had a node has one with the same tags. Only the tags of numbers
     /// that paths got or lost are compared. Fails only if memory, or the numbers, run out, or if paths are more than can be
     /// counted.
     pub fn put_counted(

@@ -1,16 +1,12 @@
-//! What a map with tags is asked: all of that is the map's.
+//! Reads of a map with tags, all by the map.
 
-ghost use Rattle.std.specs.Prelude.{◌≡◌, ◌<◌, false, map, filter, length, option_map, IfOk};
+ghost use Rattle.std.specs.Prelude.{◌≡◌, ◌<◌, map, filter, length, IfOk};
 ghost use Rattle.std.specs.Option.{option_copied};
 ghost use Rattle.std.specs.FinMap.{find};
 ghost use Rattle.acl_names.specs.Paths.{path_cmp};
 ghost use Rattle.path_map.specs.Entries.{IsInOrder};
-ghost use Rattle.path_map.specs.Below.{from, nearest_above};
 ghost use Rattle.kinds.specs.Numbered.{AreSound, entries_in};
-ghost use Rattle.kinds.specs.Passing.{passed};
-ghost use Rattle.kinds.specs.Puts.{borrowed};
 
-use crate::iter::KindsIter;
 use crate::kinds::Kinds;
 use crate::renew::KindTest;
 use crate::tagged::{Tagged, TaggedMap};
@@ -55,38 +51,6 @@ impl<N: Tagged> TaggedMap<N> {
         ensures { option_copied result ≡ find path_cmp path.now (entries_in self.now) }
     {
         self.map().get(path)
-    }
-
-    /// The entries in path order. Allocates nothing.
-    pub fn iter(&self) -> KindsIter<'_, N>
-        ensures { result ≡ entries_in self.now }
-    {
-        self.map().iter()
-    }
-
-    /// The entries that are not before a path. Allocates nothing.
-    pub fn from(&self, path: &Path) -> KindsIter<'_, N>
-        ensures { result ≡ from path.now (entries_in self.now) }
-    {
-        self.map().from(path)
-    }
-
-    /// The nearest entry above a path, if there is one: a search for each entry between. Allocates nothing.
-    pub fn nearest_above(&self, path: &Path) -> Option<(&Path, &N)>
-        ensures { option_map borrowed result ≡ nearest_above path.now (entries_in self.now) }
-    {
-        self.map().nearest_above(path)
-    }
-
-    /// For each number whether it has a node that passes a test: each kind is tested once. Fails only if memory runs out.
-    pub fn table_where<T: KindTest<N>>(
-        &self,
-        alloc: Global,
-        test: &T,
-    ) -> Result<Vec<bool>, AllocError>
-        ensures { IfOk result (λ table. table.items ≡ map (passed (T.passes test.now)) self.now.0.0) }
-    {
-        self.map().table_where(alloc, test)
     }
 
     /// The paths whose nodes pass a test, in path order: each kind is tested once. Fails only if memory runs out.

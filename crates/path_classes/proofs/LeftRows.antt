@@ -1,6 +1,7 @@
 -- What is left of rows, verdict by verdict.
-use Rattle.std.proofs.Common.{◌≡◌, ℕ, zero, suc, ◌+◌, ◌<◌, ◌&&◌, Bool, true, false, cond, List, [], ◌∷◌, ◌++◌, drop, length, get_or, Option, add-one}
-use Rattle.std.proofs.Common.{append_assoc, drop-cons, refl, sym, ap, ◌∙◌, arith}
+use Rattle.std.proofs.Common.{◌≡◌, ℕ, zero, suc, ◌+◌, ◌<◌, ◌≤◌, ◌&&◌, Bool, true, false, cond, List, [], ◌∷◌, ◌++◌, take, drop, length, replicate, get_or, min, ◌-◌, drop-cons, Option, Some, None}
+use Rattle.std.proofs.Common.{refl, sym, ap, ◌∙◌, arith}
+use Rattle.std.proofs.lemmas.List.{get_or_past, length-take-le, take-append-drop, take-append-le, take_all}
 use Rattle.std.specs.Prelude.{◌==◌}
 use Rattle.std.proofs.lemmas.Nat.Bits.{bit_at-zero}
 use Rattle.acl_entry.specs.Check.{has}
@@ -9,21 +10,73 @@ use Rattle.acl_names.proofs.Basics.{and_true, and_false}
 use Rattle.path_classes.specs.Rows.{Rows, grants}
 use Rattle.path_classes.specs.ReachedRows.{passes_in, reached_from}
 use Rattle.path_classes.specs.Searching.{gets_through}
-use Rattle.path_classes.specs.NumberedRows.{left_from}
+use Rattle.path_classes.specs.NumberedRows.{left_from, left_to}
 use Rattle.acl_names.specs.Paths.{PathOf}
 
--- one verdict more
-pub left_more : (above : Option (List Bool)) (cells : List ℕ) (at d : ℕ) (done : List ℕ) (c : ℕ) (whole : List ℕ) → at < length cells
-    → c ≡ cond (gets_through above at) (get_or cells at d) 0 → done ++ left_from above at (drop at cells) ≡ whole
-    → (done ++ c ∷ []) ++ left_from above (at + 1) (drop (at + 1) cells) ≡ whole
-left_more above cells at d done c whole lt is so_far =
-    append_assoc done (c ∷ []) (left_from above (at + 1) (drop (at + 1) cells))
-    ∙ ap (λ n. done ++ c ∷ left_from above n (drop n cells)) (add-one at)
-    ∙ ap (λ c. done ++ c ∷ left_from above (suc at) (drop (suc at) cells)) is
-    ∙ ap (λ l. done ++ left_from above at l) (sym (drop-cons cells at d lt))
-    ∙ so_far
+-- ---- rows made in a loop
 
--- what is reached at a path is what those who get through are left
+left_none : (through : List Bool) (n : ℕ) (cells : List ℕ) → length through ≤ n → left_from (Some through) n cells ≡ replicate (length cells) 0
+left_none through n [] past = refl
+left_none through n (c ∷ cells) past =
+    (λ i. cond (get_or_past through n false past i) c 0 ∷ left_from (Some through) (suc n) cells) ∙ ap (λ l. 0 ∷ l) (left_none through (suc n) cells (omega (arith, past)))
+
+-- where nothing is above, all is left
+pub left_all : (n : ℕ) (cells : List ℕ) → left_from None n cells ≡ cells
+left_all n [] = refl
+left_all n (c ∷ cells) = ap (λ l. c ∷ l) (left_all (suc n) cells)
+
+-- the loop is at the end of one of both lists
+pub left_to_past : (i : ℕ) (through : List Bool) (cells : List ℕ) → (i < length through → i < length cells → ⊥) → left_to (drop i through) (drop i cells) ≡ drop i cells
+left_to_past zero through [] past = refl
+left_to_past (suc i) [] [] past = refl
+left_to_past (suc i) (b ∷ through) [] past = refl
+left_to_past zero [] (c ∷ cells) past = refl
+left_to_past (suc i) [] (c ∷ cells) past = kept_all (drop i cells)
+  where
+    kept_all : (cells : List ℕ) → left_to [] cells ≡ cells
+    kept_all [] = refl
+    kept_all (c ∷ cells) = refl
+left_to_past zero (b ∷ through) (c ∷ cells) past = absurd (past (omega arith) (omega arith))
+left_to_past (suc i) (b ∷ through) (c ∷ cells) past = left_to_past i through cells (λ x y. past (omega (arith, x)) (omega (arith, y)))
+
+pub left_to_end : (i : ℕ) (through : List Bool) (cells start : List ℕ) → (i < length through → i < length start → ⊥) → drop i cells ≡ drop i start
+    → take i cells ++ left_to (drop i through) (drop i start) ≡ left_to through start → cells ≡ left_to through start
+left_to_end i through cells start past rest done =
+    sym (take-append-drop i cells) ∙ ap (λ l. take i cells ++ l) (rest ∙ sym (left_to_past i through start past)) ∙ done
+
+-- what is left of the users who have a place among those who get through, and nothing for others
+pub left_below : (above : List Bool) (n u r : ℕ) (cells : List ℕ) → n + u ≤ length above → u + r ≡ length cells → (0 < r → n + u ≡ length above)
+    → left_to (drop n above) (take u cells) ++ replicate r 0 ≡ left_from (Some above) n cells
+left_below above n zero zero [] within fits all = refl
+left_below above n zero (suc r) [] within fits all = absurd (omega (arith, fits))
+left_below above n zero r (c ∷ cells) within fits all =
+    ap (λ m. replicate m 0) (fits_all) ∙ sym (left_none above n (c ∷ cells) (omega (arith, all (omega (arith, fits)))))
+  where
+    fits_all : r ≡ suc (length cells)
+    fits_all = omega (arith, fits)
+left_below above n (suc u) r [] within fits all = absurd (omega (arith, fits))
+left_below above n (suc u) r (c ∷ cells) within fits all =
+    ap (λ l. left_to l (c ∷ take u cells) ++ replicate r 0) (drop-cons above n false (omega (arith, within)))
+    ∙ ap (λ l. cond (get_or above n false) c 0 ∷ l) (left_below above (suc n) u r cells (omega (arith, within)) (omega (arith, fits)) (λ lt. omega (arith, all lt)))
+
+length_left : (through : List Bool) (cells : List ℕ) → length (left_to through cells) ≡ length cells
+length_left through [] = refl
+length_left [] (c ∷ cells) = refl
+length_left (b ∷ through) (c ∷ cells) = ap suc (length_left through cells)
+
+-- the same of a row whose first verdicts were written in place
+pub left_in_place : (above : List Bool) (cells items : List ℕ) (u : ℕ) → u ≡ min (length above) (length cells) → (new : List ℕ) → new ≡ left_to above (take u cells) → (n : ℕ) → n ≡ u
+    → take (length cells) (take n (new ++ drop (length new) items)) ++ replicate (length cells - n) 0 ≡ left_from (Some above) 0 cells
+left_in_place above cells items u is new written n len =
+    let short : u ≤ length cells = omega (arith, is) in
+    let long : length new ≡ u = ap length written ∙ length_left above (take u cells) ∙ length-take-le u cells short in
+    ap (λ l. take (length cells) l ++ replicate (length cells - n) 0)
+    (ap (λ m. take m (new ++ drop (length new) items)) (len ∙ sym long) ∙ take-append-le (length new) new (drop (length new) items) (omega arith) ∙ take_all (length new) new (omega arith))
+    ∙ ap (λ l. l ++ replicate (length cells - n) 0) (take_all (length cells) new (omega (arith, long, short)))
+    ∙ (λ i. written i ++ replicate (length cells - len i) 0)
+    ∙ left_below above 0 u (length cells - u) cells (omega (arith, is)) (omega (arith, short)) (λ lt. omega (arith, is, lt))
+
+-- what is reached at a path is what-- what is reached at a path is what those who get through are left
 pub reached_left : (all : Rows) (p : PathOf) (above : Option (List Bool)) → ((user : ℕ) → passes_in all user p ≡ gets_through above user) → (n : ℕ) (cells : List ℕ)
     → reached_from all p n cells ≡ left_from above n cells
 reached_left all p above same n [] = refl

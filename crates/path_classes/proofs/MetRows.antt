@@ -1,21 +1,37 @@
 -- Rows of numbers that were met.
-use Rattle.std.proofs.Common.{◌≡◌, ℕ, Bool, true, false, cond, List, get_or, Option, Some, None, refl, sym, ap, subst, ◌∙◌}
-use Rattle.std.specs.Prelude.{◌==◌, slice_get}
-use Rattle.kinds.proofs.Numbers.{eq_true}
+use Rattle.std.proofs.Common.{◌≡◌, ℕ, zero, suc, List, [], ◌∷◌, ◌++◌, length, Option, Some, sym, ap, subst, ◌∙◌}
+use Rattle.std.specs.Prelude.{slice_get}
+use Rattle.std.specs.List.{AllByRecursion}
+use Rattle.std.proofs.lemmas.List.{length-map, map_push}
+use Rattle.std.proofs.lemmas.Option.{none-some}
+use Rattle.acl_names.proofs.Basics.{slice_get-last}
 use Rattle.path_classes.specs.Classes.{KeepRows}
-use Rattle.path_classes.specs.NumberedRows.{AreMet}
+use Rattle.path_classes.specs.NumberedRows.{FilesLeft, HasRow, row_at, rows_met, AreMet}
+use Rattle.path_classes.proofs.FoundWithin.{all_two}
 
-module _ (row : ℕ → List ℕ) (places more : List (Option ℕ)) (rows new : List (List ℕ)) (met : AreMet row places rows) (keep : KeepRows rows new) where
-  -- no number more is met
-  pub same_met : ((n : ℕ) → get_or more n None ≡ get_or places n None) → AreMet row more new
-  same_met same n at is = keep at (row n) (met n at (sym (same n) ∙ is))
+-- items stay where they are when one comes after them
+got_before : {A : Type 0} (xs : List A) (y x : A) (at : ℕ) → slice_get xs at ≡ Some x → slice_get (xs ++ y ∷ []) at ≡ Some x
+got_before [] y x zero is = absurd (none-some x is)
+got_before [] y x (suc at) is = absurd (none-some x is)
+got_before (z ∷ xs) y x zero is = is
+got_before (z ∷ xs) y x (suc at) is = got_before xs y x at is
 
-  -- a number more is met
-  pub one_met : (number place : ℕ) → slice_get new place ≡ Some (row number) → ((n : ℕ) → get_or more n None ≡ cond (n == number) (Some place) (get_or places n None)) → AreMet row more new
-  one_met number place here put n at is = by (n == number) refl (sym (put n) ∙ is)
-    where
-      by : (b : Bool) → (n == number) ≡ b → cond b (Some place) (get_or places n None) ≡ Some at → slice_get new at ≡ Some (row n)
-      by true same_number found =
-          let same_place : place ≡ at = cc in
-          subst (λ m. slice_get new m ≡ Some (row n)) same_place (here ∙ ap (λ m. Some (row m)) (sym (eq_true n number same_number)))
-      by false other found = keep at (row n) (met n at found)
+module _ (f : FilesLeft) (places : List (Option ℕ)) (numbers : List ℕ) (met : AreMet f places numbers) where
+  -- the row of a number comes after those that were met
+  module _ (number : ℕ) (has : HasRow f.rows f.classes number) (new : List ℕ) (pushed : new ≡ numbers ++ number ∷ []) where
+    rows_pushed : rows_met f new ≡ rows_met f numbers ++ row_at f number ∷ []
+    rows_pushed = ap (rows_met f) pushed ∙ map_push (row_at f) numbers number
+
+    pub pushed_keeps : KeepRows (rows_met f numbers) (rows_met f new)
+    pushed_keeps class row is = ap (λ rows. slice_get rows class) rows_pushed ∙ got_before (rows_met f numbers) (row_at f number) row class is
+
+    pub pushed_here : (place : ℕ) → place ≡ length numbers → slice_get (rows_met f new) place ≡ Some (row_at f number)
+    pushed_here place is =
+        ap (λ rows. slice_get rows place) rows_pushed ∙ ap (slice_get (rows_met f numbers ++ row_at f number ∷ [])) (is ∙ sym (length-map numbers (row_at f)))
+        ∙ slice_get-last (rows_met f numbers) (row_at f number)
+
+    pub pushed_met : AreMet f places new
+    pushed_met = record {
+      have = subst (AllByRecursion (HasRow f.rows f.classes)) (sym pushed) (all_two (HasRow f.rows f.classes) numbers (number ∷ []) met.have (has, tt));
+      here = λ n at is. pushed_keeps at (row_at f n) (met.here n at is);
+    }

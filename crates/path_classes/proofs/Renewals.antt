@@ -253,7 +253,7 @@ deep_at (o ∷ cs) zero c is = subst (λ o. c.depth ≤ deepest (o ∷ cs)) (sym
 deep_at (None ∷ cs) (suc n) c is = deep_at cs n c is
 deep_at (Some d ∷ cs) (suc n) c is = let one = deep_at cs n c is in let two = (deep_more d cs).1 in omega (arith, one, two)
 
--- so many times a number, and powers
+-- the sum of k times a number, and powers
 abbrev pub times : ℕ → ℕ → ℕ
 times zero p = 0
 times (suc k) p = p + times k p

@@ -32,7 +32,7 @@ abbrev pub IsRightAbove : KindsOf LabelRow → ClassKinds → Option ℕ → Typ
 IsRightAbove rows k None = ⊤
 IsRightAbove rows k (Some n) = IsRightAt rows k n
 
--- there is a class above, or none is asked for
+-- there is a class at the number, if there is a number
 abbrev pub IsThere : ClassKinds → Option ℕ → Type 0
 IsThere k None = ⊤
 IsThere k (Some n) = IsNode k n

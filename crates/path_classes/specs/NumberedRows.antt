@@ -21,6 +21,12 @@ abbrev pub left_from : Option (List Bool) → ℕ → List ℕ → List ℕ
 left_from above n [] = []
 left_from above n (c ∷ cells) = (if gets_through above n then c else 0) ∷ left_from above (suc n) cells
 
+-- the same of the users who have a place in a list of those who get through; others keep what they have
+abbrev pub left_to : List Bool → List ℕ → List ℕ
+left_to through [] = []
+left_to [] (c ∷ cells) = c ∷ cells
+left_to (b ∷ through) (c ∷ cells) = (if b then c else 0) ∷ left_to through cells
+
 -- the row of a label, by its number
 abbrev pub label_row : KindsOf LabelRow → ℕ → List ℕ
 label_row rows n = option_map_or (λ x. x.row) (node_at rows n) []
@@ -76,6 +82,11 @@ rows_left f = rows_by (row_at f) f.left
 
 -- ---- numbers that were met
 
--- each number that was met has its place, where its row is
-abbrev pub AreMet : (row : ℕ → List ℕ) → List (Option ℕ) → List (List ℕ) → Type 0
-AreMet row places rows = (n at : ℕ) → get_or places n None ≡ Some at → slice_get rows at ≡ Some (row n)
+-- the rows of numbers
+abbrev pub rows_met : FilesLeft → List ℕ → List (List ℕ)
+rows_met f numbers = map (row_at f) numbers
+
+-- each number that was met has its place, where the row of a number is its row
+pub record AreMet (f : FilesLeft) (places : List (Option ℕ)) (numbers : List ℕ) : Type 0 where
+  pub have : AllByRecursion (HasRow f.rows f.classes) numbers
+  pub here : (n at : ℕ) → get_or places n None ≡ Some at → slice_get (rows_met f numbers) at ≡ Some (row_at f n)

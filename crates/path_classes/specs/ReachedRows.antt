@@ -36,6 +36,6 @@ reached_rows rows = map (λ r. (r.0, reached_from rows r.0 0 r.1)) rows
 abbrev pub reached_at : Rows → ℕ → PathOf → Option ℕ
 reached_at rows user p = option_and_then (λ cells. slice_get cells user) (find path_cmp p (reached_rows rows))
 
--- the rows, or what is left of them where search on the directories above is asked too
+-- the rows, or what is left of them where search on the directories above is needed too
 abbrev pub rows_along : Bool → Rows → Rows
 rows_along along rows = if along then reached_rows rows else rows

@@ -1,4 +1,4 @@
--- Rows of verdicts by paths, and what is asked of them.
+-- Rows of verdicts by paths, and what is read from them.
 use Rattle.std.specs.Prelude.{ℕ, suc, List, [], ◌∷◌, map, filter, slice_get, Bool, false, if◌then◌else◌}
 use Rattle.std.specs.Option.{option_map_or}
 use Rattle.std.specs.Coded.{Coded, coded×, coded_ℕ, coded_list}

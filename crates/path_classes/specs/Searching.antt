@@ -15,3 +15,9 @@ searchers_from above n (c ∷ cells) = (gets_through above n && has c execute) �
 
 abbrev pub searchers : Option (List Bool) → List ℕ → List Bool
 searchers above cells = searchers_from above 0 cells
+
+-- whether each verdict grants search, written over a list that may be longer or shorter
+abbrev pub searches_written : List ℕ → List Bool → List Bool
+searches_written cells [] = []
+searches_written [] (b ∷ users) = b ∷ users
+searches_written (c ∷ cells) (b ∷ users) = has c execute ∷ searches_written cells users

@@ -1,8 +1,7 @@
 //! Files by classes, one after another: all files of a class have the same row of verdicts, alone, or along paths where each
 //! directory above has to grant search.
 
-ghost use Rattle.std.specs.Prelude.{◌≡◌, [], slice_get, option_map, IfOk, OnErr};
-ghost use Rattle.std.specs.Option.{option_copied};
+ghost use Rattle.std.specs.Prelude.{◌≡◌, [], true, slice_get, option_map, IfOk, OnErr};
 ghost use Rattle.path_map.specs.Below.{from};
 ghost use Rattle.path_map.specs.Entries.{first, seen};
 ghost use Rattle.kinds.specs.Numbered.{entries_in};
@@ -10,16 +9,16 @@ ghost use Rattle.path_classes.specs.KindRows.{rows_at};
 ghost use Rattle.path_classes.specs.ReachedRows.{rows_along};
 ghost use Rattle.path_classes.specs.Classes.{KeepRows, TakesFile};
 
+use crate::cells::Cells;
 use crate::classed_rows::ClassedRows;
 use crate::met_rows::MetRows;
 use crate::numbered_files::NumberedFiles;
-use acl_entry::Requests;
 use acl_names::Path;
 use std::alloc::{AllocError, Global};
 use std::marker::Model;
 
 /// A cursor over files with their classes: those that are still to come, in path order. To a contract it is the rows of the
-/// classes so far, and the rows of these files.
+/// classes so far, and the rows of these files. The row of a class is made where it is taken: none is kept.
 #[derive(Drop)]
 pub struct FileClasses<'a> {
     files: NumberedFiles<'a>,
@@ -28,15 +27,15 @@ pub struct FileClasses<'a> {
 
 impl<'a> Model for FileClasses<'a> {
     ghost use Rattle.path_classes.specs.Classes.{Classed, coded_classed};
-    ghost use Rattle.path_classes.specs.NumberedRows.{row_at, rows_left, AreMet};
+    ghost use Rattle.path_classes.specs.NumberedRows.{rows_met, rows_left, AreMet};
 
     ghost Value = { Classed };
 
     ghost coded = { coded_classed };
 
-    ghost view = { λ f. (f.met.rows.items, rows_left f.files) };
+    ghost view = { λ f. (rows_met f.files f.met.numbers.items, rows_left f.files) };
 
-    ghost invariant = { λ f. AreMet (row_at f.files) f.met.places.items f.met.rows.items };
+    ghost invariant = { λ f. AreMet f.files f.met.places.items f.met.numbers.items };
 }
 
 impl<'a> FileClasses<'a> {
@@ -49,7 +48,7 @@ impl<'a> FileClasses<'a> {
         let Some((path, number)) = self.files.first() else {
             return Ok(None);
         };
-        let class = self.met.place_of(alloc, &self.files, number)?;
+        let class = self.met.place_of(&self.files, number)?;
         self.files.advance();
         Ok(Some((path, class)))
     }
@@ -61,14 +60,27 @@ impl<'a> FileClasses<'a> {
         self.files.path()
     }
 
-    /// The row of a class, if there is one: what each user may do with its files, in the order of the users. Allocates
-    /// nothing.
-    pub fn row(&self, class: usize) -> Option<&[Requests]>
-        ensures { option_copied result ≡ slice_get self.now.0 class }
+    /// Whether a class has the row that a class of other files has, where that is seen without the rows. Allocates nothing.
+    pub fn has_row_of(&self, class: usize, others: &FileClasses<'_>, other: usize) -> bool
+        ensures { result ≡ true → slice_get self.now.0 class ≡ slice_get others.now.0 other }
     {
-        match self.met.row(class) {
-            Some(cells) => Some(cells.as_slice()),
-            None => None,
+        let Some(number) = self.met.number(class) else {
+            return false;
+        };
+        match others.met.number(other) {
+            Some(other) => self.files.has_row_of(number, &others.files, other),
+            None => false,
+        }
+    }
+
+    /// The row of a class, if there is one: what each user may do with its files, in the order of the users. It shares that of
+    /// a label where nobody is kept out above. Fails only if memory runs out.
+    pub fn row(&self, alloc: Global, class: usize) -> Result<Option<Cells>, AllocError>
+        ensures { IfOk result (λ row. row ≡ slice_get self.now.0 class) }
+    {
+        match self.met.number(class) {
+            Some(number) => Ok(Some(self.files.row(alloc, number)?)),
+            None => Ok(None),
         }
     }
 }
@@ -85,19 +97,13 @@ impl ClassedRows {
         }
     }
 
-    /// The files that are not before a path with their classes, as [`ClassedRows::file_classes`] has them. Fails only if memory
-    /// runs out.
-    pub fn file_classes_from(
-        &self,
-        alloc: Global,
-        along: bool,
-        top: &Path,
-    ) -> Result<FileClasses<'_>, AllocError>
-        ensures { IfOk result (λ classes. classes.1 ≡ from top.now (rows_along along (rows_at (entries_in self.now)))) }
+    /// The files that are not before a path with their classes, as [`ClassedRows::file_classes`] has them. Allocates nothing.
+    pub fn file_classes_from(&self, alloc: Global, along: bool, top: &Path) -> FileClasses<'_>
+        ensures { result ≡ ([], from top.now (rows_along along (rows_at (entries_in self.now)))) }
     {
-        Ok(FileClasses {
+        FileClasses {
             files: self.numbered_files_from(along, top),
             met: MetRows::new(alloc),
-        })
+        }
     }
 }

@@ -1,17 +1,14 @@
 //! Files with their rows of verdicts, one after another: alone, or what is left of them where each directory above has to
 //! grant search.
 
-ghost use Rattle.std.specs.Prelude.{◌≡◌, drop, option_map, IfOk, IfSome, OnOk, OnErr};
+ghost use Rattle.std.specs.Prelude.{◌≡◌, drop, option_map, IfOk, OnOk, OnErr};
 ghost use Rattle.path_map.specs.Entries.{first};
-ghost use Rattle.path_map.specs.Below.{from};
 ghost use Rattle.kinds.specs.Numbered.{entries_in};
 ghost use Rattle.path_classes.specs.KindRows.{rows_at};
 ghost use Rattle.path_classes.specs.ReachedRows.{rows_along};
-ghost use Rattle.path_classes.specs.NumberedRows.{row_at, HasRow, AreMet};
 
 use crate::cells::Cells;
 use crate::classed_rows::ClassedRows;
-use crate::met_rows::MetRows;
 use crate::numbered_files::NumberedFiles;
 use acl_names::Path;
 use std::alloc::{AllocError, Global};
@@ -28,61 +25,17 @@ pub struct FileRow<'a> {
 #[derive(Drop)]
 pub struct FileRows<'a> {
     files: NumberedFiles<'a>,
-    met: Option<MetRows>,
 }
 
 impl<'a> Model for FileRows<'a> {
-    ghost use Rattle.std.specs.Prelude.{⊤, IfSome};
     ghost use Rattle.path_classes.specs.Rows.{Rows, coded_rows};
-    ghost use Rattle.path_classes.specs.NumberedRows.{row_at, rows_left, AreMet};
+    ghost use Rattle.path_classes.specs.NumberedRows.{rows_left};
 
     ghost Value = { Rows };
 
     ghost coded = { coded_rows };
 
     ghost view = { λ f. rows_left f.files };
-
-    ghost invariant = { λ f. IfSome f.met (λ met. AreMet (row_at f.files) met.places.items met.rows.items) };
-}
-
-/// The row of a number, shared with the files of the same number.
-fn shared_row(
-    alloc: Global,
-    met: &mut MetRows,
-    files: &NumberedFiles<'_>,
-    number: usize,
-) -> Result<Cells, AllocError>
-    requires row { HasRow files.now.rows files.now.classes number }
-    requires met { AreMet (row_at files.now) met.old.places.items met.old.rows.items }
-    ensures row { IfOk result (λ row. row ≡ row_at files.now number) }
-    ensures met { AreMet (row_at files.now) met.new.places.items met.new.rows.items }
-{
-    let place = met.place_of(alloc, files, number)?;
-    match met.row(place) {
-        Some(row) => row.share(),
-        None => unreachable!(),
-    }
-}
-
-/// The row of a number, where maybe no number was met before.
-fn row_of(
-    alloc: Global,
-    met: &mut Option<MetRows>,
-    files: &NumberedFiles<'_>,
-    number: usize,
-) -> Result<Cells, AllocError>
-    requires row { HasRow files.now.rows files.now.classes number }
-    requires met { IfSome met.old (λ met. AreMet (row_at files.now) met.places.items met.rows.items) }
-    ensures row { IfOk result (λ row. row ≡ row_at files.now number) }
-    ensures met { IfSome met.new (λ met. AreMet (row_at files.now) met.places.items met.rows.items) }
-{
-    if let Some(met) = met {
-        return shared_row(alloc, met, files, number);
-    }
-    let mut first = MetRows::new(alloc);
-    let row = shared_row(alloc, &mut first, files, number)?;
-    *met = Some(first);
-    Ok(row)
 }
 
 impl<'a> FileRows<'a> {
@@ -95,7 +48,7 @@ impl<'a> FileRows<'a> {
         let Some((path, number)) = self.files.first() else {
             return Ok(None);
         };
-        let requests = row_of(alloc, &mut self.met, &self.files, number)?;
+        let requests = self.files.row(alloc, number)?;
         self.files.advance();
         Ok(Some(FileRow { path, requests }))
     }
@@ -109,22 +62,6 @@ impl<'a> FileRows<'a> {
 }
 
 impl ClassedRows {
-    /// The files that are not before a path with their rows, or with what is left of them where each directory above has to
-    /// grant search. Fails only if memory runs out.
-    pub fn file_rows_from(
-        &self,
-        alloc: Global,
-        along: bool,
-        top: &Path,
-    ) -> Result<FileRows<'_>, AllocError>
-        ensures { IfOk result (λ rows. rows ≡ from top.now (rows_along along (rows_at (entries_in self.now)))) }
-    {
-        Ok(FileRows {
-            files: self.numbered_files_from(along, top),
-            met: Some(MetRows::new(alloc)),
-        })
-    }
-
     /// All files with their rows, or with what is left of them where each directory above has to grant search. Allocates
     /// nothing.
     pub fn file_rows(&self, along: bool) -> FileRows<'_>
@@ -132,7 +69,6 @@ impl ClassedRows {
     {
         FileRows {
             files: self.numbered_files(along),
-            met: None,
         }
     }
 }

@@ -1,21 +1,19 @@
-//! The rows of numbers that were met, each found once.
+//! Rows of numbers that were met: of each row a number by which it is found again, so that no row is kept.
 
 ghost use Rattle.std.specs.Prelude.{◌≡◌, ◌==◌, ℕ, [], None, Some, get_or, slice_get, IfOk, IfSome, OnOk, OnErr, if◌then◌else◌};
-ghost use Rattle.std.specs.Option.{option_copied};
 ghost use Rattle.path_classes.specs.Classes.{KeepRows};
-ghost use Rattle.path_classes.specs.NumberedRows.{row_at, HasRow, AreMet};
+ghost use Rattle.path_classes.specs.NumberedRows.{row_at, rows_met, HasRow, AreMet};
 
-use crate::cells::Cells;
 use crate::numbered_files::NumberedFiles;
+use crate::row_hints::RowHints;
 use std::alloc::{AllocError, Global};
 
-/// Rows, and for each number that was met the place of its row.
+/// Of each row that was met the first number that has it, and for each number that was met the place of its row.
 #[derive(Drop)]
 pub(crate) struct MetRows {
     pub(crate) places: Vec<Option<usize>>,
-    pub(crate) rows: Vec<Cells>,
-    /// For each label the number that was met last. Nothing rests on these.
-    lasts: Vec<Option<usize>>,
+    pub(crate) numbers: Vec<usize>,
+    hints: RowHints,
 }
 
 /// What a table has for a number.
@@ -44,74 +42,72 @@ impl MetRows {
     /// None. Allocates nothing.
     pub fn new(alloc: Global) -> MetRows
         ensures places { result.places.items ≡ [] }
-        ensures rows { result.rows.items ≡ [] }
+        ensures numbers { result.numbers.items ≡ [] }
     {
         MetRows {
             places: Vec::new(alloc),
-            rows: Vec::new(alloc),
-            lasts: Vec::new(alloc),
+            numbers: Vec::new(alloc),
+            hints: RowHints::new(alloc),
         }
     }
 
-    /// The row at a place, if there is one. Allocates nothing.
-    pub fn row(&self, place: usize) -> Option<&Cells>
-        ensures { option_copied result ≡ slice_get self.now.rows.items place }
+    /// A number that has the row at a place, if there is one. Allocates nothing.
+    pub fn number(&self, place: usize) -> Option<usize>
+        ensures { result ≡ slice_get self.now.numbers.items place }
     {
-        self.rows.get(place)
+        match self.numbers.get(place) {
+            Some(number) => Some(*number),
+            None => None,
+        }
     }
 
-    /// The place of the row of the number that was met last of those of the same label, if a number has the same row.
-    fn same_place(&self, files: &NumberedFiles<'_>, number: usize) -> Option<usize>
-        requires { AreMet (row_at files.now) self.now.places.items self.now.rows.items }
-        ensures { IfSome result (λ place. slice_get self.now.rows.items place ≡ Some (row_at files.now number)) }
+    /// The place of a row that a number has, if a hint leads there.
+    fn same_place(&self, files: &NumberedFiles<'_>, hash: u64, number: usize) -> Option<usize>
+        ensures { IfSome result (λ place. slice_get (rows_met files.now self.now.numbers.items) place ≡ Some (row_at files.now number)) }
     {
-        let last = entry(&self.lasts, files.label(number))?;
-        if files.is_same_row(number, last) {
-            entry(&self.places, last)
+        let place = self.hints.place(hash)?;
+        let met = self.number(place)?;
+        if files.is_same_row(number, met) {
+            Some(place)
         } else {
             None
         }
     }
 
-    /// A place with the row of a number that was not met.
-    fn new_place(
-        &mut self,
-        alloc: Global,
-        files: &NumberedFiles<'_>,
-        number: usize,
-    ) -> Result<usize, AllocError>
+    /// A place with the row of a number that was not met: that of a number of the same row, or a new one.
+    fn new_place(&mut self, files: &NumberedFiles<'_>, number: usize) -> Result<usize, AllocError>
         requires row { HasRow files.now.rows files.now.classes number }
-        requires met { AreMet (row_at files.now) self.old.places.items self.old.rows.items }
-        ensures here { IfOk result (λ place. slice_get self.new.rows.items place ≡ Some (row_at files.now number)) }
-        ensures places { self.new.places.items ≡ self.old.places.items }
-        ensures keep { KeepRows self.old.rows.items self.new.rows.items }
+        requires met { AreMet files.now self.old.places.items self.old.numbers.items }
+        ensures here { IfOk result (λ place. slice_get (rows_met files.now self.new.numbers.items) place ≡ Some (row_at files.now number)) }
+        ensures met { AreMet files.now self.new.places.items self.new.numbers.items }
+        ensures keep { KeepRows (rows_met files.now self.old.numbers.items) (rows_met files.now self.new.numbers.items) }
     {
-        if let Some(place) = self.same_place(files, number) {
+        let hash = self.hints.hash(files, number)?;
+        if let Some(place) = self.same_place(files, hash, number) {
             return Ok(place);
         }
-        let place = self.rows.len();
-        self.rows.push(files.row(alloc, number)?)?;
-        put(&mut self.lasts, files.label(number), number)?;
+        let place = self.numbers.len();
+        self.numbers.push(number)?;
+        self.hints.put(hash, place)?;
         Ok(place)
     }
 
     /// The place of the row of a number, which is met from now on. Fails only if memory runs out.
     pub fn place_of(
         &mut self,
-        alloc: Global,
         files: &NumberedFiles<'_>,
         number: usize,
     ) -> Result<usize, AllocError>
         requires row { HasRow files.now.rows files.now.classes number }
-        requires met { AreMet (row_at files.now) self.old.places.items self.old.rows.items }
-        ensures here { IfOk result (λ place. slice_get self.new.rows.items place ≡ Some (row_at files.now number)) }
-        ensures met { AreMet (row_at files.now) self.new.places.items self.new.rows.items }
-        ensures keep { KeepRows self.old.rows.items self.new.rows.items }
+        requires met { AreMet files.now self.old.places.items self.old.numbers.items }
+        ensures here { IfOk result (λ place. slice_get (rows_met files.now self.new.numbers.items) place ≡ Some (row_at files.now number)) }
+        ensures met { AreMet files.now self.new.places.items self.new.numbers.items }
+        ensures keep { KeepRows (rows_met files.now self.old.numbers.items) (rows_met files.now self.new.numbers.items) }
     {
         if let Some(place) = entry(&self.places, number) {
             return Ok(place);
         }
-        let place = self.new_place(alloc, files, number)?;
+        let place = self.new_place(files, number)?;
         put(&mut self.places, number, place)?;
         Ok(place)
     }

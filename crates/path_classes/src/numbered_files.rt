@@ -16,7 +16,7 @@ use crate::classed_rows::ClassedRows;
 use crate::label_row::LabelRow;
 use crate::left_rows::class_row;
 use crate::path_class::PathClass;
-use crate::same_rows::is_same_row;
+use crate::same_rows::{has_same_cells, is_same_row, kept_search, leaves_same_row};
 use acl_names::Path;
 use kinds::Kinds;
 use path_map::{Entries, PathMap};
@@ -127,6 +127,22 @@ impl<'a> NumberedFiles<'a> {
         }
     }
 
+    /// The path class of the nearest recorded directory above a number's files, where the numbers are those of path classes.
+    pub fn above(&self, number: usize) -> Option<usize> {
+        self.classes?.get(number)?.above
+    }
+
+    /// A hash of who gets through a path class.
+    pub fn searchers_hash(&self, above: usize) -> u64 {
+        let Some(classes) = self.classes else {
+            return 0;
+        };
+        match kept_search(classes, Some(above)) {
+            Some(searchers) => searchers.hash(),
+            None => 0,
+        }
+    }
+
     /// Whether two numbers have the same row, where that is seen without the rows. Allocates nothing.
     pub fn is_same_row(&self, number: usize, other: usize) -> bool
         ensures { result ≡ true → row_at self.now number ≡ row_at self.now other }
@@ -134,6 +150,30 @@ impl<'a> NumberedFiles<'a> {
         match self.classes {
             Some(classes) => is_same_row(classes, number, other),
             None => number == other,
+        }
+    }
+
+    /// Whether a number of these files has the row that a number of others has, where that is seen without the rows. Allocates
+    /// nothing.
+    pub fn has_row_of(&self, number: usize, others: &NumberedFiles<'_>, other: usize) -> bool
+        ensures { result ≡ true → row_at self.now number ≡ row_at others.now other }
+    {
+        match self.classes {
+            Some(classes) => match others.classes {
+                Some(other_classes) => leaves_same_row(
+                    self.labels,
+                    classes,
+                    number,
+                    others.labels,
+                    other_classes,
+                    other,
+                ),
+                None => false,
+            },
+            None => {
+                others.classes.is_none()
+                    && has_same_cells(self.labels, number, others.labels, other)
+            }
         }
     }
 

@@ -4,14 +4,16 @@ ghost use Rattle.std.specs.Prelude.{◌≡◌, true, Some, IfSome};
 ghost use Rattle.kinds.specs.Kinds.{KindsOf};
 ghost use Rattle.path_classes.specs.declared.label_row.LabelRow.{LabelRow};
 ghost use Rattle.path_classes.specs.PathClasses.{search_above};
-ghost use Rattle.path_classes.specs.NumberedRows.{class_row};
+ghost use Rattle.path_classes.specs.NumberedRows.{label_row, class_row};
 
+use crate::cells::same_row;
+use crate::label_row::LabelRow;
 use crate::path_class::PathClass;
 use crate::searchers::Searchers;
 use kinds::Kinds;
 
 /// Who gets through a class above, if there is one that keeps it.
-fn kept_search(classes: &Kinds<PathClass>, above: Option<usize>) -> Option<&Searchers>
+pub(crate) fn kept_search(classes: &Kinds<PathClass>, above: Option<usize>) -> Option<&Searchers>
     ensures { IfSome result (λ search. search_above classes.now above ≡ Some search.now) }
 {
     match &classes.get(above?)?.search {
@@ -21,12 +23,17 @@ fn kept_search(classes: &Kinds<PathClass>, above: Option<usize>) -> Option<&Sear
 }
 
 /// Whether the same users get through two classes above, where none may be above. Compares the users, not the classes.
-fn is_same_search(classes: &Kinds<PathClass>, above: Option<usize>, other: Option<usize>) -> bool
-    ensures { result ≡ true → search_above classes.now above ≡ search_above classes.now other }
+fn is_same_search(
+    classes: &Kinds<PathClass>,
+    above: Option<usize>,
+    others: &Kinds<PathClass>,
+    other: Option<usize>,
+) -> bool
+    ensures { result ≡ true → search_above classes.now above ≡ search_above others.now other }
 {
     match kept_search(classes, above) {
-        Some(search) => match kept_search(classes, other) {
-            Some(others) => search.is_same(others),
+        Some(search) => match kept_search(others, other) {
+            Some(users) => search.is_same(users),
             None => false,
         },
         None => above.is_none() && other.is_none(),
@@ -40,10 +47,51 @@ pub(crate) fn is_same_row(classes: &Kinds<PathClass>, number: usize, other: usiz
     match classes.get(number) {
         Some(class) => match classes.get(other) {
             Some(others) => {
-                class.kind == others.kind && is_same_search(classes, class.above, others.above)
+                class.kind == others.kind
+                    && is_same_search(classes, class.above, classes, others.above)
             }
             None => false,
         },
         None => false,
     }
+}
+
+/// Whether two labels of two states are there, with the same verdicts. Allocates nothing.
+pub(crate) fn has_same_cells(
+    labels: &Kinds<LabelRow>,
+    label: usize,
+    others: &Kinds<LabelRow>,
+    other: usize,
+) -> bool
+    ensures { result ≡ true → label_row labels.now label ≡ label_row others.now other }
+{
+    let Some(row) = labels.get(label) else {
+        return false;
+    };
+    let Some(other) = others.get(other) else {
+        return false;
+    };
+    same_row(row.row.as_slice(), other.row.as_slice())
+}
+
+/// Whether two classes of two states are of labels with the same verdicts, and the same users get through above. Allocates
+/// nothing.
+pub(crate) fn leaves_same_row(
+    labels: &Kinds<LabelRow>,
+    classes: &Kinds<PathClass>,
+    number: usize,
+    other_labels: &Kinds<LabelRow>,
+    other_classes: &Kinds<PathClass>,
+    other: usize,
+) -> bool
+    ensures { result ≡ true → class_row labels.now classes.now number ≡ class_row other_labels.now other_classes.now other }
+{
+    let Some(class) = classes.get(number) else {
+        return false;
+    };
+    let Some(others) = other_classes.get(other) else {
+        return false;
+    };
+    has_same_cells(labels, class.kind, other_labels, others.kind)
+        && is_same_search(classes, class.above, other_classes, others.above)
 }

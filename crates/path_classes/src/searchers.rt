@@ -4,9 +4,11 @@ ghost use Rattle.std.specs.Prelude.{◌≡◌, ◌&&◌, IfOk, List, Bool, true,
 ghost use Rattle.std.specs.Option.{option_copied};
 ghost use Rattle.acl_entry.specs.Check.{has};
 ghost use Rattle.path_classes.specs.ReachedRows.{execute};
-ghost use Rattle.path_classes.specs.Searching.{gets_through, searchers};
+ghost use Rattle.path_classes.specs.Searching.{searches_written, gets_through, searchers};
 
 use crate::cells::search;
+use crate::hash::mixed;
+use crate::left_rows::left_row;
 use acl_entry::Requests;
 use std::alloc::{AllocError, Global};
 use std::marker::Model;
@@ -26,7 +28,7 @@ impl Model for Searchers {
 
 impl Searchers {
     /// For each user whether the user gets through.
-    fn as_slice(&self) -> &[bool]
+    pub(crate) fn as_slice(&self) -> &[bool]
         ensures { result.now ≡ self.now }
     {
         &self.users
@@ -47,6 +49,15 @@ impl Searchers {
         Ok(Searchers {
             users: self.users.clone()?,
         })
+    }
+
+    /// A hash of these users. Allocates nothing.
+    pub(crate) fn hash(&self) -> u64 {
+        let mut hash = 0;
+        for user in self.as_slice() {
+            hash = mixed(hash, u64::from(*user));
+        }
+        hash
     }
 
     /// Whether these are the same users. Allocates nothing.
@@ -99,16 +110,25 @@ pub(crate) fn gets_through(above: Option<&Searchers>, user: usize) -> bool
     }
 }
 
-/// Whether a user gets through from above and can search by a verdict.
-fn searches(above: Option<&Searchers>, user: usize, cell: Requests) -> bool
-    ensures { result ≡ (gets_through (option_copied above.entry) user && has cell execute) }
+/// Whether a verdict grants search.
+fn grants_search(cell: Requests) -> bool
+    ensures { result ≡ has cell execute }
 {
-    gets_through(above, user) && cell.has(search())
+    cell.has(search())
+}
+
+/// Writes for each verdict whether it grants search. The loop does not branch, so that it writes many at a time.
+fn write_searches(cells: &[Requests], users: &mut [bool])
+    ensures { users.new ≡ searches_written cells.now users.old }
+{
+    let count = cells.len().min(users.len());
+    for at in 0..count {
+        users[at] = grants_search(cells[at]);
+    }
 }
 
 /// Which users get through from above and can search by a row: shared with those from above, where they are the same. Fails
 /// only if memory runs out.
-#[tactic(auto, using(crate::proofs::Searches::searchers_more))]
 pub(crate) fn searchers_below(
     alloc: Global,
     above: Option<&Searchers>,
@@ -116,9 +136,9 @@ pub(crate) fn searchers_below(
 ) -> Result<Searchers, AllocError>
     ensures { IfOk result (λ new. new ≡ searchers (option_copied above.entry) cells.now) }
 {
-    let mut users = Vec::with_capacity(alloc, cells.len())?;
-    for at in 0..cells.len() {
-        users.push(searches(above, at, cells[at]))?;
-    }
+    let left = left_row(alloc, above, cells)?;
+    let mut users = Vec::new(alloc);
+    users.resize(left.len(), false)?;
+    write_searches(&left, users.as_mut_slice());
     Searchers::new_or_shared(alloc, users, above)
 }

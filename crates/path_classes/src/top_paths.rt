@@ -59,7 +59,7 @@ fn push_top<'a>(tops: &mut Vec<&'a Path>, path: &'a Path) -> Result<(), AllocErr
 }
 
 /// The paths of two lists that are below none of the others, in path order. Fails only if memory runs out.
-pub(crate) fn tops_of<'a, V, W>(
+pub fn tops_of<'a, V, W>(
     alloc: Global,
     changed: &[(&'a Path, V)],
     gone: &[(&'a Path, W)],

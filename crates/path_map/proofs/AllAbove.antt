@@ -1,5 +1,5 @@
 -- The entries above a path: the nearest of them, after those above it.
-use Rattle.std.proofs.Common.{◌≡◌, ℕ, suc, Bool, true, false, cond, List, [], ◌∷◌, ◌++◌, length, map, filter, Option, Some, None, Less, Greater, IsTrue, refl, sym, ap, ◌∙◌}
+use Rattle.std.proofs.Common.{◌≡◌, Bool, true, false, cond, List, [], ◌∷◌, ◌++◌, map, filter, Option, Some, None, Less, Greater, IsTrue, refl, sym, ap, ◌∙◌}
 use Rattle.std.specs.Prelude.{option_map}
 use Rattle.std.specs.Option.{option_or}
 use Rattle.std.specs.Ordering.{is_lt}
@@ -87,26 +87,7 @@ module _ {V : Type 0} where
           let same : e ≡ r = cc in
           ap (λ l. e ∷ l) (nearest_empty p es none) ∙ ap (λ (x : PathOf × V). x ∷ []) same
           ∙ ap (λ l. l ++ r ∷ []) (sym (none_over e es after) ∙ ap (λ (x : PathOf × V). those x.0 (e ∷ es)) same)
-
-  -- ---- from one nearest entry to the next
-
-  -- how many entries are above the path of an entry, and the entry itself
-  abbrev pub count_up : Option (PathOf × V) → List (PathOf × V) → ℕ
-  count_up None es = 0
-  count_up (Some r) es = suc (length (those r.0 es))
-
-  pub count_nearest : (p : PathOf) (es : List (PathOf × V)) → IsInOrder es → count_up (nearest_above p es) es ≡ length (those p es)
-  count_nearest p es order = by (nearest_above p es) refl
-    where
-      by : (u : Option (PathOf × V)) → nearest_above p es ≡ u → count_up (nearest_above p es) es ≡ length (those p es)
-      by None is = ap (λ u. count_up u es) is ∙ sym (ap length (nearest_empty p es is))
-      by (Some r) is =
-          let longer : length (those r.0 es ++ r ∷ []) ≡ suc (length (those r.0 es)) = more (those r.0 es) in
-          ap (λ u. count_up u es) is ∙ sym (ap length (nearest_last p es r order is) ∙ longer)
-        where
-          more : (l : List (PathOf × V)) → length (l ++ r ∷ []) ≡ suc (length l)
-          more [] = refl
-          more (x ∷ l) = ap suc (more l)
+      -- ---- from one nearest entry to the next
 
 module _ {V W : Type 0} (f : V → W) where
   abbrev pub valued : PathOf × V → PathOf × W

@@ -20,9 +20,6 @@ use Rattle.path_map.proofs.Ranges.{in_order-from, from_from}
 use Rattle.path_map.proofs.Rows.{in_order-filter}
 
 module _ {V : Type 0} where
-  pub none_in : (all : List (PathOf × V)) → AreIn [] all
-  none_in all p v h = absurd (none_is_not_some v h)
-
   not_among : (p : PathOf) (es : List (PathOf × V)) → After p es → find path_cmp p es ≡ None
   not_among p [] h = refl
   not_among p (e ∷ es) h = ap (λ o. cond (is_eq o) (Some e.1) (find path_cmp p es)) h.0 ∙ not_among p es h.1

@@ -1,24 +1,24 @@
 -- The entries after a path and after all below it.
 use Rattle.std.proofs.Common.{◌≡◌, ℕ, ◌+◌, ◌-◌, ◌<◌, Bool, true, false, ◌||◌, not, cond, List, [], ◌∷◌, ◌++◌, length, get_or, take, drop, Ordering, Less, Equal}
-use Rattle.std.proofs.Common.{Greater, refl, sym, ap, subst, ◌∙◌, arith, take-append-drop, length-drop, true≢false}
-use Rattle.std.specs.List.{flat_map}
+use Rattle.std.proofs.Common.{Greater, refl, sym, ap, subst, ◌∙◌, arith, length-drop, true≢false, zero, suc, ◌≤◌, map, nat_lt, ltb-true, ltb-false}
+use Rattle.std.specs.List.{zip, flat_map}
+use Rattle.std.specs.List.Sorted.{IsPartitionPoint, IsPartitionedBy}
 use Rattle.std.specs.Ordering.{is_gt}
 use Rattle.std.specs.FinMap.{is_sorted}
 use Rattle.std.specs.FinMap.Entries.{below_all}
 use Rattle.std.proofs.lemmas.Bool.{and_parts}
-use Rattle.std.proofs.lemmas.List.{get_or-drop, drop-drop}
+use Rattle.std.proofs.lemmas.List.{get_or-drop, get_or-map, length-map}
 use Rattle.acl_names.specs.Paths.{path_cmp, PathOf}
 use Rattle.acl_names.specs.Below.{encloses}
 use Rattle.acl_names.proofs.PathOrder.{path_total}
 use Rattle.acl_names.proofs.Below.{convex}
-use Rattle.acl_names.proofs.Basics.{not_gt}
 use Rattle.path_map.specs.Entries.{IsInOrder}
 use Rattle.path_map.specs.Below.{is_passed, after}
-use Rattle.path_map.specs.Inner.{IsStart, IsWithinFirst, BeginsPassed, ArePassed, Before, From, After, Are}
-use Rattle.path_map.proofs.Places.{above, below}
+use Rattle.path_map.specs.Inner.{BeginsPassed, ArePassed, Before, After}
+use Rattle.path_map.proofs.Places.{above, below, rises}
 use Rattle.path_map.proofs.Chunks.{around, in_order-right}
-use Rattle.path_map.proofs.Merges.{before_start, from_start, before_part, later_after}
-use Rattle.path_map.proofs.Spans.{from-right}
+use Rattle.path_map.proofs.Merges.{before_part, later_after}
+use Rattle.path_map.proofs.Zipped.{keyed, keys_in_order}
 
 -- what is before one that is passed is passed
 before_passed : (top q p : PathOf) → path_cmp q p ≡ Less → is_passed top p ≡ true → is_passed top q ≡ true
@@ -75,37 +75,6 @@ module _ {V : Type 0} where
       let first : is_passed top e.0 ≡ false = (begins (omega arith)).is e in
       keeps top e es first ∙ ap (λ l. e ∷ l) (after_later top e es first (later_after e es order))
 
-  -- those before the path or within it
-  before_none : (top : PathOf) (l : List (PathOf × V)) → Before top l → after top l ≡ []
-  before_none top [] h = refl
-  before_none top (e ∷ l) h = leaves top e l (ap (λ o. is_gt o || encloses top e.0) (above e.0 top h.0)) ∙ before_none top l h.1
-
-  within_none : (top : PathOf) (l : List (PathOf × V)) → Are true top l → after top l ≡ []
-  within_none top [] h = refl
-  within_none top (e ∷ l) h = leaves top e l (by (is_gt (path_cmp top e.0)) ∙ refl) ∙ within_none top l h.1
-    where
-      by : (b : Bool) → (b || encloses top e.0) ≡ true
-      by true = refl
-      by false = h.0
-
-  past_all : (top : PathOf) (l : List (PathOf × V)) → From top l → Are false top l → after top l ≡ l
-  past_all top [] f h = refl
-  past_all top (e ∷ l) f h = keeps top e l (ap (λ b. b || encloses top e.0) (not_gt _ f.0) ∙ h.0) ∙ ap (λ es. e ∷ es) (past_all top l f.1 h.1)
-
-  -- those of a list in order
-  pub after_place : (top : PathOf) (es : List (PathOf × V)) (b k : ℕ) → IsStart es top b → IsWithinFirst es top b k → after top es ≡ drop (b + k) es
-  after_place top es b k start span =
-      let l = take b es in
-      let m = take k (drop b es) in
-      let r = drop k (drop b es) in
-      let whole : l ++ (m ++ r) ≡ es = ap (λ x. l ++ x) (take-append-drop k (drop b es)) ∙ take-append-drop b es in
-      let later : From top r = from-right top m r (subst (λ x. From top x) (sym (take-append-drop k (drop b es))) (from_start es top b start)) in
-      ap (after top) (sym whole)
-      ∙ after-append top l (m ++ r)
-      ∙ (λ i. before_none top l (before_start es top b start) i ++ after-append top m r i)
-      ∙ (λ i. within_none top m span.inside i ++ past_all top r later span.after i)
-      ∙ drop-drop k b es
-
   -- what is before entries that begin with one that is passed
   pub after_right : (top : PathOf) (left : List (PathOf × V)) (e : PathOf × V) (es : List (PathOf × V)) → IsInOrder (left ++ e ∷ es) → is_passed top e.0 ≡ true
       → after top (left ++ e ∷ es) ≡ after top (e ∷ es)
@@ -126,6 +95,41 @@ module _ {V : Type 0} where
   before_left : (left here rest : List (PathOf × V)) (top : PathOf) → IsInOrder (left ++ (here ++ rest)) → BeginsPassed true here top → after top left ≡ []
   before_left left [] rest top h b = absurd (let some : 0 < 0 = b.some in omega arith)
   before_left left (x ∷ here) rest top h b = after_none top x left (b.is x) (before_part left x (here ++ rest) h)
+
+-- a path that is passed has no other before it that is not
+passed_parted : (top : PathOf) (ps : List PathOf) → IsInOrder (map keyed ps) → IsPartitionedBy (λ q. is_passed top q) ps
+passed_parted top ps h i j d le lt is =
+    elim (nat_lt i j) as (λ b. nat_lt i j ≡ b → is_passed top (get_or ps i d) ≡ true) [
+      | true ↦ λ less.
+          let before : i < j = omega (arith, ltb-true _ _ less) in
+          let in_keys : j < length (map keyed ps) = omega (arith, lt, length-map ps keyed) in
+          let at_i : get_or (map keyed ps) i (keyed d) ≡ keyed (get_or ps i d) = get_or-map keyed ps i d (keyed d) (omega arith) in
+          let at_j : get_or (map keyed ps) j (keyed d) ≡ keyed (get_or ps j d) = get_or-map keyed ps j d (keyed d) lt in
+          let rise : path_cmp (get_or ps i d) (get_or ps j d) ≡ Less = (λ k. path_cmp (sym at_i k).0 (sym at_j k).0) ∙ rises (map keyed ps) h i j (keyed d) before in_keys in
+          before_passed top (get_or ps i d) (get_or ps j d) rise is
+      | false ↦ λ less. let same : j ≡ i = omega (arith, ltb-false _ _ less) in subst (λ k. is_passed top (get_or ps k d) ≡ true) same is
+    ] refl
+
+module _ {V : Type 0} (top : PathOf) where
+  -- the entries that are passed come first
+  after_drop : (ps : List PathOf) (vs : List V) (n : ℕ) → length vs ≡ length ps → ((j : ℕ) (d : PathOf) → j < n → is_passed top (get_or ps j d) ≡ true)
+      → ((j : ℕ) (d : PathOf) → n ≤ j → j < length ps → is_passed top (get_or ps j d) ≡ false) → after top (zip ps vs) ≡ drop n (zip ps vs)
+  after_drop [] vs zero same before later = refl
+  after_drop [] vs (suc n) same before later = refl
+  after_drop (p ∷ ps) [] n same before later = absurd (omega arith)
+  after_drop (p ∷ ps) (v ∷ vs) zero same before later =
+      keeps top (p, v) (zip ps vs) (later 0 p (omega arith) (omega arith))
+      ∙ ap (λ l. (p, v) ∷ l) (after_drop ps vs zero (omega arith) (λ j d lt. absurd (omega arith)) (λ j d le lt. later (suc j) d (omega arith) (omega arith)))
+  after_drop (p ∷ ps) (v ∷ vs) (suc n) same before later =
+      leaves top (p, v) (zip ps vs) (before 0 p (omega arith))
+      ∙ after_drop ps vs n (omega arith) (λ j d lt. before (suc j) d (omega arith)) (λ j d le lt. later (suc j) d (omega arith) (omega arith))
+
+module _ {V : Type 0} (ps : List PathOf) (vs : List V) (es : List (PathOf × V)) (same : length vs ≡ length ps) (is : zip ps vs ≡ es) (top : PathOf) where
+  pub paths_passed : IsInOrder es → IsPartitionedBy (λ q. is_passed top q) ps
+  paths_passed h = passed_parted top ps (keys_in_order ps vs es same is h)
+
+  pub after_passed : (n : ℕ) → IsPartitionPoint (λ q. is_passed top q ≡ true) (λ q. is_passed top q ≡ false) ps n → after top es ≡ drop n es
+  after_passed n point = subst (λ l. after top l ≡ drop n l) is (after_drop top ps vs n same (λ j d lt. point.0 j d (omega arith) lt) point.1)
 
 module _ {A V : Type 0} (f : A → List (PathOf × V)) where
   rest_begins : (parts : List A) (top : PathOf) (n : ℕ) → ArePassed f parts top n → 0 < length (flat_map f (drop n parts)) → BeginsPassed false (flat_map f (drop n parts)) top

@@ -92,7 +92,7 @@ module _ {V : Type 0} (ps : List PathOf) (vs : List V) (es : List (PathOf × V))
   pub length_of : length es ≡ length ps
   length_of = ap length (sym is) ∙ zip_length ps vs same
 
-  keys_in_order : IsInOrder es → IsInOrder (map keyed ps)
+  pub keys_in_order : IsInOrder es → IsInOrder (map keyed ps)
   keys_in_order h = subst IsInOrder same_keys (in_order-rows {R = Unit {0}} (λ v. tt) es h)
 
   pub paths_parted : (p : PathOf) → IsInOrder es → IsPartitionedBy (λ q. is_gt (path_cmp p q)) ps

@@ -1,15 +1,13 @@
 //! A map made of entries that come in path order: their paths are moved into it.
 
-ghost use Rattle.std.specs.Prelude.{◌≡◌, ◌++◌, ◌<◌, [], ◌∷◌, length, List, IfOk, OnOk, OnErr, MatchOption, is_ok, if◌then◌else◌};
+ghost use Rattle.std.specs.Prelude.{◌≡◌, ◌++◌, ◌<◌, [], ◌∷◌, length, List, IfOk, OnOk, OnErr, is_ok, if◌then◌else◌};
 ghost use Rattle.std.specs.List.{zip};
-ghost use Rattle.std.specs.FinMap.{is_sorted};
-ghost use Rattle.acl_names.specs.Paths.{path_cmp, PathOf};
+ghost use Rattle.acl_names.specs.Paths.{PathOf};
 ghost use Rattle.path_map.specs.Entries.{IsInOrder, all_in};
-ghost use Rattle.path_map.specs.Inner.{AreGathered, IsLast};
+ghost use Rattle.path_map.specs.Inner.{AreGathered};
 
 use crate::chunk::{Chunk, MAX_ENTRIES};
 use crate::map::PathMap;
-use crate::run::Run;
 use acl_names::Path;
 use std::alloc::{AllocError, Global};
 use std::marker::Model;
@@ -105,31 +103,6 @@ impl<V: Copy> PathMapBuilder<V> {
             chunks: Vec::new(alloc),
             paths: Vec::new(alloc),
             values: Vec::new(alloc),
-        }
-    }
-
-    /// The path of the last entry so far.
-    fn last(&self) -> Option<&Path>
-        ensures order { IsInOrder self.now }
-        ensures last { MatchOption result (self.now ≡ []) (λ path. IsLast self.now path.now) }
-    {
-        let run = Run::new(&self.paths, &self.values);
-        if !run.is_empty() {
-            return Some(run.last_path());
-        }
-        match self.chunks.as_slice() {
-            [] => None,
-            [.., chunk] => Some(chunk.run().last_path()),
-        }
-    }
-
-    /// Whether a path is after those of all entries so far: then `push` takes it. Allocates nothing.
-    pub fn takes(&self, path: &Path) -> bool
-        ensures { (value : V) → result ≡ is_sorted path_cmp (self.now ++ (path.now, value) ∷ []) }
-    {
-        match self.last() {
-            Some(last) => last.order(path).is_lt(),
-            None => true,
         }
     }
 

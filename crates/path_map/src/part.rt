@@ -1,11 +1,11 @@
 //! Parts of a map: entries in path order, at least one.
 
 ghost use Rattle.std.specs.Prelude.{◌≡◌, ◌<◌, ◌++◌, None, length, List, OnOk, slice_index_or, option_map, map};
-ghost use Rattle.std.specs.FinMap.{find, is_sorted};
+ghost use Rattle.std.specs.FinMap.{find};
 ghost use Rattle.acl_names.specs.Paths.{path_cmp, PathOf};
 ghost use Rattle.path_map.specs.Entries.{IsInOrder, IsCount, entries_of_parts, seen, found};
-ghost use Rattle.path_map.specs.Below.{up_to, within, is_passed};
-ghost use Rattle.path_map.specs.Inner.{IsCountUpTo, AreFirstWithin, ArePassed, IsStart};
+ghost use Rattle.path_map.specs.Below.{up_to, is_passed};
+ghost use Rattle.path_map.specs.Inner.{IsCountUpTo, ArePassed, IsStart};
 
 use acl_names::{Path, PathRef};
 use std::alloc::AllocError;
@@ -33,10 +33,6 @@ pub(crate) trait Part<V> {
     /// How many entries there are.
     fn len(&self) -> usize
         ensures { IsCount result (length (entries_of self.now)) };
-
-    /// How many entries are at or below a path.
-    fn count_within(&self, top: &Path) -> usize
-        ensures { IsCount result (length (within top.now (entries_of self.now))) };
 
     /// Adds the values of paths that are in path order.
     fn push_found<W>(
@@ -113,25 +109,8 @@ pub(crate) fn count_entries<V, P: Part<V>>(parts: &[Rc<P>]) -> usize
     count
 }
 
-/// How many parts at the front have their first path at or below a path.
-pub(crate) fn count_parts_within<V, P: Part<V>>(parts: &[Rc<P>], top: &Path) -> usize
-    ensures { AreFirstWithin (λ c. P.entries_of c.value) parts.now top.now result }
-{
-    let mut low = 0;
-    let mut high = parts.len();
-    while low < high {
-        let middle = low + (high - low) / 2;
-        if parts[middle].first().is_within(top) {
-            low = middle + 1;
-        } else {
-            high = middle;
-        }
-    }
-    low
-}
-
 /// Whether a path is before another one, at it or below it.
-fn is_passed(top: &Path, path: &Path) -> bool
+pub(crate) fn is_passed(top: &Path, path: &Path) -> bool
     ensures { result ≡ is_passed top.now path.now }
 {
     top.order(path).is_gt() || path.is_within(top)
@@ -154,36 +133,6 @@ pub(crate) fn count_passed<V, P: Part<V>>(parts: &[Rc<P>], top: &Path) -> usize
     low
 }
 
-/// How many entries of parts are at or below a path, each part by itself.
-fn count_each_within<V, P: Part<V>>(parts: &[Rc<P>], top: &Path) -> usize
-    ensures { IsCount result (length (within top.now (entries_of_parts P.entries_of parts.now))) }
-{
-    let mut count = 0usize;
-    let mut rest = parts;
-    while let Some((part, more)) = rest.split_first() {
-        count = count.saturating_add(part.count_within(top));
-        rest = more;
-    }
-    count
-}
-
-/// How many entries of parts are at or below a path. Only the first part and the last one that may have some look at
-/// their entries; those between them have no others.
-pub(crate) fn count_within<V, P: Part<V>>(parts: &[Rc<P>], top: &Path) -> usize
-    requires { IsInOrder (entries_of_parts P.entries_of parts.now) }
-    ensures { IsCount result (length (within top.now (entries_of_parts P.entries_of parts.now))) }
-{
-    let started = count_up_to(parts, top);
-    let before = started.saturating_sub(1);
-    let (_front, rest) = parts.split_at(before);
-    let (first, more) = rest.split_at(started - before);
-    let (some, _after) = more.split_at(count_parts_within(more, top));
-    let (all, last) = some.split_at(some.len().saturating_sub(1));
-    count_each_within(first, top)
-        .saturating_add(count_entries(all))
-        .saturating_add(count_each_within(last, top))
-}
-
 /// Adds no value for each path.
 pub(crate) fn push_none<V: Copy, W>(
     new: &mut Vec<Option<V>>,
@@ -197,7 +146,8 @@ pub(crate) fn push_none<V: Copy, W>(
     Ok(())
 }
 
-/// Adds the values of paths that are in path order: each half of the parts is asked for its own, down to one part.
+/// Adds the values of paths that are in path order: each half of the parts is searched for the paths that it may have, down to
+/// one part.
 pub(crate) fn push_found_in<V: Copy, W, P: Part<V>>(
     new: &mut Vec<Option<V>>,
     parts: &[Rc<P>],
@@ -224,18 +174,4 @@ pub(crate) fn push_found_in<V: Copy, W, P: Part<V>>(
             Ok(())
         }
     }
-}
-
-/// Whether entries are in path order, each path once.
-pub fn is_in_order<V>(all: &[(&Path, V)]) -> bool
-    ensures { result ≡ is_sorted path_cmp (map seen all.now) }
-{
-    let mut at = 1;
-    while at < all.len() {
-        if !all[at - 1].0.order(all[at].0).is_lt() {
-            return false;
-        }
-        at += 1;
-    }
-    true
 }

@@ -6,9 +6,10 @@ ghost use Rattle.std.specs.FinMap.{find};
 ghost use Rattle.std.specs.Iterator.{YieldsFirstBy, item_count};
 ghost use Rattle.acl_names.specs.Paths.{path_cmp, PathOf};
 ghost use Rattle.path_map.specs.Entries.{IsInOrder, seen};
-ghost use Rattle.path_map.specs.Below.{up_to};
-ghost use Rattle.path_map.specs.Inner.{IsStart, IsCountUpTo, IsLast, IsWithinFirst};
+ghost use Rattle.path_map.specs.Below.{up_to, after};
+ghost use Rattle.path_map.specs.Inner.{IsStart, IsCountUpTo};
 
+use crate::part::is_passed;
 use acl_names::{Path, PathRef};
 use std::cmp::Ordering;
 use std::marker::Model;
@@ -59,7 +60,7 @@ impl<'a, V> Run<'a, V> {
         self.paths.is_empty()
     }
 
-    /// The first entries, so many.
+    /// The first `count` entries.
     pub fn front(&self, count: usize) -> Run<'a, V>
         requires { count ≤ length self.now }
         ensures { result ≡ take count self.now }
@@ -70,7 +71,7 @@ impl<'a, V> Run<'a, V> {
         }
     }
 
-    /// The entries after so many.
+    /// The entries after the first `count`.
     pub fn back(&self, count: usize) -> Run<'a, V>
         requires { count ≤ length self.now }
         ensures { result ≡ drop count self.now }
@@ -96,14 +97,6 @@ impl<'a, V> Run<'a, V> {
         item(self.paths, at)
     }
 
-    /// The path of the last entry.
-    pub fn last_path(&self) -> &'a Path
-        requires { 0 < length self.now }
-        ensures { IsLast self.now result.now }
-    {
-        self.path(self.len() - 1)
-    }
-
     /// How many entries are before a path.
     pub fn start(&self, path: &Path) -> usize
         requires { IsInOrder self.now }
@@ -124,16 +117,13 @@ impl<'a, V> Run<'a, V> {
 }
 
 impl<'a, V> Run<'a, V> {
-    /// How many entries are at or below a path, where so many are before it.
-    pub fn count_within_first(&self, before: usize, top: &Path) -> usize
-        requires order { IsInOrder self.now }
-        requires start { IsStart self.now top.now before }
-        ensures { IsWithinFirst self.now top.now before result }
+    /// Counts the entries that are before a path, at it or below it.
+    pub fn passed(&self, top: &Path) -> usize
+        requires { IsInOrder self.now }
+        ensures few { result ≤ length self.now }
+        ensures rest { after top.now self.now ≡ drop result self.now }
     {
-        self.paths
-            .split_at(before)
-            .1
-            .partition_point(|path| path.is_within(top))
+        self.paths.partition_point(|path| is_passed(top, path))
     }
 }
 
@@ -143,15 +133,7 @@ impl<'a, V: Copy> Run<'a, V> {
         requires { IsInOrder self.now }
         ensures { result ≡ find path_cmp path.now self.now }
     {
-        self.value_at(self.start(path), path)
-    }
-
-    /// The value of a path, where so many entries are before it.
-    pub fn value_at(&self, before: usize, path: &Path) -> Option<V>
-        requires order { IsInOrder self.now }
-        requires start { IsStart self.now path.now before }
-        ensures { result ≡ find path_cmp path.now self.now }
-    {
+        let before = self.start(path);
         if before == self.len() {
             return None;
         }

@@ -1,5 +1,5 @@
 //! A map of several branches: the even numbers below 70,000 as names, each with itself as value.
-use crate::made::{Row, built, digit, map_of, merged, path, value_up_to};
+use crate::made::{Row, digit, map_of, path};
 use path_map::{Entries, PathMap};
 use std::alloc::Global;
 use std::process::Abort;
@@ -49,7 +49,6 @@ fn are_evens(mut entries: Entries<'_, usize>, first: usize, end: usize) -> bool 
 fn expect_number(rt: &impl Abort, alloc: Global, map: &PathMap<usize>, number: usize) {
     let row = numbered(rt, alloc, number);
     assert!(rt; map.get(&row.0) == Some(number));
-    assert!(rt; value_up_to(map, &row.0) == Some(number));
     assert!(rt; are_evens(map.from(&row.0), number, 70_000));
     assert!(rt; are_evens(map.after(&row.0), number.wrapping_add(2), 70_000));
 }
@@ -70,15 +69,28 @@ fn are_changed(mut entries: Entries<'_, usize>) -> bool {
         && are_evens(entries, 2, 69_998)
 }
 
+/// The map with one row put and another one removed.
+fn changed(
+    rt: &impl Abort,
+    alloc: Global,
+    map: &PathMap<usize>,
+    put: &Row,
+    gone: &Row,
+) -> PathMap<usize> {
+    let more = map.put_all(alloc, &[(&put.0, put.1)]).expect(rt, "memory");
+    more.without_all(alloc, &[(&gone.0, ())])
+        .expect(rt, "memory")
+}
+
 #[test]
 fn the_first_and_the_last_branch_are_changed(rt: HostRuntime) {
     let map = evens(&rt, rt.alloc());
-    let changed = merged(
+    let changed = changed(
         &rt,
         rt.alloc(),
         &map,
-        &numbers(&rt, rt.alloc(), 1, 2),
-        &numbers(&rt, rt.alloc(), 69_998, 70_000),
+        &numbered(&rt, rt.alloc(), 1),
+        &numbered(&rt, rt.alloc(), 69_998),
     );
     assert!(rt; are_evens(map.iter(), 0, 70_000));
     drop(map);
@@ -109,21 +121,4 @@ fn numbers_are_looked_up_in_turn(rt: HostRuntime) {
     let map = evens(&rt, rt.alloc());
     assert!(rt; finds_evens(&rt, rt.alloc(), &map, 0, 300));
     assert!(rt; finds_evens(&rt, rt.alloc(), &map, 69_800, 70_000));
-}
-
-/// A map whose paths are moved into it has all even numbers to before another.
-fn expect_built(rt: &impl Abort, alloc: Global, end: usize) {
-    let map = built(rt, alloc, numbers(rt, alloc, 0, end));
-    assert!(rt; are_evens(map.iter(), 0, end));
-    if let Some(last) = end.checked_sub(2) {
-        let row = numbered(rt, alloc, last);
-        assert!(rt; map.get(&row.0) == Some(last));
-    }
-}
-
-#[test]
-fn maps_are_built_at_the_limits_of_chunks_and_branches(rt: HostRuntime) {
-    for end in [0, 2, 62, 64, 66, 128, 130, 2_048, 2_050, 66_000] {
-        expect_built(&rt, rt.alloc(), end);
-    }
 }

@@ -19,27 +19,37 @@ impl Likeness<u32> for ByLastDigit {
     }
 }
 
-/// The entries with one more.
-fn pushed(
+/// The map of three paths in path order with these nodes.
+fn built_of(
     rt: &impl Abort,
     alloc: Global,
-    builder: KindMapBuilder<u32>,
-    text: &[u8],
-    node: u32,
-) -> KindMapBuilder<u32> {
-    let path = path(rt, alloc, text);
-    assert!(rt; builder.takes(&path));
-    builder
-        .push(alloc, path, node, &ByLastDigit)
-        .expect(rt, "memory")
+    first: Path,
+    second: Path,
+    third: Path,
+    nodes: [u32; 3],
+) -> KindMap<u32> {
+    assert!(rt; first.order(&second).is_lt());
+    assert!(rt; first.order(&third).is_lt());
+    assert!(rt; second.order(&third).is_lt());
+    let builder = KindMapBuilder::new(alloc);
+    let builder = builder
+        .push(alloc, first, nodes[0], &ByLastDigit)
+        .expect(rt, "memory");
+    let builder = builder
+        .push(alloc, second, nodes[1], &ByLastDigit)
+        .expect(rt, "memory");
+    let builder = builder
+        .push(alloc, third, nodes[2], &ByLastDigit)
+        .expect(rt, "memory");
+    builder.finish(alloc).expect(rt, "memory")
 }
 
 /// The map of the paths a, b and c with these nodes.
 pub(crate) fn built(rt: &impl Abort, alloc: Global, nodes: [u32; 3]) -> KindMap<u32> {
-    let builder = pushed(rt, alloc, KindMapBuilder::new(alloc), b"a", nodes[0]);
-    let builder = pushed(rt, alloc, builder, b"b", nodes[1]);
-    let builder = pushed(rt, alloc, builder, b"c", nodes[2]);
-    builder.finish(alloc).expect(rt, "memory")
+    let first = path(rt, alloc, b"a");
+    let second = path(rt, alloc, b"b");
+    let third = path(rt, alloc, b"c");
+    built_of(rt, alloc, first, second, third, nodes)
 }
 
 /// The map with a node put at a path.
@@ -95,18 +105,6 @@ pub(crate) fn expect_entry(
     let path = path(rt, alloc, text);
     assert!(rt; *map.get(&path).expect(rt, "a node") == node);
     assert!(rt; map.numbers().get(&path).expect(rt, "a number") == number);
-}
-
-fn takes(rt: &impl Abort, alloc: Global, builder: &KindMapBuilder<u32>, text: &[u8]) -> bool {
-    builder.takes(&path(rt, alloc, text))
-}
-
-#[test]
-fn a_path_is_taken_after_those_before_it(rt: HostRuntime) {
-    let builder = pushed(&rt, rt.alloc(), KindMapBuilder::new(rt.alloc()), b"b", 5);
-    assert!(rt; takes(&rt, rt.alloc(), &builder, b"b/x"));
-    assert!(rt; !takes(&rt, rt.alloc(), &builder, b"b"));
-    assert!(rt; !takes(&rt, rt.alloc(), &builder, b"a"));
 }
 
 #[test]

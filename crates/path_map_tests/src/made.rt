@@ -1,6 +1,6 @@
 //! Paths, and maps from them to numbers.
 use acl_names::{Path, read_path};
-use path_map::{PathMap, PathMapBuilder, is_in_order};
+use path_map::PathMap;
 use std::alloc::Global;
 use std::process::Abort;
 
@@ -27,50 +27,16 @@ pub fn rows(rt: &impl Abort, alloc: Global, texts: &[(&[u8], usize)]) -> Vec<Row
     rows
 }
 
-/// Borrowed paths with their numbers.
-pub fn entries<'a>(rt: &impl Abort, alloc: Global, rows: &'a [Row]) -> Vec<(&'a Path, usize)> {
-    let mut entries = Vec::new(alloc);
-    for row in rows {
-        entries.push((&row.0, row.1)).expect(rt, "memory");
-    }
-    entries
+/// The map with a number put at a path.
+fn with_row(rt: &impl Abort, alloc: Global, map: &PathMap<usize>, row: &Row) -> PathMap<usize> {
+    map.put_all(alloc, &[(&row.0, row.1)]).expect(rt, "memory")
 }
 
+/// The map of rows, which are put one after another.
 pub fn map_of(rt: &impl Abort, alloc: Global, rows: &[Row]) -> PathMap<usize> {
-    let entries = entries(rt, alloc, rows);
-    assert!(rt; is_in_order(&entries));
-    PathMap::from_sorted(alloc, &entries).expect(rt, "memory")
-}
-
-/// The map of rows in path order, whose paths are moved into it.
-pub fn built(rt: &impl Abort, alloc: Global, rows: Vec<Row>) -> PathMap<usize> {
-    let mut builder = PathMapBuilder::new(alloc);
-    for (path, value) in rows {
-        assert!(rt; builder.takes(&path));
-        builder.push(alloc, path, value).expect(rt, "memory");
+    let mut map = PathMap::new(alloc);
+    for row in rows {
+        map = with_row(rt, alloc, &map, row);
     }
-    builder.finish(alloc).expect(rt, "memory")
-}
-
-/// The map with some rows put, and without others.
-pub fn merged(
-    rt: &impl Abort,
-    alloc: Global,
-    map: &PathMap<usize>,
-    puts: &[Row],
-    gone: &[Row],
-) -> PathMap<usize> {
-    let puts = entries(rt, alloc, puts);
-    let gone = entries(rt, alloc, gone);
-    assert!(rt; is_in_order(&puts));
-    assert!(rt; is_in_order(&gone));
-    map.merged(alloc, &puts, &gone).expect(rt, "memory")
-}
-
-/// The value of the last entry that is not after the path.
-pub fn value_up_to(map: &PathMap<usize>, path: &Path) -> Option<usize> {
-    match map.up_to(&path.borrowed()) {
-        Some(entry) => Some(entry.1),
-        None => None,
-    }
+    map
 }

@@ -1,7 +1,7 @@
 //! A map of four paths. What is found is printed, each path with its value.
-use crate::made::{built, digit, entries, map_of, merged, path, rows, value_up_to};
+use crate::made::{digit, map_of, path, rows};
 use acl_names::{Path, append_path};
-use path_map::{Entries, PathMap, PathMapBuilder, Within, is_in_order};
+use path_map::{Entries, PathMap, PathMapBuilder, Within};
 use std::alloc::Global;
 use std::process::Abort;
 
@@ -39,11 +39,10 @@ fn printed_within(rt: &impl Abort, alloc: Global, mut entries: Within<'_, '_, us
     text
 }
 
-/// A path, its value, that of the last entry up to it, and what is printed from it on, after all below it, and within it.
+/// A path, its value, and what is printed from it on, after all below it, and within it.
 struct Look {
     path: &'static [u8],
     value: Option<usize>,
-    up_to: Option<usize>,
     from: &'static [u8],
     after: &'static [u8],
     within: &'static [u8],
@@ -53,7 +52,6 @@ static LOOKS: [Look; 4] = [
     Look {
         path: b".",
         value: Some(1),
-        up_to: Some(1),
         from: b".=1 a=2 a/b=3 ab=4 ",
         after: b"",
         within: b".=1 a=2 a/b=3 ab=4 ",
@@ -62,7 +60,6 @@ static LOOKS: [Look; 4] = [
     Look {
         path: b"a",
         value: Some(2),
-        up_to: Some(2),
         from: b"a=2 a/b=3 ab=4 ",
         after: b"ab=4 ",
         within: b"a=2 a/b=3 ",
@@ -70,7 +67,6 @@ static LOOKS: [Look; 4] = [
     Look {
         path: b"a/b",
         value: Some(3),
-        up_to: Some(3),
         from: b"a/b=3 ab=4 ",
         after: b"ab=4 ",
         within: b"a/b=3 ",
@@ -78,7 +74,6 @@ static LOOKS: [Look; 4] = [
     Look {
         path: b"a/c",
         value: None,
-        up_to: Some(3),
         from: b"ab=4 ",
         after: b"ab=4 ",
         within: b"",
@@ -88,7 +83,6 @@ static LOOKS: [Look; 4] = [
 fn expect_look(rt: &impl Abort, alloc: Global, map: &PathMap<usize>, look: &Look) {
     let path = path(rt, alloc, look.path);
     assert!(rt; map.get(&path) == look.value);
-    assert!(rt; value_up_to(map, &path) == look.up_to);
     assert!(rt; printed(rt, alloc, map.from(&path)).as_slice() == look.from);
     assert!(rt; printed(rt, alloc, map.after(&path)).as_slice() == look.after);
     assert!(rt; printed_within(rt, alloc, map.within(&path)).as_slice() == look.within);
@@ -114,8 +108,6 @@ fn the_first_entry(rt: HostRuntime) {
 #[test]
 fn an_empty_map_has_no_entry(rt: HostRuntime) {
     let empty: PathMap<usize> = PathMap::new(rt.alloc());
-    let path = path(&rt, rt.alloc(), b"a/c");
-    assert!(rt; value_up_to(&empty, &path).is_none());
     assert!(rt; empty.iter().peek().is_none());
 }
 
@@ -124,97 +116,150 @@ fn expect_printed(rt: &impl Abort, alloc: Global, map: &PathMap<usize>, want: &[
     assert!(rt; printed(rt, alloc, map.iter()).as_slice() == want);
 }
 
-static PUT: [(&[u8], usize); 1] = [(b"a/c", 5)];
-
-static GONE: [(&[u8], usize); 2] = [(b"a", 0), (b"a/c", 0)];
-
-#[test]
-fn paths_are_moved_into_a_map(rt: HostRuntime) {
-    let map = built(&rt, rt.alloc(), rows(&rt, rt.alloc(), &FOUR));
-    expect_printed(&rt, rt.alloc(), &map, b".=1 a=2 a/b=3 ab=4 ");
+/// The map of two entries whose paths are moved into it.
+fn built(rt: &impl Abort, alloc: Global, first: Path, second: Path) -> PathMap<usize> {
+    assert!(rt; first.order(&second).is_lt());
+    let mut builder = PathMapBuilder::new(alloc);
+    builder.push(alloc, first, 1).expect(rt, "memory");
+    builder.push(alloc, second, 2).expect(rt, "memory");
+    builder.finish(alloc).expect(rt, "memory")
 }
 
 #[test]
-fn a_builder_takes_later_paths_alone(rt: HostRuntime) {
-    let mut builder: PathMapBuilder<usize> = PathMapBuilder::new(rt.alloc());
+fn paths_are_moved_into_a_map(rt: HostRuntime) {
     let first = path(&rt, rt.alloc(), b"a");
-    assert!(rt; builder.takes(&first));
-    builder.push(rt.alloc(), first, 1).expect(&rt, "memory");
-    assert!(rt; !builder.takes(&path(&rt, rt.alloc(), b".")));
-    assert!(rt; !builder.takes(&path(&rt, rt.alloc(), b"a")));
-    assert!(rt; builder.takes(&path(&rt, rt.alloc(), b"a/b")));
+    let map = built(&rt, rt.alloc(), first, path(&rt, rt.alloc(), b"a/b"));
+    expect_printed(&rt, rt.alloc(), &map, b"a=1 a/b=2 ");
+}
+
+/// The map with two entries put.
+fn put(
+    rt: &impl Abort,
+    alloc: Global,
+    map: &PathMap<usize>,
+    first: &Path,
+    second: &Path,
+) -> PathMap<usize> {
+    assert!(rt; first.order(second).is_lt());
+    map.put_all(alloc, &[(first, 7), (second, 5)])
+        .expect(rt, "memory")
 }
 
 #[test]
 fn entries_are_put(rt: HostRuntime) {
-    let rows = rows(&rt, rt.alloc(), &PUT);
-    let puts = entries(&rt, rt.alloc(), &rows);
-    assert!(rt; is_in_order(&puts));
-    let map = four(&rt, rt.alloc())
-        .put_all(rt.alloc(), &puts)
-        .expect(&rt, "memory");
-    expect_printed(&rt, rt.alloc(), &map, b".=1 a=2 a/b=3 a/c=5 ab=4 ");
+    let map = four(&rt, rt.alloc());
+    let first = path(&rt, rt.alloc(), b"a");
+    let new = put(
+        &rt,
+        rt.alloc(),
+        &map,
+        &first,
+        &path(&rt, rt.alloc(), b"a/c"),
+    );
+    expect_printed(&rt, rt.alloc(), &map, b".=1 a=2 a/b=3 ab=4 ");
+    drop(map);
+    expect_printed(&rt, rt.alloc(), &new, b".=1 a=7 a/b=3 a/c=5 ab=4 ");
+}
+
+/// The map without two paths.
+fn without(
+    rt: &impl Abort,
+    alloc: Global,
+    map: &PathMap<usize>,
+    first: &Path,
+    second: &Path,
+) -> PathMap<usize> {
+    assert!(rt; first.order(second).is_lt());
+    map.without_all(alloc, &[(first, ()), (second, ())])
+        .expect(rt, "memory")
 }
 
 #[test]
 fn entries_are_removed(rt: HostRuntime) {
-    let rows = rows(&rt, rt.alloc(), &GONE);
-    let gone = entries(&rt, rt.alloc(), &rows);
-    assert!(rt; is_in_order(&gone));
-    let map = four(&rt, rt.alloc())
-        .without_all(rt.alloc(), &gone)
-        .expect(&rt, "memory");
-    expect_printed(&rt, rt.alloc(), &map, b".=1 a/b=3 ab=4 ");
-}
-
-#[test]
-fn a_map_is_changed_and_its_copies_are_not(rt: HostRuntime) {
     let map = four(&rt, rt.alloc());
     let copy = map.share().expect(&rt, "memory");
-    let changed = merged(
+    let first = path(&rt, rt.alloc(), b"a");
+    let new = without(
         &rt,
         rt.alloc(),
         &map,
-        &rows(&rt, rt.alloc(), &PUT),
-        &rows(&rt, rt.alloc(), &GONE),
+        &first,
+        &path(&rt, rt.alloc(), b"a/c"),
     );
     drop(map);
-    expect_printed(&rt, rt.alloc(), &changed, b".=1 a/b=3 a/c=5 ab=4 ");
+    expect_printed(&rt, rt.alloc(), &new, b".=1 a/b=3 ab=4 ");
     expect_printed(&rt, rt.alloc(), &copy, b".=1 a=2 a/b=3 ab=4 ");
 }
 
-// A path that the map has not is passed over.
-static VALUES: [(&[u8], usize); 3] = [(b"a", 7), (b"a/c", 8), (b"ab", 9)];
+/// The map with other values of two paths.
+fn with_values(
+    rt: &impl Abort,
+    alloc: Global,
+    map: &PathMap<usize>,
+    first: &Path,
+    second: &Path,
+) -> PathMap<usize> {
+    assert!(rt; first.order(second).is_lt());
+    map.with_values(alloc, &[(first, 7), (second, 8)])
+        .expect(rt, "memory")
+}
 
+// A path that the map has not is passed over.
 #[test]
 fn values_are_replaced_by_their_paths(rt: HostRuntime) {
-    let rows = rows(&rt, rt.alloc(), &VALUES);
-    let puts = entries(&rt, rt.alloc(), &rows);
-    assert!(rt; is_in_order(&puts));
     let map = four(&rt, rt.alloc());
-    let new = map.with_values(rt.alloc(), &puts).expect(&rt, "memory");
+    let first = path(&rt, rt.alloc(), b"a");
+    let new = with_values(
+        &rt,
+        rt.alloc(),
+        &map,
+        &first,
+        &path(&rt, rt.alloc(), b"a/c"),
+    );
     expect_printed(&rt, rt.alloc(), &map, b".=1 a=2 a/b=3 ab=4 ");
     drop(map);
-    expect_printed(&rt, rt.alloc(), &new, b".=1 a=7 a/b=3 ab=9 ");
+    expect_printed(&rt, rt.alloc(), &new, b".=1 a=7 a/b=3 ab=4 ");
+}
+
+/// The map with other values of two paths, and those that they had.
+fn replaced(
+    rt: &impl Abort,
+    alloc: Global,
+    map: &PathMap<usize>,
+    first: &Path,
+    second: &Path,
+) -> (PathMap<usize>, Vec<Option<usize>>) {
+    assert!(rt; first.order(second).is_lt());
+    map.replaced(alloc, &[(first, 8), (second, 9)])
+        .expect(rt, "memory")
 }
 
 #[test]
 fn replaced_values_are_returned(rt: HostRuntime) {
-    let rows = rows(&rt, rt.alloc(), &VALUES);
-    let puts = entries(&rt, rt.alloc(), &rows);
-    assert!(rt; is_in_order(&puts));
     let map = four(&rt, rt.alloc());
-    let (new, was) = map.replaced(rt.alloc(), &puts).expect(&rt, "memory");
-    expect_printed(&rt, rt.alloc(), &new, b".=1 a=7 a/b=3 ab=9 ");
-    assert!(rt; was.as_slice() == [Some(2), None, Some(4)].as_slice());
+    let first = path(&rt, rt.alloc(), b"a/c");
+    let (new, was) = replaced(&rt, rt.alloc(), &map, &first, &path(&rt, rt.alloc(), b"ab"));
+    expect_printed(&rt, rt.alloc(), &new, b".=1 a=2 a/b=3 ab=9 ");
+    assert!(rt; was.as_slice() == [None, Some(4)].as_slice());
+}
+
+/// The values of two paths.
+fn values_of(
+    rt: &impl Abort,
+    alloc: Global,
+    map: &PathMap<usize>,
+    first: &Path,
+    second: &Path,
+) -> Vec<Option<usize>> {
+    assert!(rt; first.order(second).is_lt());
+    map.get_all(alloc, &[(first, ()), (second, ())])
+        .expect(rt, "memory")
 }
 
 #[test]
 fn many_paths_are_looked_up(rt: HostRuntime) {
     let map = four(&rt, rt.alloc());
-    let rows = rows(&rt, rt.alloc(), &VALUES);
-    let asked = entries(&rt, rt.alloc(), &rows);
-    assert!(rt; is_in_order(&asked));
-    let found = map.get_all(rt.alloc(), &asked).expect(&rt, "memory");
-    assert!(rt; found.as_slice() == [Some(2), None, Some(4)].as_slice());
+    let first = path(&rt, rt.alloc(), b"a/c");
+    let found = values_of(&rt, rt.alloc(), &map, &first, &path(&rt, rt.alloc(), b"ab"));
+    assert!(rt; found.as_slice() == [None, Some(4)].as_slice());
 }

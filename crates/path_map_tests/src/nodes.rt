@@ -1,26 +1,12 @@
 //! Maps of the same paths with other nodes: what no clause states of them, which numbers are free, and how often a node is
 //! renewed.
 
-ghost use Rattle.std.specs.Prelude.{nat_lt, false};
+ghost use Rattle.std.specs.Prelude.{false};
 
 use crate::kind_maps::{b_freed, built, expect_entry, expect_given_again};
-use kinds::{KindMap, KindTest, Renewal};
+use kinds::{KindMap, Renewal};
 use std::alloc::{AllocError, Global};
 use std::process::Abort;
-
-/// Nodes above one.
-#[derive(Drop)]
-struct Above {
-    node: u32,
-}
-
-impl KindTest<u32> for Above {
-    ghost passes = { λ above node. nat_lt above.node node };
-
-    fn passes(&self, node: &u32) -> bool {
-        self.node < *node
-    }
-}
 
 /// How many nodes were renewed.
 #[derive(Drop)]
@@ -75,13 +61,6 @@ fn with_nines(rt: &impl Abort, alloc: Global, map: &KindMap<u32>) -> (KindMap<u3
     (new, count.nodes)
 }
 
-fn expect_table(rt: &impl Abort, alloc: Global, map: &KindMap<u32>, want: [bool; 2]) {
-    let table = map
-        .table_where(alloc, &Above { node: 5 })
-        .expect(rt, "memory");
-    assert!(rt; table.as_slice() == want.as_slice());
-}
-
 #[test]
 fn a_map_with_other_nodes_has_the_same_numbers(rt: HostRuntime) {
     let map = built(&rt, rt.alloc(), [5, 6, 5]);
@@ -116,15 +95,4 @@ fn a_node_that_no_path_has_is_not_renewed(rt: HostRuntime) {
     let (new, renewed) = with_nines(&rt, rt.alloc(), &b_freed(&rt, rt.alloc()));
     assert!(rt; renewed == 1);
     assert!(rt; new.used(1).is_none());
-}
-
-#[test]
-fn a_table_has_an_item_for_each_number(rt: HostRuntime) {
-    expect_table(
-        &rt,
-        rt.alloc(),
-        &built(&rt, rt.alloc(), [5, 6, 5]),
-        [false, true],
-    );
-    expect_table(&rt, rt.alloc(), &b_freed(&rt, rt.alloc()), [false, false]);
 }

@@ -44,7 +44,7 @@ fn halves<P: Part>(parts: &[Rc<P>]) -> (&[Rc<P>], &[Rc<P>], Pair)
     (left, right, right[0].first())
 }
 
-/// Adds the second numbers of the pairs with a first one. Only the parts that may have some are asked.
+/// Adds the second numbers of the pairs with a first one. Only the parts that may have some are searched.
 pub(crate) fn push_seconds_in<P: Part>(
     new: &mut Vec<usize>,
     parts: &[Rc<P>],

@@ -1,32 +1,34 @@
-use Rattle.std.proofs.Common.{◌+◌, ◌<◌, length, sym, subst, arith}
-use Rattle.facl_output.proofs.Parts.{begins_later}
+use Rattle.std.proofs.Common.{subst, arith}
+use Rattle.std.specs.Prelude.{option_map}
 use Rattle.std.proofs.lemmas.Grind.{common_steps}
-use Rattle.facl_answers.specs.Inner.{Walked, left_before}
-use Rattle.facl_answers.proofs.SideBySide.{side_begins, side_more, side_ends, fewer_left}
+use Rattle.path_map.specs.Entries.{seen}
+use Rattle.facl_output.proofs.Parts.{begins_later}
+use Rattle.facl_answers.specs.BothStates.{TakesNextWithin, both_of}
+use Rattle.facl_answers.specs.PathTexts.{text_in}
+use Rattle.facl_answers.proofs.BothLines.{pushing_ends, pushing_more, pushing_starts}
 use Rattle.facl_answers.proofs.changes.push_both.Goals as goal
 
-pub returns-in_err-push_next : goal.returns-in_err-push_next
-returns-in_err-push_next c =
-    let begins = begins_later c.args.text.now.items c.loop-order.text.items c.push_next.new.text.items c.loop-order.invariant.begins c.in_err-push_next.ensures.lines in
+pub returns-in_err-push_file : goal.returns-in_err-push_file
+returns-in_err-push_file c =
+    let begins = begins_later c.args.text.now.items c.loop-path.text.items c.push_file.new.text.items c.loop-path.invariant.begins c.in_err-push_file.ensures in
     grind (arith, common_steps, begins)
 
-pub loop-order-init : goal.loop-order-init
-loop-order-init c = side_begins c.args.users.now c.args.before c.args.after c.args.text.now.items c.requires.before c.requires.after
+pub loop-path-init : goal.loop-path-init
+loop-path-init c =
+    pushing_starts c.args.users.now (text_in c.args.trees.0.now c.args.trees.1.now) c.args.top.now (both_of c.args.both.now) c.args.text.now.items c.requires.before c.requires.after
 
-pub loop-order-preserved : goal.loop-order-preserved
-loop-order-preserved c =
-    side_more c.args.users.now c.args.before c.args.after c.args.text.now.items c.loop-order.rest_before c.loop-order.rest_after c.push_next.new.before c.push_next.new.after
-    c.loop-order.text.items c.push_next.new.text.items c.in-Some.order
-    (sym c.in-Some.ensures) c.in_ok-push_next.ensures.lines c.in_ok-push_next.ensures.before c.in_ok-push_next.ensures.after c.loop-order.invariant
-
-pub loop-order-smaller : goal.loop-order-smaller
-loop-order-smaller c =
-    let before = c.loop-order.rest_before in
-    let after = c.loop-order.rest_after in
-    let fewer = fewer_left c.in-Some.order before after (sym c.in-Some.ensures) in
-    subst (λ (left : Walked). length left + length c.push_next.new.after < length before + length after) (sym c.in_ok-push_next.ensures.before)
-    (subst (λ (left : Walked). length (left_before c.in-Some.order before) + length left < length before + length after) (sym c.in_ok-push_next.ensures.after) fewer)
+pub loop-path-preserved : goal.loop-path-preserved
+loop-path-preserved c =
+    let old = both_of c.loop-path.both in
+    let new = both_of c.next_within.new.self in
+    let taken = subst (λ o. TakesNextWithin c.args.top.now old (option_map seen o) new) c.in-Some.is c.in_ok-path.ensures in
+    pushing_more c.args.users.now (text_in c.args.trees.0.now c.args.trees.1.now) c.args.top.now (both_of c.args.both.now) c.args.text.now.items old new c.in-Some.path.now c.in-Some.classes
+    c.loop-path.text.items c.push_file.new.text.items taken.0 taken.1 c.in_ok-push_file.ensures c.loop-path.invariant
 
 pub returns : goal.returns
-returns c = side_ends c.args.users.now c.args.before c.args.after c.args.text.now.items c.loop-order.rest_before c.loop-order.rest_after
-    c.loop-order.text.items (sym c.in_default.ensures) c.loop-order.invariant
+returns c =
+    let old = both_of c.loop-path.both in
+    let new = both_of c.next_within.new.self in
+    let over = subst (λ o. TakesNextWithin c.args.top.now old (option_map seen o) new) c.in_default.is c.in_ok-path.ensures in
+    pushing_ends c.args.users.now (text_in c.args.trees.0.now c.args.trees.1.now) c.args.top.now
+    (both_of c.args.both.now) c.args.text.now.items old new c.loop-path.text.items over c.loop-path.invariant

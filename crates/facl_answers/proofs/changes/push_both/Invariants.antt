@@ -1,9 +1,12 @@
 use Rattle.std.proofs.Common.{◌+◌, length}
-use Rattle.facl_answers.proofs.SideBySide.{AreSideBySide}
+use Rattle.facl_answers.specs.BothStates.{both_of}
+use Rattle.facl_answers.specs.PathTexts.{text_in}
+use Rattle.facl_answers.proofs.BothLines.{IsPushing}
 use Rattle.facl_answers.proofs.changes.push_both.Given as goal
 
-abbrev pub invariant-loop-order : goal.invariant-loop-order
-invariant-loop-order l = AreSideBySide l.users l.fn.before l.fn.after l.initial.text.items l.rest_before l.rest_after l.text.items
+abbrev pub invariant-loop-path : goal.invariant-loop-path
+invariant-loop-path l =
+    IsPushing l.users (text_in l.trees.0.now l.trees.1.now) l.top (both_of l.initial.both) l.initial.text.items (both_of l.both) l.text.items
 
-abbrev pub decreases-loop-order : goal.decreases-loop-order
-decreases-loop-order l = length l.rest_before + length l.rest_after
+abbrev pub decreases-loop-path : goal.decreases-loop-path
+decreases-loop-path l = length l.both.before.1 + length l.both.after.1

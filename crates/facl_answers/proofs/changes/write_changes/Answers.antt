@@ -1,4 +1,4 @@
-use Rattle.facl_answers.proofs.PartLines.{same_outside_root}
+use Rattle.facl_answers.proofs.PartRows.{same_outside_root}
 use Rattle.facl_answers.proofs.changes.write_changes.Goals as goal
 
 pub write_changes_within-requires : goal.write_changes_within-requires

@@ -3,8 +3,9 @@ use Rattle.std.specs.List.{flat_map}
 use Rattle.path_map.specs.Entries.{IsInOrder}
 use Rattle.acl_tree.specs.Files.{Recorded}
 use Rattle.acl_tree.specs.State.{State}
-use Rattle.facl_counts.specs.InnerGains.{gained_of, lines_of_user, rows_in_both}
-use Rattle.facl_counts.specs.PathTexts.{text_in}
+use Rattle.facl_answers.specs.BothStates.{rows_in_both}
+use Rattle.facl_counts.specs.InnerGains.{gained_of, lines_of_user}
+use Rattle.facl_answers.specs.PathTexts.{text_in}
 use Rattle.facl_counts.proofs.StateGains.{all_gains, as_many, written_back}
 use Rattle.facl_counts.proofs.gains.gains_of_users.Goals as goal
 

@@ -1,7 +1,7 @@
 use Rattle.std.proofs.Common.{◌≡◌, false, rules}
 use Rattle.std.specs.List.{list_any}
 use Rattle.facl_counts.specs.InnerGains.{is_before}
-use Rattle.facl_counts.specs.PathTexts.{text_in}
+use Rattle.facl_answers.specs.PathTexts.{text_in}
 use Rattle.facl_counts.proofs.GainLines.{none_before}
 use Rattle.facl_counts.proofs.gains.push_before.Goals as goal
 

@@ -4,7 +4,7 @@ use Rattle.std.proofs.lemmas.Grind.{common_steps}
 use Rattle.facl_counts.specs.Counting.{tallied}
 use Rattle.facl_counts.specs.GainsText.{side_of, lines_up_to}
 use Rattle.facl_counts.specs.InnerGains.{lines_after}
-use Rattle.facl_counts.specs.PathTexts.{text_in}
+use Rattle.facl_answers.specs.PathTexts.{text_in}
 use Rattle.facl_counts.proofs.GainLines.{wrote_none, wrote_more}
 use Rattle.facl_counts.proofs.gains.push_user.Goals as goal
 

@@ -2,7 +2,7 @@ use Rattle.std.proofs.Common.{◌≡◌, ◌++◌, map}
 use Rattle.facl_counts.specs.Counting.{tallied}
 use Rattle.facl_counts.specs.GainsText.{side_of, lines_up_to}
 use Rattle.facl_counts.specs.InnerGains.{lines_after}
-use Rattle.facl_counts.specs.PathTexts.{text_in}
+use Rattle.facl_answers.specs.PathTexts.{text_in}
 use Rattle.facl_counts.proofs.gains.push_user.Given as goal
 
 abbrev pub invariant-loop-before : goal.invariant-loop-before

@@ -1,7 +1,7 @@
 use Rattle.std.proofs.Common.{◌≡◌, ◌++◌, take}
 use Rattle.std.specs.List.{flat_map}
 use Rattle.facl_counts.specs.InnerGains.{lines_of_user}
-use Rattle.facl_counts.specs.PathTexts.{text_in}
+use Rattle.facl_answers.specs.PathTexts.{text_in}
 use Rattle.facl_counts.proofs.gains.push_users.Given as goal
 
 abbrev pub invariant-loop-gains : goal.invariant-loop-gains

@@ -1,4 +1,4 @@
-use Rattle.facl_answers.proofs.PartLines.{same_outside_root}
+use Rattle.facl_answers.proofs.PartRows.{same_outside_root}
 use Rattle.facl_counts.proofs.gains.write_gains.Goals as goal
 
 pub write_gains_within-requires : goal.write_gains_within-requires

@@ -1,7 +1,8 @@
 use Rattle.std.proofs.Common.{map, take, sym, subst, ◌∙◌}
 use Rattle.std.proofs.lemmas.List.{take_all}
 use Rattle.facl_counts.specs.Counting.{tallied}
-use Rattle.facl_counts.specs.InnerGains.{ArePassed, both_of, gained_of}
+use Rattle.facl_answers.specs.BothStates.{both_of}
+use Rattle.facl_counts.specs.InnerGains.{ArePassed, gained_of}
 use Rattle.facl_counts.proofs.UserChanges.{passed_next, passed_none, places_stay}
 use Rattle.facl_counts.proofs.user_gains.count_changes.Goals as goal
 

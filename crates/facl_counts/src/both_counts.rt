@@ -1,0 +1,71 @@
+//! Counts of the files of two states by their classes in both: how many files have the same classes before and after.
+
+ghost use Rattle.std.specs.Prelude.{IfOk};
+ghost use Rattle.path_map.specs.Entries.{IsInOrder};
+ghost use Rattle.facl_answers.specs.BothStates.{both_of, rows_of_both};
+ghost use Rattle.facl_answers.specs.BothStates.{front};
+ghost use Rattle.facl_counts.specs.InnerGains.{AreCounted};
+
+use crate::tallies::Tallies;
+use acl_names::Path;
+use facl_answers::{BothClasses, Sides};
+use std::alloc::{AllocError, Global};
+use std::collections::BTreeMap;
+
+/// A number of a class, if there is one.
+fn number(class: Option<usize>) -> u64 {
+    match class {
+        Some(class) => (class as u64).wrapping_add(1),
+        None => 0,
+    }
+}
+
+/// A number of a key for hints. Two keys may have the same one.
+fn code(key: Sides) -> u64 {
+    number(key.0)
+        .wrapping_mul(1 << 32)
+        .wrapping_add(number(key.1))
+}
+
+/// The place that is kept with a number, or the first one.
+fn hint_at(hints: &BTreeMap<u64, usize>, code: u64) -> usize {
+    match hints.get(&code) {
+        Some(at) => *at,
+        None => 0,
+    }
+}
+
+/// Keeps the place of a key that was not at the place where it was expected. Fails only if memory runs out.
+fn expect(
+    hints: &mut BTreeMap<u64, usize>,
+    code: u64,
+    hint: usize,
+    at: usize,
+) -> Result<(), AllocError> {
+    if at != hint {
+        let _before = hints.insert(code, at)?;
+    }
+    Ok(())
+}
+
+/// How many of the files of both that are to come have each key, as long as they are at a path or below it. Fails only if memory,
+/// or the numbers, run out.
+pub(crate) fn count_within<'a>(
+    alloc: Global,
+    both: &mut BothClasses<'a>,
+    top: &Path,
+) -> Result<Tallies<'a>, AllocError>
+    requires before { IsInOrder both.old.before.1 }
+    requires after { IsInOrder both.old.after.1 }
+    ensures { IfOk result (λ tallies. AreCounted (both_of both.new) tallies (front top.now (rows_of_both both.old.before.1 both.old.after.1))) }
+{
+    let mut tallies = Tallies::new(alloc);
+    let mut hints = BTreeMap::new(alloc);
+    while let Some((path, key)) = both.next_within(alloc, top)? {
+        let code = code(key);
+        let hint = hint_at(&hints, code);
+        let at = tallies.add(hint, key, 1, path)?;
+        expect(&mut hints, code, hint, at)?;
+    }
+    Ok(tallies)
+}

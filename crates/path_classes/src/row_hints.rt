@@ -1,0 +1,77 @@
+//! Where a row may be that a number has. Nothing rests on these hints: callers compare what they find there.
+
+use crate::hash::mixed;
+use crate::numbered_files::NumberedFiles;
+use std::alloc::{AllocError, Global};
+
+/// Places of rows by a hash of their label and of who gets through from above.
+#[derive(Drop)]
+pub(crate) struct RowHints {
+    /// For each path class above that was met, the hash of who can search down to it.
+    searchers: Vec<Option<u64>>,
+    /// 1 more than the place of a row, at its hash modulo the length, which grows with the places; 0 where there is none.
+    places: Vec<usize>,
+}
+
+impl RowHints {
+    /// None. Allocates nothing.
+    pub fn new(alloc: Global) -> RowHints {
+        RowHints {
+            searchers: Vec::new(alloc),
+            places: Vec::new(alloc),
+        }
+    }
+
+    /// The hash of who gets through a path class: found once for each. Fails only if memory runs out.
+    fn searchers_hash(
+        &mut self,
+        files: &NumberedFiles<'_>,
+        above: usize,
+    ) -> Result<u64, AllocError> {
+        if above >= self.searchers.len() {
+            self.searchers.resize(above.saturating_add(1), None)?;
+        }
+        let Some(kept) = self.searchers.get_mut(above) else {
+            return Ok(0);
+        };
+        if let Some(hash) = kept {
+            return Ok(*hash);
+        }
+        let hash = files.searchers_hash(above);
+        *kept = Some(hash);
+        Ok(hash)
+    }
+
+    /// The hash of a number's row: of its label and of who gets through from above. Fails only if memory runs out.
+    pub fn hash(&mut self, files: &NumberedFiles<'_>, number: usize) -> Result<u64, AllocError> {
+        let label = files.label(number) as u64;
+        match files.above(number) {
+            Some(above) => Ok(mixed(self.searchers_hash(files, above)?, label)),
+            None => Ok(mixed(0, label)),
+        }
+    }
+
+    /// The place of a row of a hash, if one is kept.
+    pub fn place(&self, hash: u64) -> Option<usize> {
+        let slot = (hash as usize).checked_rem(self.places.len())?;
+        match self.places.get(slot) {
+            Some(place) => place.checked_sub(1),
+            None => None,
+        }
+    }
+
+    /// Keeps the place of a row of a hash, in place of what its slot had. Fails only if memory runs out.
+    pub fn put(&mut self, hash: u64, place: usize) -> Result<(), AllocError> {
+        if place >= self.places.len() {
+            let len = place.saturating_add(1).saturating_mul(4).max(64);
+            self.places.resize(len, 0)?;
+        }
+        let Some(slot) = (hash as usize).checked_rem(self.places.len()) else {
+            return Ok(());
+        };
+        if let Some(kept) = self.places.get_mut(slot) {
+            *kept = place.saturating_add(1);
+        }
+        Ok(())
+    }
+}
