@@ -42,10 +42,10 @@ from typing import Callable, Dict, Iterable, List, Mapping, NamedTuple, Optional
 sys.dont_write_bytecode = True
 TOOLS = os.path.dirname(os.path.dirname(os.path.realpath(__file__)))
 sys.path[:0] = [TOOLS, os.path.join(TOOLS, "lib")]
+from kit import make_room  # noqa: E402
 from script import TOP, Failed, run, say  # noqa: E402
 from session import MeasuredSession, best_of, first_records, program_at  # noqa: E402
 from texts import PER_DIRECTORY, attribute, record, text_file, write_people, write_tree  # noqa: E402
-from ways import Crates  # noqa: E402
 
 # At most so many records of a dump are restored, since the bytes of a script are limited.
 MAX_RESTORED = 100_000
@@ -451,15 +451,8 @@ TREE_USES = ["acl_edit", "acl_names", "acl_people", "acl_text", "acl_tree"]
 
 def build_tree_bench(room: str) -> str:
     """Copies the crates that the program is made of, with what is proved of them, proves and builds it; its path."""
-    crates = Crates()
-    needed = set().union(*map(crates.needed, TREE_USES))
-    for crate in needed:
-        shutil.copytree(os.path.join(TOP, "crates", crate), os.path.join(room, "crates", crate))
-    folder = os.path.join(room, "crates", TREE_BENCH)
-    os.makedirs(os.path.join(folder, "src"))
-    shutil.copy(os.path.join(TOOLS, "bench", TREE_BENCH + ".rt.txt"), os.path.join(folder, "src", "main.rt"))
-    rows = [row for crate, row in crates.rows.items() if crate in needed] + [f"{TREE_BENCH}: {' '.join(TREE_USES)}"]
-    Path(room, "crates.txt").write_text("\n".join(rows) + "\n", encoding="utf-8")
+    text = os.path.join(TOOLS, "bench", TREE_BENCH + ".rt.txt")
+    folder = make_room(room, TREE_BENCH, TREE_USES, text, proved=True)
     done = subprocess.run(["rt", "run"], cwd=folder, stdin=subprocess.DEVNULL, capture_output=True, check=False)
     program = os.path.join(folder, "out", TREE_BENCH)
     if not os.path.exists(program):

@@ -9,7 +9,7 @@ usage: tools/check/documents.py [--write | --files [CRATE]..]
 - Tables: limits have the values of their constants; the map of crates and the table of tests have each crate of
   crates.txt; the line of docs/PROOFS.md that starts with "Trusted" has the kit's crates that crates.txt lists.
 - docs/SPECIFICATION.md, docs/facl.1: a number in thousands, with commas, is a limit, or one from a limit.
-- Each tool and option that the program reads is in docs/facl.1, in the records of commands/facl_commands/tools.py, of
+- Each tool and option that the program reads is in docs/facl.1, in the records of commands/facl_commands/program/tools.py, of
   which completion is made, and in docs/SPECIFICATION.md; each tool in the README's table and the table of causes. The
   first two and the README have no others (tool_rows.py).
 - docs/READING.md: each line of its examples is one of the sources or definitions.
@@ -54,7 +54,7 @@ LAW = re.compile(r"^ */// Proof only.*\n(?: *(?:///|#\[).*\n)* *(?:pub )?fn ", r
 SOURCES = ("crates/*/src/**/*.rt", "crates/*/specs/*.antt")
 # The folders of edits that must be refused: by rt ci, which checks the whole crate, and by tools/edits.py, one function.
 EDITS = {"must-fail": "Wrong bodies", "wrong": "Wrong bodies, each tried by its function alone"}
-SCRIPTS = ("commands/facl-*", "commands/facl_commands/*.py",
+SCRIPTS = ("commands/facl-*", "commands/facl_commands/**/*.py",
            *(f"tools/{file}" for file in ("*.py", "*.sh", "*/*.py", "*/*.sh", "*/*.c")))
 Fault = Tuple[str, int, str]
 

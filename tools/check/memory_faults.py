@@ -35,7 +35,7 @@ EXCEPTIONS: Dict[Tuple[str, str], Tuple[str, str]] = {
     ("crates/acl_tree/src/edit_command.rt", "prepare_chmod"):
         ("Err ( _ )", "the operands were looked up before, and a mode is put into each file that is found"),
     ("crates/acl_tree/src/creat.rt", "node_of"): ("Err ( _ )", ALONE),
-    ("crates/facl_counts/src/path_texts.rt", "files_at"): ("Err ( fault )", FOUND),
+    ("crates/facl_answers/src/path_texts.rt", "files_at"): ("Err ( fault )", FOUND),
     ("crates/facl/src/session.rt", "FaclSession::finish_line"): ("Err ( _ )", ALONE),
     ("crates/facl/src/line.rt", "text_of_unit"): ("HeldText :: Lost", "the room for the line's text was refused"),
 }

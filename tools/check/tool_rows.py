@@ -11,8 +11,8 @@ from typing import Dict, Iterator, List, NamedTuple, Set, Tuple
 from memory_faults import found_in, text_of
 
 PAGE, README, SPECIFICATION = "docs/facl.1", "README.md", "docs/SPECIFICATION.md"
-COMMANDS_PAGE, RECORDS = "docs/facl-commands.1", "commands/facl_commands/tools.py"
-CAUSES = "commands/facl_commands/cause_rows.py"
+COMMANDS_PAGE, RECORDS = "docs/facl-commands.1", "commands/facl_commands/program/tools.py"
+CAUSES = "commands/facl_commands/program/hints/cause_rows.py"
 NAMED = re.compile(r'\brow!\(\w+, "(\w+)"')
 SWITCHES = re.compile(r"\b(flags|options): &\[(.*?)\]", re.S)
 SWITCH = re.compile(r"\b(both|by_letter|by_name)!\((?:'(\w)', )?\"([\w-]+)\"(, of_text)?")
@@ -157,6 +157,6 @@ class ToolRows:
 
     def of_causes(self) -> Iterator[Fault]:
         """Each tool has a row in the table of causes; its options come into it by the records."""
-        paths = found_in(self.top, "commands/facl_commands/cause_rows*.py")
+        paths = found_in(self.top, "commands/facl_commands/program/hints/cause_rows*.py")
         named = {word for path in paths for word in tools_of_causes(text_of(self.top, path))}
         yield from ((CAUSES, 1, f"the tool {name} is not in it") for name in set(self.tools) - named)

@@ -1,10 +1,12 @@
-"""The kit whose rt is installed, what its prover is told of a crate, and what `rt ci` says of one."""
+"""The kit whose rt is installed, what its prover is told of a crate, what `rt ci` says of one, and rooms for programs that are
+kept as text."""
 from __future__ import annotations
 
 import os
 import re
 import shutil
 import subprocess
+from pathlib import Path
 from typing import List, Set
 
 import script
@@ -45,3 +47,19 @@ class Kit:
             library = os.path.join(libraries, used + ".rlib") if used in crates.uses else self("rlibs", used + ".rlib")
             words += ["--extern", f"{used}={library}"]
         return [*words, "--antt-project", self("rattle", "logic", "antt-project.json"), "--logic-built", self("logic_built")]
+
+
+def make_room(room: str, name: str, uses: List[str], text: str, proved: bool) -> str:
+    """Copies the crates that a program is made of into a folder, with what is `proved` of them or without it, and beside
+    them the program's main.rt from the path `text`. Returns the program's folder, where rt may run."""
+    crates = Crates()
+    needed: Set[str] = set().union(*map(crates.needed, uses))
+    for crate in needed:
+        left_out = None if proved else shutil.ignore_patterns("out")
+        shutil.copytree(os.path.join(script.TOP, "crates", crate), os.path.join(room, "crates", crate), ignore=left_out)
+    folder = os.path.join(room, "crates", name)
+    os.makedirs(os.path.join(folder, "src"))
+    shutil.copy(text, os.path.join(folder, "src", "main.rt"))
+    rows = [row for crate, row in crates.rows.items() if crate in needed] + [f"{name}: {' '.join(uses)}"]
+    Path(room, "crates.txt").write_text("\n".join(rows) + "\n", encoding="utf-8")
+    return folder

@@ -20,7 +20,7 @@ from ways import Crates  # noqa: E402
 # The seconds that each test of a crate may take, beside others.
 LIMIT = 240
 # The tests of the commands of which none asks the program.
-OF_COMMANDS = ("test_completion", "test_snapshot")
+OF_COMMANDS = ("test_completion", "test_layers", "test_snapshot")
 PYTHON = [sys.executable, "-B", "-m", "unittest"]
 OF_CRATE = re.compile(r"^test result: .*?(\d+) passed; (\d+) failed;", re.MULTILINE)
 OF_PYTHON = re.compile(r"^Ran (\d+) tests? in .*\n+(?:OK|FAILED) *(?:\((.*)\))?", re.MULTILINE)

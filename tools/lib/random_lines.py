@@ -9,7 +9,7 @@ from typing import Iterable, List, NamedTuple, Optional, Sequence, Tuple, TypeVa
 
 sys.path.append(os.path.join(os.path.dirname(os.path.realpath(__file__)), "..", "..", "commands"))
 
-from facl_commands import tools  # noqa: E402
+from facl_commands.program import tools  # noqa: E402
 
 PASSWD = b"""root:x:0:0:root:/root:/bin/sh
 lisa:x:1001:50:Lisa:/home/lisa:/bin/sh

@@ -132,14 +132,15 @@ class Memory(unittest.TestCase):
         self.assertEqual(self.wanted(0.1, *checks[1:]), (3, signal.SIGCONT))
 
     def test_what_a_crate_may_take(self) -> None:
-        for crate, more in (("acl_rights", 4_500_000_000), ("kinds", 3_100_000_000), ("", 3_100_000_000)):
+        held = 100_000_000
+        for crate, most in (*memory_watch.MOST_OF.items(), ("path_map", memory_watch.MOST), ("", memory_watch.MOST)):
             words = ["sh", "-c", "echo runs; read line", "prover", "--crate-name", crate]
             program = subprocess.Popen(words, stdin=subprocess.PIPE, stdout=subprocess.PIPE)
             try:
                 assert program.stdout
                 program.stdout.readline()  # Until it runs, the kernel may give no words.
-                found = memory_watch.check_of(Process(program.pid, "rattle", 1, 1, 100_000_000, False))
-                self.assertEqual(found, (program.pid, crate, 100_000_000, more, False))
+                found = memory_watch.check_of(Process(program.pid, "rattle", 1, 1, held, False))
+                self.assertEqual(found, (program.pid, crate, held, most - held, False))
             finally:
                 program.communicate()
 

@@ -41,15 +41,15 @@ class Quick(unittest.TestCase):
             for name, text in {"crates.txt": "low:\nlow_tests: low\n", "bin/rt": RT, "crates/low_tests/src/lib.rt": "x",
                                "crates/facl_cli/src/main.rt": "x", "commands/tests/rows/some.rows": ROW,
                                "commands/tests/rows/setups": "nothing\n", "commands/tests/row_files.py": ROW_FILES,
-                               **{f"commands/tests/{name}.py": OK for name in ("test_completion", "test_snapshot")},
+                               **{f"commands/tests/{name}.py": OK for name in ("test_completion", "test_layers", "test_snapshot")},
                                "tools/check/tests/test_a.py": OK}.items():
                 os.makedirs(os.path.join(top, os.path.dirname(name)), exist_ok=True)
                 with open(os.path.join(top, name), "w", encoding="utf-8") as file:
                     file.write(text)
             os.chmod(os.path.join(top, "bin", "rt"), 0o755)
             environment = {**os.environ, "PATH": os.path.join(top, "bin") + ":" + os.environ["PATH"]}
-            for found, status, last in (("ok. 5 passed; 0 failed", 0, "9 passed, 0 failed; nothing was proved"),
-                                        ("FAILED. 3 passed; 2 failed", 1, "7 passed, 2 failed; nothing was proved")):
+            for found, status, last in (("ok. 5 passed; 0 failed", 0, "10 passed, 0 failed; nothing was proved"),
+                                        ("FAILED. 3 passed; 2 failed", 1, "8 passed, 2 failed; nothing was proved")):
                 ran = subprocess.run([os.path.join(top, "tools", "quick.sh")], env={**environment, "FOUND": found},
                                      capture_output=True, text=True, check=False)
                 self.assertEqual((ran.returncode, ran.stdout.splitlines()[-1]), (status, last), ran.stdout + ran.stderr)

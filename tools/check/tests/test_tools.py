@@ -134,7 +134,7 @@ README = """[a](tools/README.md), tools/lib/a.py, [b](docs/READING.md#to-read-sh
 | `can`, `chmod` | all |
 """
 # The records of the commands, with two tools alone.
-with open(os.path.join(TOP, "commands", "facl_commands", "tools.py"), encoding="utf-8") as tools_file:
+with open(os.path.join(TOP, "commands", "facl_commands", "program", "tools.py"), encoding="utf-8") as tools_file:
     RECORDS = re.sub(r"(?ms)^ROWS = \(.*?^\)$", """ROWS = (
     Tool(b"can", QUESTION, "USER FILE", BY_REACH),
     Tool(b"chmod", EDIT, "MODE FILE..", (RECURSIVE, option("-v"))),
@@ -153,8 +153,8 @@ FILES: Dict[str, str] = {
     "crates/facl/src/tools/chmod.rt": "//! One.\nflags: &[both!('R', \"recursive\"), by_letter!('v', \"v\")],\n",
     "crates/facl_script/src/args.rt": '//! Words.\n[by_name!("dump")]\n',
     "commands/facl-ask": "#!/bin/sh\n# Asks\n# all.\nexit\n",
-    "commands/facl_commands/tools.py": RECORDS,
-    "commands/facl_commands/cause_rows.py": '"""Rows."""\nrow("a", USAGE, first("can"), "", "", "chmod")\n',
+    "commands/facl_commands/program/tools.py": RECORDS,
+    "commands/facl_commands/program/hints/cause_rows.py": '"""Rows."""\nrow("a", USAGE, first("can"), "", "", "chmod")\n',
     "tools/lib/a.py": '#!/usr/bin/env python3\n"""Checks\nall.\n\nMore.\n"""\n',
     "tools/README.md": "lib/a.py, and facl_script.md is no script.\n",
     "docs/PROOFS.md": PROOFS,
@@ -210,7 +210,7 @@ FAULTS: Dict[str, List[Tuple[str, ...]]] = {
 OF_TOOLS = ("crates/facl/src/tools.rt", "crates/facl/src/tools", "crates/facl_tools/src",
             "crates/facl_script/src/args.rt", "README.md", "commands/facl_commands", "docs/SPECIFICATION.md",
             "docs/facl.1", "docs/facl-commands.1")
-RECORDS_PATH, CAUSES = "commands/facl_commands/tools.py", "commands/facl_commands/cause_rows.py"
+RECORDS_PATH, CAUSES = "commands/facl_commands/program/tools.py", "commands/facl_commands/program/hints/cause_rows.py"
 RULES, PAGE_PATH = "docs/SPECIFICATION.md", "docs/facl.1"
 
 
@@ -276,7 +276,7 @@ class Tools(Case):
         self.change(RECORDS_PATH, 'option("-x --remove", ENTRIES, PART), ', 'option("-x --remove", "", PART), ')
         self.change(RECORDS_PATH, 'option("-X --remove-file", TEXT, PART)', 'option("-X --remove-file", OTHER, PART)')
         self.change(RECORDS_PATH, 'Tool(b"userdel"', 'Tool(b"deluser"')
-        self.change("commands/facl_commands/cause_rows_of_words.py", '"load dump', '"dump')
+        self.change("commands/facl_commands/program/hints/cause_rows_of_words.py", '"load dump', '"dump')
         self.change(RULES, "(`--user`, ", "(")
         self.change("docs/facl-commands.1", "chgrp", "group")
         self.expect(
