@@ -2,6 +2,7 @@ pub mod BelowLines
 pub mod BothCounts
 pub mod ClassFiles
 pub mod GainLines
+pub mod Gained
 pub mod OperandTops
 pub mod PartGains
 pub mod Rekeyed

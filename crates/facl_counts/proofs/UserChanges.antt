@@ -1,14 +1,12 @@
 -- What the counts of users have after some counts of files by classes.
-use Rattle.std.proofs.Common.{◌≡◌, ℕ, zero, suc, ◌+◌, ◌<◌, arith, Bool, true, false, not, cond, List, [], ◌∷◌, ◌++◌, append-nil, append_assoc, map, filter, length, take, drop, set, get_or}
+use Rattle.std.proofs.Common.{◌≡◌, ℕ, zero, suc, ◌+◌, ◌<◌, arith, Bool, true, false, cond, List, [], ◌∷◌, ◌++◌, append-nil, append_assoc, map, length, take, drop, set, get_or}
 use Rattle.std.proofs.Common.{◌≤◌, Option, Some, None, refl, sym, ap, subst, ◌∙◌}
 use Rattle.std.specs.Prelude.{◌||◌, ◌&&◌, unwrap_or}
-use Rattle.std.specs.List.{list_any, list_all}
+use Rattle.std.specs.List.{list_all}
 use Rattle.std.proofs.lemmas.Bool.{and_parts}
 use Rattle.std.proofs.lemmas.List.{map-append, take_all, take_more, take_more_set, drop-set-lt}
-use Rattle.acl_entry.specs.Check.{has}
-use Rattle.acl_entry.specs.Perms.{Perms, numbered}
 use Rattle.acl_names.specs.Paths.{PathOf}
-use Rattle.facl_counts.specs.GainsText.{is_gained, is_change}
+use Rattle.facl_counts.specs.GainsText.{is_change}
 use Rattle.facl_answers.specs.Inner.{Placed, same_place}
 use Rattle.facl_answers.specs.BothStates.{BothClassed, RowsOfFile}
 use Rattle.facl_counts.specs.InnerGains.{AllOfBoth, Gained, IsCountedFor, IsPassed, ArePassed, RowStays, AreCountedFor, verdict_given}
@@ -20,6 +18,7 @@ use Rattle.facl_counts.specs.Tallies.{Tallied, SaysAs}
 use Rattle.facl_counts.specs.declared.tallies.Tally.{Tally}
 use Rattle.facl_counts.specs.declared.user_gains.GivenRow.{GivenRow}
 use Rattle.facl_counts.specs.declared.user_gains.UserGains.{UserGains}
+use Rattle.facl_counts.proofs.Gained.{no_gain}
 use Rattle.facl_counts.proofs.Rekeyed.{rekeyed_append}
 use Rattle.facl_counts.proofs.Tallying.{same_of}
 
@@ -42,17 +41,6 @@ module _ {A B : Type 0} (P : A → B → Type 0) where
   all_more (a ∷ xs) (b ∷ ys) x y p h = (p.0, all_more xs ys x y p.1 h)
 
 -- ---- no change where a row stays
-
-none_any : (f : Perms → Bool) (qs : List Perms) → list_any (λ q. not (f q)) (filter f qs) ≡ false
-none_any f [] = refl
-none_any f (q ∷ qs) = by (f q) refl (none_any f qs)
-  where
-    by : (b : Bool) → f q ≡ b → list_any (λ q. not (f q)) (filter f qs) ≡ false → list_any (λ q. not (f q)) (cond b (q ∷ filter f qs) (filter f qs)) ≡ false
-    by true is more = ap (λ b. not b || list_any (λ q. not (f q)) (filter f qs)) is ∙ more
-    by false is more = more
-
-no_gain : (n : ℕ) → is_gained n n ≡ false
-no_gain n = none_any (has n) (map numbered (1 ∷ 2 ∷ 3 ∷ 4 ∷ 5 ∷ 6 ∷ 7 ∷ []))
 
 no_change : (cell : Option ℕ) → is_change true (cell, cell) ≡ false
 no_change cell = λ i. no_gain (unwrap_or cell 0) i || no_gain (unwrap_or cell 0) i

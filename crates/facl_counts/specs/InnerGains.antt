@@ -1,8 +1,6 @@
 -- For inner functions of `gains`: no public contract names these definitions.
-use Rattle.std.specs.Prelude.{◌≡◌, ℕ, ◌&&◌, not, Bool, if◌then◌else◌, List, [], ◌∷◌, ◌++◌, map, slice_get, Option, Some, None, is_some, option_and_then}
+use Rattle.std.specs.Prelude.{◌≡◌, ℕ, ◌&&◌, Bool, if◌then◌else◌, List, [], ◌∷◌, ◌++◌, map, slice_get, Option, Some, None, is_some, option_and_then}
 use Rattle.std.specs.List.{AllByRecursion, flat_map}
-use Rattle.acl_entry.specs.Check.{has}
-use Rattle.acl_entry.specs.Perms.{numbered}
 use Rattle.acl_names.specs.Paths.{PathOf}
 use Rattle.facl_answers.specs.Answers.{line}
 use Rattle.facl_counts.specs.CountTexts.{count_text, spaced}
@@ -45,10 +43,6 @@ row_given given = if given.is_there then Some given.row.now else None
 -- a file is there before and after, with one row
 abbrev pub RowStays : RowsOfFile → Type 0
 RowStays rows = (row : List ℕ) × (rows ≡ (Some row, Some row))
-
--- whether the request of a number is granted after, and was not before
-abbrev pub is_gained_by : (before after number : ℕ) → Bool
-is_gained_by before after number = has after (numbered number) && not (has before (numbered number))
 
 -- whether a user has the same place in both states, or none in both
 abbrev pub keeps : UserGains → Bool

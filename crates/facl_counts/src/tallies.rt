@@ -67,6 +67,19 @@ impl<'a> Tallies<'a> {
         }
     }
 
+    /// The place of the count of a key: first where it is expected. Past the counts if there is none.
+    pub fn place_of(&self, hint: usize, key: Sides) -> usize {
+        if self.has(hint, key) {
+            return hint;
+        }
+        for at in 0..self.list.len() {
+            if self.has(at, key) {
+                return at;
+            }
+        }
+        self.list.len()
+    }
+
     /// So many files more have a key, of which one is the first: they are counted at a place where the key is expected, or
     /// anew. Returns the place. Fails only if memory, or the numbers, run out.
     pub fn add(

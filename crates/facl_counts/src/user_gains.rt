@@ -1,26 +1,27 @@
 //! For each user how many files have each change of what the user is granted, and which is the first.
 
-ghost use Rattle.std.specs.Prelude.{◌≡◌, ◌<◌, [], true, IfOk, OnOk, map, unwrap_or};
+ghost use Rattle.std.specs.Prelude.{◌≡◌, ◌<◌, ◌||◌, [], true, IfOk, OnOk, map, unwrap_or};
 ghost use Rattle.std.specs.Option.{option_copied};
 ghost use Rattle.std.specs.List.{list_all};
 ghost use Rattle.facl_counts.specs.Counting.{tallied};
 ghost use Rattle.facl_counts.specs.GainsText.{is_change, is_gained};
 ghost use Rattle.facl_answers.specs.Inner.{placed_of};
 ghost use Rattle.facl_answers.specs.BothStates.{both_of, rows_of_key};
-ghost use Rattle.facl_counts.specs.InnerGains.{AreCountedFor, ArePassed, IsCountedFor, RowStays, verdict_given, change_of, gained_of, is_gained_by, keeps, row_given};
+ghost use Rattle.facl_counts.specs.InnerGains.{AreCountedFor, ArePassed, IsCountedFor, RowStays, verdict_given, change_of, gained_of, keeps, row_given};
 
 use crate::tallies::{Tallies, Tally};
-use acl_entry::{Perm, Requests};
+use acl_entry::Requests;
 use acl_names::Path;
 use acl_rights::{Cells, same_row};
 use facl_answers::{BothClasses, PlacedUser, Sides, same_place};
 use std::alloc::{AllocError, Global};
 
-/// A user of either state, with counts of the files that have a change.
+/// A user of either state, with counts of the files that have a change, and hints at the places of these counts.
 #[derive(Drop)]
 pub(crate) struct UserGains<'a> {
     pub user: PlacedUser,
     pub tallies: Tallies<'a>,
+    hints: [u8; 64],
 }
 
 /// The row of a file, if the file is there.
@@ -62,38 +63,22 @@ fn cell(given: &GivenRow<'_>, place: Option<usize>) -> Option<Requests>
     }
 }
 
-/// What is granted; nothing where the user or the file is not there.
-fn or_none(granted: Option<Requests>) -> Requests
+/// What is granted, as a byte; nothing where the user or the file is not there.
+fn byte_of(granted: Option<Requests>) -> u8
     ensures { result ≡ unwrap_or granted 0 }
 {
     match granted {
-        Some(requests) => requests,
-        None => Requests::none(),
+        Some(requests) => requests.bits(),
+        None => 0,
     }
 }
 
-/// Whether the request of a number is granted after, and was not before.
-fn is_gained_by(before: Requests, after: Requests, number: u8) -> bool
-    requires { number < 8 }
-    ensures { result ≡ is_gained_by before after number }
+/// Whether a request is granted `before` and not `after`, or the other way round. Looks past the lowest bit, the request for
+/// nothing.
+fn differ(before: u8, after: u8) -> bool
+    ensures { result ≡ (is_gained before after || is_gained after before) }
 {
-    match Perm::from_number(number) {
-        Some(request) => after.has(request) && !before.has(request),
-        None => false,
-    }
-}
-
-/// Whether some request other than none is granted after, and was not before.
-fn is_gained(before: Requests, after: Requests) -> bool
-    ensures { result ≡ is_gained before after }
-{
-    is_gained_by(before, after, 1)
-        || is_gained_by(before, after, 2)
-        || is_gained_by(before, after, 3)
-        || is_gained_by(before, after, 4)
-        || is_gained_by(before, after, 5)
-        || is_gained_by(before, after, 6)
-        || is_gained_by(before, after, 7)
+    before >> 1 != after >> 1
 }
 
 /// Whether it is a change that these requests are granted before and after.
@@ -103,12 +88,7 @@ fn is_change(is_kept: bool, before: Option<Requests>, after: Option<Requests>) -
     if !is_kept {
         return before.is_some() || after.is_some();
     }
-    let had = or_none(before);
-    let has = or_none(after);
-    if had.bits() == has.bits() {
-        return false;
-    }
-    is_gained(had, has) || is_gained(has, had)
+    differ(byte_of(before), byte_of(after))
 }
 
 /// What is granted, as a number.
@@ -134,15 +114,20 @@ fn change_of(user: &PlacedUser, before: &GivenRow<'_>, after: &GivenRow<'_>) -> 
     }
 }
 
-/// The place of the count of a key, if there is one.
-fn place_of(tallies: &[Tally<'_>], key: Sides) -> usize {
-    let mut place = tallies.len();
-    for at in 0..tallies.len() {
-        if same_place(tallies[at].key.0, key.0) && same_place(tallies[at].key.1, key.1) {
-            place = at;
-        }
-    }
-    place
+/// Which of the requests for execute, write and read alone `side` grants, the bits 1, 2 and 4 of it, as a number below 8.
+/// They mostly decide the other requests.
+fn digit(side: Option<usize>) -> usize
+    ensures { result < 8 }
+{
+    let granted = side.unwrap_or(0);
+    granted / 2 % 4 + granted / 16 % 2 * 4
+}
+
+/// The number of the hint for a change. Two changes may have the same one.
+fn hint_number(key: Sides) -> usize
+    ensures { result < 64 }
+{
+    digit(key.0) * 8 + digit(key.1)
 }
 
 impl<'a> UserGains<'a> {
@@ -157,8 +142,11 @@ impl<'a> UserGains<'a> {
         ensures { OnOk result (IsCountedFor (row_given before.now, row_given after.now) count first.now (gained_of self.old) (gained_of self.new)) }
     {
         if let Some(key) = change_of(&self.user, before, after) {
-            let at = place_of(self.tallies.as_slice(), key);
-            let _place = self.tallies.add(at, key, count, first)?;
+            let number = hint_number(key);
+            let at = self.tallies.place_of(self.hints[number] as usize, key);
+            let at = self.tallies.add(at, key, count, first)?;
+            // Keeps a wrong hint for a place past 255, which costs a search alone.
+            self.hints[number] = at.min(255) as u8;
         }
         Ok(())
     }
@@ -274,6 +262,7 @@ pub(crate) fn without_counts<'a>(
         all.push(UserGains {
             user,
             tallies: Tallies::new(alloc),
+            hints: [0; 64],
         })?;
     }
     Ok(all)
