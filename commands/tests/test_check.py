@@ -169,6 +169,11 @@ class Digits(Checks):
         self.expect(self.check(b"never '2024' read srv/hr/\n"), 2, b"", b"facl-check: 2024: no question can name this user: digits alone "
                     b"are an id, and an earlier row has this one's id\n")
 
+    def test_rows_of_one_id(self) -> None:
+        self.take(TREE, group=GROUP + b"more:x:2001:carl\n")
+        for name in (b"hr", b"more", b"2001"):
+            self.assertEqual(self.broken(b"never @%s read srv/hr/cases/one" % name), [b"%s 1 srv/hr/cases/one" % it for it in (b"anna", b"bert", b"carl")])
+
     def test_groups(self) -> None:
         self.assertEqual(self.broken(b"never @2003 read srv/hr/cases/two"), [b"anna 1 srv/hr/cases/two"])
         self.assertEqual(self.broken(b"never @'2003' read srv/hr/cases/two"), [])

@@ -16,7 +16,7 @@ from common import COMMANDS, Case, Done, restore_signals
 
 sys.path.insert(0, COMMANDS)
 
-from facl_commands.questions.diff.reasons import entries_of, words_of_list  # noqa: E402
+from facl_commands.questions.diff.reasons import decided_by, words_of_list  # noqa: E402
 from facl_commands.questions.diff.states import pairs_of  # noqa: E402
 
 PAIR = ("before", "after")
@@ -283,11 +283,12 @@ class Words(DiffCase):
                                        ("r-x", "r--", "ben", "1", "/srv/share", "group entry changed")])
 
     def test_entries(self) -> None:
-        old = entries_of(b"# file: f\ngroup::rwx\t\t\t#effective:r--\ngroup:7:r--")
-        self.assertEqual(old, {(b"group", b""): (b"rwx", b"r--"), (b"group", b"7"): (b"r--", b"r--")})
-        self.assertEqual(words_of_list(old, entries_of(b"group::rwx\ngroup:7:r--"), False), b"mask changed")
+        old = decided_by(b"# file: f\ngroup::rwx\t\t\t#effective:r--\ngroup:7:r--")
+        self.assertEqual([(it.key, it.permissions, it.effective) for it in old.values()],
+                         [((b"group", b""), b"rwx", b"r--"), ((b"group", b"7"), b"r--", b"r--")])
+        self.assertEqual(words_of_list(old, decided_by(b"group::rwx\ngroup:7:r--"), False), b"mask changed")
         # An entry is gone, and another one changed.
-        self.assertEqual(words_of_list(old, entries_of(b"group:7:---"), False), b"")
+        self.assertEqual(words_of_list(old, decided_by(b"group:7:---"), False), b"")
 
 
 class Snapshots(DiffCase):

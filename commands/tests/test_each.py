@@ -23,7 +23,7 @@ from facl_commands.base.messages import Failure  # noqa: E402
 from facl_commands.base.names import path_order, read_path  # noqa: E402
 from facl_commands.model import sources  # noqa: E402
 from facl_commands.program.scripts import read_script  # noqa: E402
-from facl_commands.program.session import OutputSlice, Session, find_program  # noqa: E402
+from facl_commands.program.session import LINE_ROOM, OutputSlice, Session, find_program  # noqa: E402
 
 GETFACL = b"""\
 #!/bin/sh
@@ -234,7 +234,7 @@ class Tops(Case):
         paths = [b"%09d" % number for number in range(15000)]
         groups = sources.operands_of(paths)
         self.assertEqual([word.strip(b"'") for words in groups for word in words], paths)
-        self.assertLess(max(len(b" ".join(words)) for words in groups), sources.ROOM)
+        self.assertLess(max(len(b" ".join(words)) for words in groups), LINE_ROOM)
         self.assertEqual(sources.operands_of([b"x" * 70000, b"a"]), [[b"'" + b"x" * 70000 + b"'"], [b"'a'"]])
 
     def test_listings(self) -> None:

@@ -6,14 +6,15 @@ import random
 import subprocess
 import sys
 import unittest
-from typing import List
+from typing import Dict, List
 
 from common import COMMANDS, HERE, Case
 
 sys.path.insert(0, COMMANDS)
 
 from facl_commands.base import names  # noqa: E402
-from facl_commands.model import people, records, superuser  # noqa: E402
+from facl_commands.base.messages import Failure  # noqa: E402
+from facl_commands.model import entries, people, records, superuser  # noqa: E402
 from facl_commands.plan import hard_links  # noqa: E402
 from facl_commands.program import scripts, tools  # noqa: E402
 from facl_commands.program.session import Session, find_program  # noqa: E402
@@ -37,6 +38,24 @@ class Names(unittest.TestCase):
             self.assertEqual(names.read_path(text), path)
         order = [b"", b"a", b"a/b", b"a/b/c", b"a b", b"a!", b"b"]
         self.assertEqual(sorted(order, key=names.path_order), [b"", b"a", b"a/b", b"a/b/c", b"a b", b"a!", b"b"])
+
+    def test_below(self) -> None:
+        paths = [b"", b"a", b"a b", b"a/b", b"a/b/c", b"ab", b"b"]
+        wanted: Dict[bytes, List[bytes]] = {b"": paths[1:], b"a": [b"a/b", b"a/b/c"], b"a/b": [b"a/b/c"], b"b": []}
+        for top, below in wanted.items():
+            self.assertEqual([path for path in paths if names.is_below(path, top)], below)
+            self.assertEqual(names.at_or_below(paths, [top]), [path for path in paths if path == top or path in below])
+        self.assertEqual(names.at_or_below(paths, [b"b", b"a/b"]), [b"a/b", b"a/b/c", b"b"])
+        several: List[List[bytes]] = [[b"b", b"a"], [b"ab"], [b""], []]
+        self.assertEqual([names.is_at_or_below(b"a/b", tops) for tops in several], [True, False, True, False])
+        self.assertEqual(names.highest([b"b/c", b"ab", b"a/b", b"a", b"a b", b"b/c"]), [b"a", b"a b", b"ab", b"b/c"])
+        self.assertEqual(names.highest(paths), [b""])
+
+    def test_words_of_paths(self) -> None:
+        for path, word, plain, whole in ((b"", b"'.'", b".", b"/"), (b"a/b", b"'a/b'", b"a/b", b"/a/b"), (b"-x", b"'-x'", b"./-x", b"/-x"),
+                                         (b"it's", b"'it\\047s'", b"'it\\047s'", b"'/it\\047s'"),
+                                         (b"\\ \n", b"'\\134 \\012'", b"'\\134 \\012'", b"'/\\134 \\012'")):
+            self.assertEqual((names.path_word(path), names.file_word(path), names.file_word(path, True)), (word, plain, whole))
 
     def test_shell_words(self) -> None:
         chance = random.Random(2)
@@ -106,10 +125,29 @@ class Records(unittest.TestCase):
         self.assertEqual(records.write_record(b"", files[b""]), self.record(b"/", *base))
 
     def test_empty_masks(self) -> None:
-        for entries, is_open in (((b"user::rw-", b"user:3:r--", b"group::r--", b"mask::---", b"other::r--"), True),
-                                 ((b"user::rw-", b"user:3:r--", b"group::r--", b"mask::---", b"other::---"), False),
-                                 ((b"user::rw-", b"user:3:r--", b"group::r--", b"mask::r--", b"other::r--"), False)):
-            self.assertEqual(records.has_open_empty_mask(records.read_listing(self.record(b"a", *entries))[b"a"]), is_open)
+        for lines, is_open in (((b"user::rw-", b"user:3:r--", b"group::r--", b"mask::---", b"other::r--"), True),
+                               ((b"user::rw-", b"user:3:r--", b"group::r--", b"mask::---", b"other::---"), False),
+                               ((b"user::rw-", b"user:3:r--", b"group::r--", b"mask::r--", b"other::r--"), False)):
+            body = records.read_listing(self.record(b"a", *lines))[b"a"].body
+            self.assertEqual(entries.read_record(body).has_open_empty_mask(), is_open)
+
+    def test_what_a_record_says(self) -> None:
+        text = self.record(b"a b", b"user::rwx", b"user:a\\040b:rwx\t#effective:r-x", b"group::r--", b"group:7:rw-\t\t#effective:r--", b"mask::r-x",
+                           b"other::---", b"default:user::r--", b"default:group::---", b"default:other::---", flags=b"-st")
+        self.assertEqual((records.name_of(text), records.split_record(text)), (b"a b", (b"a b", records.body_of(text))))
+        found = entries.read_record(records.body_of(text).rstrip(b"\n") + b"\n")
+        self.assertEqual(found[:3], (b"0", b"0", b"-st"))
+        self.assertEqual([it.key for it in found.access], [(b"user", b""), (b"user", b"a\\040b"), (b"group", b""), (b"group", b"7"), (b"mask", b""), (b"other", b"")])
+        self.assertEqual([it.text() for it in found.default], [b"user::r--", b"group::---", b"other::---"])
+        self.assertEqual(found.access[1].text(b" (%s)"), b"user:a\\040b:rwx (r-x)")
+        self.assertEqual([it.grants(b"w") for it in found.access], [True, False, False, False, False, False])
+        self.assertEqual((found.group_class(), found.mentioned_groups()), (b"r-x", {0, 7}))
+        self.assertEqual(entries.head_lines(*found[:3]) + entries.lists_of(records.body_of(text)), records.body_of(text))
+
+    def test_what_is_no_record(self) -> None:
+        for body in (b"", b"user::rwx\n", b"# owner: 0\n# group: 0\nuser::rwx\nuser:1:rwz\n", b"# owner: 0\n# group: 0\n# more\nuser::rwx\n"):
+            with self.assertRaises(ValueError):
+                entries.read_record(body)
 
 
 class People(unittest.TestCase):
@@ -126,6 +164,20 @@ class People(unittest.TestCase):
         self.assertIsNone(found.change([b"gpasswd", b"-a", b"x", b"g"]))
         change = found.change([b"gpasswd", b"-d", b"1", b"5"])
         self.assertEqual(change, people.PeopleChange(people.REMOVE_MEMBER, people.User(b"x", 1, 1), b"g", 5))
+
+    def test_words_of_users(self) -> None:
+        users = people.users_in(b"ann:x:1:1::/:\n7:x:8:1::/:\n9:x:1:1::/:\na b:x:010:1::/:\n12:x:011:1::/:\n")
+        for name, word in ((b"ann", b"'ann'"), (b"7", b"'8'"), (b"9", None), (b"8", None), (b"a b", b"'a\\040b'"), (b"12", b"'11'"), (b"it's", b"'it\\047s'")):
+            self.assertEqual(people.user_word(users, name), word)
+        with self.assertRaisesRegex(Failure, "nine: no question can name this user"):
+            people.needed_word(users, b"9", b"nine")
+
+    def test_who_is_in_a_group(self) -> None:
+        """A group has the members of all rows of its id, and those whose primary group it is."""
+        found = people.People(b"ann:x:1:5::/:\nbob:x:2:6::/:\n", b"g:x:5:bob,gone,bob\nsame:x:5:ann\nh:x:6:\n")
+        self.assertEqual(people.groups_by_user(found), {b"ann": {5}, b"bob": {5, 6}})
+        self.assertEqual(people.users_by_group(found), {5: {b"ann", b"bob"}, 6: {b"bob"}})
+        self.assertEqual(people.listed_by_group(found), {5: [b"bob", b"gone", b"ann"], 6: []})
 
 
 class Tools(unittest.TestCase):

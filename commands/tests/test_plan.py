@@ -14,10 +14,11 @@ from common import COMMANDS, Case, Done, restore_signals
 
 sys.path.insert(0, COMMANDS)
 
+from facl_commands.base.names import path_word  # noqa: E402
 from facl_commands.model.records import File, write_record  # noqa: E402
-from facl_commands.plan.hard_links import Links, directory_above, parts_of, question  # noqa: E402
+from facl_commands.plan.hard_links import Links, directory_above, question  # noqa: E402
 from facl_commands.program.scripts import LINE_LIMIT, read_script  # noqa: E402
-from facl_commands.program.session import Session, find_program  # noqa: E402
+from facl_commands.program.session import Session, find_program, parts_of  # noqa: E402
 
 WRITTEN = b"before.plan: is written; next: facl-apply before.plan\n"
 REQUESTS = [b"--x", b"-w-", b"-wx", b"r--", b"r-x", b"rw-", b"rwx"]
@@ -415,8 +416,8 @@ class TouchedLinks(unittest.TestCase):
         self.expect(b"setfacl --restore=-\n# file: srv\nuser::rw-\n.\n")
 
     def test_lines_have_room(self) -> None:
-        paths = [b"\xff" * 5_000 + b"%d" % k for k in range(7)]
-        parts = list(parts_of(paths))
+        paths = [b"\xff" * 4_900 + b"%d" % k for k in range(7)]
+        parts = list(parts_of(paths, word_of=path_word))
         self.assertEqual([path for part in parts for path in part], paths)
         self.assertEqual([len(part) for part in parts], [3, 3, 1])
         self.assertTrue(all(len(question(part)) <= LINE_LIMIT + 1 for part in parts))

@@ -19,7 +19,7 @@ from common import COMMANDS, Case, Done, restore_signals
 sys.path.insert(0, COMMANDS)
 
 from facl_commands.base import acl_bytes, names  # noqa: E402
-from facl_commands.model import choice  # noqa: E402
+from facl_commands.base.accounts import is_person  # noqa: E402
 from facl_commands.page import columns as page_columns  # noqa: E402
 from facl_commands.plan import by_hand  # noqa: E402
 from test_each import PRINTER, names_of
@@ -514,14 +514,14 @@ class People(SnapshotCase):
         self.assertIn(b"\nusers-left-out 8\ngroups-left-out 3\n", self.read("new/meta"))
 
     def test_who_is_a_person(self) -> None:
-        """The numbers are those of choice.py."""
+        """As all commands say it."""
         self.lists({})
         for uid in (999, 1000, 59999, 60000, 60513, 60514, 61184, 65534, 65535, 65536, 1_000_000_000):
             rows = b"root:x:0:0::/:/bin/sh\nsomebody:x:%d:0::/:/bin/sh\n" % uid
             self.write("passwd.list", rows)
             self.write("passwd.all", rows)
             done = self.snapshot("new", "tree")
-            self.assertEqual((uid, b"there are no users but those of the system" in done.messages), (uid, not choice.is_person(uid)))
+            self.assertEqual((uid, b"there are no users but those of the system" in done.messages), (uid, not is_person(uid)))
 
     def test_two_users_with_one_id(self) -> None:
         self.write("passwd.list", self.listed + b"anna:x:70001:70001::/:/bin/sh\n")

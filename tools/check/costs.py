@@ -5,13 +5,13 @@ usage: tools/check/costs.py [PROGRAM] [--count N] [--batch N] [--seed N] [--verb
 
 PROGRAM is one that is built of costs.rt.txt, over the crates. Where none is given, that is compiled with run-time
 checks in a temporary folder, over copies of the crates, before any proof (`rt try`). It prints three costs of each
-line: the verdicts that were asked for, the labels that were fetched as a user joined or left groups, and the verdicts
+line: the verdicts that the judge computed, the labels that were fetched as a user joined or left groups, and the verdicts
 along paths that were found again. A session has 3 to 30 files, of which some lack directories above, 2 to 8 users, and
 6 to 24 lines. There are --count (1,000) sessions, --batch (20) in one run. After each line that makes a new state its
 costs are compared with bounds that are computed here, from the files and the users before and after it, by the check of
 tools/lib/answers.py:
 
-- asked for: where files change, at least all users on each label that no file had, at most all users on each file that
+- judged: where files change, at least all users on each label that no file had, at most all users on each file that
   changed, and on each label that these have, and never a part of the users; as a user joins or leaves groups, one for
   each label that is fetched; of a new user, at least one for each label and at most one for each file; else none.
 - fetched: as a user joins or leaves groups, at least each label that mentions one of them, at most each file that does,
@@ -433,12 +433,12 @@ class Step:
 def fault_of(step: Step, costs: Costs, bounds: Tuple[str, Bounds, Bounds, Bounds]) -> Optional[str]:
     """What is wrong with the costs of a line."""
     kind, asked, looked, refreshed = bounds
-    fault = (asked.fault("asked for", costs.asked) or looked.fault("fetched", costs.looked)
+    fault = (asked.fault("judged", costs.asked) or looked.fault("fetched", costs.looked)
              or refreshed.fault("found again", costs.refreshed))
     if not fault and kind == "groups" and costs.asked != costs.looked:
-        fault = f"asked for {costs.asked}, and fetched {costs.looked}"
+        fault = f"judged {costs.asked}, and fetched {costs.looked}"
     if not fault and kind in ("files", "all files") and costs.asked % max(1, len(step.after.users)):
-        fault = f"asked for {costs.asked}, which is not so many times all users"
+        fault = f"judged {costs.asked}, which is no multiple of the number of users"
     return fault
 
 

@@ -10,6 +10,7 @@ from ..base import linux, live
 from ..base.acl_bytes import Record, is_minimal, owner_permissions
 from ..base.linux import Identity
 from ..base.live import NotFound, Opener, OpenFile, Seen
+from ..base.names import is_below
 from ..planned import differences, plan_files, plan_folder
 from ..planned.plan_files import Devices, Journal, Work
 from ..planned.plan_folder import PlanFolder
@@ -115,7 +116,7 @@ def look_at(way: Direction, paths: Iterable[bytes]) -> Look:
     opened: List[bytes] = []  # The directories that the plan opens to the caller.
     with Opener() as opener:
         for path in paths:
-            if any(path.startswith(it + b"/") for it in opened):
+            if any(is_below(path, it) for it in opened):
                 look.later.append(path)
             elif (take(way, devices, look, path, survey.look_at_one(opener, path))
                   and is_closed(way, path, look.files[path].record)):

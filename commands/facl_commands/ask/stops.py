@@ -5,7 +5,8 @@ from __future__ import annotations
 from typing import Iterable, Iterator, List, Set
 
 from ..base.names import directories_above, read_path
-from ..program.protocol import FILE_HEAD
+from ..model.entries import entries_of
+from ..model.records import name_of, path_of
 from ..program.scripts import Unit
 from ..program.tools import OF_RECORDS, OPTIONS, REACH, split
 
@@ -26,8 +27,8 @@ def marked(unit: Unit, lines: Iterable[bytes]) -> Iterator[bytes]:
     for line in lines:
         block.append(line)
         if not line:
-            path = read_path(block[0][len(FILE_HEAD) :])
-            if not any(entry.endswith(b"x") for entry in block[1:-1]):
+            path = path_of(name_of(block[0]))
+            if not any(it.grants(b"x") for it in entries_of(b"\n".join(block))):
                 # The files below that nothing above has stopped.
                 stopped = [file for file in files if path in directories_above(file)]
                 block[0] += MARK * any(closed.isdisjoint(directories_above(file)) for file in stopped)

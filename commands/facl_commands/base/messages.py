@@ -194,7 +194,11 @@ def run(name: str, body: Callable[[Command, List[str]], int], goes_on: bool = Fa
     """Runs the command of this name, and ends with its status."""
     open_streams()
     gc.disable()  # What a command keeps it needs to its end, which is soon; a prompt switches it on again.
-    for number in SIGNALS:
-        if signal.getsignal(number) != signal.SIG_IGN:
-            signal.signal(number, interrupt)
-    end(Command(name, goes_on).status_of(body, sys.argv[1:]))
+    try:
+        for number in SIGNALS:
+            if signal.getsignal(number) != signal.SIG_IGN:
+                signal.signal(number, interrupt)
+        status = Command(name, goes_on).status_of(body, sys.argv[1:])
+    except Interrupted as ended:  # Before the command could begin.
+        status = 128 + ended.number
+    end(status)

@@ -7,7 +7,7 @@ from __future__ import annotations
 
 import codecs
 import re
-from typing import List, Match, Tuple
+from typing import Iterable, List, Match, Tuple
 
 ESCAPE = re.compile(rb"\\([0-3][0-7][0-7]|\\)")
 SAFE = re.compile(rb"[\x20-\x7e\t]*\Z")
@@ -70,6 +70,29 @@ def directories_above(path: bytes) -> List[bytes]:
     return found
 
 
+def is_below(path: bytes, above: bytes) -> bool:
+    return path != above and (above == b"" or path.startswith(above + b"/"))
+
+
+def is_at_or_below(path: bytes, tops: Iterable[bytes]) -> bool:
+    return bool(at_or_below([path], tops))
+
+
+def at_or_below(paths: Iterable[bytes], tops: Iterable[bytes]) -> List[bytes]:
+    """The paths that are one of some tops or below one, in their order. One look at many tops is quicker than `is_below`."""
+    known = set(tops)
+    if b"" in known:
+        return list(paths)
+    starts = tuple(top + b"/" for top in known)
+    return [path for path in paths if path in known or path.startswith(starts)]
+
+
+def highest(paths: Iterable[bytes]) -> List[bytes]:
+    """Paths in path order, each once, without those that another one is above."""
+    known = set(paths)
+    return sorted((path for path in known if known.isdisjoint(directories_above(path))), key=sorting_key)
+
+
 def shown_path(path: bytes) -> bytes:
     """A path as the program prints it."""
     return write_name(path) or b"."
@@ -83,6 +106,12 @@ def live_path(path: bytes) -> bytes:
 def live_name(path: bytes) -> bytes:
     """A path on the live system, as messages name it."""
     return b"/" + write_name(path)
+
+
+def file_name(path: bytes, is_whole: bool) -> bytes:
+    """A path as a person reads it: on the live system, where the snapshot is whole, which starts at the root; else as the
+    program prints it."""
+    return live_name(path) if is_whole else shown_path(path)
 
 
 def script_word(text: bytes) -> bytes:
@@ -120,9 +149,14 @@ def shown(text: bytes) -> bytes:
     return text if SAFE.match(text) else UNSEEN.sub(escaped_letter, json_text(text)).encode()
 
 
+def path_word(path: bytes) -> bytes:
+    """The word of a path in a line that a command asks, which has it after `--`."""
+    return script_word(shown_path(path))
+
+
 def file_word(path: bytes, is_whole: bool = False) -> bytes:
-    """A file as a word of a script, which is no option."""
-    name = live_name(path) if is_whole else shown_path(path)
+    """The word of a path in a line that a person reads, which is no option."""
+    name = file_name(path, is_whole)
     return plain_word(b"./" + name if name.startswith(b"-") else name)
 
 

@@ -55,13 +55,3 @@ def alike_of(files: Files, paths: Iterable[bytes], is_alone: bool) -> List[Alike
             group = found[above, file] = Alike(file, [])
         group.paths.append(path)
     return list(found.values())
-
-
-def at_or_below(paths: Iterable[bytes], folders: Iterable[bytes]) -> List[bytes]:
-    """The paths that are one of some folders or below one, in their order."""
-    tops = list(folders)
-    if b"" in tops:
-        return list(paths)
-    starts = tuple(top + b"/" for top in tops)
-    known = set(tops)
-    return [path for path in paths if path in known or path.startswith(starts)]

@@ -3,22 +3,17 @@ from __future__ import annotations
 
 import argparse
 import os
-from typing import Callable, Dict, Iterable, Iterator, List, Set
+from typing import Callable, Iterable, Iterator, List, Set
 
+from ..base.accounts import PEOPLE, SUPERUSER, is_person
 from ..base.messages import Failure, counted
-from ..base.names import live_name, read_name, read_path, script_word, shown_path, write_user
+from ..base.names import live_name, path_word, read_name, read_path, write_user
 from ..program.protocol import LIST
 from ..program.session import Session
 from . import meta, sources
 from .people import rows_of
-from .superuser import ids_in
+from .superuser import ids_in, superusers_among
 
-# The ids of people; facl-snapshot, which is no Python, has the same numbers. login.defs(5) has them from 1000 to 60000, and
-# systemd (UIDS-GIDS) from 60001 to 60513 those of its own home directories. Up to 65535 follow service users, nobody and no user.
-# A directory service gives people ids above.
-FIRST_PERSON, LAST_PERSON = 1000, 60_513
-LAST_OF_SYSTEM = 65_535
-PEOPLE = f"ids from {FIRST_PERSON} to {LAST_PERSON}, and above {LAST_OF_SYSTEM}"
 MOST_NAMES = 5  # In a message.
 
 
@@ -39,17 +34,13 @@ def add_choice(parser: argparse.ArgumentParser, folders: str = "*", default: str
 # --- users
 
 
-def is_person(uid: int) -> bool:
-    return FIRST_PERSON <= uid <= LAST_PERSON or uid > LAST_OF_SYSTEM
-
-
 def people_of(passwd: bytes) -> Set[bytes]:
     """The names of the users who are people."""
     return {name for name, uid in ids_in(passwd).items() if is_person(uid)}
 
 
 def is_chosen(uid: int, given: argparse.Namespace) -> bool:
-    if uid == 0:
+    if uid == SUPERUSER:
         return bool(given.with_root)
     return bool(given.all_users) or is_person(uid)
 
@@ -62,15 +53,16 @@ def kept(users: Iterable[bytes], given: argparse.Namespace, passwd: bytes) -> Li
 
 def notes(left_out: Iterable[bytes], passwd: bytes) -> Iterator[bytes]:
     """What is said of users who have something to be printed, and are left out; root alone needs no word."""
-    ids = ids_in(passwd)
-    names: Dict[bool, List[bytes]] = {False: [], True: []}
+    superusers = superusers_among(ids_in(passwd).items())
+    accounts: List[bytes] = []
+    roots: List[bytes] = []
     for user in left_out:
-        names[ids.get(read_name(user)) == 0].append(user)
-    if names[False]:
+        (roots if read_name(user) in superusers else accounts).append(user)
+    if accounts:
         yield b"left out: %s who %s no people (--all-users): %s" % (
-            counted(len(names[False]), "user"), b"is" if len(names[False]) == 1 else b"are", few(names[False]))
-    if names[True] not in ([], [b"root"]):
-        yield b"left out, with the uid 0 (--with-root): " + few(names[True])
+            counted(len(accounts), "user"), b"is" if len(accounts) == 1 else b"are", few(accounts))
+    if roots not in ([], [b"root"]):
+        yield b"left out, with the uid 0 (--with-root): " + few(roots)
 
 
 def few(names: List[bytes]) -> bytes:
@@ -101,7 +93,7 @@ def refuse_empty(word: bytes) -> None:
 
 def is_recorded(session: Session, path: bytes) -> bool:
     """Whether the program has a file of this path; it has none of one with `..`, or of one that is too long."""
-    return not session.ask(LIST + b" " + script_word(shown_path(path)) + b"\n").messages
+    return not session.ask(LIST + b" " + path_word(path) + b"\n").messages
 
 
 def folders_made_of(session: Session) -> List[bytes]:

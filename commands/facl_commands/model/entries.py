@@ -3,18 +3,20 @@ from __future__ import annotations
 
 import re
 from functools import lru_cache
-from typing import Dict, Iterable, List, NamedTuple, Tuple
+from typing import Dict, FrozenSet, Iterable, NamedTuple, Tuple
 
 from ..base.names import write_user
-from ..program.protocol import EFFECTIVE, FLAGS_LINE, OWNER_LINES
+from ..program.protocol import EFFECTIVE, FLAGS_HEAD, GROUP_HEAD, OWNER_ENTRY, OWNER_HEAD
 from .people import plain_id, rows_of
 
-LINE = re.compile(rb"^(default:)?(user|group|mask|other):([0-9]*):(...)(?:\t+%s(...))?$" % EFFECTIVE, re.MULTILINE)
-OWNER, FLAGS = re.compile(OWNER_LINES), re.compile(b"^" + FLAGS_LINE, re.MULTILINE)
+LINE = re.compile(rb"^(default:)?(user|group|mask|other):([^:\n]*):([r-][w-][x-])(?:[\t ]+%s(...))?$" % EFFECTIVE, re.MULTILINE)
+HEAD = re.compile(rb"# owner: (.*)\n# group: (.*)\n(?:# flags: ([s-][s-][t-])\n)?")
 USER, GROUP, MASK, OTHER = b"user", b"group", b"mask", b"other"
 PLAIN_NAME = re.compile(rb"[A-Za-z_][A-Za-z0-9_.-]*\Z")
 LETTERS = (b"r", b"w", b"x")
-Key = Tuple[bytes, bytes]  # The tag, and the id where it names one.
+NOTHING = b"---"  # Of permissions, and of flags.
+Key = Tuple[bytes, bytes]  # The tag, and the id where it names one, or the name as the program prints it.
+OWNER_KEY, OWNING_GROUP_KEY, OTHER_KEY = (USER, b""), (GROUP, b""), (OTHER, b"")
 
 
 class Entry(NamedTuple):
@@ -25,6 +27,18 @@ class Entry(NamedTuple):
     def is_named(self) -> bool:
         return self.key[1] != b""
 
+    def grants(self, letters: bytes) -> bool:
+        """Whether it has all of some permissions, under the mask."""
+        return set(letters) <= set(self.effective)
+
+    def text(self, cut: bytes = b"") -> bytes:
+        """It as the program prints it; where the mask cuts it, with what that leaves in the form that is given."""
+        text = b":".join([*self.key, self.permissions])
+        return text + cut % self.effective if cut and self.effective != self.permissions else text
+
+
+Entries = Tuple[Entry, ...]
+
 
 class ReadRecord(NamedTuple):
     """What a record says, read and not judged."""
@@ -32,8 +46,8 @@ class ReadRecord(NamedTuple):
     owner: bytes
     group: bytes
     flags: bytes  # As `s-t`.
-    access: Tuple[Entry, ...]
-    default: Tuple[Entry, ...]
+    access: Entries
+    default: Entries
 
     def permissions(self, tag: bytes) -> bytes:
         """Those of an entry of the access list that names nobody."""
@@ -42,16 +56,43 @@ class ReadRecord(NamedTuple):
     def has_mask(self) -> bool:
         return any(it.key[0] == MASK for it in self.access)
 
+    def group_class(self) -> bytes:
+        """The permissions in the second digit of the mode."""
+        return self.permissions(MASK if self.has_mask() else GROUP)
+
+    def has_open_empty_mask(self) -> bool:
+        """Whether Linux grants named users and groups what others have, as the mask is empty."""
+        return self.has_mask() and self.permissions(MASK) == NOTHING and self.permissions(OTHER) != NOTHING
+
+    def mentioned_groups(self) -> FrozenSet[int]:
+        """The ids of the groups that decide on a user: the owning one, and those of entries of the access list."""
+        named_groups = [it.key[1] for it in self.access if it.key[0] == GROUP and it.is_named()]
+        return frozenset(map(int, [self.group, *named_groups]))
+
+
+def entries_of(text: bytes, is_default: bool = False) -> Entries:
+    """The entries in the lines of one of the two lists, by default the access list; other lines are passed over."""
+    return tuple(Entry((tag, name), permissions, effective or permissions)
+                 for default, tag, name, permissions, effective in LINE.findall(text) if bool(default) == is_default)
+
 
 @lru_cache(maxsize=None)
 def read_record(body: bytes) -> ReadRecord:
-    """The lines of a record after the first one."""
-    owner, flags = OWNER.search(body), FLAGS.search(body)
-    assert owner is not None
-    lists: Tuple[List[Entry], List[Entry]] = ([], [])
-    for default, tag, number, permissions, effective in LINE.findall(body):
-        lists[bool(default)].append(Entry((tag, number), permissions, effective or permissions))
-    return ReadRecord(owner[1], owner[2], b"".join(flags.groups()) if flags else b"---", tuple(lists[0]), tuple(lists[1]))
+    """The lines of a record after the first one; ValueError where one of them has no place in a record."""
+    head, lists = HEAD.match(body), lists_of(body)
+    if head is None or LINE.sub(b"", lists).strip(b"\n") or head[0] + lists != body:
+        raise ValueError(body)
+    return ReadRecord(head[1], head[2], head[3] or NOTHING, entries_of(lists), entries_of(lists, is_default=True))
+
+
+def head_lines(owner: bytes, group: bytes, flags: bytes) -> bytes:
+    """The lines of a record before its lists."""
+    return OWNER_HEAD + owner + b"\n" + GROUP_HEAD + group + b"\n" + (b"" if flags == NOTHING else FLAGS_HEAD + flags + b"\n")
+
+
+def lists_of(body: bytes) -> bytes:
+    """The lines after these."""
+    return body[body.find(OWNER_ENTRY) + 1 :]
 
 
 def named(entries: Iterable[Entry]) -> Dict[Key, Entry]:
@@ -97,9 +138,8 @@ def cut_letters(entry: Entry) -> bytes:
 
 def digits(record: ReadRecord, flags: int) -> bytes:
     """The mode of a record, with other flags, as chmod takes it."""
-    group = record.permissions(MASK if record.has_mask() else GROUP)
     values = [sum((it in permissions) << place for it, place in zip(LETTERS, (2, 1, 0)))
-              for permissions in (record.permissions(USER), group, record.permissions(OTHER))]
+              for permissions in (record.permissions(USER), record.group_class(), record.permissions(OTHER))]
     return b"%d%d%d%d" % (flags, *values)
 
 

@@ -5,21 +5,20 @@ from __future__ import annotations
 import contextlib
 import os
 import re
-from typing import Dict, Iterator, NamedTuple, Set
+from typing import Iterator, List, NamedTuple, Set
 
 from ..base import scratch
-from ..base.messages import Failure
-from ..base.names import read_path, script_word, write_user
+from ..base.accounts import LAST_ID
+from ..base.names import read_path, write_user
 from ..base.trusted import read_trusted
 from ..program.protocol import FREE_FILE_LINE, GROUP_ID_LINE, LIST, LIST_EFFECTIVE, USER_ID_LINE
 from ..program.session import OutputSlice, Session
-from .people import plain_id, rows_of, user_word
+from .people import User, needed_word, plain_id, rows_of, users_in
 from .records import Listing, list_files, path_of
 from .snapshot import NEEDED
 from .sources import Source, find_tops, operands_of
 
 EVERYBODY = b"facl-everybody-else"
-LAST_ID = 4_294_967_294
 USER_IDS, GROUP_IDS = re.compile(USER_ID_LINE, re.MULTILINE), re.compile(GROUP_ID_LINE, re.MULTILINE)
 FILE_NAME = re.compile(b"^" + FREE_FILE_LINE + b"/$", re.MULTILINE)
 
@@ -38,6 +37,7 @@ class World(NamedTuple):
     session: Session
     texts: SnapshotTexts
     everybody: bytes  # The name of that user.
+    users: List[User]  # The others.
 
     def reach(self, is_alone: bool) -> bytes:
         return b"" if is_alone else b"--reach "
@@ -48,12 +48,8 @@ class World(NamedTuple):
         return set(paths_in(self.session.ask_accepted(line)))
 
     def word_of(self, user: bytes) -> bytes:
-        """The word of a question that names a user: of a name of digits the id, since digits alone are one."""
-        word = user_word(self.texts.passwd, user)
-        if word is None:
-            raise Failure(write_user(user) + b": no question can name this user: digits alone are an id, and an earlier row has "
-                          b"this one's id")
-        return script_word(write_user(word))
+        """The word of a question that names a user."""
+        return needed_word(self.users, user, write_user(user))
 
 
 def paths_in(output: OutputSlice) -> Iterator[bytes]:
@@ -61,51 +57,50 @@ def paths_in(output: OutputSlice) -> Iterator[bytes]:
     return map(path_of, output.lines())
 
 
-def free_id(rows: bytes, used: Set[bytes]) -> int:
-    """The greatest id that neither a row nor a file has."""
+def free_ids(rows: bytes, used: Set[bytes]) -> Iterator[int]:
+    """The ids that no row has, and that are not among those that are used, from the greatest one down."""
     known = used | {plain_id(row[2]) for row in rows_of(rows) if len(row) > 2}
-    found = LAST_ID
-    while b"%d" % found in known:
-        found -= 1
-    return found
+    return (it for it in range(LAST_ID, 0, -1) if b"%d" % it not in known)
 
 
-def free_name(texts: SnapshotTexts) -> bytes:
-    """A name that no user and no group has."""
-    names = {row[0] for text in (texts.passwd, texts.group) for row in rows_of(text)}
+class Everybody(NamedTuple):
+    """That user, and the rows of the user and of the group."""
+
+    name: bytes  # That of the group too.
+    passwd: bytes
+    group: bytes
+
+
+def everybody_in(passwd: bytes, group: bytes, uids: Set[bytes], gids: Set[bytes], lines: bytes = b"") -> Everybody:
+    """With a name and ids that no row has, nor one of the lines that change users and groups; the ids of files are given."""
+    names = {row[0] for text in (passwd, group) for row in rows_of(text)}
     name = EVERYBODY
-    while name in names:
+    while name in names or name in lines:
         name += b"-"
-    return name
+    uid, gid = next(free_ids(passwd, uids)), next(free_ids(group, gids))
+    return Everybody(name, b"%s:x:%d:%d::/:\n" % (name, uid, gid), b"%s:x:%d:\n" % (name, gid))
 
 
 def with_row(text: bytes, row: bytes) -> bytes:
     return text + b"\n" * (text[-1:] not in (b"", b"\n")) + row
 
 
-def texts_with(texts: SnapshotTexts, everybody: bytes) -> Dict[bytes, bytes]:
-    """Users and groups with that user, and a group that has nobody else."""
-    uid = free_id(texts.passwd, {match[1] for match in USER_IDS.finditer(texts.dump)})
-    gid = free_id(texts.group, {match[1] for match in GROUP_IDS.finditer(texts.dump)})
-    return {b"passwd": with_row(texts.passwd, b"%s:x:%d:%d::/:\n" % (everybody, uid, gid)),
-            b"group": with_row(texts.group, b"%s:x:%d:\n" % (everybody, gid))}
-
-
 @contextlib.contextmanager
 def world_of(program: str, source: Source) -> Iterator[World]:
     """The session; the folder of its texts goes with it."""
     texts = SnapshotTexts(*(read_trusted(os.path.join(source.folder, name)) for name in NEEDED))
-    everybody = free_name(texts)
+    everybody = everybody_in(texts.passwd, texts.group, {match[1] for match in USER_IDS.finditer(texts.dump)},
+                             {match[1] for match in GROUP_IDS.finditer(texts.dump)})
     with scratch.folder("facl-texts.") as work:
         folder = os.fsencode(work)
         os.symlink(os.path.join(os.path.abspath(source.folder), b"dump"), os.path.join(folder, b"dump"))
-        for name, text in texts_with(texts, everybody).items():
+        for name, text, row in ((b"passwd", texts.passwd, everybody.passwd), (b"group", texts.group, everybody.group)):
             with open(os.path.join(folder, name), "wb") as file:
-                file.write(text)
+                file.write(with_row(text, row))
         with Session(program, folder) as session:
             session.folder = source.folder  # Which messages name.
             session.ask(LIST + b" .\n")  # Where the program does not load the texts, it says so before they are looked at.
-            yield World(session, texts, everybody)
+            yield World(session, texts, everybody.name, users_in(texts.passwd))
 
 
 def listing_of(world: World) -> Listing:

@@ -9,13 +9,13 @@ import re
 import struct
 from typing import Dict, Iterable, List, NamedTuple
 
-from ..base.names import script_word
+from ..base.names import read_name
 from ..program.protocol import DEFAULT_ENTRY, ENTRIES_OF, FILE_HEAD, INDEX, LIST_NAMES
 from ..program.session import OutputSlice, Session, parts_of, session_over
-from .people import rows_of, user_word
+from .people import rows_of, user_word, users_in
+from .records import body_of
 from .rights import users_of
 
-ROOM = 60_000  # Bytes of names in a line, which may have 65,536.
 SCRIPT_ROOM = 32 << 20  # Bytes of the lines that one session is asked, which may have twice as many.
 WORD = b"%07d"
 WORD_SIZE = 8  # With its blank.
@@ -48,24 +48,23 @@ def dump_of(bodies: List[bytes]) -> bytes:
 
 def operands_of(count: int) -> List[bytes]:
     """The names of so many files in their order, as the operands of lines that have room for them."""
-    return list(map(b" ".join, parts_of((WORD % k for k in range(count)), ROOM)))
+    return list(map(b" ".join, parts_of(WORD % k for k in range(count))))
 
 
 def ask_records(session: Session, lines: Iterable[bytes]) -> List[bytes]:
-    """The records that lines of our own print, without the names of the files."""
-    text = session.ask_accepted(b"\n".join(lines)).read()
-    return [record.partition(b"\n")[2] for record in text.split(b"\n\n")[:-1]]
+    """The bodies of the records that lines of our own print."""
+    return list(map(body_of, session.ask_accepted(b"\n".join(lines)).records()))
 
 
 def ask_reasons(session: Session, passwd: bytes, users: List[bytes], count: int) -> List[List[bytes]]:
     """By which entries each user is judged; one whom no word names has no entries here."""
-    rows = {row[0] for row in rows_of(passwd)}
+    known_users = users_in(passwd)
     parts = operands_of(count)
     found: List[List[bytes]] = [[] for _ in range(count)]
     known: Dict[bytes, bytes] = {}  # Each text once.
     for user in users:
-        word = None if user.isdigit() and user not in rows else user_word(passwd, user)
-        lines = [] if word is None else [b" ".join([ENTRIES_OF, script_word(word), part]) for part in parts]
+        word = user_word(known_users, read_name(user))
+        lines = [] if word is None else [b" ".join([ENTRIES_OF, word, part]) for part in parts]
         for reasons, record in zip(found, ask_records(session, lines) if lines else [b""] * count):
             entries = re.sub(rb"\t+", b"  ", record)  # Two blanks before an effective permission.
             reasons.append(known.setdefault(entries, entries))

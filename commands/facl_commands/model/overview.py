@@ -11,17 +11,20 @@ from typing import Dict, Iterator, List, NamedTuple, Set
 from ..base.messages import Command, counted
 from ..base.names import live_name
 from ..base.trusted import read_trusted
-from ..program.protocol import EMPTY_MASK, FILE_HEAD, FREE_FILE_LINE, GROUP_ID_LINE, USER_ID_LINE
+from ..program.protocol import (
+    EMPTY_MASK, EMPTY_MASK_LINE, FILE_HEAD, FREE_FILE_LINE, GROUP_ID_LINE, OPEN_OTHERS_LINE, USER_ID_LINE,
+)
 from . import meta, split_tree
 from . import sources as source_texts
 from .people import plain_id, rows_of
-from .records import EMPTY_MASKS_OF_LISTS, OTHERS_WITH_SOMETHING
 from .snapshot import NEEDED, read_links
 from .sources import Source
 
 FILE_NAME = re.compile(b"^" + FREE_FILE_LINE, re.MULTILINE)
 GROUP_IDS = re.compile(GROUP_ID_LINE, re.MULTILINE)
 USER_IDS = re.compile(USER_ID_LINE, re.MULTILINE)
+EMPTY_MASKS_OF_LISTS = re.compile(EMPTY_MASK_LINE, re.MULTILINE)
+OTHERS_WITH_SOMETHING = re.compile(OPEN_OTHERS_LINE, re.MULTILINE)
 EMPTY_MASKS = (b"lists with an empty mask whose others have something, which Linux grants to named users and groups "
                b"too, and facl does not")
 

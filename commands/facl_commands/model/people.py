@@ -1,9 +1,10 @@
 """Users and groups, as far as commands that change them have to be written for the live system."""
 from __future__ import annotations
 
-from typing import Callable, Dict, List, NamedTuple, Optional, Set
+from typing import Callable, Dict, Iterable, List, NamedTuple, Optional, Set
 
-from ..base.names import number_of, read_name, shell_word
+from ..base.messages import Failure
+from ..base.names import number_of, read_name, script_word, shell_word, write_user
 from ..program.tools import Split, split
 
 ADD_MEMBER, REMOVE_MEMBER, CHANGE_GROUP = b"gpasswd -a", b"gpasswd -d", b"usermod -g"
@@ -67,31 +68,50 @@ def plain_id(field: bytes) -> bytes:
     return field.lstrip(b"0") or b"0"
 
 
-def user_word(passwd: bytes, name: bytes) -> Optional[bytes]:
-    """What names a user in a line: the name, or in the place of digits alone the id, which means the first user who has
-    it; None where that is another one."""
+def users_in(passwd: bytes) -> List[User]:
+    return [User(row[0], int(row[2]), int(row[3])) for row in rows_of(passwd)]
+
+
+def user_word(users: Iterable[User], name: bytes) -> Optional[bytes]:
+    """The word of a user in a line that a command asks: the name, or in the place of digits alone the id, which means the
+    first user who has it; None where that is another one, or there is no such user."""
     if not name.isdigit():
-        return name
-    rows = rows_of(passwd)
-    uid = number_of(next((fields[2] for fields in rows if fields[0] == name), name))
-    first = next((fields[0] for fields in rows if number_of(fields[2]) == uid), None)
-    return b"%d" % uid if first == name else None
+        return script_word(write_user(name))
+    first: Dict[int, bytes] = {}
+    for user in users:
+        first.setdefault(user.uid, user.name)
+        if user.name == name:
+            return script_word(b"%d" % user.uid) if first[user.uid] == name else None
+    return None
+
+
+def needed_word(users: Iterable[User], name: bytes, said: bytes) -> bytes:
+    """The same; fails where there is none, with what a message calls the user."""
+    word = user_word(users, name)
+    if word is None:
+        raise Failure(said + b": no question can name this user: digits alone are an id, and an earlier row has this one's id")
+    return word
+
+
+def is_named(name: bytes, number: int, word: bytes, is_name: bool = False) -> bool:
+    """Whether a row is meant by a word; digits alone are an id, unless the word can only be a name."""
+    return number == number_of(word) if word.isdigit() and not is_name else name == word
 
 
 class People:
     """The users and groups of a snapshot, and what accepted lines make of them."""
 
     def __init__(self, passwd: bytes, group: bytes) -> None:
-        self.users = [User(row[0], int(row[2]), int(row[3])) for row in rows_of(passwd)]
+        self.users = users_in(passwd)
         self.groups = [Group(row[0], int(row[2]), [it for it in row[3].split(b",") if it]) for row in rows_of(group)]
 
     def user(self, word: bytes) -> User:
         name = read_name(word.strip(b" \t"))
-        return next(it for it in self.users if (it.uid == number_of(name) if name.isdigit() else it.name == name))
+        return next(it for it in self.users if is_named(it.name, it.uid, name))
 
     def group(self, word: bytes) -> Group:
         name = read_name(word.strip(b" \t"))
-        return next(it for it in self.groups if (it.gid == number_of(name) if name.isdigit() else it.name == name))
+        return next(it for it in self.groups if is_named(it.name, it.gid, name))
 
     def change(self, words: List[bytes]) -> Optional[PeopleChange]:
         """Does what an accepted line does, and returns it; None where nothing changes."""
@@ -129,11 +149,31 @@ class People:
         return PeopleChange(REMOVE_USER, user, b"", user.gid)
 
 
+# --- who is in a group: by its id, of which several rows may be
+
+
 def groups_by_user(people: People) -> Dict[bytes, Set[int]]:
     """By name: the primary group and those that list the user."""
     found = {user.name: {user.gid} for user in people.users}
-    for group in people.groups:
-        for name in group.members:
+    for gid, names in listed_by_group(people).items():
+        for name in names:
             if name in found:
-                found[name].add(group.gid)
+                found[name].add(gid)
     return found
+
+
+def users_by_group(people: People) -> Dict[int, Set[bytes]]:
+    """The same by group; one without users is not there."""
+    found: Dict[int, Set[bytes]] = {}
+    for name, groups in groups_by_user(people).items():
+        for gid in groups:
+            found.setdefault(gid, set()).add(name)
+    return found
+
+
+def listed_by_group(people: People) -> Dict[int, List[bytes]]:
+    """The names that the rows of each group list, each once."""
+    found: Dict[int, Dict[bytes, None]] = {}
+    for group in people.groups:
+        found.setdefault(group.gid, {}).update(dict.fromkeys(group.members))
+    return {gid: list(names) for gid, names in found.items()}

@@ -1,23 +1,12 @@
 """The records of a listing: what getfacl prints of files, by the program or by the system, with ids as numbers."""
 from __future__ import annotations
 
-import re
-from functools import lru_cache
-from typing import Dict, Iterable, List, NamedTuple, Tuple
+from typing import Dict, Iterable, Iterator, List, NamedTuple, Tuple
 
 from ..base.messages import Failure
-from ..base.names import read_path, script_word, shown_path, sorting_key, write_name
-from ..program.protocol import (
-    DEFAULT_ENTRY, EMPTY_MASK_LINE, FILE_HEAD, FLAGS_LINE, LIST_ALL, MASK_LINE, ONLY_DIRECTORIES, OPEN_OTHERS_LINE,
-    OWNER_LINES, OWNING_GROUP_LINE, SET_DEFAULT, has_text, lacks_file,
-)
-from ..program.session import Session
-
-EMPTY_MASKS_OF_LISTS = re.compile(EMPTY_MASK_LINE, re.MULTILINE)
-OTHERS_WITH_SOMETHING = re.compile(OPEN_OTHERS_LINE, re.MULTILINE)
-HEAD_OF_RECORD = re.compile(OWNER_LINES + b"(?:" + FLAGS_LINE + b")?")
-MASK, OWNING_GROUP = re.compile(MASK_LINE, re.MULTILINE), re.compile(OWNING_GROUP_LINE, re.MULTILINE)
-OWNER = re.compile(OWNER_LINES)
+from ..base.names import path_word, read_path, sorting_key, write_name
+from ..program.protocol import DEFAULT_ENTRY, FILE_HEAD, LIST_ALL, ONLY_DIRECTORIES, SET_DEFAULT, has_text, lacks_file
+from ..program.session import OutputSlice, Session
 
 
 class File(NamedTuple):
@@ -62,6 +51,33 @@ def write_records(files: Files, paths: Iterable[bytes]) -> bytes:
     return b"".join(parts)
 
 
+# --- a record: its first line has the name of the file, and the others are its body
+
+
+def records_in(listing: Iterable[OutputSlice]) -> Iterator[bytes]:
+    """The records of a listing, in its order, without the end of the last line."""
+    return (record for output in listing for record in output.records() if record)
+
+
+def split_record(record: bytes) -> Tuple[bytes, bytes]:
+    """The name, and the body without the end of its last line."""
+    first, _, body = record.partition(b"\n")
+    return first[len(FILE_HEAD) :], body
+
+
+def name_of(record: bytes) -> bytes:
+    return split_record(record)[0]
+
+
+def body_of(record: bytes) -> bytes:
+    return split_record(record)[1]
+
+
+def is_of_directory(name: bytes, body: bytes) -> bool:
+    """Whether a record says that its file is a directory, by its name or by default entries; one with a file below it is one too."""
+    return name[-1:] == b"/" or name == b"." or DEFAULT_ENTRY in body
+
+
 def path_of(name: bytes) -> bytes:
     """The path that a name in a listing is; only one with an escape, or with a component that is none, has to be
     read."""
@@ -84,8 +100,8 @@ def read_bodies(text: bytes) -> Tuple[List[bytes], List[bytes]]:
     known: Dict[bytes, bytes] = {}
     for record in text.split(b"\n\n"):
         if record:
-            first, _, rest = record.partition(b"\n")
-            names.append(first[len(FILE_HEAD) :])
+            name, rest = split_record(record)
+            names.append(name)
             body = known.get(rest)
             if body is None:
                 body = known[rest] = rest + b"\n"
@@ -117,7 +133,7 @@ def read_listing(text: bytes) -> Files:
 def list_all(session: Session, top: bytes = b"") -> Listing:
     """The files as they are now, a directory and those below it; none where it is not there, and so where the root was
     removed, which removes all."""
-    answer = session.ask(LIST_ALL + b" " + script_word(shown_path(top)) + b"\n")
+    answer = session.ask(LIST_ALL + b" " + path_word(top) + b"\n")
     if answer.messages and not lacks_file(answer.messages):
         raise Failure(b"the program refused to list the files: " + answer.messages[0])
     return list_files(answer.output.read())
@@ -134,13 +150,7 @@ def compare(old: Files, new: Files) -> ChangedPaths:
     )
 
 
-@lru_cache(maxsize=4096)
-def has_open_empty_mask(file: File) -> bool:
-    """Whether Linux grants named users and groups what others have, as the mask is empty."""
-    return bool(EMPTY_MASKS_OF_LISTS.search(file.body)) and bool(OTHERS_WITH_SOMETHING.search(file.body))
-
-
 def asks_as_directory(session: Session, path: bytes) -> bool:
     """Whether the program takes a file for a directory, which a listing of it alone does not show."""
-    question = SET_DEFAULT + b" " + script_word(shown_path(path)) + b"\n"
+    question = SET_DEFAULT + b" " + path_word(path) + b"\n"
     return not any(has_text(message, ONLY_DIRECTORIES) for message in session.ask(question).messages)

@@ -1,23 +1,23 @@
 """Who may do what: what the program answers before the edits and after them, and what differs.
 
-What differs by users and kinds of change is what `gains` prints. Where the files are listed too, all that is granted is
-read of `index`: what a user may do with a file depends on its owner, group and list alone, which are lines of its
-record, so that of the files with one record one block is read. Along a path, what is in one directory is reached by the
+What differs by users and kinds of change is what `gains` prints (gains.py). Where the files are listed too, all that is
+granted is read of `index`: what a user may do with a file depends on its owner, group and list alone, which are lines of
+its record, so that of the files with one record one block is read. Along a path, what is in one directory is reached by the
 same users: those who have search on it, and on each recorded directory above.
 """
 from __future__ import annotations
 
 import re
 import struct
-from typing import Collection, Container, Dict, Iterable, Iterator, List, NamedTuple, Optional, Set, Tuple
+from typing import Collection, Container, Dict, Iterable, Iterator, List, NamedTuple, Optional, Tuple
 
 from ..base.messages import Failure
 from ..base.names import sorting_key
-from ..program.protocol import GAINS, GAINS_ALONG_PATHS, INDEX
+from ..program.protocol import INDEX
 from ..program.session import OutputSlice, Session
-from .records import Listing, path_of
+from .records import Listing
 
-ABSENT = "absent"  # Of a file or a user that is not there.
+ABSENT, NONE = "absent", "none"  # Of a file or a user that is not there; where nothing is granted.
 REQUESTS = ["---", "--x", "-w-", "-wx", "r--", "r-x", "rw-", "rwx"]
 NOTHING = 1  # The byte of `index` that grants no more than the request for nothing.
 SEARCH = 1 << 1  # Its bit of the request for search.
@@ -60,29 +60,11 @@ class RightsChanges(NamedTuple):
     files: List[Tuple[bytes, FileGroup]]
 
 
-class KindOfChange(NamedTuple):
-    """All changes of one user from one thing to another, with their number and the first file."""
-
-    user: bytes
-    old: str
-    new: str
-    files: int
-    first: bytes
-
-
-class Kinds(NamedTuple):
-    """The kinds of change, by users in their order; and those users of whom there would be more, but that they are left
-    out."""
-
-    kinds: List[KindOfChange]
-    left_out: Set[bytes]
-
-
 def granted(byte: int) -> str:
     """A byte of `index`: the greatest of the requests that it grants."""
     requests = [request for request in range(1, 8) if byte >> request & 1]
     greatest = [it for it in requests if not any(it & other == it != other for other in requests)]
-    return " ".join(REQUESTS[it] for it in greatest) or "none"
+    return " ".join(REQUESTS[it] for it in greatest) or NONE
 
 
 GRANTED = [granted(byte) for byte in range(256)]
@@ -192,12 +174,17 @@ def along_paths_of(alone: Dict[bytes, Vector], reached: Dict[bytes, bytes]) -> D
     return found
 
 
+def is_change(old: str, new: str) -> bool:
+    """Whether somebody gained or lost something. One who is absent, or to whom the file is, has none."""
+    return old != new and {old, new} != {ABSENT, NONE}
+
+
 def differing(users: List[bytes], old: Dict[bytes, int], new: Dict[bytes, int]) -> Iterator[Difference]:
-    """Those of the users with other rights. One who is absent, or to whom the file is, has none."""
+    """Those of the users with other rights."""
     for user in users:
         before = GRANTED[old[user]] if user in old else ABSENT
         after = GRANTED[new[user]] if user in new else ABSENT
-        if before != after and {before, after} != {ABSENT, "none"}:
+        if is_change(before, after):
             yield Difference(user, before, after)
 
 
@@ -237,34 +224,3 @@ def changes(old: FileAnswers, new: FileAnswers, along_paths: bool, left_out: Col
             group.files.append(name)
             found.files.append((name, group))
     return found
-
-
-def text_of(side: bytes) -> str:
-    """What `gains` has for before or now, as it is reported."""
-    return ABSENT if side == b"--" else GRANTED[int(side, 16)]
-
-
-def ask_kinds(session: Session, along_paths: bool, users: List[bytes], left_out: Collection[bytes] = ()) -> Kinds:
-    """Asks what differs from before the lines of the session, by user and kind, in the order of the users. Who is
-    absent, or to whom the file is, has nothing; neither has who is granted the request for nothing alone, or not even
-    that."""
-    counts: Dict[Difference, KindOfChange] = {}
-    found: Set[bytes] = set()
-    for line in session.ask_accepted(GAINS_ALONG_PATHS if along_paths else GAINS).lines():
-        old, new, count, user, first = line.split(b" ", 4)
-        kind = KindOfChange(user, text_of(old), text_of(new), int(count), first)
-        if {kind.old, kind.new} <= {ABSENT, "none"}:
-            continue
-        if user in left_out:
-            found.add(user)
-            continue
-        key = Difference(*kind[:3])
-        counts[key] = joined(counts[key], kind) if key in counts else kind
-    place = {user: k for k, user in enumerate(users)}
-    return Kinds(sorted(counts.values(), key=lambda it: (place.get(it.user, len(place)), it.old, it.new)), found)
-
-
-def joined(one: KindOfChange, other: KindOfChange) -> KindOfChange:
-    """Two kinds that are reported as one."""
-    first = min(one.first, other.first, key=lambda name: sorting_key(path_of(name)))
-    return one._replace(files=one.files + other.files, first=first)

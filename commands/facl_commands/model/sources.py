@@ -16,7 +16,7 @@ from typing import Iterator, List, NamedTuple, Optional, Set
 from ..base import scratch
 from ..base.environment import environment_of_called
 from ..base.messages import Failure, reason
-from ..base.names import directories_above, path_order, read_name, read_path, script_word, shown_path
+from ..base.names import highest, path_word, read_name, read_path
 from ..base.trusted import open_file, read_trusted
 from ..program.protocol import FILE_HEAD, FREE_FILE_LINE, LIST, LIST_ALL, lacks_file
 from ..program.session import OutputSlice, Session, parts_of
@@ -31,7 +31,6 @@ LIVE_ROOT = FILE_HEAD + b"/\n"  # As facl-snapshot writes it.
 FILE_NAME = re.compile(FREE_FILE_LINE, re.DOTALL)
 HAS_FILE = re.compile(rb"^[ \t]*#[ \t]*file:", re.MULTILINE)
 PIECE = 1 << 20
-ROOM = 60_000  # Bytes of names in a line, which may have 65,536.
 
 
 class Source(NamedTuple):
@@ -194,8 +193,7 @@ def names_of(dump: bytes) -> Iterator[bytes]:
 
 def tops_of(dump: bytes) -> List[bytes]:
     """The paths that no recorded directory is above, in path order; the root alone where it is recorded."""
-    recorded = set(map(read_path, names_of(dump)))
-    return sorted((path for path in recorded if recorded.isdisjoint(directories_above(path))), key=path_order)
+    return highest(map(read_path, names_of(dump)))
 
 
 def find_tops(session: Session, folder: bytes) -> List[bytes]:
@@ -207,7 +205,7 @@ def find_tops(session: Session, folder: bytes) -> List[bytes]:
 
 def operands_of(paths: List[bytes]) -> List[List[bytes]]:
     """The words of paths, in groups that a line has room for."""
-    return list(parts_of([script_word(shown_path(path)) for path in paths], ROOM))
+    return list(parts_of(map(path_word, paths)))
 
 
 def list_below(session: Session, tops: List[bytes]) -> List[OutputSlice]:

@@ -1,8 +1,9 @@
 """Answers about people without the superuser, to whom the kernel grants nearly everything whatever a list says."""
 from __future__ import annotations
 
-from typing import Dict, Iterable, Iterator, Set
+from typing import Dict, Iterable, Iterator, Set, Tuple
 
+from ..base.accounts import SUPERUSER
 from ..base.names import read_name
 from ..program.scripts import Unit
 from ..program.tools import ABOUT_USERS, split, user_in
@@ -16,7 +17,7 @@ class Superusers:
     """The users of uid 0, who are left out; none of them where nobody is to be."""
 
     def __init__(self, ids: Dict[bytes, int]) -> None:
-        self.names: Set[bytes] = {name for name, number in ids.items() if number == 0}
+        self.names = superusers_among(ids.items())
         self.has_left_out = False
 
     def follow(self, unit: Unit) -> None:
@@ -45,6 +46,11 @@ class Superusers:
     def note(self) -> bytes:
         """What is said once, where somebody was left out."""
         return NOTE % b", ".join(sorted(self.names))
+
+
+def superusers_among(users: Iterable[Tuple[bytes, int]]) -> Set[bytes]:
+    """The names of those of some users, each with an id, who are the superuser."""
+    return {name for name, uid in users if uid == SUPERUSER}
 
 
 def ids_in(passwd: bytes) -> Dict[bytes, int]:

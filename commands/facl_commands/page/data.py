@@ -4,48 +4,39 @@ from __future__ import annotations
 import argparse
 import os
 import re
-from typing import Dict, Iterable, Iterator, List, Set, Tuple
+from typing import Dict, Iterator, List, Set, Tuple
 
+from ..base.accounts import is_of_system
 from ..base.names import read_name
 from ..model import meta, sources
-from ..model.choice import is_person
+from ..model.entries import read_record
+from ..model.everybody import everybody_in, free_ids, with_row
 from ..model.label_answers import PeopleTexts, ask_labels
 from ..model.people import plain_id, rows_of
 from ..model.snapshot import Snapshot
 from ..model.superuser import Superusers, ids_in
-from ..program.protocol import ACCESS_GROUP_LINE, ADD_USER_WITH
+from ..program.protocol import ADD_USER_WITH
 from ..program.scripts import Unit
 from ..program.session import Session
 from ..program.tools import CHANGES_OF_PEOPLE
 from .columns import Builder, PageState, Tables, View, Who, shown
 from .tree import Labels, ListedRecord, PageListing, PageTree, records_of
 
-GREATEST_ID = 4_294_967_294
-
-
-def unused_ids(passwd: bytes, texts: Iterable[bytes]) -> Iterator[int]:
-    """Ids that neither rows nor texts have, from the greatest one down."""
-    used = {int(row[2]) for row in rows_of(passwd)}
-    used |= {int(it) for text in texts for it in re.findall(rb"[0-9]+", text)}
-    return (it for it in range(GREATEST_ID, 0, -1) if it not in used)
-
 
 class Probes:
-    """A user for each group that lists name, who has that group alone, and one for everybody."""
+    """A user for each group that lists name, who has that group alone, and everybody else; with the users and groups."""
 
     def __init__(self, snapshot: Snapshot, bodies: List[bytes], changes: bytes) -> None:
-        named = {it for body in bodies for it in re.findall(ACCESS_GROUP_LINE, body, re.MULTILINE)}
-        groups = rows_of(snapshot.group)
-        unnamed = next((row for row in groups if plain_id(row[2]) not in named), None)
-        wanted = [("group", row[0], row) for row in groups if plain_id(row[2]) in named]
-        wanted += [("everybody", b"everybody", unnamed)] if unnamed else []
-        ids = unused_ids(snapshot.passwd, [*bodies, changes])
+        used = {plain_id(it) for text in (*bodies, changes) for it in re.findall(rb"[0-9]+", text)}
+        everybody = everybody_in(snapshot.passwd, snapshot.group, used, used, changes)
+        self.passwd, self.group = with_row(snapshot.passwd, everybody.passwd), with_row(snapshot.group, everybody.group)
+        mentioned = {gid for body in bodies for gid in read_record(body).mentioned_groups()}
+        groups = [row for row in rows_of(snapshot.group) if int(row[2]) in mentioned]
         token = os.urandom(8).hex().encode()
-        self.whos = [Who(kind, name, b"probe-%s-%d" % (token, place)) for place, (kind, name, _) in enumerate(wanted)]
-        self.lines = b"".join(
-            ADD_USER_WITH % (next(ids), row[2], who.user) + b"\n"
-            for who, (_, _, row) in zip(self.whos, wanted)
-        )
+        self.whos = [Who("group", row[0], b"probe-%s-%d" % (token, place)) for place, row in enumerate(groups)]
+        self.lines = b"".join(ADD_USER_WITH % (uid, row[2], who.user) + b"\n"
+                              for uid, who, row in zip(free_ids(self.passwd, used), self.whos, groups))
+        self.whos.append(Who("everybody", b"everybody", everybody.name))
 
 
 def list_files(session: Session, tops: List[bytes]) -> Iterator[ListedRecord]:
@@ -58,7 +49,7 @@ def users_shown(old: List[bytes], new: List[bytes], probes: List[Who], left_out:
                 ids: Dict[bytes, int]) -> List[Who]:
     """Users first, then groups, then everybody; one whom the snapshot has by an id of no person is an account."""
     others = {who.user for who in probes} | left_out
-    accounts = {name for name, uid in ids.items() if uid and not is_person(uid)}
+    accounts = {name for name, uid in ids.items() if is_of_system(uid)}
     users = old + [user for user in new if user not in set(old)]
     return [Who("account" if read_name(user) in accounts else "user", user, user)
             for user in users if user not in others] + probes
@@ -71,7 +62,7 @@ def data_of(program: str, snapshot: Snapshot, tree: PageTree, listings: List[Tup
     changes = b"".join(unit.lines[0] + b"\n" for unit in units if unit.is_of(*CHANGES_OF_PEOPLE))
     probes = Probes(snapshot, [body for its in bodies for body in its], changes)
     states = [
-        PageState(listing, ask_labels(program, PeopleTexts(snapshot.passwd, snapshot.group, lines + probes.lines), its))
+        PageState(listing, ask_labels(program, PeopleTexts(probes.passwd, probes.group, lines + probes.lines), its))
         for (listing, _), its, lines in zip(listings, bodies, (b"", changes))
     ]
     ids = ids_in(snapshot.passwd)

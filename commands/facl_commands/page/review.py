@@ -13,12 +13,13 @@ from functools import lru_cache
 from typing import Counter as Counts
 from typing import Dict, Iterator, List, NamedTuple, Optional, Set, Tuple
 
+from ..base.accounts import PEOPLE
 from ..base.messages import Command
-from ..base.names import directories_above, parent_of, script_word, shell_word, shown, shown_path, write_name
+from ..base.names import directories_above, parent_of, path_word, shell_word, shown, write_name
 from ..base.numbered import Numbered
 from ..base.trusted import read_trusted
 from ..model import choice, meta, overview, sources
-from ..model.entries import GROUP, MASK, OTHER, USER, Entry, NamesOfIds, read_record
+from ..model.entries import GROUP, MASK, NOTHING, OTHER, USER, Entry, NamesOfIds, entries_of, read_record
 from ..model.label_answers import LabelAnswers, PeopleTexts, ask_labels
 from ..model.snapshot import check_texts
 from ..model.sources import Source
@@ -30,7 +31,6 @@ from .tree import Labels, ListedRecord, PageTree, records_of
 READ, WRITE, SEARCH = 4, 2, 1  # Requests, which are bits of a byte of `index`.
 STYLE, SCRIPT = "review.css", "review.js"
 MOST, OTHERS = b"at most (mask)", b"everybody else"
-NOTHING = b"---"  # Of permissions, and of flags.
 
 
 class Reviewed(NamedTuple):
@@ -63,8 +63,8 @@ def read_reviewed(session: Session, word: bytes) -> Reviewed:
     path = choice.folder_of(session, word)
     above = [it for it in directories_above(path)[::-1] if choice.is_recorded(session, it)]
     records = [record for it in above for record in records_of(
-        session.ask_accepted(LIST_CUT + b" " + script_word(shown_path(it))))]
-    found = list(records_of(session.ask_accepted(LIST_EFFECTIVE + b" " + script_word(shown_path(path)))))
+        session.ask_accepted(LIST_CUT + b" " + path_word(it)))]
+    found = list(records_of(session.ask_accepted(LIST_EFFECTIVE + b" " + path_word(path))))
     directories = {parent_of(record.path) for record in found[1:]}
     return Reviewed(path, [it._replace(is_directory=it.is_directory or it.path in directories) for it in found], records)
 
@@ -162,7 +162,7 @@ def who_of(entry: Entry, names: Tuple[bytes, bytes], ids: NamesOfIds, is_default
 @lru_cache(maxsize=None)
 def granting(reasons: bytes) -> Tuple[bytes, ...]:
     """The entries that grant something, of those by which a user is judged; without what the mask leaves."""
-    return tuple(line.split(b"  ")[0] for line in reasons.splitlines() if not line.endswith(NOTHING))
+    return tuple(it.text() for it in entries_of(reasons) if it.effective != NOTHING)
 
 
 class Lists:
@@ -257,7 +257,7 @@ def add_options(parser: argparse.ArgumentParser) -> None:
     parser.add_argument("--folder", metavar="FOLDER",
                         help="with --for-review: as on the live system, or from the root of the snapshot")
     parser.add_argument("--all-users", action="store_true",
-                        help=f"with --for-review: all users, and not people alone ({choice.PEOPLE})")
+                        help=f"with --for-review: all users, and not people alone ({PEOPLE})")
 
 
 def check_options(parser: argparse.ArgumentParser, given: argparse.Namespace) -> None:

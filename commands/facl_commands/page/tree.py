@@ -7,9 +7,9 @@ from __future__ import annotations
 
 from typing import Dict, Iterable, Iterator, List, NamedTuple, Set, Tuple
 
-from ..base.names import read_name, sorting_key
+from ..base.names import is_below, read_name, sorting_key
 from ..base.numbered import Numbered
-from ..program.protocol import DEFAULT_ENTRY, FILE_HEAD
+from ..model.records import is_of_directory, split_record
 from ..program.session import OutputSlice
 
 ABOVE = -1  # What no recorded directory is above.
@@ -27,15 +27,10 @@ class ListedRecord(NamedTuple):
 
 def records_of(listing: OutputSlice) -> Iterator[ListedRecord]:
     """The records of a listing of the program, one after another."""
-    start = len(FILE_HEAD)
-    has_default: Dict[bytes, bool] = {}  # Most records have one of few bodies.
     for record in listing.records():
-        first, _, body = record.partition(b"\n")
-        name = first[start:]
+        name, body = split_record(record)
         path = b"" if name == b"." else (read_name(name) if b"\\" in name else name).rstrip(b"/")
-        if body not in has_default:
-            has_default[body] = DEFAULT_ENTRY in body
-        yield ListedRecord(path, path == b"" or name[-1:] == b"/" or has_default[body], body)
+        yield ListedRecord(path, is_of_directory(name, body), body)
 
 
 class Labels(Numbered[bytes]):
@@ -136,7 +131,7 @@ class Above:
             self.last = path
             self.numbers.pop()
             return self.numbers[-1], path[cut:]
-        while self.ends and not is_below(path, self.last, self.ends[-1]):
+        while self.ends and not is_below(path, self.last[: self.ends[-1]]):
             self.ends.pop()
             self.numbers.pop()
         length = self.ends[-1] if self.ends else 0
@@ -149,8 +144,3 @@ class Above:
     def add(self, number: int) -> None:
         """Gives the last file its number."""
         self.numbers.append(number)
-
-
-def is_below(path: bytes, last: bytes, length: int) -> bool:
-    """Whether a path is below the start of another one that has this length."""
-    return length == 0 or path[length : length + 1] == b"/" and path.startswith(last[:length])

@@ -8,22 +8,16 @@ from typing import Dict, Iterable, List, NamedTuple, Optional, Tuple, Union
 
 from ..base.messages import counted
 from ..base.names import SAFE, live_name, live_path, number_of, read_name, shell_word, shown, sorting_key, write_user
+from ..model.entries import USER, ReadRecord, head_lines, lists_of, named, read_record
 from ..model.people import People
-from ..model.records import (
-    HEAD_OF_RECORD, MASK, OWNER, OWNING_GROUP, File, Files, asks_as_directory, read_listing, write_records,
-)
-from ..program.protocol import (
-    FLAGS_HEAD, GROUP_HEAD, LIST_ALL, LIST_NUMBERS, NAMED_USER_LINE, NO_GROUP, NO_USER, OWNER_HEAD, PROGRAM, RESTORE,
-    SET_FLAGS_LINE, TOO_MANY_FILES, USAGE, message_of,
-)
-from ..program.scripts import LINE_LIMIT, WORD, Unit, takes_text
+from ..model.records import File, Files, asks_as_directory, read_listing, write_records
+from ..program.protocol import LIST_ALL, LIST_NUMBERS, NO_GROUP, NO_USER, PROGRAM, RESTORE, TOO_MANY_FILES, USAGE, message_of
+from ..program.scripts import WORD, Unit, takes_text
 from ..program.session import Session, parts_of
 from ..program.tools import ALL, OPTIONS
 
 TEXT_LIMIT = 60 << 20  # A run of the program takes 64 MiB, of which others have a part.
 NO_ID = 0xFFFFFFFF  # chown(2) takes it for "stays".
-SET_FLAGS = re.compile(SET_FLAGS_LINE)
-NAMED_USER = re.compile(NAMED_USER_LINE, re.MULTILINE)
 
 
 class Refused(Exception):
@@ -133,7 +127,7 @@ def ask_files(session: Session, line: ChownLine) -> Files:
     found: Files = {}
     begin = LIST_ALL if line.is_recursive else LIST_NUMBERS
     place = 0
-    for words in parts_of(line.files, LINE_LIMIT - len(begin)):
+    for words in parts_of(line.files):
         answer = session.ask(b" ".join([begin, *words]) + b"\n")
         if answer.messages:
             raise Refused(fault_of(answer.messages[0], place))
@@ -157,7 +151,7 @@ def changed_files(session: Session, line: ChownLine, files: Files, ids: NewIds) 
     known: Dict[Tuple[bytes, bool], File] = {}
     found: Files = {}
     for path, file in files.items():
-        is_unknown = not file.is_directory and not line.is_recursive and SET_FLAGS.search(file.body) is not None
+        is_unknown = not file.is_directory and not line.is_recursive and b"s" in read_record(file.body).flags
         keeps_flags = file.is_directory or is_unknown and asks_as_directory(session, path)
         new = known.get((file.body, keeps_flags))
         if new is None:
@@ -168,21 +162,16 @@ def changed_files(session: Session, line: ChownLine, files: Files, ids: NewIds) 
 
 
 def new_body(body: bytes, keeps_flags: bool, ids: NewIds) -> bytes:
-    head = HEAD_OF_RECORD.match(body)
-    assert head is not None
-    old, flags = (int(head[1]), int(head[2])), b"".join(head.groups(b"-")[2:])
-    uid, gid = (now if new is None else new for now, new in zip(old, ids))
-    flags = flags if keeps_flags else cleared(flags, body)
-    owner = OWNER_HEAD + b"%d\n" % uid + GROUP_HEAD + b"%d\n" % gid
-    return owner + (b"" if flags == b"---" else FLAGS_HEAD + flags + b"\n") + body[head.end() :]
+    record = read_record(body)
+    owner, group = (now if new is None else b"%d" % new for now, new in zip(record[:2], ids))
+    return head_lines(owner, group, record.flags if keeps_flags else cleared(record)) + lists_of(body)
 
 
-def cleared(flags: bytes, body: bytes) -> bytes:
+def cleared(record: ReadRecord) -> bytes:
     """The flags of a plain file after chown(2): set-group-ID stays where the group class may not execute, as it marks
     mandatory locking then."""
-    group_class = MASK.search(body) or OWNING_GROUP.search(body)
-    assert group_class is not None
-    return b"-" + (b"-" if group_class[1].endswith(b"x") else flags[1:2]) + flags[2:]
+    flags = record.flags
+    return b"-" + (b"-" if record.group_class().endswith(b"x") else flags[1:2]) + flags[2:]
 
 
 # --- what a user who is removed leaves
@@ -192,9 +181,9 @@ def files_of(uid: int, gid: int, files: Iterable[File]) -> Tuple[int, int]:
     """Counts the files that belong to the owner `uid`, and to the group `gid`."""
     owned = grouped = 0
     for body, count in Counter(file.body for file in files).items():
-        head = HEAD_OF_RECORD.match(body)
-        owned += count * (head is not None and int(head[1]) == uid)
-        grouped += count * (head is not None and int(head[2]) == gid)
+        record = read_record(body)
+        owned += count * (int(record.owner) == uid)
+        grouped += count * (int(record.group) == gid)
     return owned, grouped
 
 
@@ -213,10 +202,10 @@ def left_behind(before: People, after: People, files: Files) -> List[Left]:
     gone = {user.uid: Left(user.name, user.uid, [], []) for user in reversed(before.users) if user.uid not in present}
     if gone:
         for path in sorted(files, key=sorting_key):
-            owner = OWNER.match(files[path].body)
-            if owner is not None and int(owner[1]) in gone:
-                gone[int(owner[1])].owned.append(path)
-            for uid in {int(word) for word in NAMED_USER.findall(files[path].body)} & set(gone):
+            record = read_record(files[path].body)
+            if int(record.owner) in gone:
+                gone[int(record.owner)].owned.append(path)
+            for uid in {int(key[1]) for key in named((*record.access, *record.default)) if key[0] == USER} & set(gone):
                 gone[uid].named.append(path)
     return [left for left in gone.values() if left.owned or left.named][::-1]
 

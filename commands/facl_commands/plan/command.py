@@ -10,15 +10,18 @@ from typing import Dict, List, Set
 from ..base.messages import Command, Failure, counted, parser_of
 from ..base.names import live_path, number_of, write_user
 from ..model import label_answers, meta, overview, people, rights, sources
-from ..model.records import ChangedPaths, Listing, compare, has_open_empty_mask, write_records
+from ..model.entries import read_record
+from ..model.gains import ask_gains
+from ..model.records import ChangedPaths, Listing, compare, write_records
 from ..model.snapshot import Snapshot, read_snapshot
+from ..model.superuser import superusers_among
 from ..planned import plan_folder
 from ..program.scripts import Script, Unit, read_text
 from ..program.session import Session, find_program
 from . import chown, no_gain
 from .records_file import work_text
 from .replay import Replay, list_below
-from .report import answers_text, json_report, text_report
+from .report import answers_text, json_report, kinds_of, text_report
 from .report import Outcome as Outcome
 
 SOMETHING, REFUSED, NOTHING = 0, 1, 3
@@ -67,8 +70,9 @@ def parse(words: List[str]) -> argparse.Namespace:
     return parser.parse_args(words)
 
 
-def users_of_id_0(*sides: people.People) -> Set[bytes]:
-    return {write_user(user.name) for side in sides for user in side.users if user.uid == 0}
+def superusers_of(*sides: people.People) -> Set[bytes]:
+    """As the program prints their names."""
+    return set(map(write_user, superusers_among((user.name, user.uid) for side in sides for user in side.users)))
 
 
 def find_no_gain(session: Session, program: str, snapshot: Snapshot, old: Listing, new: Listing,
@@ -94,10 +98,10 @@ def answer_scripts(given: argparse.Namespace, snapshot: Snapshot, units: List[Un
         people_before = people.People(snapshot.passwd, snapshot.group)
         run.answer_all(units)
         new = list_below(session, tops)
-        left_out = set() if given.with_root else users_of_id_0(people_before, run.people)
+        left_out = set() if given.with_root else superusers_of(people_before, run.people)
         names = [write_user(user.name) for side in (people_before, run.people) for user in side.users]
         users = list(dict.fromkeys(names))
-        kinds = rights.ask_kinds(session, along_paths, users, left_out)
+        kinds = kinds_of(ask_gains(session, not along_paths), users, left_out)
         if before is not None:
             changes = rights.changes(before, rights.ask_rights(session, new), along_paths, left_out)
         closed = find_no_gain(session, program, snapshot, old, new, people_before, run, left_out,
@@ -118,7 +122,7 @@ def say_messages(command: Command, outcome: Outcome, scripts: List[Script]) -> N
 
 
 def warn_of_empty_masks(command: Command, changes: ChangedPaths, outcome: Outcome) -> None:
-    found = [outcome.name_of(path) for path in changes.changed if has_open_empty_mask(outcome.new[path])]
+    found = [outcome.name_of(path) for path in changes.changed if read_record(outcome.new[path].body).has_open_empty_mask()]
     if found:
         command.say(overview.warning_of(overview.EMPTY_MASKS, found))
 

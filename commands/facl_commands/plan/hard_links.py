@@ -9,14 +9,14 @@ from __future__ import annotations
 import re
 from bisect import bisect_left
 from itertools import takewhile
-from typing import Dict, Iterator, List, Optional, Set
+from typing import Dict, List, Optional, Set
 
-from ..base.names import read_path, script_word, shown_path, sorting_key
+from ..base.names import path_word, read_path, sorting_key
+from ..model.entries import lists_of, read_record
 from ..model.records import File, Files, list_all, read_listing, write_record
-from ..program import session as program
-from ..program.protocol import LIST_NUMBERS, OWNER_ENTRY, RESTORE, SET_LIST
-from ..program.scripts import LINE_LIMIT, Unit
-from ..program.session import Session
+from ..program.protocol import LIST_NUMBERS, RESTORE, SET_LIST
+from ..program.scripts import Unit
+from ..program.session import Session, parts_of
 from ..program.tools import CHANGES_OF_PEOPLE, DEEP, VALUES, WITH_FILES, letters_of, options_that
 
 DEEP_NAMES = {name for tool in WITH_FILES for name in options_that(tool, DEEP)}
@@ -26,7 +26,7 @@ RECURSIVE = re.compile(rb"(?:%s)\Z|-[^-%s]*[%s]" % (
     letters_of({name for tool in WITH_FILES for name in VALUES[tool]}), letters_of(DEEP_NAMES)))
 RECORD = re.compile(rb"\s*#\s*file: ?(.*)", re.DOTALL)  # The first line of a record of a restore.
 FEW_NAMES = 8  # So many are asked for one by one where a line of them is refused.
-LONGEST_LIST = 4_000  # Bytes of a list in a line.
+LONGEST_LIST = 4_000  # Bytes of a list in a line, before its names.
 ROOM_FOR_NAMES = 1 << 24  # Bytes of questions by names in a session; after them a directory is listed, by a short line.
 
 
@@ -91,8 +91,8 @@ class Links:
 
     def set_list(self, session: Session, entries: bytes, names: List[bytes]) -> None:
         head = SET_LIST % entries
-        for part in parts_of(names, len(head)):
-            session.ask_accepted(b" ".join([head, *map(word_of, part)]))
+        for part in parts_of(names, word_of=path_word):
+            session.ask_accepted(b" ".join([head, *map(path_word, part)]))
 
     def follow(self, session: Session, unit: Unit) -> Optional[List[bytes]]:
         """After an edit: each name of a file has what one of them got. Where two names of a file got different lists,
@@ -127,7 +127,7 @@ class Links:
     def ask(self, session: Session, paths: List[bytes]) -> Dict[bytes, bytes]:
         """The lines of the records of these names, without those that are not there any more."""
         found: Dict[bytes, bytes] = {}
-        for part in parts_of(paths):
+        for part in parts_of(paths, word_of=path_word):
             line = question(part)
             self.asked += len(line)
             answer = None if self.asked > ROOM_FOR_NAMES else session.ask(line)
@@ -154,22 +154,13 @@ def directory_above(paths: List[bytes]) -> bytes:
     return b"/".join(first for first, _ in takewhile(lambda pair: pair[0] == pair[1], pairs))
 
 
-def word_of(path: bytes) -> bytes:
-    return script_word(shown_path(path))
-
-
 def question(paths: List[bytes]) -> bytes:
-    return b" ".join([LIST_NUMBERS, *map(word_of, paths)]) + b"\n"
+    return b" ".join([LIST_NUMBERS, *map(path_word, paths)]) + b"\n"
 
 
 def list_to_set(old: bytes, new: bytes) -> bytes:
     """The list, as a word, that makes one record of another: of a file with the same owner, group and flags. Nothing
     where these are others, or the list is long."""
-    old_head, head = old.partition(OWNER_ENTRY)[0], new.partition(OWNER_ENTRY)[0]
-    entries = new[len(head) + 1 :].rstrip(b"\n").replace(b"\n", b",")
-    return entries if old_head == head and len(entries) < LONGEST_LIST else b""
-
-
-def parts_of(paths: List[bytes], head: int = len(LIST_NUMBERS)) -> Iterator[List[bytes]]:
-    """The names in their order, as many in each part as a line has room for, after a head of so many bytes."""
-    return program.parts_of(paths, LINE_LIMIT - head, word_of)
+    is_of_same = read_record(old)[:3] == read_record(new)[:3]
+    entries = lists_of(new).rstrip(b"\n").replace(b"\n", b",")
+    return entries if is_of_same and len(entries) < LONGEST_LIST else b""

@@ -1,22 +1,21 @@
 """Users who are named by edits and gain nothing by them along paths, since a directory above is closed to them."""
 from __future__ import annotations
 
-import re
 from collections import Counter
 from typing import Dict, FrozenSet, Iterator, List, NamedTuple, Optional, Set, Tuple
 
 from ..base.messages import counted
-from ..base.names import live_name, script_word, sorting_key, write_user
+from ..base.names import file_word, path_word, plain_word, sorting_key, write_user
+from ..model.entries import GROUP, USER, Entries, Entry, read_record
+from ..model.entries import named as named_in
 from ..model.people import Group, People, User, groups_by_user
-from ..model.records import OWNER, Files
+from ..model.records import Files
 from ..model.rights import NOTHING, SEARCH, FileAnswers, directories_to_find, directory_of, lanes, places_in
-from ..program.protocol import EFFECTIVE
-from ..program.session import Session
-from .opening import NAMED, ask_entries, opening, operand, word
+from ..program.session import LINE_ROOM, Session
+from .opening import ask_entries, opening
 
 ONE_OR_NONE = bytes([0]) + bytes([1]) * 255
 MOST_DIRECTORIES = 8  # So many at most are opened by one line.
-ROOM_FOR_NAMES = 60_000  # Bytes of their words in a line.
 
 Pair = Tuple[bytes, bytes]  # The record of a file before, or nothing, and after.
 
@@ -35,7 +34,7 @@ class NoGain(NamedTuple):
     user: bytes
     files: int
     directory: bytes  # By the name that the program prints: the highest that is closed.
-    entries: List[bytes]  # Of that directory: those that decide on the user.
+    entries: Entries  # Of that directory: those that decide on the user.
     edit: bytes  # The line that opens it.
     opened: int  # Directories that the line opens.
     closed: int  # Directories below that stay closed then.
@@ -53,8 +52,8 @@ def below(number: int) -> bytes:
     return counted(number, "directory below it", "directories below it")
 
 
-def shown_entry(entry: bytes) -> bytes:
-    return re.sub(rb"\t+" + EFFECTIVE, b", effective ", entry)
+def shown_entry(entry: Entry) -> bytes:
+    return entry.text(b", effective %s")
 
 
 class Named(NamedTuple):
@@ -91,16 +90,16 @@ class Closed:
 def named_ids(old: bytes, new: bytes) -> Tuple[FrozenSet[int], FrozenSet[int]]:
     """The ids of users and groups that a record names otherwise than before: by an entry, as the owner or the owning
     group."""
-    entries = set(NAMED.findall(new)) - set(NAMED.findall(old))
-    before, after = OWNER.match(old), OWNER.match(new)
-    assert after is not None
-    ids: Dict[bytes, Set[int]] = {b"user": set(), b"group": set()}
-    for kind, number, _ in entries:
-        ids[kind].add(int(number))
-    for kind, place in ((b"user", 1), (b"group", 2)):
+    before, after = read_record(old) if old else None, read_record(new)
+    known = {} if before is None else named_in(before.access)
+    ids: Dict[bytes, Set[int]] = {USER: set(), GROUP: set()}
+    for key, entry in named_in(after.access).items():
+        if key not in known or known[key].permissions != entry.permissions:
+            ids[key[0]].add(int(key[1]))
+    for kind, place in ((USER, 0), (GROUP, 1)):
         if before is None or before[place] != after[place]:
-            ids[kind].add(int(after[place]))
-    return frozenset(ids[b"user"]), frozenset(ids[b"group"])
+            ids[kind].add(int(after[:2][place]))
+    return frozenset(ids[USER]), frozenset(ids[GROUP])
 
 
 class GainTally:
@@ -239,10 +238,10 @@ class Finder:
 
 def shown_directories(new: Side, paths: List[bytes]) -> List[bytes]:
     """The directories that one line can open: all of them, or the first, or none whose name a line has no room for."""
-    sizes = [len(script_word(new.answers.names[path])) for path in paths[: MOST_DIRECTORIES + 1]]
-    if len(paths) <= MOST_DIRECTORIES and sum(sizes) < ROOM_FOR_NAMES:
+    sizes = [len(path_word(path)) for path in paths[: MOST_DIRECTORIES + 1]]
+    if len(paths) <= MOST_DIRECTORIES and sum(sizes) < LINE_ROOM:
         return paths
-    return paths[:1] if sizes[0] < ROOM_FOR_NAMES else []
+    return paths[:1] if sizes[0] < LINE_ROOM else []
 
 
 class Behind(NamedTuple):
@@ -256,13 +255,12 @@ class Behind(NamedTuple):
     shown: List[bytes]
 
 
-def no_gain(new: Side, group: Optional[Group], it: Behind, entries: List[List[bytes]], is_whole: bool) -> NoGain:
+def no_gain(new: Side, group: Optional[Group], it: Behind, entries: List[Entries], is_whole: bool) -> NoGain:
     names = [new.answers.names[path] for path in it.shown]
     edits = [opening(found, new.files[path].body, it.row, group) for path, found in zip(it.shown, entries)]
     if len(set(edits)) > 1:
         names = names[:1]
-    paths = map(live_name, it.shown) if is_whole else names
-    edit = b"setfacl -n -m " + word(edits[0]) + b"".join(b" " + operand(path) for path, _ in zip(paths, names))
+    edit = b" ".join([b"setfacl -n -m " + plain_word(edits[0]), *(file_word(path, is_whole) for path, _ in zip(it.shown, names))])
     return NoGain(it.user, it.files, names[0], entries[0], edit, len(names), len(it.closed) - len(names))
 
 
@@ -287,6 +285,6 @@ def find(session: Session, old: Side, new: Side, left_out: Set[bytes], is_whole:
                              shown_directories(new, paths)))
     behind = [it for it in behind if it.shown]
     groups = {group.gid: group for group in reversed(new.people.groups)}
-    answers = ask_entries(session, [(it.row, [new.answers.names[path] for path in it.shown]) for it in behind])
+    answers = ask_entries(session, [(it.row, it.shown) for it in behind])
     return [no_gain(new, None if it.gid is None else groups.get(it.gid), it, entries, is_whole) for it,
             entries in zip(behind, answers)]

@@ -7,7 +7,8 @@ from typing import Dict, Iterable, List, Tuple
 
 from ..base.acl_bytes import Record
 from ..base.messages import Failure
-from ..model.records import HEAD_OF_RECORD, ChangedPaths, Files
+from ..model.entries import flag_digit, read_record
+from ..model.records import ChangedPaths, Files
 from ..model.snapshot import Snapshot
 from ..planned import differences
 from ..planned.plan_files import NOWHERE, are_valid
@@ -37,21 +38,16 @@ def ask_records(program: str, bodies: Iterable[bytes]) -> Dict[bytes, Record]:
 
 def record_of(body: bytes, access: bytes, default: bytes) -> Record:
     """The record that the body of a listing is, with the bytes of its lists; these have to be valid, and of its entries."""
-    head = HEAD_OF_RECORD.match(body)
-    if head is None:
-        raise Failure(OTHER_BYTES)
-    flags = sum(bit for bit, letter in zip((0o4000, 0o2000, 0o1000), head.groups()[2:]) if letter not in (None, b"-"))
-    record = Record(int(head[1]), int(head[2]), flags, bytes.fromhex(access.decode()), bytes.fromhex(default.decode()))
-    if not are_valid(record) or entries_in(body) != [
-        *differences.entry_lines(record.access), *differences.entry_lines(record.default, b"default:")
-    ]:
+    try:
+        read = read_record(body)
+        owner, group = int(read.owner), int(read.group)
+    except ValueError as error:
+        raise Failure(OTHER_BYTES) from error
+    record = Record(owner, group, flag_digit(read.flags) << 9, bytes.fromhex(access.decode()), bytes.fromhex(default.decode()))
+    lists = ((read.access, record.access), (read.default, record.default))
+    if not are_valid(record) or any([it.text() for it in entries] != differences.entry_lines(data) for entries, data in lists):
         raise Failure(OTHER_BYTES)
     return record
-
-
-def entries_in(body: bytes) -> List[bytes]:
-    """The entries of a record, without what the mask leaves of them."""
-    return [line.partition(b"\t")[0] for line in body.split(b"\n") if line and not line.startswith(b"#")]
 
 
 def work_text(program: str, snapshot: Snapshot, changes: ChangedPaths, old: Files, new: Files) -> bytes:

@@ -6,11 +6,12 @@ import itertools
 import json
 import os
 from functools import lru_cache
-from typing import Dict, Iterable, Iterator, List, NamedTuple, Optional
+from typing import Dict, Iterable, Iterator, List, NamedTuple, Optional, Set
 
 from ..base.messages import counted
-from ..base.names import json_text, live_name, shell_word, shown, shown_path
+from ..base.names import file_name, json_text, shell_word, shown
 from ..model import meta, people, rights
+from ..model.gains import Gain
 from ..model.records import ChangedPaths, Files
 from ..program.answering import below_heading
 from . import chown, no_gain
@@ -20,12 +21,20 @@ AT_ONCE = 100_000  # Parts of JSON that are written at once.
 PLAIN = bytes(range(0x20, 0x7F)) + b"\t\n"  # What is shown as it is, and what is between lines.
 
 
+class Kinds(NamedTuple):
+    """The kinds of change, by users in their order; and those users of whom there would be more, but that they are left
+    out."""
+
+    kinds: List[Gain]
+    left_out: Set[bytes]
+
+
 class Outcome(NamedTuple):
     """What the program made of the scripts."""
 
     old: Files
     new: Files
-    kinds: rights.Kinds
+    kinds: Kinds
     rights: rights.RightsChanges  # Of each file, where these are asked for.
     no_gain: List[no_gain.NoGain]
     users: List[bytes]
@@ -38,7 +47,7 @@ class Outcome(NamedTuple):
 
     def name_of(self, path: bytes) -> bytes:
         """The name of a file in JSON: a backslash is an escape too, so two files have two names."""
-        return live_name(path) if self.is_whole else shown_path(path)
+        return file_name(path, self.is_whole)
 
     def name_of_shown(self, path: bytes) -> bytes:
         """The same of a path as the program prints it."""
@@ -46,6 +55,13 @@ class Outcome(NamedTuple):
 
     def refusals(self) -> List[Message]:
         return [message for message in self.messages if not message.is_warning]
+
+
+def kinds_of(gains: List[Gain], users: List[bytes], left_out: Set[bytes]) -> Kinds:
+    place = {user: number for number, user in enumerate(users)}
+    kept = sorted((it for it in gains if it.user not in left_out),
+                  key=lambda it: (place.get(it.user, len(place)), it.old, it.new))
+    return Kinds(kept, {it.user for it in gains} & left_out)
 
 
 # --- for a person
@@ -75,7 +91,7 @@ def full_lines(outcome: Outcome) -> Iterator[bytes]:
         yield shown_lines(text) if is_terminal else text
 
 
-def short_lines(outcome: Outcome, changes: List[rights.KindOfChange]) -> Iterator[bytes]:
+def short_lines(outcome: Outcome, changes: List[Gain]) -> Iterator[bytes]:
     """A line for each kind of change, and those of no gain after the user's changes."""
     rows: Dict[bytes, List[bytes]] = {user: [] for user in outcome.users}
     width = max([len(it.user) for it in changes] + [len(it.user) for it in outcome.no_gain], default=0)

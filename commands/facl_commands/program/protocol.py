@@ -98,15 +98,10 @@ FREE_FILE_LINE = rb"[ \t]*#[ \t]*file:[ ]?(.*)"
 DEFAULT_ENTRY = b"\ndefault:"  # In the record of a directory.
 OWNER_ENTRY, EMPTY_MASK = b"\nuser::", b"\nmask::---\n"
 # Patterns of lines of records; with re.MULTILINE.
-MASK_LINE, OWNING_GROUP_LINE, EMPTY_MASK_LINE = rb"^mask::(...)$", rb"^group::(...)$", rb"^mask::---$"
+EMPTY_MASK_LINE = rb"^mask::---$"
 OPEN_OTHERS_LINE = rb"^other::(?!---)"
-NAMED_USER_LINE, NAMED_LINE = rb"^(?:default:)?user:([0-9]+):", rb"^(user|group):([0-9]+):(...)$"
 USER_ID_LINE = rb"^(?:# owner: |(?:default:)?user:)([0-9]+)(?:$|:)"
 GROUP_ID_LINE = rb"^(?:# group: |(?:default:)?group:)([0-9]+)(?:$|:)"
-ACCESS_GROUP_LINE = rb"^(?:# group: |group:)([0-9]+)"
-SET_FLAGS_LINE = rb"\n# flags: (?:s|-s)"
-OWNER_LINES = rb"# owner: ([0-9]+)\n# group: ([0-9]+)\n"
-FLAGS_LINE = rb"# flags: ([s-])([s-])([t-])\n"
 ATTRIBUTE_LINES = (rb"system\.posix_acl_access=0x((?:[0-9a-f]{2})+)\n"
                    rb"(?:system\.posix_acl_default=0x((?:[0-9a-f]{2})+)\n)?\n")  # By `attr`.
 EFFECTIVE = b"#effective:"  # After an entry that the mask cuts.
@@ -123,6 +118,7 @@ SET_LIST = b"setfacl -n --set=%s --"
 SET_DEFAULT = b"setfacl --test -m d:u::rwx --"  # Whether a file is taken for a directory.
 ENTRIES_OF, INDEX, ATTRIBUTES_OF = b"why --", b"index", b"attr %d"
 GAINS, GAINS_ALONG_PATHS = b"gains", b"gains --reach"
+NOT_THERE = b"--"  # Of a user or a file, in a line of their answer.
 BELOW, MAY, CAN, WHO = b"below", b"may", b"can", b"who"
 MAKE_FILE = b"creat --user=%s --mode=%s --umask=%s --"
 MAKE_DIRECTORY = b"creat -d --user=%s --mode=%s --umask=%s --"

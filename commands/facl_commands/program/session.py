@@ -16,6 +16,8 @@ from .exchange import end_program, exchange, how_it_ended, pipes_of
 from .protocol import DUMP_NOT_READ, IN_LINE, PROBE, PROBE_REFUSED, SETUP, UNKNOWN_TOOL, has_text
 
 OLDER = b": it is older than this command, so install both anew"
+LINE_ROOM = 60_000  # Bytes of words in a line that a command asks; a line may have 65,536, with those before them.
+LINES_ROOM = 1 << 20  # Bytes of lines that are asked at once.
 FILE_LIMIT = 268_435_456  # Bytes of a text that the program loads.
 LONGEST_CAUSE = 1_000  # Bytes of the last message that are quoted.
 NUMBER = re.compile(rb"\Aline [0-9]+: ")  # The beginning of a message.
@@ -152,7 +154,7 @@ def session_over(program: str, passwd: bytes, group: bytes, dump: bytes) -> Iter
             yield session
 
 
-def parts_of(items: Iterable[bytes], room: int, word_of: Callable[[bytes], bytes] = bytes) -> Iterator[List[bytes]]:
+def parts_of(items: Iterable[bytes], room: int = LINE_ROOM, word_of: Callable[[bytes], bytes] = bytes) -> Iterator[List[bytes]]:
     """Items in their order, as many in each part as a line has room for, with a blank for the word of each; one that is
     too long is alone."""
     part: List[bytes] = []

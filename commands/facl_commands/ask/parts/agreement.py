@@ -11,7 +11,7 @@ from hashlib import blake2b
 from typing import Dict, Iterable, Iterator, List, NamedTuple, Optional, Tuple
 
 from ...base.names import path_order, read_path, write_name
-from ...program.protocol import FILE_HEAD
+from ...model.records import records_in, split_record
 from ...program.session import OutputSlice
 
 SIZE = 16  # Letters of a checksum.
@@ -30,12 +30,12 @@ def blocks_of(listings: Iterable[OutputSlice]) -> Iterator[bytes]:
     """The line of each directory, with names as the program prints them."""
     inside: Dict[bytes, List[bytes]] = {}
     known: Dict[bytes, bytes] = {}
-    for record in (record for listing in listings for record in listing.records()):
-        first, _, body = record.partition(b"\n")
+    for record in records_in(listings):
+        file, body = split_record(record)
         checksum = known.get(body)
         if checksum is None:
             checksum = known[body] = blake2b(body, digest_size=SIZE // 2).hexdigest().encode()
-        above, _, name = first[len(FILE_HEAD) :].rstrip(b"/").rpartition(b"/")
+        above, _, name = file.rstrip(b"/").rpartition(b"/")
         inside.setdefault(above, []).append(checksum + name)
     for above, files in inside.items():
         yield above + b"\0" + b"\0".join(files) + b"\n"

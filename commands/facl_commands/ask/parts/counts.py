@@ -10,17 +10,16 @@ from __future__ import annotations
 from typing import Dict, Iterable, List, NamedTuple, Optional, Set, Tuple
 
 from ...base.messages import counted
-from ...base.names import read_name, read_path, script_word, shown_path, sorting_key, write_name
+from ...base.names import is_at_or_below, path_word, read_name, read_path, script_word, shown_path, sorting_key, write_name
 from ...model.people import ADD_USER, REMOVE_USER, People
 from ...model.records import path_of
-from ...program.protocol import NO_FILE, is_refused, lacks_file, message_of
+from ...program.protocol import NO_FILE, NOT_THERE, is_refused, lacks_file, message_of
 from ...program.scripts import Unit
 from ...program.session import Session
 from ...program.tools import ALL, COUNTING, MAKERS, REACH, WITH_FILES, split
 
 MOST_SHARED = 1_000  # Files that several snapshots may have,
 ROOM_FOR_SHARED = 60_000  # and bytes of their names, which are words of a command.
-NOT_THERE = b"--"
 SHARED_OPTION = b"--shared"
 Key = Tuple[bytes, ...]  # The fields of a line but for COUNT and PATH; the user is the last.
 Granted = Optional[Dict[bytes, int]]  # By user the requests on a file; none where the file is not there.
@@ -35,10 +34,6 @@ def along(unit: Unit) -> bool:
 
 def tops_of(unit: Unit) -> List[bytes]:
     return [read_path(word) for word in split(unit.words).operands[1:]]
-
-
-def is_below(path: bytes, tops: Iterable[bytes]) -> bool:
-    return any(top in (b"", path) or path.startswith(top + b"/") for top in tops)
 
 
 def of_some_files(unit: Unit, names: List[bytes]) -> bytes:
@@ -63,7 +58,7 @@ class SharedFiles:
             self.paths += [read_path(word) for word in split(unit.words).operands if read_path(word) not in self.paths]
 
     def who(self, path: bytes, perms: bytes, is_along: bool) -> Optional[List[bytes]]:
-        words = [b"who", *[REACH] * is_along, b"--", script_word(perms), script_word(shown_path(path))]
+        words = [b"who", *[REACH] * is_along, b"--", script_word(perms), path_word(path)]
         answer = self.session.ask(b" ".join(words) + b"\n")
         return None if answer.messages else list(answer.output.lines())
 
@@ -81,7 +76,7 @@ class SharedFiles:
         """For what a line counts a file."""
         if unit.is_of(*WITH_FILES):
             perms, tops = split(unit.words).operands[0], tops_of(unit)
-            users = self.who(path, perms, along(unit)) if is_below(path, tops) else None
+            users = self.who(path, perms, along(unit)) if is_at_or_below(path, tops) else None
             return [(user,) for user in users or []]
         before, now = self.before.get((path, along(unit))), self.granted(path, along(unit))
         users = list(dict.fromkeys([*(before or {}), *(now or {})]))
@@ -181,7 +176,7 @@ def refusal(unit: Unit, messages: List[List[bytes]], lacks: List[List[bytes]]) -
 
 def shared_options(paths: List[bytes]) -> Optional[List[bytes]]:
     """The words by which snapshots are told which files several of them have; None where these are too many."""
-    words = [SHARED_OPTION + b"=" + script_word(shown_path(path))[1:-1] for path in paths]
+    words = [SHARED_OPTION + b"=" + path_word(path)[1:-1] for path in paths]
     return words if len(words) <= MOST_SHARED and sum(map(len, words)) <= ROOM_FOR_SHARED else None
 
 

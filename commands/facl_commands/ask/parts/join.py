@@ -16,7 +16,7 @@ from ...base import scratch
 from ...base.messages import Command, Failure
 from ...base.names import path_order, read_path, sorting_key, write_name
 from ...model import overview
-from ...model.records import path_of
+from ...model.records import name_of, path_of
 from ...model.superuser import Superusers
 from ...program.answering import below_heading, lines_for_terminal, write_messages
 from ...program.protocol import ANSWERED, FILE_HEAD, PROGRAM, REFUSED, is_refused, lacking_file, lacks_file, message_of
@@ -52,8 +52,7 @@ def items_of(unit: Unit, place: int, output: OutputSlice) -> Optional[Iterator[I
     if tool in OF_RECORDS:
         start = output._replace(end=min(output.end, output.start + len(FILE_HEAD))).read()
         if start in (b"", FILE_HEAD):
-            records = ((it.partition(b"\n")[0][len(FILE_HEAD) :], it + b"\n\n") for it in output.records())
-            return ((path_key(name), place, text) for name, text in records)
+            return ((path_key(name_of(it)), place, it + b"\n\n") for it in output.records())
     elif tool in ALL and "PATH" in ALL[tool].prints:
         return ((path_key(path_in(tool, line)), place, line + b"\n") for line in output.lines())
     return None

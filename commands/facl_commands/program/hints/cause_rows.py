@@ -5,14 +5,15 @@ stored snapshot, those of chown and chgrp as facl-plan asks it.
 """
 from __future__ import annotations
 
+import re
 from typing import List
 
 from ..protocol import LINE_TOO_LONG, NOT_UTF8, OPEN_QUOTE, PROGRAM, TEXT_WITHOUT_END, UNKNOWN_TOOL, by
 from ..tools import OPTIONS
-from .cause_rows_of_words import OF_ENTRIES, OF_NAMES, OF_OWNERS, OF_TOOLS
+from .cause_rows_of_words import OF_ENTRIES, OF_NAMES, OF_TOOLS
 from .conditions import (
-    SHELLS, UNKNOWN, WORDS, Cause, always, first, has, has_open_comma, has_unquoted, is_about, is_comment,
-    number_of_operands, row,
+    SHELLS, UNKNOWN, WORDS, WRONG_WORDS, Cause, always, first, has, has_links_alone, has_open_comma, has_unquoted, is_about,
+    is_any, is_comment, number_of_operands, operands, row,
 )
 from .remedies import (
     as_user, as_written, before_pipe, escaped_bytes, found_files, members, nearest_tool, parts, quotes_for_backslash,
@@ -172,6 +173,24 @@ UNKNOWN_TOOLS: List[Cause] = [
     row("a word that takes a text", by(PROGRAM, TEXT_WITHOUT_END), always,
         "The lines after it are its text, up to a line with a dot alone, which is not there. A file of the name - is "
         "written ./-", "", "getfacl -"),
+]
+
+# --- rows of chown and chgrp in scripts of facl-plan
+
+OF_OWNERS: List[Cause] = [
+    row("chown -h", WRONG_WORDS, first("chown chgrp", has_links_alone),
+        "Symbolic links are not recorded, so the option says nothing. Leave it out.", "{tool} {-R} {operands}",
+        "chown -hR ines FILE", "chown -R ines FILE"),
+    row("chown --from", WRONG_WORDS, first("chown chgrp", lambda line: line.has(b"--from", b"--reference")),
+        "The files are those that are named, and the owner is given by name. getfacl -R prints each file with its "
+        "owner.",
+        "", "chown --from=mara ines FILE", "chown ines FILE"),
+    row("primary group of an id", WRONG_WORDS, operands(b"chown", lambda word: re.match(rb"\d+:\Z", word) is not None),
+        "After an id and a colon comes a GROUP; USER: without one takes the name of a user, and means the user's "
+        "primary group.", "", "chown 1001: FILE", "chown ines: FILE"),
+    row("no owner", WRONG_WORDS,
+        operands(b"chown", lambda word: word in (b":", b""), is_any), "A USER, a :GROUP or both say what to change.",
+        "", "chown : FILE", "chown :audit FILE"),
 ]
 
 TABLE: List[Cause] = AS_SUCH + UNKNOWN_TOOLS + OF_OWNERS + OF_TOOLS + OF_NAMES + OF_ENTRIES

@@ -12,7 +12,7 @@ from ..protocol import (
 from ..tools import OPTIONS
 from .conditions import (
     ENTRY, NO_NAME, NO_PATH, NO_SUCH_FILE, WRONG_WORDS, Cause, always, excludes, first, has, has_equals_in_entries,
-    has_left_out_option, has_letters_as_entries, has_links_alone, has_no_action, has_option, has_permissions_and_more,
+    has_left_out_option, has_letters_as_entries, has_no_action, has_option, has_permissions_and_more,
     has_too_few_words, has_too_many_files, has_words_for_permissions, is_about, is_above_all_ids, is_any, is_other,
     is_path, is_permissions, is_twice, lacks_a_word, number_of_operands, operands, row, sets_and_changes, takes_file,
 )
@@ -34,24 +34,6 @@ def has_symbolic_mode(line: RefusedLine) -> bool:
 def has_mode_last(line: RefusedLine) -> bool:
     return len(line.operands) > 1 and re.match(rb"[0-7]{1,4}\Z", line.operands[-1]) is not None
 
-
-# --- rows of chown and chgrp in scripts of facl-plan
-
-OF_OWNERS: List[Cause] = [
-    row("chown -h", WRONG_WORDS, first("chown chgrp", has_links_alone),
-        "Symbolic links are not recorded, so the option says nothing. Leave it out.", "{tool} {-R} {operands}",
-        "chown -hR ines FILE", "chown -R ines FILE"),
-    row("chown --from", WRONG_WORDS, first("chown chgrp", lambda line: line.has(b"--from", b"--reference")),
-        "The files are those that are named, and the owner is given by name. getfacl -R prints each file with its "
-        "owner.",
-        "", "chown --from=mara ines FILE", "chown ines FILE"),
-    row("primary group of an id", WRONG_WORDS, operands(b"chown", lambda word: re.match(rb"\d+:\Z", word) is not None),
-        "After an id and a colon comes a GROUP; USER: without one takes the name of a user, and means the user's "
-        "primary group.", "", "chown 1001: FILE", "chown ines: FILE"),
-    row("no owner", WRONG_WORDS,
-        operands(b"chown", lambda word: word in (b":", b""), is_any), "A USER, a :GROUP or both say what to change.",
-        "", "chown : FILE", "chown :audit FILE"),
-]
 
 # --- rows of words that a tool does not take
 

@@ -4,6 +4,7 @@ from __future__ import annotations
 import re
 from typing import Callable, NamedTuple, Union
 
+from ...base.accounts import LAST_ID
 from ...base.names import number_of
 from ..protocol import (
     ANY_TOOL, BAD_PATH, BAD_PERMISSIONS, BAD_TAG, NO_FILE, NO_GROUP, NO_PERMISSIONS, NO_USER, PROGRAM, TEXT_WITHOUT_END,
@@ -24,7 +25,6 @@ NO_PATH = by(ANY_TOOL, rb"operand \d+: " + BAD_PATH)
 UNKNOWN = by(PROGRAM, UNKNOWN_TOOL, TEXT_WITHOUT_END)
 WORDS = b"|".join((WRONG_WORDS, NO_SUCH_FILE, NO_NAME, ENTRY, NO_PATH))
 SHELLS = WORDS + b"|" + UNKNOWN
-HIGHEST_ID = 4_294_967_294
 OF_LINKS = (b"-h", b"-P", b"--no-dereference")
 Fits = Callable[[RefusedLine], bool]
 Test = Callable[[bytes], bool]
@@ -86,7 +86,7 @@ def is_about(pattern: bytes) -> Fits:
 
 def is_above_all_ids(line: RefusedLine) -> bool:
     """Whether the name that the message is of is a number above all ids."""
-    return line.about().isdigit() and number_of(line.about()) > HIGHEST_ID
+    return line.about().isdigit() and number_of(line.about()) > LAST_ID
 
 
 def operands(tool: bytes, *tests: Test) -> Fits:

@@ -8,7 +8,7 @@ import os
 from typing import List, NamedTuple, Set
 
 from ...base.messages import Failure
-from ...base.names import read_path
+from ...base.names import is_below, read_path
 from ...base.trusted import read_given
 from ...program.scripts import lines_with_numbers, words_of
 from .findings import BY_NAME, Findings
@@ -35,7 +35,7 @@ class Accepted(NamedTuple):
 
     def has(self, path: bytes) -> bool:
         top = self.path()
-        return path == top or self.is_folder() and (not top or path.startswith(top + b"/"))
+        return path == top or self.is_folder() and is_below(path, top)
 
 
 def read_line(name: bytes, number: int, line: bytes) -> Accepted:
@@ -89,6 +89,6 @@ def sort_out(findings: Findings, lines: List[Accepted]) -> Sorted:
 def why_unused(line: Accepted, findings: Findings) -> bytes:
     """What is said of a line that accepts nothing."""
     text = b"%s, line %d: %s is not found" % (line.file, line.number, line.kind.encode())
-    if not line.is_folder() and any(it.path.startswith(line.path() + b"/") for it in findings[line.kind]):
+    if not line.is_folder() and any(is_below(it.path, line.path()) for it in findings[line.kind]):
         return text + b" at the path, but below it: end the path with a slash"
     return text + b" at the path: remove the line"

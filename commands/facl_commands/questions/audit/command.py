@@ -6,11 +6,10 @@ import os
 from typing import List, Optional, Set
 
 from ...base.messages import Command, Failure, parser_of
-from ...base.names import parent_of, read_path, shell_word, shown, shown_path
+from ...base.names import at_or_below, is_at_or_below, parent_of, read_path, shell_word, shown, shown_path
 from ...base.new_file import NewFile
 from ...base.tables import add_output, paged, write_json, write_table
 from ...model import choice, overview, sources, split_tree
-from ...model.alike import at_or_below
 from ...model.entries import NamesOfIds
 from ...model.everybody import World, listing_of, world_of
 from ...model.meta import Meta, meta_of
@@ -120,7 +119,7 @@ def is_about(line: Accepted, folders: List[bytes], recorded: Set[bytes]) -> bool
     path = line.path()
     if path and path not in recorded:
         return True
-    return bool(at_or_below([path], folders) or line.is_folder() and at_or_below(folders, [path]))
+    return is_at_or_below(path, folders) or line.is_folder() and bool(at_or_below(folders, [path]))
 
 
 class AllFindings:

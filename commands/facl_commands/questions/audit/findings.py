@@ -3,12 +3,11 @@ from __future__ import annotations
 
 from typing import Dict, Iterator, List, NamedTuple
 
-from ...base.names import file_word, plain_word, write_name
+from ...base.names import file_word
 from ...program.session import parts_of
 
 HIGH, MIDDLE, LOW = "high", "middle", "low"
 WEIGHTS = (HIGH, MIDDLE, LOW)
-ROOM = 60_000  # Bytes of names in a line, which may have 65,536.
 # A comment of a script. In a shell, chmod and setfacl follow the links that somebody puts in the place of a file.
 FOR_PLAN = b"# for facl-plan, not for a shell"
 
@@ -56,11 +55,6 @@ class FoundFile(NamedTuple):
 Findings = Dict[str, List[FoundFile]]  # By the names of kinds.
 
 
-def name_word(name: bytes) -> bytes:
-    """A name of a user or a group as a word of a script."""
-    return plain_word(write_name(name))
-
-
 def edits_of(found: List[FoundFile], is_whole: bool) -> Iterator[bytes]:
     """The lines of a script that mend all of these, below one that says so: files with one edit are in one line where it has
     room."""
@@ -70,5 +64,5 @@ def edits_of(found: List[FoundFile], is_whole: bool) -> Iterator[bytes]:
     if files:
         yield FOR_PLAN
     for edit, words in files.items():
-        for part in parts_of(words, ROOM):
+        for part in parts_of(words):
             yield b" ".join([edit, *part])

@@ -7,15 +7,16 @@ from __future__ import annotations
 from functools import partial
 from typing import Callable, Dict, Iterable, Iterator, List, Optional, Tuple
 
+from ...base import accounts
 from ...base.names import parent_of, shown_path
 from ...model.entries import (
     GROUP, USER, Entry, Key, NamesOfIds, ReadRecord, cut_letters, digits, flag_digit, named, read_record,
 )
-from ...model.records import File, Files, has_open_empty_mask
+from ...model.records import File, Files
 from .findings import FoundFile
 
 SET_USER, SET_GROUP = 4, 2  # In the first digit of a mode.
-SUPERUSER = b"0"
+SUPERUSER = b"%d" % accounts.SUPERUSER
 OfFile = Optional[Tuple[bytes, bytes]]  # What is found of a file, and its edit.
 Look = Callable[[File, ReadRecord, NamesOfIds], OfFile]
 
@@ -47,9 +48,9 @@ def mask_cuts_entry(_file: File, record: ReadRecord, ids: NamesOfIds) -> OfFile:
     return text, b"setfacl -n -m " + words
 
 
-def empty_mask(file: File, record: ReadRecord, _ids: NamesOfIds) -> OfFile:
+def empty_mask(_file: File, record: ReadRecord, _ids: NamesOfIds) -> OfFile:
     """The edit takes from others what Linux gives the others in their place too."""
-    if not has_open_empty_mask(file):
+    if not record.has_open_empty_mask():
         return None
     return b"others have " + record.permissions(b"other"), b"setfacl -n -m o::---"
 

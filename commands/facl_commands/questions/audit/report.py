@@ -4,7 +4,7 @@ from __future__ import annotations
 from typing import Callable, Dict, Iterator, List, NamedTuple, Optional
 
 from ...base.messages import counted
-from ...base.names import json_text, live_name, shown, shown_path
+from ...base.names import file_name, json_text, shown, shown_path
 from ...base.tables import Column, Paint, Table, fitting_line
 from ...model.meta import Meta, fields_of, named
 from .accepted import Unused
@@ -31,7 +31,7 @@ class AuditReport(NamedTuple):
     is_split: bool  # Whether the snapshot is in parts.
 
     def name_of(self, path: bytes) -> bytes:
-        return live_name(path) if self.is_whole else shown_path(path)
+        return file_name(path, self.is_whole)
 
     def kinds(self) -> List[KindOfFinding]:
         """Those of which something is found, by weight."""

@@ -6,22 +6,21 @@ import argparse
 from typing import Dict, Iterable, Iterator, List, NamedTuple, Set, Tuple
 
 from ...base.messages import Failure
-from ...base.names import directories_above, file_word, read_name, shown_path
+from ...base.names import directories_above, path_word, read_name, shown_path
 from ...model.alike import Alike, alike_of
 from ...model.choice import is_chosen
 from ...model.entries import GROUP, OTHER, USER, Key, NamesOfIds, digits, flag_digit, named, read_record, without
 from ...model.everybody import World
-from ...model.people import People
+from ...model.people import People, users_by_group
 from ...model.records import Files
 from ...program.protocol import FILE_HEAD
-from ...program.session import parts_of, session_over
+from ...program.session import LINES_ROOM, parts_of, session_over
 from ...program.tools import path_in
 from .findings import FoundFile
 
 READ, WRITE, EXECUTE = b"r", b"w", b"x"
 IN_DIRECTORY = b"wx"  # Nothing can be made or removed in a directory without search.
 STICKY = b"t"
-PROGRAM_ROOM = 1 << 20  # Bytes of lines that are asked at once.
 
 
 class Audited(NamedTuple):
@@ -105,12 +104,9 @@ class Teams:
 
     def __init__(self, audited: Audited) -> None:
         people = People(audited.world.texts.passwd, audited.world.texts.group)
-        self.users = {user.name: user for user in people.users if is_chosen(user.uid, audited.given)}
-        self.members: Dict[bytes, Set[bytes]] = {}  # By the id of the group.
-        for group in people.groups:
-            self.members.setdefault(b"%d" % group.gid, set()).update(it for it in group.members if it in self.users)
-        for user in self.users.values():
-            self.members.setdefault(b"%d" % user.gid, set()).add(user.name)
+        self.users = {user.name for user in people.users if is_chosen(user.uid, audited.given)}
+        # By the id of the group.
+        self.members = {b"%d" % gid: names & self.users for gid, names in users_by_group(people).items()}
 
     def fellows(self, name: bytes) -> Set[bytes]:
         """The other users of all groups of a user."""
@@ -120,7 +116,7 @@ class Teams:
 def writers_of(audited: Audited, alike: Alike) -> Set[bytes]:
     """The users who may write files that are judged alike."""
     request = IN_DIRECTORY if alike.file.is_directory else WRITE
-    line = b"who %s-- %s %s" % (audited.world.reach(audited.given.file_alone), request, file_word(alike.first()))
+    line = b"who %s-- %s %s" % (audited.world.reach(audited.given.file_alone), request, path_word(alike.first()))
     return {read_name(name) for name in audited.world.session.ask_accepted(line).lines()}
 
 
@@ -201,7 +197,7 @@ def without_effect(audited: Audited, program: str, removals: List[Removal]) -> L
     lines = [b"setfacl -n -x %s %d\n" % (b",".join(map(audited.ids.word, keys)), place)
              for place, (_, keys) in enumerate(removals)]
     with session_over(program, texts.passwd, texts.group, dump) as session:
-        for part in parts_of(lines, PROGRAM_ROOM):
+        for part in parts_of(lines, LINES_ROOM):
             messages = session.ask(b"".join(part)).messages
             if messages:
                 raise Failure(b"the program refused to remove an entry: " + messages[0])

@@ -4,13 +4,12 @@ from __future__ import annotations
 import argparse
 from typing import Dict, Iterable, List, NamedTuple, Set, Tuple
 
-from ...base.names import file_word, read_name, read_path
-from ...model.alike import at_or_below
+from ...base.names import at_or_below, path_word, read_name
 from ...model.choice import is_recorded
+from ...model.entries import Entries, entries_of
 from ...model.everybody import World
-from ...model.records import Files
+from ...model.records import Files, name_of, path_of, records_in
 from ...model.sources import find_tops
-from ...program.protocol import FILE_HEAD
 from .rules import ALWAYS, ENTER, NEVER, ONLY, OTHERS, READ, WRITE, Rule
 
 REQUESTS = {READ: b"r", WRITE: b"w", ENTER: b"x"}
@@ -21,10 +20,10 @@ class Block(NamedTuple):
     """The entries of a file that decide on a user, as `why` prints them."""
 
     path: bytes
-    entries: List[bytes]
+    entries: Entries
 
     def grants(self, letter: bytes) -> bool:
-        return any(letter in entry.rpartition(b":")[2] for entry in self.entries)
+        return any(it.grants(letter) for it in self.entries)
 
 
 class Violation(NamedTuple):
@@ -77,7 +76,7 @@ class Rights:
         """A path as words of a question; the root, where it is not recorded, as the tops of the snapshot."""
         session = self.world.session
         tops = [top] if top or is_recorded(session, top) else find_tops(session, session.folder)
-        return b" ".join(map(file_word, tops))
+        return b" ".join(map(path_word, tops))
 
     def some(self, right: bytes, top: bytes) -> Set[bytes]:
         """The users who may at least ask for a right on some file at or below a path."""
@@ -99,19 +98,14 @@ class Rights:
 
     def who(self, right: bytes, path: bytes) -> List[bytes]:
         """Those of the chosen users who have a right on a file."""
-        line = b"who %s-- %s %s" % (self.reach, self.request_on(path, right), file_word(path))
+        line = b"who %s-- %s %s" % (self.reach, self.request_on(path, right), path_word(path))
         found = {read_name(name) for name in self.world.session.ask_accepted(line).lines()}
         return [name for name in self.chosen if name in found]
 
     def why(self, user: bytes, path: bytes) -> List[Block]:
         """The entries that decide on a user, of the directories above a file and of the file."""
-        line = b"why %s-- %s %s" % (self.reach, self.world.word_of(user), file_word(path))
-        found = []
-        for record in self.world.session.ask_accepted(line).records():
-            first, *entries = record.rstrip(b"\n").split(b"\n")
-            if first:
-                found.append(Block(read_path(first[len(FILE_HEAD) :]), entries))
-        return found
+        line = b"why %s-- %s %s" % (self.reach, self.world.word_of(user), path_word(path))
+        return [Block(path_of(name_of(it)), entries_of(it)) for it in records_in([self.world.session.ask_accepted(line)])]
 
 
 def deciding(blocks: List[Block], is_missing: bool) -> List[Block]:

@@ -6,6 +6,7 @@ from typing import Dict, Iterator, List, NamedTuple
 from ...base.messages import counted
 from ...base.names import json_text, shown_path, write_user
 from ...base.tables import Column, Paint, Table, fitting_line
+from ...model.entries import Entry
 from ...model.meta import Meta, fields_of, named
 from .answers import Block, RuleOutcome, Violation
 from .rules import ALWAYS
@@ -42,10 +43,8 @@ def what_is_wrong(outcome: RuleOutcome, found: Violation) -> bytes:
                                          names_of([shown_path(path) for path in found.paths], FIRST))
 
 
-def entry_text(entry: bytes) -> bytes:
-    """An entry as `why` prints it, in one line."""
-    words = entry.split(b"\t")
-    return words[0] + (b" (%s)" % words[-1].lstrip(b"#").replace(b":", b" ") if len(words) > 1 else b"")
+def entry_text(entry: Entry) -> bytes:
+    return entry.text(b" (effective %s)")
 
 
 def block_text(block: Block) -> bytes:

@@ -9,12 +9,12 @@ import re
 from typing import Callable, List, NamedTuple, Optional, Set, Tuple
 
 from ...base.messages import Failure
-from ...base.names import number_of, plain_word, read_name, read_path, shown_path, write_name
+from ...base.names import plain_word, read_name, read_path, shown_path, write_name
 from ...base.trusted import read_given
 from ...model.choice import is_recorded
 from ...model.everybody import World
-from ...model.people import Group, People, User
-from ...model.superuser import ids_in
+from ...model.people import Group, People, User, is_named, users_by_group
+from ...model.superuser import ids_in, superusers_among
 from ...program.scripts import WORD, lines_with_numbers, read_text, words_of
 
 NEVER, ONLY, ALWAYS = b"never", b"only", b"always"
@@ -86,14 +86,13 @@ class RuleReader:
         self.world, self.chosen, self.with_root = world, chosen, with_root
         self.is_in_part = is_in_part  # Of a snapshot in parts: whether one of them records a path.
         self.people = People(world.texts.passwd, world.texts.group)
+        self.members_of = users_by_group(self.people)
         self.notes: List[bytes] = []  # On groups of whom nobody is checked.
-        self.roots = {name for name, uid in ids_in(world.texts.passwd).items() if uid == 0} if not with_root else set()
+        self.roots = superusers_among(ids_in(world.texts.passwd).items()) if not with_root else set()
 
     def members(self, group: Group) -> Set[bytes]:
-        """The users of a group, by its row and as their primary group; without those of uid 0."""
-        rows = {user.name for user in self.people.users}
-        primary = {user.name for user in self.people.users if user.gid == group.gid}
-        return (primary | set(group.members) & rows) - self.roots
+        """The users of a group, without those of uid 0."""
+        return self.members_of.get(group.gid, set()) - self.roots
 
     def members_asked(self, place: int, group: Group) -> Set[bytes]:
         """The users of a group that a word of a rule names, with a note where there are none."""
@@ -103,7 +102,7 @@ class RuleReader:
         return found
 
     def has_roots(self, group: Group) -> bool:
-        return any(it.name in self.roots and (it.gid == group.gid or it.name in group.members) for it in self.people.users)
+        return not self.roots.isdisjoint(self.members_of.get(group.gid, set()))
 
     def who(self, place: int, raw: bytes) -> Tuple[Set[bytes], bool]:
         """The users that a word means, and whether it is the word for others."""
@@ -184,12 +183,7 @@ def of_word(place: int, text: bytes) -> bytes:
     return b"word %d: %s" % (place, text)
 
 
-def is_named(name: bytes, number: int, word: bytes, is_quoted: bool) -> bool:
-    """Whether a row is meant by a word; digits alone are an id, unless they are quoted."""
-    return number == number_of(word) if word.isdigit() and not is_quoted else name == word
-
-
-# --- words that mean a user, a group or a path
+# --- words of a rule that mean a user, a group or a path
 
 
 def user_word(name: bytes) -> bytes:

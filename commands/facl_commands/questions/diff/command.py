@@ -7,22 +7,23 @@ from typing import Dict, Iterable, List, NamedTuple, Optional, Set, Tuple
 
 from ...base import scratch, tables
 from ...base.messages import Command, Failure, parser_of
-from ...base.names import write_user
+from ...base.names import is_at_or_below, write_user
 from ...base.new_file import NewFile
 from ...model import choice, overview, sources
+from ...model.gains import Gain, ask_gains
 from ...model.people import rows_of as rows_of_text
-from ...model.records import path_of
+from ...model.records import name_of, path_of, records_in
 from ...program.session import OutputSlice, Session, find_program
 from . import report
 from .edits import CannotLead, Edits, group_text
-from .gains import Gain, ask_gains, rows_of
-from .labels import LabelDifferences, Shapes, is_in, records_of_folders
+from .labels import LabelDifferences, Shapes, records_of_folders
 from .moved import Moved, find_moved
 from .reasons import ask_records, reasons_of
 from .report import Compared
+from .rows import rows_of
 from .states import (
-    Pair, State, counts_of, is_same_text, listing_of_all, members_of, name_of, pairs_of, people_counts, read_state,
-    records_in, session_of, tops_of,
+    Pair, State, counts_of, is_same_text, listing_of_all, members_of, pairs_of, people_counts, read_state,
+    session_of, tops_of,
 )
 
 SAME, DIFFERS = 0, 1
@@ -123,7 +124,7 @@ class Comparison:
         chosen = chosen_users(old, new, self.given)
         place = {user: number for number, user in enumerate(chosen)}
         gains = sorted((it for it in answered.gains if it.user in place), key=lambda it: place[it.user])
-        counted = [pair for pair in answered.pairs if is_in(pair.path, self.folders or [b""])]
+        counted = [pair for pair in answered.pairs if is_at_or_below(pair.path, self.folders or [b""])]
         moved: List[Moved] = find_moved(old, new, counted)
         reasons = reasons_of(self.program, self.states, self.records_of, {it.path: it for it in answered.pairs}, gains,
                              self.is_alone, self.is_whole)

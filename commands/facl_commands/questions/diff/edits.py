@@ -7,14 +7,13 @@ from __future__ import annotations
 import re
 from typing import Iterable, Iterator, List
 
-from ...base.names import script_word, write_name, write_user
-from ...model.people import People, groups_by_user, rows_of
+from ...base.names import is_below, path_word, script_word, write_user
+from ...model.people import People, groups_by_user, rows_of, user_word
 from ...program.protocol import IN_LINE, RESTORE
 from ...program.scripts import words_of
 from ...program.session import Session, parts_of
-from .states import Members, Pair, State, is_below, members_of
+from .states import Members, Pair, State, members_of
 
-ROOM = 60_000  # Bytes of names in a line, which may have 65,536.
 SCRIPT_LIMIT = 60 << 20  # A run of the program takes 64 MiB, of which questions have a part.
 AT_ONCE = 500  # Lines that are sent at once: the messages of so many have room in a pipe.
 GROUP_ROW = b"%s:x:%d:\n"
@@ -47,19 +46,11 @@ def group_text(old: State, new: State) -> bytes:
     return text
 
 
-def user_name(name: bytes) -> bytes:
-    """The name of a user as a word has it: nothing is trimmed off, or taken for something else."""
-    return script_word(write_user(name))
-
-
-def user_word(people: People, name: bytes) -> bytes:
-    """The word that means a user; digits alone are an id, which means the first user who has it."""
-    if not name.isdigit():
-        return user_name(name)
-    user = next(it for it in people.users if it.name == name)
-    if next(it for it in people.users if it.uid == user.uid) != user:
+def word_of_user(people: People, name: bytes) -> bytes:
+    found = user_word(people.users, name)
+    if found is None:
         raise CannotLead(b"no word means the user " + name)
-    return b"%d" % user.uid
+    return found
 
 
 def row_word(people: People, gid: int, name: bytes) -> bytes:
@@ -84,14 +75,14 @@ class PeopleEdits:
 
     def make(self) -> List[bytes]:
         for name in [user.name for user in self.people.users if not self.stays(user.name, user.uid)]:
-            self.add(b"userdel -- " + user_word(self.people, name))
+            self.add(b"userdel -- " + word_of_user(self.people, name))
         known = {user.name for user in self.people.users}
         for name, member in self.wanted.items():
             if name not in known:
                 self.add(self.line_of_new(name))
         for user in list(self.people.users):
             if user.gid != self.wanted[user.name].primary:
-                self.add(b"usermod -g %d -- %s" % (self.wanted[user.name].primary, user_word(self.people, user.name)))
+                self.add(b"usermod -g %d -- %s" % (self.wanted[user.name].primary, word_of_user(self.people, user.name)))
         for name, groups in groups_by_user(self.people).items():
             self.add_memberships(name, sorted(self.wanted[name].groups - groups))
             self.remove_memberships(name, groups - self.wanted[name].groups)
@@ -106,25 +97,20 @@ class PeopleEdits:
             raise CannotLead(b"two users have the id %d" % uid)
         if name.isdigit() or b"," in name:
             raise CannotLead(b"no line adds the user " + name)
-        return b"useradd -u %d -g %d -- %s" % (uid, self.wanted[name].primary, user_name(name))
+        return b"useradd -u %d -g %d -- %s" % (uid, self.wanted[name].primary, script_word(write_user(name)))
 
     def add_memberships(self, name: bytes, groups: List[int]) -> None:
         for gid in groups:
-            self.add(b"gpasswd -a=%s -- %d" % (user_word(self.people, name), gid))
+            self.add(b"gpasswd -a=%s -- %d" % (word_of_user(self.people, name), gid))
 
     def remove_memberships(self, name: bytes, groups: Iterable[int]) -> None:
         rows = [row for row in self.people.groups if row.gid in groups and name in row.members]
         for row in rows:
-            word = user_word(self.people, name)
+            word = word_of_user(self.people, name)
             self.add(b"gpasswd -d=%s -- %s" % (word, row_word(self.people, row.gid, row.name)))
 
 
 # --- files
-
-
-def path_word(path: bytes) -> bytes:
-    """The operand that means a path, whatever its name is."""
-    return script_word(b"/" + write_name(path))
 
 
 def removing_lines(pairs: Iterable[Pair]) -> Iterator[bytes]:
@@ -134,7 +120,7 @@ def removing_lines(pairs: Iterable[Pair]) -> Iterator[bytes]:
         if pair.old is not None and (pair.new is None or pair.is_of_other_kind()):
             if not tops or not is_below(pair.path, tops[-1]):
                 tops.append(pair.path)
-    for words in parts_of(map(path_word, tops), ROOM):
+    for words in parts_of(map(path_word, tops)):
         yield b"rm -r -- " + b" ".join(words)
 
 

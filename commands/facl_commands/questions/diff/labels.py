@@ -12,15 +12,15 @@ from operator import itemgetter
 from typing import Dict, Iterable, Iterator, List, NamedTuple, Sequence, Set, Tuple
 
 from ...base.messages import Failure
-from ...base.names import shown_path, write_user
+from ...base.names import is_at_or_below, is_below, shown_path, write_user
 from ...base.numbered import Numbered
+from ...model.gains import Gain
 from ...model.label_answers import WORD, dump_of
 from ...model.people import rows_of
-from ...model.rights import ABSENT, ALL_OR_NOTHING, GRANTED, HAS_SEARCH, both, lanes, places_in, users_of
+from ...model.rights import ABSENT, ALL_OR_NOTHING, GRANTED, HAS_SEARCH, both, is_change, lanes, places_in, users_of
 from ...program.protocol import FILE_HEAD, INDEX
 from ...program.session import session_over
-from .gains import Gain, counts
-from .states import ListedFile, Member, Pair, State, is_below, members_of
+from .states import ListedFile, Member, Pair, State, members_of
 
 GONE = -1  # In the place of a record that is not there.
 OPEN = 0  # The number of no directories above.
@@ -67,7 +67,7 @@ class Shapes:
             numbers = [GONE if it is None else self.bodies.number(it.body()) for it in (pair.old, pair.new)]
             ways = [self.way_to(pair.path, found, number, side)
                     for found, number, side in zip((pair.old, pair.new), numbers, above)]
-            if is_in(pair.path, folders):
+            if is_at_or_below(pair.path, folders):
                 shape = Shape(numbers[0], numbers[1], ways[0], ways[1])
                 if shape not in self.counted:
                     found = pair.new or pair.old
@@ -96,10 +96,6 @@ class Shapes:
                     way, body = self.ways.values[way]
                     found.add(body)
         return sorted(found - {GONE})
-
-
-def is_in(path: bytes, folders: Sequence[bytes]) -> bool:
-    return any(path == it or is_below(path, it) for it in folders)
 
 
 def wanted_heads(folders: Sequence[bytes]) -> Tuple[bytes, ...]:
@@ -204,7 +200,7 @@ class ChangeTally:
         if (old, new) not in self.known:
             differing = (lanes(old) ^ lanes(new)).to_bytes(len(new), "little")
             its = ((place, TEXTS[old[place]], TEXTS[new[place]]) for place in places_in(differing))
-            self.known[old, new] = [it for it in its if counts(it[1], it[2])]
+            self.known[old, new] = [it for it in its if is_change(it[1], it[2])]
         return self.known[old, new]
 
     def add(self, old: bytes, new: bytes, files: Counted) -> None:

@@ -7,68 +7,41 @@ another list; where both are so, nothing is said.
 """
 from __future__ import annotations
 
-import re
 from typing import Callable, Dict, FrozenSet, Iterable, List, NamedTuple, Tuple
 
-from ...base.names import directories_above, live_name, read_name, shown_path, write_user
-from ...model.people import People
-from ...model.records import path_of
-from ...program.protocol import (
-    ACCESS_GROUP_LINE, DEFAULT_ENTRY, ENTRIES_ALONG_PATH, ENTRIES_OF, LIST_NUMBERS, OWNER_LINES,
-)
+from ...base.names import directories_above, file_name, path_word, read_name, write_user
+from ...model.entries import OTHER_KEY, OWNER_KEY, OWNING_GROUP_KEY, Entry, Key, entries_of, read_record
+from ...model.gains import Gain
+from ...model.people import People, listed_by_group, user_word
+from ...model.records import body_of, name_of, path_of, records_in
+from ...program.protocol import ENTRIES_ALONG_PATH, ENTRIES_OF, LIST_NUMBERS
 from ...program.session import Session, parts_of, session_over
-from .edits import CannotLead, path_word, user_word
-from .gains import Gain
-from .states import Members, Pair, State, members_of, name_of, records_in
+from .edits import word_of_user
+from .states import Members, Pair, State, members_of
 
-ROOM = 60_000  # Bytes of names in a line.
 AT_ONCE = 1_000  # Questions.
 MOST = 20_000  # Changes that are asked about: those on most files.
 MOST_NAMES = 3  # Groups that are named.
-ENTRY = re.compile(rb"^(user|group|other):([^:]*):(...)(?:\t+#effective:(...))?$", re.MULTILINE)
-OWNERS = re.compile(OWNER_LINES)
-GROUPS = re.compile(ACCESS_GROUP_LINE, re.MULTILINE)
-OWNER_KEY, OTHER_KEY, OWNING_GROUP_KEY = (b"user", b""), (b"other", b""), (b"group", b"")
-Key = Tuple[bytes, bytes]
-Entries = Dict[Key, Tuple[bytes, bytes]]  # Of those that decide: what each has, and what the mask leaves of it.
+Decided = Dict[Key, Entry]  # The entries that decide on a user.
 Question = Tuple[bytes, bytes]  # A user, by the row's name, and a path.
-
-
-class Label(NamedTuple):
-    """What decides on a file: the lines of its owner, group and access list."""
-
-    text: bytes
-    group: bytes  # An id.
-    groups: FrozenSet[int]  # Those that it mentions.
 
 
 class Point(NamedTuple):
     """A file or directory where it was decided otherwise, with how, before and after."""
 
     path: bytes
-    old: Entries
-    new: Entries
+    old: Decided
+    new: Decided
 
 
-def label_of(record: bytes) -> Label:
-    body = record.partition(b"\n")[2].partition(DEFAULT_ENTRY)[0] + b"\n"
-    text = b"".join(line + b"\n" for line in body.split(b"\n") if line and not line.startswith(b"# flags: "))
-    owners = OWNERS.search(text)
-    assert owners is not None
-    return Label(text, owners[2], frozenset(map(int, GROUPS.findall(text))))
-
-
-def grants_search(entries: Entries) -> bool:
+def grants_search(entries: Decided) -> bool:
     """Whether one of the entries that decide has x, as the mask leaves it."""
-    return any(left.endswith(b"x") for _, left in entries.values())
+    return any(it.grants(b"x") for it in entries.values())
 
 
 def numbered_groups(people: People) -> bytes:
     """Groups whose names are their ids, so that entries have these: a row for each id, with all its members."""
-    members: Dict[int, List[bytes]] = {}
-    for group in people.groups:
-        members.setdefault(group.gid, []).extend(group.members)
-    return b"".join(b"%d:x:%d:%s\n" % (gid, gid, b",".join(dict.fromkeys(names))) for gid, names in members.items())
+    return b"".join(b"%d:x:%d:%s\n" % (gid, gid, b",".join(names)) for gid, names in listed_by_group(people).items())
 
 
 class Time:
@@ -78,8 +51,9 @@ class Time:
         self.program, self.records, self.is_alone = program, records, is_alone
         self.passwd, self.people = state.passwd, state.people()
         self.members: Members = members_of(self.people)
-        self.labels = {path: label_of(record) for path, record in records.items()}
-        self.decided: Dict[Question, Dict[bytes, Entries]] = {}
+        # Owner, group and access list decide on a file; flags and the default list do not.
+        self.labels = {path: read_record(body_of(record))._replace(flags=b"", default=()) for path, record in records.items()}
+        self.decided: Dict[Question, Dict[bytes, Decided]] = {}
 
     def way(self, path: bytes) -> List[bytes]:
         """The recorded directories above a path, the highest first, and the path; the path alone where it is judged
@@ -89,7 +63,7 @@ class Time:
 
     def line_of(self, question: Question) -> bytes:
         ask = ENTRIES_OF if self.is_alone else ENTRIES_ALONG_PATH
-        return b"%s %s %s" % (ask, user_word(self.people, question[0]), path_word(question[1]))
+        return b"%s %s %s" % (ask, word_of_user(self.people, question[0]), path_word(question[1]))
 
     def ask(self, questions: List[Question]) -> None:
         dump = b"".join(record + b"\n\n" for record in self.records.values())
@@ -99,11 +73,11 @@ class Time:
                 text = session.ask_accepted(b"\n".join(map(self.line_of, part))).read()
                 answers = iter(text.split(b"\n\n"))
                 for question in part:
-                    self.decided[question] = {path: entries_of(next(answers)) for path in self.way(question[1])}
+                    self.decided[question] = {path: decided_by(next(answers)) for path in self.way(question[1])}
 
 
-def entries_of(answer: bytes) -> Entries:
-    return {(tag, name): (own, left or own) for tag, name, own, left in ENTRY.findall(answer)}
+def decided_by(answer: bytes) -> Decided:
+    return {it.key: it for it in entries_of(answer)}
 
 
 # --- the words
@@ -114,7 +88,7 @@ def and_more(names: List[bytes]) -> bytes:
     return b", ".join(names[:MOST_NAMES]) + (b" and %d more" % rest if rest > 0 else b"")
 
 
-def words_of_list(old: Entries, new: Entries, is_of_other_group: bool) -> bytes:
+def words_of_list(old: Decided, new: Decided, is_of_other_group: bool) -> bytes:
     """What changed in the list of a file, for a user who is judged by the same id and groups."""
     if (OWNER_KEY in old) != (OWNER_KEY in new):
         return b"is the owner now" if OWNER_KEY in new else b"no longer the owner"
@@ -130,9 +104,9 @@ def words_of_list(old: Entries, new: Entries, is_of_other_group: bool) -> bytes:
     return b"group entries changed" if added and gone else b"group entry added" if added else b"group entry gone"
 
 
-def words_of_same_entries(old: Entries, new: Entries, is_of_other_group: bool) -> bytes:
+def words_of_same_entries(old: Decided, new: Decided, is_of_other_group: bool) -> bytes:
     """The same, where entries of the same users and groups decide."""
-    own = [key for key in old if old[key][0] != new[key][0]]
+    own = [key for key in old if old[key].permissions != new[key].permissions]
     if not own:
         return b"mask changed"
     if is_of_other_group and OWNING_GROUP_KEY in own:
@@ -162,15 +136,10 @@ class ChangeReasons:
 
     def name_of(self, path: bytes) -> bytes:
         """The name of a file in words: as on the live system, where the snapshots start at the root."""
-        return live_name(path) if self.is_whole else shown_path(path)
+        return file_name(path, self.is_whole)
 
     def has_words(self, name: bytes) -> bool:
-        try:
-            for time in (self.before, self.after):
-                user_word(time.people, name)
-        except CannotLead:
-            return False
-        return True
+        return None not in [user_word(time.people.users, name) for time in (self.before, self.after)]
 
     def of(self, gain: Gain) -> bytes:
         """Why a user may do otherwise with the first file; empty where it is not plain."""
@@ -213,7 +182,7 @@ class ChangeReasons:
 
     def groups(self, name: bytes, path: bytes) -> Tuple[FrozenSet[int], FrozenSet[int]]:
         """The groups of a user that a file mentions, before and after."""
-        mentioned = self.before.labels[path].groups | self.after.labels[path].groups
+        mentioned = self.before.labels[path].mentioned_groups() | self.after.labels[path].mentioned_groups()
         old, new = (time.members[name].groups & mentioned for time in (self.before, self.after))
         return old, new
 
@@ -223,14 +192,14 @@ class ChangeReasons:
     def is_by_list(self, name: bytes, point: Point) -> bool:
         """Whether the owner, the group or the list is another one, and the user the same."""
         old, new = self.groups(name, point.path)
-        is_other = self.before.labels[point.path].text != self.after.labels[point.path].text
+        is_other = self.before.labels[point.path] != self.after.labels[point.path]
         return is_other and old == new and self.is_same_user(name)
 
     def of_point(self, name: bytes, point: Point) -> bytes:
         """The words for one file or directory; empty where two things could be the reason."""
         labels = self.before.labels[point.path], self.after.labels[point.path]
         old, new = self.groups(name, point.path)
-        differs = labels[0].text != labels[1].text, old != new, not self.is_same_user(name)
+        differs = labels[0] != labels[1], old != new, not self.is_same_user(name)
         if sum(differs) != 1:
             return b""
         if differs[0]:
@@ -267,7 +236,7 @@ def paths_to_know(gains: Iterable[Gain], is_alone: bool) -> Dict[bytes, None]:
 def ask_records(session: Session, paths: List[bytes]) -> Dict[bytes, bytes]:
     """Some files as a session has them now; those that it does not have are left out."""
     found: Dict[bytes, bytes] = {}
-    for words in parts_of(map(path_word, paths), ROOM):
+    for words in parts_of(map(path_word, paths)):
         answer = session.ask(LIST_NUMBERS + b" " + b" ".join(words) + b"\n")
         if answer.messages and len(words) > 1:
             answers = [session.ask(LIST_NUMBERS + b" " + word + b"\n") for word in words]

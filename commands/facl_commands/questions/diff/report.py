@@ -1,15 +1,15 @@
 """What facl-diff prints: a table for a person, rows for a script, or one object."""
 from __future__ import annotations
 
-from typing import Callable, Dict, Iterable, Iterator, List, NamedTuple, Sequence, Set, Tuple
+from typing import Callable, Dict, Iterator, List, NamedTuple, Sequence, Set, Tuple
 
-from ...base.names import json_text, live_name, shown_path, write_user
+from ...base.names import file_name, is_at_or_below, json_text, write_user
 from ...base.tables import Column, Table
 from ...model.meta import EXCLUDED, PART, UNREAD, Meta, fields_of
 from ...model.records import path_of
 from ...model.rights import ABSENT
-from .gains import ChangeRow
 from .moved import Moved
+from .rows import ChangeRow
 from .states import FileCounts, PeopleCounts, State
 
 SCHEMA = "facl-diff/1"
@@ -37,7 +37,7 @@ class Compared(NamedTuple):
 
     def name_of(self, path: bytes) -> bytes:
         """The name of a file on the live system, where the snapshots start at the root; else as the program has it."""
-        return live_name(path) if self.is_whole else shown_path(path)
+        return file_name(path, self.is_whole)
 
     def first_of(self, row: ChangeRow) -> bytes:
         return self.name_of(path_of(row.first))
@@ -150,17 +150,13 @@ SCOPES: List[Tuple[bytes, Callable[[Meta], List[bytes]]]] = [
 NOT_READ = b"warning: %s lacks what could not be read (unread %s in its meta)" + MAY[:-2]
 
 
-def is_within(folder: bytes, others: Iterable[bytes]) -> bool:
-    """Whether a folder is one of others, or below one."""
-    return any(folder == it or folder.startswith(it.rstrip(b"/") + b"/") for it in others)
-
-
 def scope_warnings(text: bytes, states: Tuple[State, State], names: Callable[[Meta], List[bytes]]) -> Iterator[bytes]:
     """The names that one of two snapshots has alone, in its meta; of globs where they left something out."""
     for state, other in (states, states[::-1]):
         if names(state.about) == state.about.excludes and state.about.numbers.get(EXCLUDED) == b"0":
             continue
-        only = sorted(name for name in set(names(state.about)) if not is_within(name, names(other.about)))
+        tops = [it.rstrip(b"/") for it in names(other.about)]
+        only = sorted(name for name in set(names(state.about)) if not is_at_or_below(name, tops))
         if only:
             shown = b", ".join(only[:MOST_FOLDERS]) + b" .." * (len(only) > MOST_FOLDERS)
             yield b"warning: " + text % state.folder + shown

@@ -8,13 +8,13 @@ from typing import Dict, FrozenSet, Iterable, Iterator, List, NamedTuple, Option
 
 from ...base import scratch
 from ...base.messages import Failure
-from ...base.names import path_order, sorting_key
+from ...base.names import highest, sorting_key
 from ...base.trusted import read_trusted
 from ...model import meta, sources, split_tree
 from ...model.people import People, groups_by_user
-from ...model.records import path_of
+from ...model.records import body_of, is_of_directory, name_of, path_of, records_in
 from ...model.snapshot import NEEDED
-from ...program.protocol import DEFAULT_ENTRY, FILE_HEAD
+from ...program.protocol import FILE_HEAD
 from ...program.session import OutputSlice, Session
 
 
@@ -52,7 +52,7 @@ class ListedFile(NamedTuple):
         return name_of(self.record)
 
     def body(self) -> bytes:
-        return self.record.partition(b"\n")[2] + b"\n"
+        return body_of(self.record) + b"\n"
 
 
 class Pair(NamedTuple):
@@ -110,8 +110,7 @@ def session_of(program: str, state: State, work: str, group: Optional[bytes] = N
 
 def tops_of(*sides: Tuple[Session, State]) -> List[bytes]:
     """The paths of both snapshots that no recorded directory is above."""
-    found = {path for session, state in sides for path in sources.find_tops(session, state.folder)}
-    return sorted((path for path in found if not any(is_below(path, it) for it in found)), key=path_order)
+    return highest(path for session, state in sides for path in sources.find_tops(session, state.folder))
 
 
 def listing_of_all(program: str, state: State) -> OutputSlice:
@@ -137,26 +136,13 @@ def as_listed(record: bytes, following: bytes) -> bytes:
     return record + b"\n\n" if record else b""
 
 
-def is_below(path: bytes, above: bytes) -> bool:
-    return path != above and (above == b"" or path.startswith(above + b"/"))
-
-
 # --- records
-
-
-def name_of(record: bytes) -> bytes:
-    return record[len(FILE_HEAD) :].partition(b"\n")[0]
-
-
-def records_in(listing: Iterable[OutputSlice]) -> Iterator[bytes]:
-    """The records of a listing in path order."""
-    return (record for output in listing for record in output.records() if record)
 
 
 def is_directory(record: bytes, following: Optional[bytes]) -> bool:
     """Whether a record is that of a directory: by its name, its default entries, or the next file, which is in it."""
     name = name_of(record)
-    if name[-1:] == b"/" or name == b"." or DEFAULT_ENTRY in record:
+    if is_of_directory(name, record):
         return True
     return following is not None and following.startswith(FILE_HEAD + name + b"/")
 

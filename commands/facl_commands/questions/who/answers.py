@@ -7,7 +7,7 @@ from typing import Dict, List, NamedTuple, Tuple
 from ...base.messages import Failure
 from ...base.names import number_of, read_name, write_user
 from ...base.tables import Table
-from ...model.people import rows_of
+from ...model.people import is_named, needed_word
 from .asking import Asker
 
 
@@ -35,15 +35,13 @@ class NamedUser(NamedTuple):
 
 def user_of(asker: Asker, word: bytes) -> NamedUser:
     """As the program reads USER: digits alone are an id, which is that of the first user who has it."""
-    rows = rows_of(asker.passwd)
-    if word.isdigit():
-        names = [write_user(row[0]) for row in rows if number_of(row[2]) == number_of(word)]
-        return NamedUser(names[0] if names else word, number_of(word), bool(names))
     for name in (word, read_name(word)):
-        for row in rows:
-            if row[0] == name:
-                return NamedUser(write_user(name), int(row[2]))
-    raise Failure(word + b": is no user of the snapshot" + like(word, [row[0] for row in rows]))
+        for user in asker.users:
+            if is_named(user.name, user.uid, name, is_name=not word.isdigit()):
+                return NamedUser(write_user(user.name), user.uid)
+    if word.isdigit():
+        return NamedUser(word, number_of(word), False)
+    raise Failure(word + b": is no user of the snapshot" + like(word, [user.name for user in asker.users]))
 
 
 def like(word: bytes, names: List[bytes]) -> bytes:
@@ -58,6 +56,5 @@ def user_with_row(asker: Asker, word: bytes) -> NamedUser:
     found = user_of(asker, word)
     if not found.has_row:
         raise Failure(word + b": is the id of no user of the snapshot")
-    if asker.word_of(found.shown) is None:
-        raise Failure(word + b": no question can name this user: digits alone are an id, and an earlier row has this one's id")
+    needed_word(asker.users, read_name(found.shown), word)
     return found

@@ -7,13 +7,13 @@ import os
 from typing import Dict, List
 
 from ...base import tables
+from ...base.accounts import SUPERUSER
 from ...base.messages import Command, Failure, parser_of
-from ...base.names import json_text, number_of, read_name, shell_word
+from ...base.names import json_text, shell_word
 from ...base.trusted import read_trusted
 from ...model import choice, meta, overview, sources
 from ...model.snapshot import NEEDED, check_texts, is_hidden
 from ...model.sources import Source
-from ...model.superuser import ids_in
 from ...program.session import Session, find_program
 from . import of_files, of_folder, of_rights, of_user
 from .answers import WhoAnswer, user_of, user_with_row
@@ -148,12 +148,6 @@ def write_answer(command: Command, asker: Asker, answer: WhoAnswer) -> None:
             command.tell(line)
 
 
-def is_superuser(word: bytes, passwd: bytes) -> bool:
-    """Whether a word names a user of the uid 0, or is this id."""
-    ids = ids_in(passwd)
-    return ids.get(read_name(word), number_of(word) if word.isdigit() else None) == 0
-
-
 def body(command: Command, words: List[str]) -> int:
     given = parse(words)
     if not given.question:
@@ -170,7 +164,7 @@ def body(command: Command, words: List[str]) -> int:
                 write_answer(command, asker, answer)
         for note in () if given.json else choice.notes(answer.left_out, passwd):
             command.say(note)
-        if given.user is not None and not given.with_root and is_superuser(os.fsencode(given.user), passwd):
+        if given.user is not None and not given.with_root and user_of(asker, os.fsencode(given.user)).uid == SUPERUSER:
             command.say(os.fsencode(given.user) + b": has the uid 0, to which the kernel grants nearly everything; "
                         b"this is what lists grant it")
     return SOMEBODY if answer.table.rows else NOBODY

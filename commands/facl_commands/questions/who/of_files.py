@@ -1,19 +1,19 @@
 """facl-who --owner and --names: the files that somebody owns, or that an entry of a list names somebody on."""
 from __future__ import annotations
 
-import re
-from typing import Dict, Iterator, List, NamedTuple, Pattern
+from typing import Dict, Iterator, List, NamedTuple, Tuple
 
-from ...base.names import json_text, read_path
+from ...base.names import highest, json_text
 from ...base.tables import Column, Table
 from ...model import sources
-from ...program.protocol import FILE_HEAD, LIST_EFFECTIVE, OWNER_HEAD
+from ...model.entries import OWNER_KEY, USER, ReadRecord, read_record
+from ...model.records import path_of, split_record
+from ...program.protocol import LIST_EFFECTIVE
 from .answers import NamedUser, WhoAnswer, spoken_folders
-from .asking import Asker, highest, plain_entry
+from .asking import Asker, plain_entry
 
 COLUMNS = [Column("FILE"), Column("ENTRY")]
-OWNER_ENTRY_LINE = re.compile(rb"^user::.*$", re.MULTILINE)
-ID_OF_ENTRY = re.compile(rb"user:[0-9]+:")
+NamedRecord = Tuple[bytes, ReadRecord]  # With the name of its file, as the program prints it.
 
 
 class FileRow(NamedTuple):
@@ -24,34 +24,30 @@ class FileRow(NamedTuple):
         return {"file": json_text(asker.name_of(self.path)), "entries": list(map(json_text, self.entries))}
 
 
-def records_of(asker: Asker, folders: List[bytes]) -> Iterator[bytes]:
+def records_of(asker: Asker, folders: List[bytes]) -> Iterator[NamedRecord]:
     """The records of all files at or below some paths, with ids as numbers."""
     for words in sources.operands_of(highest(folders)):
-        yield from asker.session.ask_accepted(b" ".join([LIST_EFFECTIVE, *words])).records()
+        for record in asker.session.ask_accepted(b" ".join([LIST_EFFECTIVE, *words])).records():
+            name, body = split_record(record)
+            yield name, read_record(body)
 
 
-def path_of(record: bytes) -> bytes:
-    return read_path(record.partition(b"\n")[0][len(FILE_HEAD) :])
-
-
-def owned(records: Iterator[bytes], uid: int) -> Iterator[FileRow]:
+def owned(records: Iterator[NamedRecord], uid: int) -> Iterator[FileRow]:
     """The files of an owner, with the owner's entry."""
-    owner = b"\n" + OWNER_HEAD + b"%d\n" % uid
-    return (FileRow(path_of(it), OWNER_ENTRY_LINE.findall(it)[:1]) for it in records if owner in it)
+    owner = b"%d" % uid
+    for name, record in records:
+        if record.owner == owner:
+            yield FileRow(path_of(name), [it.text() for it in record.access if it.key == OWNER_KEY])
 
 
-def naming(records: Iterator[bytes], user: NamedUser) -> Iterator[FileRow]:
+def naming(records: Iterator[NamedRecord], user: NamedUser) -> Iterator[FileRow]:
     """The files with entries that name a user, with these."""
-    entry: Pattern[bytes] = re.compile(rb"^(?:default:)?user:%d:.*$" % user.uid, re.MULTILINE)
-    for record in records:
-        found = entry.findall(record)
+    key, shown_key = (USER, b"%d" % user.uid), (USER, user.shown)  # With the user's name in the place of the id.
+    for name, record in records:
+        found = [begin + plain_entry(it._replace(key=shown_key))
+                 for begin, entries in ((b"", record.access), (b"default:", record.default)) for it in entries if it.key == key]
         if found:
-            yield FileRow(path_of(record), [named_entry(it, user) for it in found])
-
-
-def named_entry(entry: bytes, user: NamedUser) -> bytes:
-    """An entry with the user's name in the place of the id."""
-    return plain_entry(ID_OF_ENTRY.sub(lambda _: b"user:" + user.shown + b":", entry, count=1))
+            yield FileRow(path_of(name), found)
 
 
 def answer(asker: Asker, question: str, user: NamedUser, folders: List[bytes]) -> WhoAnswer:

@@ -2,25 +2,20 @@
 from __future__ import annotations
 
 import os
-import re
 from typing import Dict, List, NamedTuple, Optional
 
 from ...base.messages import Failure
-from ...base.names import json_text, parent_of, read_name, script_word
+from ...base.names import json_text, parent_of, path_word, read_name
 from ...base.tables import Column, Table
 from ...model import choice
+from ...model.entries import NOTHING, ReadRecord, head_lines, read_record
 from ...model.records import asks_as_directory
 from ...model.superuser import ids_in
-from ...program.protocol import (
-    CAN, DEFAULT_ENTRY, FLAGS_HEAD, GROUP_HEAD, LIST_BELOW, LIST_NAMED, LIST_NUMBERS, MAKE_DIRECTORY, MAKE_FILE,
-    OWNER_HEAD, OWNER_LINES, WHO,
-)
+from ...program.protocol import CAN, LIST_BELOW, LIST_NAMED, LIST_NUMBERS, MAKE_DIRECTORY, MAKE_FILE, WHO
 from .answers import NamedUser, WhoAnswer
-from .asking import Asker, Reasons, Right, plain_entry, word_of_path
+from .asking import Asker, Reasons, Right, plain_entry
 
 CHANGE = Right("-wx", 3)  # Of the folder above, to make or remove a file.
-OWNERS = re.compile(OWNER_LINES)
-STICKY = re.compile(FLAGS_HEAD + rb"..t$", re.MULTILINE)
 KINDS = {"file": (MAKE_FILE, b"0666"), "folder": (MAKE_DIRECTORY, b"0777")}
 
 
@@ -46,11 +41,11 @@ class Removed(NamedTuple):
 
 
 def ask_removed(asker: Asker, path: bytes) -> Removed:
-    records = asker.records([LIST_NUMBERS + b" " + word_of_path(it) for it in (path, parent_of(path))])
-    (owner, _), (folder_owner, _) = (OWNERS.findall(it)[0] for it in records)
-    below = asker.session.ask_accepted(LIST_BELOW + b" " + word_of_path(path)).records()
+    lines = [LIST_NUMBERS + b" " + path_word(it) for it in (path, parent_of(path))]
+    file, folder = map(read_record, asker.records(lines))
+    below = asker.session.ask_accepted(LIST_BELOW + b" " + path_word(path)).records()
     is_full = sum(1 for _, _ in zip(below, range(2))) > 1
-    return Removed(int(owner), int(folder_owner), STICKY.search(records[1]) is not None, is_full)
+    return Removed(int(file.owner), int(folder.owner), folder.flags.endswith(b"t"), is_full)
 
 
 def removed_path(asker: Asker, word: str) -> bytes:
@@ -67,7 +62,7 @@ def removed_path(asker: Asker, word: str) -> bytes:
 def answer_remove(asker: Asker, path: bytes) -> WhoAnswer:
     folder = parent_of(path)
     removed, ids = ask_removed(asker, path), ids_in(asker.passwd)
-    users = list(asker.lines_of(WHO, CHANGE.letters(), word_of_path(folder)))
+    users = list(asker.lines_of(WHO, CHANGE.letters(), path_word(folder)))
     roles = {user: removed.role(ids[read_name(user)]) for user in users}
     users = [user for user in users if roles[user] is not None]
     kept = choice.kept(users, asker.given, asker.passwd)
@@ -92,19 +87,23 @@ class Made(NamedTuple):
     """A file that a user would make, with its record, and who may read and write it."""
 
     kind: str
-    lines: List[bytes]
+    record: ReadRecord
     readers: List[bytes]
     writers: List[bytes]
     left_out: List[bytes]  # Others who may.
 
-    def value(self, head: bytes) -> bytes:
-        """What its record has after a head; nothing where it is not there."""
-        return next((line[len(head) :] for line in self.lines if line.startswith(head)), b"")
+    def lines(self) -> List[bytes]:
+        """Its record for a person."""
+        owner, group, flags = self.record[:3]
+        return [*head_lines(owner, group, flags).splitlines(), *self.entries()]
+
+    def entries(self) -> List[bytes]:
+        return [*map(plain_entry, self.record.access), *(b"default:" + plain_entry(it) for it in self.record.default)]
 
     def as_object(self) -> Dict[str, object]:
-        return {"kind": self.kind, "owner": json_text(self.value(OWNER_HEAD)), "group": json_text(self.value(GROUP_HEAD)),
-                "flags": json_text(self.value(FLAGS_HEAD)) or None,
-                "entries": [json_text(plain_entry(line)) for line in self.lines if not line.startswith(b"#")],
+        owner, group, flags = self.record[:3]
+        return {"kind": self.kind, "owner": json_text(owner), "group": json_text(group),
+                "flags": json_text(flags) if flags != NOTHING else None, "entries": list(map(json_text, self.entries())),
                 "readers": list(map(json_text, self.readers)), "writers": list(map(json_text, self.writers))}
 
     def summary(self) -> bytes:
@@ -116,17 +115,17 @@ def make(asker: Asker, folder: bytes, user: bytes, kind: str) -> Made:
     """Makes a file in the session, which goes with it."""
     line, mode = KINDS[kind]
     path = b"/".join([*filter(None, [folder]), b"new-" + os.urandom(8).hex().encode()])
-    word = word_of_path(path)
+    word = path_word(path)
     asker.session.ask_accepted(line % (user, mode, asker.given.umask.encode()) + b" " + word)
-    record = asker.records([LIST_NAMED + b" " + word])[0]
+    record = read_record(asker.records([LIST_NAMED + b" " + word])[0])
     who = [list(asker.lines_of(WHO, letter, word)) for letter in (b"r", b"w")]
     readers, writers = (choice.kept(users, asker.given, asker.passwd) for users in who)
     left_out = [user for user in who[0] + who[1] if user not in readers + writers]
-    return Made(kind, record.splitlines(), readers, writers, left_out)
+    return Made(kind, record, readers, writers, left_out)
 
 
 def has_default_list(asker: Asker, folder: bytes) -> bool:
-    return DEFAULT_ENTRY in asker.records([LIST_NUMBERS + b" " + word_of_path(folder)])[0]
+    return bool(read_record(asker.records([LIST_NUMBERS + b" " + path_word(folder)])[0]).default)
 
 
 def check_folder(asker: Asker, folder: bytes) -> None:
@@ -136,15 +135,15 @@ def check_folder(asker: Asker, folder: bytes) -> None:
 
 def answer_new_file(asker: Asker, folder: bytes, user: NamedUser) -> WhoAnswer:
     check_folder(asker, folder)
-    word = script_word(asker.word_of(user.shown) or user.shown)
+    word = asker.word_of(user.shown)
     name = asker.name_of(folder)
-    granted = b"".join(asker.lines_of(CAN, word, word_of_path(folder))).split(b" ")
+    granted = b"".join(asker.lines_of(CAN, word, path_word(folder))).split(b" ")
     is_allowed = b"-wx" in granted
     made = [make(asker, folder, word, kind) for kind in KINDS] if is_allowed else []
     umask = asker.given.umask.encode()
     origin = (b"by the default list of " + name if has_default_list(asker, folder)
               else name + b" has no default list, so the umask counts, taken as " + umask)
-    rows = [[it.kind.encode(), plain_entry(line)] for it in made for line in it.lines]
+    rows = [[it.kind.encode(), line] for it in made for line in it.lines()]
     left_out = list(dict.fromkeys(user for it in made for user in it.left_out))
     return WhoAnswer(
         "new-file", Table([Column("NEW"), Column("LIST")], rows),

@@ -6,23 +6,22 @@ import re
 from collections import Counter
 from typing import Dict, Iterator, List, NamedTuple, Set
 
-from ...base.names import json_text, path_order, read_path, script_word, sorting_key
+from ...base.names import highest, json_text, path_order, path_word, read_path, sorting_key
 from ...base.tables import Column, Table
 from ...base.trusted import read_trusted
 from ...model import sources
 from ...model.records import list_files
 from ...model.rights import GRANTED, REQUESTS
 from ...program.protocol import CAN, DEFAULT_ENTRY, MAY
-from ...program.session import parts_of
+from ...program.session import LINES_ROOM, parts_of
 from .answers import NamedUser, WhoAnswer, spoken_folders
-from .asking import WORDS, Asker, Right, highest, word_of_path
+from .asking import WORDS, Asker, Right
 
 RIGHTS = [Right(word, request) for word, request in WORDS.items()]
 HIGHEST_FIRST = ["write", "read", "enter"]
 COLUMNS = [Column("FOLDER"), Column("HERE"), Column("HIGHEST"),
            *(Column(right.word.upper(), True) for right in RIGHTS), Column("FILES", True)]
 DEFAULT_LINE = re.compile(rb"^[ \t]*d(?:efault)?:", re.MULTILINE)
-ROOM = 1 << 20  # Bytes of questions at once.
 
 
 class FolderRow(NamedTuple):
@@ -80,8 +79,8 @@ def greatest(requests: bytes) -> str:
 
 def ask_here(asker: Asker, word: bytes, paths: List[bytes]) -> Iterator[str]:
     """What the user may do with each of some files."""
-    lines = [asker.line(CAN, word, word_of_path(path)) for path in paths]
-    for part in parts_of(lines, ROOM):
+    lines = [asker.line(CAN, word, path_word(path)) for path in paths]
+    for part in parts_of(lines, LINES_ROOM):
         yield from map(greatest, asker.session.ask_accepted(b"\n".join(part)).lines())
 
 
@@ -97,7 +96,7 @@ def with_default_entries(asker: Asker, dump: bytes) -> Set[bytes]:
 def answer(asker: Asker, user: NamedUser, folders: List[bytes]) -> WhoAnswer:
     dump = read_trusted(os.path.join(asker.session.folder, sources.DUMP))
     found = Folders(highest(folders), asker.given.depth, dump, with_default_entries(asker, dump))
-    word = script_word(asker.word_of(user.shown) or user.shown)
+    word = asker.word_of(user.shown)
     counts = [found.count(map(read_path, asker.lines_of(MAY, word, right.letters()))) for right in RIGHTS]
     paths = [path for path in found.paths if any(its[path] for its in counts)]
     rows = [FolderRow(path, here, [its[path] for its in counts], found.files[path])
