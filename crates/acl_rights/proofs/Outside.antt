@@ -1,10 +1,15 @@
 -- A part of the tree that holds what changed: outside it all rows are the same.
-use Rattle.std.proofs.Common.{◌≡◌, ℕ, suc, ◌<◌, Bool, true, false, cond, not, ◌||◌, ◌&&◌, List, [], ◌∷◌, length, map, filter, is_some, Option, Some, None}
+use Rattle.std.proofs.Common.{◌≡◌, ℕ, suc, ◌<◌, ◌==◌, Bool, true, false, cond, not, ◌||◌, ◌&&◌, List, [], ◌∷◌, length, map, filter, is_some, Option, Some, None}
 use Rattle.std.proofs.Common.{Ordering, Less, Equal, Greater, refl, sym, ap, subst, ◌∙◌, arith}
-use Rattle.std.specs.Prelude.{option_map, option_and_then, unwrap_or, if◌then◌else◌, Result, Ok, Err, IfOk}
+use Rattle.std.specs.Prelude.{option_map, option_and_then, unwrap_or, if◌then◌else◌, Result, Ok, Err, IfOk, Vec}
+use Rattle.std.specs.Borrow.{Bor}
 use Rattle.std.specs.Option.{option_map_or}
-use Rattle.std.specs.Ordering.{is_eq}
-use Rattle.std.specs.FinMap.{find}
+use Rattle.std.specs.Ordering.{is_eq, is_gt, is_lt}
+use Rattle.std.specs.FinMap.{find, is_sorted}
+use Rattle.std.specs.FinMap.Entries.{below_all}
+use Rattle.std.specs.List.{AllByRecursion}
+use Rattle.std.specs.Prelude.{⊤}
+use Rattle.std.proofs.lemmas.Bool.{and_from, eqb-true}
 use Rattle.acl_entry.specs.Person.{Person}
 use Rattle.acl_entry.specs.declared.label.Label.{Label}
 use Rattle.acl_names.specs.Paths.{path_cmp, PathOf}
@@ -12,7 +17,7 @@ use Rattle.acl_names.specs.Below.{encloses, is_above, parent}
 use Rattle.acl_names.proofs.Below.{within_itself, within_trans, below_within}
 use Rattle.acl_names.proofs.Parents.{parent_one, parent_more, below_parent}
 use Rattle.acl_names.proofs.PathOrder.{exact_paths}
-use Rattle.acl_names.proofs.Basics.{not_both, false_from}
+use Rattle.acl_names.proofs.Basics.{not_both, false_from, or_false}
 use Rattle.acl_edit.specs.declared.node.Node.{Node}
 use Rattle.acl_people.specs.KnownPeople.{persons}
 use Rattle.acl_tree.specs.declared.user_change.UserChange.TheVariants.{Unchanged}
@@ -26,6 +31,11 @@ use Rattle.path_classes.specs.Rows.{Rows}
 use Rattle.acl_rights.specs.Rows.{Verdict, cells_of, rows_of}
 use Rattle.path_classes.specs.ReachedRows.{can_search, passes_in, reached_from}
 use Rattle.acl_rights.specs.States.{StatePair, loaded_state}
+use Rattle.path_map.specs.Below.{is_passed}
+use Rattle.path_classes.specs.ClassesWithin.{AreTops, is_inside, paths_seen}
+use Rattle.path_classes.specs.ClassedRows.{paths_of}
+use Rattle.path_classes.specs.Tops.{is_in_two}
+use Rattle.path_classes.proofs.Tops.{inside_below, passed_parts}
 use Rattle.acl_rights.specs.Outside.{is_outside, outside, SameOutside, SameRows, Holds, HoldsChanges}
 use Rattle.path_classes.proofs.Maps.{find-values, find-filter, map_filter, same_found}
 use Rattle.acl_rights.proofs.Orders.{in_order-values}
@@ -42,14 +52,14 @@ yes : (b : Bool) → not b ≡ false → b ≡ true
 yes true h = refl
 yes false h = cc
 
--- ---- a path that encloses another one
+-- ---- a path that is raised
 
-pub not_root : (top p : PathOf) → encloses top p ≡ false → top ≡ [] → ⊥
-not_root top p apart root = not_both (encloses top p) (ap (λ (t : PathOf). encloses t p) root) apart
+not_root : (top : PathOf) → (length top == 0) ≡ false → top ≡ [] → ⊥
+not_root top some root = not_both (length top == 0) (ap (λ (t : PathOf). length t == 0) root) some
 
-pub parent_wider : (top p q : PathOf) → encloses top p ≡ false → encloses top q ≡ true → encloses (parent top) q ≡ true
-parent_wider top p q apart holds =
-    within_trans (parent top) top q (below_within (parent top) top (below_parent (parent top) top (not_root top p apart) ∙ within_itself (parent top))) holds
+pub parent_holds : (top q : PathOf) → (length top == 0) ≡ false → encloses top q ≡ true → encloses (parent top) q ≡ true
+parent_holds top q some holds =
+    within_trans (parent top) top q (below_within (parent top) top (below_parent (parent top) top (not_root top some) ∙ within_itself (parent top))) holds
 
 parent_shorter : (p : PathOf) → (p ≡ [] → ⊥) → length (parent p) < length p
 parent_shorter [] some = absurd (some refl)
@@ -58,23 +68,92 @@ parent_shorter (x ∷ y ∷ p) some =
     let lt = parent_shorter (y ∷ p) (λ h. cc) in
     subst (λ (q : PathOf). length q < length (x ∷ y ∷ p)) (sym (parent_more x y p)) (omega (arith, lt))
 
-pub raised_shorter : (top p : PathOf) → encloses top p ≡ false → length (parent top) < length top
-raised_shorter top p apart = parent_shorter top (not_root top p apart)
+pub raised_shorter : (top : PathOf) → (length top == 0) ≡ false → length (parent top) < length top
+raised_shorter top some = parent_shorter top (not_root top some)
 
 -- ---- a part that holds more
 
-pub wider : (new top : PathOf) → encloses new top ≡ true → (p : PathOf) → not (encloses new p) ≡ true → not (encloses top p) ≡ true
-wider new top holds p apart = ap not (false_from (encloses top p) (λ w. not_both (encloses new p) (within_trans new top p holds w) (out (encloses new p) apart)))
+-- the tops of a part that holds another one and what is at or below a path, which holds a path
+pub record IsRaised (tops : List PathOf) (path top : PathOf) (new : List PathOf) : Type 0 where
+  pub are_tops : AreTops new
+  pub covers : (q : PathOf) → is_inside new q ≡ (is_inside tops q || encloses top q)
+  pub holds : encloses top path ≡ true
 
-pub holds_wider : (new top : PathOf) → encloses new top ≡ true → Holds (Some new) (Some top) []
-holds_wider new top holds p apart = (wider new top holds p apart, refl)
+or_false_parts : (a b : Bool) → not (a || b) ≡ true → (not a ≡ true) × (b ≡ false)
+or_false_parts true b h = cc
+or_false_parts false true h = cc
+or_false_parts false false h = (refl, refl)
+
+or_true : (a b : Bool) → b ≡ true → (a || b) ≡ true
+or_true true b h = refl
+or_true false b h = h
+
+pub raised_wider : (tops new : List PathOf) (path top : PathOf) → IsRaised tops path top new → Holds new tops []
+raised_wider tops new path top is p apart = ((or_false_parts (is_inside tops p) (encloses top p) (ap not (sym (is.covers p)) ∙ apart)).0, refl)
+
+pub raised_holds : (tops new : List PathOf) (path top : PathOf) → IsRaised tops path top new → is_inside new path ≡ true
+raised_holds tops new path top is = is.covers path ∙ or_true (is_inside tops path) (encloses top path) is.holds
+
+pub holds_itself : (tops new : List PathOf) → new ≡ tops → Holds new tops []
+holds_itself tops new is p apart = (ap (λ ts. not (is_inside ts p)) (sym is) ∙ apart, refl)
 
 -- nothing is outside the whole tree
-pub none_outside : (top p : PathOf) → top ≡ [] → not (encloses top p) ≡ true → ⊥
-none_outside top p root apart = not_both (encloses top p) (ap (λ (t : PathOf). encloses t p) root) (out (encloses top p) apart)
+pub none_outside : (tops : List PathOf) (p : PathOf) → tops ≡ [] ∷ [] → is_outside tops p ≡ true → ⊥
+none_outside tops p root apart = not_both (is_outside tops p) apart (ap (λ ts. is_outside ts p) root)
+
+pub are_tops_root : (tops : List PathOf) → tops ≡ [] ∷ [] → AreTops tops
+are_tops_root tops root = subst AreTops (sym root) (tt, tt)
+
+pub holds_all : (tops old : List PathOf) (files : Files) → tops ≡ [] ∷ [] → Holds tops old files
+holds_all tops old files root p apart = absurd (none_outside tops p root apart)
+
+first_whole : (tops : List PathOf) (top p : PathOf) (more : List PathOf) → tops ≡ top ∷ more → (length top == 0) ≡ true → is_outside tops p ≡ false
+first_whole tops [] p more first root = ap (λ ts. is_outside ts p) first
+first_whole tops (x ∷ top) p more first root = absurd (omega (arith, eqb-true (length (x ∷ top)) 0 root))
+
+-- ---- tops in order
+
+abbrev pub alone : PathOf → PathOf × ⊤
+alone p = (p, tt)
+
+is_before : (t s : PathOf) → is_gt (path_cmp t s) ≡ false → encloses t s ≡ false → is_lt (path_cmp t s) ≡ true
+is_before t s le apart = by (path_cmp t s) refl le
+  where
+    by : (o : Ordering) → path_cmp t s ≡ o → is_gt o ≡ false → is_lt o ≡ true
+    by Less is le = refl
+    by Greater is le = absurd (cc le)
+    by Equal is le = absurd (not_both (encloses t s) (ap (encloses t) (sym (exact_paths t s is)) ∙ within_itself t) apart)
+
+pub tops_order : (tops : List PathOf) → AreTops tops → IsInOrder (map alone tops)
+tops_order [] h = refl
+tops_order (t ∷ tops) h = and_from (below_all path_cmp t (map alone tops)) (is_sorted path_cmp (map alone tops)) (all_after tops h.0) (tops_order tops h.1)
+  where
+    all_after : (ss : List PathOf) → AllByRecursion (λ s. is_passed t s ≡ false) ss → below_all path_cmp t (map alone ss) ≡ true
+    all_after [] h = refl
+    all_after (s ∷ ss) h =
+        let apart = passed_parts t s h.0 in and_from (is_lt (path_cmp t s)) (below_all path_cmp t (map alone ss)) (is_before t s apart.0 apart.1) (all_after ss h.1)
+
+-- one path is added to tops
+pub one_covered : (tops : List PathOf) (top q : PathOf) → is_in_two {V = ⊤} {W = ⊤} (map alone tops) (alone top ∷ []) q ≡ (is_inside tops q || encloses top q)
+one_covered tops top q = λ i. is_inside (same tops i) q || or_false (encloses top q) i
+  where
+    same : (tops : List PathOf) → paths_of (map alone tops) ≡ tops
+    same [] = refl
+    same (t ∷ tops) = ap (λ l. t ∷ l) (same tops)
+
+pub copied_tops : {E Z : Type 0} (r : Result (Vec PathOf Z) E) (paths : List (Bor PathOf)) → AreTops (paths_seen paths) → IfOk r (λ copies. copies.items ≡ paths_seen paths)
+    → IfOk r (λ copies. AreTops copies.items)
+copied_tops (Ok copies) paths h are = subst AreTops (sym are) h
+copied_tops (Err e) paths h are = are
+
+pub copied_covers : {E Z : Type 0} (r : Result (Vec PathOf Z) E) (paths : List (Bor PathOf)) (tops : List PathOf) (top : PathOf)
+    → ((q : PathOf) → is_inside (paths_seen paths) q ≡ (is_inside tops q || encloses top q)) → IfOk r (λ copies. copies.items ≡ paths_seen paths)
+    → IfOk r (λ copies. (q : PathOf) → is_inside copies.items q ≡ (is_inside tops q || encloses top q))
+copied_covers (Ok copies) paths tops top h are = λ q. ap (λ ps. is_inside ps q) are ∙ h q
+copied_covers (Err e) paths tops top h are = are
 
 -- a part holds another one and the files before some that are left
-abbrev pub HoldsRead : (new old : Option PathOf) → (files left : Files) → Type 0
+abbrev pub HoldsRead : (new old : List PathOf) → (files left : Files) → Type 0
 HoldsRead new old files left = (p : PathOf) → is_outside new p ≡ true → (is_outside old p ≡ true) × (find path_cmp p files ≡ find path_cmp p left)
 
 find_outside : {A : Type 0} (top p : PathOf) (es : List (PathOf × A)) → encloses top p ≡ false → find path_cmp p (filter (λ e. not (encloses top e.0)) es) ≡ find path_cmp p es
@@ -100,19 +179,19 @@ not_here p e more apart = by (path_cmp p e.0) refl
     by Equal is = absurd (not_both (encloses e.0 p) (ap (λ (q : PathOf). encloses q p) (sym (exact_paths p e.0 is)) ∙ within_itself p) apart)
 
 -- a file is read, with what is below it
-pub read_more : (new : PathOf) (before old : Option PathOf) (files rest left more : Files) (e : PathOf × Node) → rest ≡ e ∷ more → left ≡ filter (λ d. not (encloses e.0 d.0)) more
-    → encloses new e.0 ≡ true → Holds (Some new) before [] → HoldsRead before old files rest → HoldsRead (Some new) old files left
+pub read_more : (new before old : List PathOf) (files rest left more : Files) (e : PathOf × Node) → rest ≡ e ∷ more → left ≡ filter (λ d. not (encloses e.0 d.0)) more
+    → is_inside new e.0 ≡ true → Holds new before [] → HoldsRead before old files rest → HoldsRead new old files left
 read_more new before old files rest left more e first is holds holds_before read p apart =
     let was = read p (holds_before p apart).0 in
-    let off : encloses e.0 p ≡ false = out (encloses e.0 p) (wider new e.0 holds p apart) in
+    let off : encloses e.0 p ≡ false = false_from (encloses e.0 p) (λ below. not_both (is_inside new p) (inside_below new e.0 p holds below) (out (is_inside new p) apart)) in
     (was.0, was.1 ∙ ap (find path_cmp p) first ∙ not_here p e more off ∙ sym (find_outside e.0 p more off) ∙ ap (find path_cmp p) (sym is))
 
-pub read_all : (new old : Option PathOf) (files left : Files) → left ≡ [] → HoldsRead new old files left → Holds new old files
+pub read_all : (new old : List PathOf) (files left : Files) → left ≡ [] → HoldsRead new old files left → Holds new old files
 read_all new old files left none read p apart = ((read p apart).0, (read p apart).1 ∙ ap (find path_cmp p) none)
 
 -- ---- the rows after a line
 
-module _ {A : Type 0} (new old : Option PathOf) (holds : (p : PathOf) → is_outside new p ≡ true → is_outside old p ≡ true) where
+module _ {A : Type 0} (new old : List PathOf) (holds : (p : PathOf) → is_outside new p ≡ true → is_outside old p ≡ true) where
   outside_twice : (es : List (PathOf × A)) → outside new (outside old es) ≡ outside new es
   outside_twice [] = refl
   outside_twice (e ∷ es) = by (is_outside old e.0) refl (is_outside new e.0) refl (outside_twice es)
@@ -158,7 +237,7 @@ module _ (fs gs : Files) (order : IsInOrder fs) (ordered : IsInOrder gs) (p : Pa
       twice None = refl
       twice (Some n) = refl
 
-module _ (V : Verdict) (before : State) (t : StagedState) (old new : Option PathOf) (reports : Reports before t) (holds : HoldsChanges new old t)
+module _ (V : Verdict) (before : State) (t : StagedState) (old new : List PathOf) (reports : Reports before t) (holds : HoldsChanges new old t)
     (order : IsInOrder before.tree.files) (ordered : IsInOrder t.state.tree.files) where
   abbrev rows_before : Rows
   rows_before = rows_of V (persons before.people) before.tree.files
@@ -210,13 +289,10 @@ module _ (V : Verdict) (before : State) (t : StagedState) (old new : Option Path
 
 -- ---- along paths
 
-module _ (top : Option PathOf) where
+module _ (top : List PathOf) where
   not_above : (r p : PathOf) → is_outside top r ≡ false → is_outside top p ≡ true → is_above r p ≡ false
-  not_above r p inside apart = false_from (is_above r p) (λ below. by top inside apart below)
-    where
-      by : (o : Option PathOf) → is_outside o r ≡ false → is_outside o p ≡ true → is_above r p ≡ true → ⊥
-      by None inside apart below = cc
-      by (Some t) inside apart below = not_both (encloses t p) (within_trans t r p (yes (encloses t r) inside) (below_within r p below)) (out (encloses t p) apart)
+  not_above r p inside apart =
+      false_from (is_above r p) (λ below. not_both (is_inside top p) (inside_below top r p (yes (is_inside top r) inside) (below_within r p below)) (out (is_inside top p) apart))
 
   passes_outside : (rows : Rows) (user : ℕ) (p : PathOf) → is_outside top p ≡ true → passes_in rows user p ≡ passes_in (outside top rows) user p
   passes_outside [] user p apart = refl
@@ -241,7 +317,7 @@ module _ (top : Option PathOf) where
       by true is more = λ i. (r.0, reached_outside all r.0 is 0 r.1 i) ∷ more i
       by false is more = more
 
-pub same_outside : (V : Verdict) (top : Option PathOf) (loaded now : State) → SameRows V top loaded now → SameOutside V top loaded now
+pub same_outside : (V : Verdict) (top : List PathOf) (loaded now : State) → SameRows V top loaded now → SameOutside V top loaded now
 same_outside V top loaded now same true =
     let before = rows_of V (persons loaded.people) loaded.tree.files in
     let after = rows_of V (persons now.people) now.tree.files in
@@ -250,38 +326,30 @@ same_outside V top loaded now same false = same
 
 -- ---- out of what is inside
 
-pub same_part : (V : Verdict) (w pair : StatePair) (changed top : Option PathOf) → pair ≡ w → changed ≡ top → SameRows V changed (loaded_state pair) pair.state
+pub same_part : (V : Verdict) (w pair : StatePair) (changed top : List PathOf) → pair ≡ w → changed ≡ top → SameRows V changed (loaded_state pair) pair.state
     → SameOutside V top (loaded_state w) w.state
 same_part V w pair changed top view is same =
     subst (λ (x : StatePair). SameOutside V top (loaded_state x) x.state) view
-    (same_outside V top (loaded_state pair) pair.state (subst (λ (t : Option PathOf). SameRows V t (loaded_state pair) pair.state) is same))
-
-pub raised_holds : {E : Type 0} (r : Result PathOf E) (old : Option PathOf) (top : PathOf) → old ≡ Some top → IfOk r (λ new. encloses new top ≡ true) → IfOk r (λ new. Holds (Some new) old [])
-raised_holds (Ok new) old top is h = subst (λ (o : Option PathOf). Holds (Some new) o []) (sym is) (holds_wider new top h)
-raised_holds (Err e) old top is h = h
-
-pub cloned_holds : {E : Type 0} (r : Result PathOf E) (path : PathOf) → IfOk r (λ new. new ≡ path) → IfOk r (λ new. encloses new path ≡ true)
-cloned_holds (Ok new) path h = ap (λ (p : PathOf). encloses p path) h ∙ within_itself path
-cloned_holds (Err e) path h = h
+    (same_outside V top (loaded_state pair) pair.state (subst (λ (t : List PathOf). SameRows V t (loaded_state pair) pair.state) is same))
 
 -- ---- what a line changed
 
-pub holds_changes : (both new old top : Option PathOf) (staged : StagedState) (changed gone : Files) → old ≡ top → changed ≡ staged.changed → gone ≡ staged.gone → staged.user_change ≡ Unchanged
+pub holds_changes : (both new old top : List PathOf) (staged : StagedState) (changed gone : Files) → old ≡ top → changed ≡ staged.changed → gone ≡ staged.gone → staged.user_change ≡ Unchanged
     → Holds new old changed → Holds both new gone → HoldsChanges both top staged
 holds_changes both new old top staged changed gone is are_changed are_gone users first second p apart =
     let more = second p apart in
     let less = first p more.0 in
     record {
-      outside = subst (λ (o : Option PathOf). is_outside o p ≡ true) is less.0;
+      outside = subst (λ (o : List PathOf). is_outside o p ≡ true) is less.0;
       users = users;
       changed = subst (λ (fs : Files). find path_cmp p fs ≡ None) are_changed less.1;
       gone = subst (λ (fs : Files). find path_cmp p fs ≡ None) are_gone more.1;
     }
 
-pub all_changes : (path : PathOf) (top : Option PathOf) (staged : StagedState) → path ≡ [] → HoldsChanges (Some path) top staged
-all_changes path top staged root p apart = absurd (none_outside path p root apart)
+pub all_changes : (tops old : List PathOf) (staged : StagedState) → tops ≡ [] ∷ [] → HoldsChanges tops old staged
+all_changes tops old staged root p apart = absurd (none_outside tops p root apart)
 
-pub same_next : (V : Verdict) (w pair : StatePair) (t : StagedState) (old new : Option PathOf) → pair ≡ w → Reports w.state t → IsInOrder w.state.tree.files
+pub same_next : (V : Verdict) (w pair : StatePair) (t : StagedState) (old new : List PathOf) → pair ≡ w → Reports w.state t → IsInOrder w.state.tree.files
     → IsInOrder t.state.tree.files → SameRows V old (loaded_state pair) pair.state
     → HoldsChanges new old t → SameRows V new (loaded_state w) t.state
 same_next V w pair t old new view reports order ordered same holds =
@@ -292,10 +360,10 @@ loaded_or None s = refl
 loaded_or (Some l) s = refl
 
 -- the state that is kept is the one after the texts were loaded
-pub same_put : (V : Verdict) (w pair : StatePair) (changed new : Option PathOf) (next now kept before : State) → pair ≡ w → before ≡ pair.state
+pub same_put : (V : Verdict) (w pair : StatePair) (changed new : List PathOf) (next now kept before : State) → pair ≡ w → before ≡ pair.state
     → kept ≡ unwrap_or pair.loaded before → new ≡ changed → now ≡ next
     → SameRows V changed (loaded_state w) next → SameRows V new kept now
 same_put V w pair changed new next now kept before view is_before is_kept is_new is_now same =
     let is : kept ≡ loaded_state w = is_kept ∙ ap (λ (s : State). unwrap_or pair.loaded s) is_before ∙ loaded_or pair.loaded pair.state ∙ ap loaded_state view in
-    subst (λ (t : Option PathOf). SameRows V t kept now) (sym is_new)
+    subst (λ (t : List PathOf). SameRows V t kept now) (sym is_new)
     (subst (λ (s : State). SameRows V changed s now) (sym is) (subst (λ (s : State). SameRows V changed (loaded_state w) s) (sym is_now) same))

@@ -1,106 +1,143 @@
-//! The part of the tree in which lines changed files since the texts were loaded: the files at a path or below it.
+//! The part of the tree in which lines changed files since the texts were loaded: some paths, its tops, with all that is
+//! below them.
 
-ghost use Rattle.std.specs.Prelude.{◌≡◌, Some, [], true, false, IfOk};
+ghost use Rattle.std.specs.Prelude.{◌≡◌, ◌||◌, [], ◌∷◌, true, false, map, IfOk};
 ghost use Rattle.acl_names.specs.Below.{encloses};
 ghost use Rattle.acl_names.specs.Paths.{PathOf};
+ghost use Rattle.path_classes.specs.ClassesWithin.{AreTops, is_inside, paths_seen};
 ghost use Rattle.acl_rights.specs.Outside.{Holds, HoldsChanges, is_outside};
 
 use acl_names::Path;
 use acl_tree::{Differences, Staged, UserChange};
+use path_classes::tops_of;
 use std::alloc::{AllocError, Global};
 
-/// More changed files than these, apart from one another, are not looked at one by one.
-const MOST_FILES: usize = 64;
+/// The most tops of a part. More changed files than these, apart from one another, are not looked at one by one.
+const MOST_TOPS: usize = 64;
 
-/// A path, or the nearest one above it at or below which another path is; that it is the nearest is in no clause, since a
-/// higher one costs time alone. Fails only if memory runs out.
-fn enclosing(alloc: Global, top: Path, path: &Path) -> Result<Path, AllocError>
-    ensures holds { IfOk result (λ new. encloses new path.now ≡ true) }
-    ensures wider { IfOk result (λ new. encloses new top ≡ true) }
+/// The whole tree.
+fn whole_tree(alloc: Global) -> Result<Vec<Path>, AllocError>
+    ensures { IfOk result (λ tops. tops.items ≡ [] ∷ []) }
 {
-    let mut new = top;
-    while !path.is_within(&new) {
-        new = new.parent(alloc)?;
-    }
-    Ok(new)
+    let mut tops = Vec::new(alloc);
+    tops.push(Path::new(Vec::new(alloc)).unwrap())?;
+    Ok(tops)
 }
 
-/// The top of the smallest part that holds another one, if there is one, and a path.
-fn with_path(alloc: Global, top: Option<Path>, path: &Path) -> Result<Path, AllocError>
-    ensures holds { IfOk result (λ new. encloses new path.now ≡ true) }
-    ensures wider { IfOk result (λ new. Holds (Some new) top []) }
+/// Whether a part is the whole tree.
+fn is_whole(tops: &[Path]) -> bool
+    ensures { result ≡ true → (p : PathOf) → is_outside tops.now p ≡ false }
 {
-    match top {
-        Some(top) => enclosing(alloc, top, path),
-        None => path.try_clone(alloc),
-    }
-}
-
-/// All files.
-fn whole_tree(alloc: Global) -> Result<Path, AllocError>
-    ensures { IfOk result (λ path. path ≡ []) }
-{
-    Ok(Path::new(Vec::new(alloc)).unwrap())
-}
-
-/// Whether a part, if there is one, is the whole tree.
-fn is_whole(top: &Option<Path>) -> bool
-    ensures { result ≡ true → (p : PathOf) → is_outside top.now p ≡ false }
-{
-    match top {
+    match tops.first() {
         Some(top) => top.borrowed().is_root(),
         None => false,
     }
 }
 
-/// The top of a part that holds another one and some files, if there are any: the smallest one, or the whole tree where
-/// many files are not below one another. No file is looked at where the part is the whole tree already.
+/// Whether a path is one of some, or below one.
+fn is_inside(tops: &[Path], path: &Path) -> bool
+    ensures { result ≡ is_inside tops.now path.now }
+{
+    tops.iter().any(|top| path.is_within(top))
+}
+
+/// Copies of paths.
+fn copied(alloc: Global, paths: &[&Path]) -> Result<Vec<Path>, AllocError>
+    ensures { IfOk result (λ copies. copies.items ≡ paths_seen paths.now) }
+{
+    let mut copies = Vec::with_capacity(alloc, paths.len())?;
+    for path in paths {
+        copies.push(path.try_clone(alloc)?)?;
+    }
+    Ok(copies)
+}
+
+/// The tops with one more, without those below it.
+fn with_top(alloc: Global, tops: &[Path], top: &Path) -> Result<Vec<Path>, AllocError>
+    requires { AreTops tops.now }
+    ensures tops { IfOk result (λ new. AreTops new.items) }
+    ensures covers { IfOk result (λ new. (q : PathOf) → is_inside new.items q ≡ (is_inside tops.now q || encloses top.now q)) }
+{
+    let mut old = Vec::with_capacity(alloc, tops.len())?;
+    for path in tops {
+        old.push((path, ()))?;
+    }
+    let new = tops_of(alloc, &old, &[(top, ())])?;
+    copied(alloc, &new)
+}
+
+/// The tops of a part that holds another one and a path. Where they would be too many, the path's top is raised until it holds
+/// enough of the others.
+fn with_path(alloc: Global, tops: Vec<Path>, path: &Path) -> Result<Vec<Path>, AllocError>
+    requires { AreTops tops.items }
+    ensures tops { IfOk result (λ new. AreTops new.items) }
+    ensures wider { IfOk result (λ new. Holds new.items tops.items []) }
+    ensures holds { IfOk result (λ new. is_inside new.items path.now ≡ true) }
+{
+    if is_inside(&tops, path) {
+        return Ok(tops);
+    }
+    let mut top = path.try_clone(alloc)?;
+    let mut new = with_top(alloc, &tops, &top)?;
+    while new.len() > MOST_TOPS && !top.borrowed().is_root() {
+        top = top.parent(alloc)?;
+        new = with_top(alloc, &tops, &top)?;
+    }
+    Ok(new)
+}
+
+/// The tops of a part that holds another one and some files, or of the whole tree where many files are not below one another.
+/// No file is looked at where the part is the whole tree already.
 fn with_files(
     alloc: Global,
-    top: Option<Path>,
+    tops: Vec<Path>,
     files: Differences<'_>,
-) -> Result<Option<Path>, AllocError>
-    ensures { IfOk result (λ new. Holds new top files.entry) }
+) -> Result<Vec<Path>, AllocError>
+    requires { AreTops tops.items }
+    ensures tops { IfOk result (λ new. AreTops new.items) }
+    ensures holds { IfOk result (λ new. Holds new.items tops.items files.entry) }
 {
-    let mut new = top;
-    let mut left = MOST_FILES;
+    let mut new = tops;
+    let mut left = MOST_TOPS;
     let mut rest = files;
     while left > 0 && !is_whole(&new) {
         let Some(file) = rest.next_top() else {
             return Ok(new);
         };
         left -= 1;
-        new = Some(with_path(alloc, new, file.0)?);
+        new = with_path(alloc, new, file.0)?;
     }
-    Ok(Some(whole_tree(alloc)?))
+    whole_tree(alloc)
 }
 
-/// A copy of a path, if there is one.
-fn copied(alloc: Global, top: &Option<Path>) -> Result<Option<Path>, AllocError>
-    ensures { IfOk result (λ copy. copy ≡ top.now) }
+/// The tops of a part, copied.
+fn same_part(alloc: Global, tops: &[Path]) -> Result<Vec<Path>, AllocError>
+    ensures { IfOk result (λ copies. copies.items ≡ tops.now) }
 {
-    match top {
-        Some(top) => Ok(Some(top.try_clone(alloc)?)),
-        None => Ok(None),
+    let mut copies = Vec::with_capacity(alloc, tops.len())?;
+    for top in tops {
+        copies.push(top.try_clone(alloc)?)?;
     }
+    Ok(copies)
 }
 
-/// The top of a part that holds another one and all files that a line changed, if there are any. Where a user moved it is
-/// the whole tree.
+/// The tops of a part that holds another one and all files that a line changed. Where a user moved it is the whole tree.
 pub(crate) fn with_changes(
     alloc: Global,
-    top: &Option<Path>,
+    tops: &[Path],
     staged: &Staged,
-) -> Result<Option<Path>, AllocError>
-    ensures { IfOk result (λ new. HoldsChanges new top.now staged.now) }
+) -> Result<Vec<Path>, AllocError>
+    requires { AreTops tops.now }
+    ensures tops { IfOk result (λ new. AreTops new.items) }
+    ensures holds { IfOk result (λ new. HoldsChanges new.items tops.now staged.now) }
 {
     match staged.user_change() {
         UserChange::Unchanged => {
-            let old = copied(alloc, top)?;
+            let old = same_part(alloc, tops)?;
             let new = with_files(alloc, old, staged.changed())?;
             let both = with_files(alloc, new, staged.gone())?;
             Ok(both)
         }
-        _ => Ok(Some(whole_tree(alloc)?)),
+        _ => whole_tree(alloc),
     }
 }

@@ -1,7 +1,7 @@
 //! A state with the index of who may do what in it, and what users are granted in it, with or without search along the path;
 //! the present one with the one after the texts were loaded, the states that the lines of a script see.
 
-ghost use Rattle.std.specs.Prelude.{◌≡◌, [], ◌+◌, ◌<◌, ◌≤◌, ◌^◌, IfOk, OnOk, OnErr, option_map};
+ghost use Rattle.std.specs.Prelude.{◌≡◌, [], ◌+◌, ◌<◌, ◌≤◌, ◌^◌, IfOk, OnOk, OnErr};
 ghost use Rattle.acl_tree.specs.Reports.{Reports};
 ghost use Rattle.acl_rights.specs.Stages.{most_asked};
 ghost use Rattle.acl_rights.specs.Rows.{Asks};
@@ -9,7 +9,8 @@ ghost use Rattle.acl_rights.specs.Costs.{all_pairs, most_pairs, most_between};
 ghost use Rattle.acl_rights.specs.Tables.{IsWhole, FindsUsers, FindsFiles};
 ghost use Rattle.acl_rights.specs.Verdicts.{can_requests, users_granted, paths_granted, rows_granted};
 ghost use Rattle.acl_rights.specs.States.{IsPrepared, from_start, loaded_state, states_after, states_in, state_after, most_after};
-ghost use Rattle.acl_rights.specs.Outside.{SameOutside, SameRows, HoldsChanges};
+ghost use Rattle.path_classes.specs.ClassesWithin.{AreTops};
+ghost use Rattle.acl_rights.specs.Outside.{SameOutside, SameRows};
 ghost use Rattle.path_map.specs.Below.{from};
 
 use crate::changed_part::with_changes;
@@ -197,11 +198,12 @@ pub struct IndexedStates<J: Judge> {
     state: IndexedState<J>,
     /// The state after the texts were loaded; `None` where no line that may change the state was accepted since.
     loaded: Option<IndexedState<J>>,
-    /// The path at or below which both may differ, if they may.
-    changed: Option<Path>,
+    /// The paths at or below which both may differ: in path order, none below another one.
+    changed: Vec<Path>,
 }
 
 impl<J: Judge> Model for IndexedStates<J> {
+    ghost use Rattle.path_classes.specs.ClassesWithin.{AreTops};
     ghost use Rattle.acl_rights.specs.Outside.{SameRows};
     ghost use Rattle.acl_rights.specs.States.{StatePair, coded_pair, loaded_state};
 
@@ -211,15 +213,15 @@ impl<J: Judge> Model for IndexedStates<J> {
 
     ghost view = { λ w. record { state = w.state; loaded = w.loaded } };
 
-    ghost invariant = { λ w. SameRows J.verdict_of w.changed (loaded_state (record { state = w.state; loaded = w.loaded })) w.state };
+    ghost invariant = { λ w. AreTops w.changed.items × SameRows J.verdict_of w.changed.items (loaded_state (record { state = w.state; loaded = w.loaded })) w.state };
 }
 
-/// The next present state with its index, and the path at or below which it may differ from the state after the texts were
-/// loaded, if it may.
+/// The next present state with its index, and the paths at or below which it may differ from the state after the texts were
+/// loaded.
 #[derive(Drop)]
 struct NextState<J: Judge> {
     state: IndexedState<J>,
-    changed: Option<Path>,
+    changed: Vec<Path>,
 }
 
 impl<J: Judge> IndexedStates<J> {
@@ -238,7 +240,7 @@ impl<J: Judge> IndexedStates<J> {
         Ok(IndexedStates {
             state,
             loaded: None,
-            changed: None,
+            changed: Vec::new(alloc),
         })
     }
 
@@ -249,15 +251,13 @@ impl<J: Judge> IndexedStates<J> {
         &self.state
     }
 
-    /// The path at or below which all files are with which a user may do something else than after the texts were loaded,
-    /// if there are any. Allocates nothing.
-    pub fn changed(&self) -> Option<&Path>
-        ensures { SameOutside J.verdict_of (option_map (λ p. p.now) result) (loaded_state self.now) self.now.state }
+    /// The paths at or below which all files are with which a user may do something else than after the texts were loaded:
+    /// in path order, none below another one. Allocates nothing.
+    pub fn changed(&self) -> &[Path]
+        ensures tops { AreTops result.now }
+        ensures same { SameOutside J.verdict_of result.now (loaded_state self.now) self.now.state }
     {
-        match &self.changed {
-            Some(top) => Some(top),
-            None => None,
-        }
+        &self.changed
     }
 
     /// The state after the texts were loaded, with its index.
@@ -277,7 +277,7 @@ impl<J: Judge> IndexedStates<J> {
     {
         if loads {
             drop(self.loaded.take());
-            drop(self.changed.take());
+            self.changed.clear();
         }
     }
 
@@ -292,7 +292,8 @@ impl<J: Judge> IndexedStates<J> {
         requires room { J.asked_of judge.old + all_pairs staged.state < 2 ^ 64 }
         requires reports { Reports self.now.state staged }
         ensures state { IfOk result (λ next. next.state ≡ staged.state) }
-        ensures same { IfOk result (λ next. SameRows J.verdict_of next.changed (loaded_state self.now) staged.state) }
+        ensures tops { IfOk result (λ next. AreTops next.changed.items) }
+        ensures same { IfOk result (λ next. SameRows J.verdict_of next.changed.items (loaded_state self.now) staged.state) }
         ensures at_most { J.asked_of judge.new ≤ J.asked_of judge.old + most_asked staged }
         ensures bounded { J.asked_of judge.new ≤ J.asked_of judge.old + all_pairs staged.state }
     {
@@ -313,7 +314,8 @@ impl<J: Judge> IndexedStates<J> {
     /// Puts a state in place of the present one, which is kept where no line has changed the state since the texts were
     /// loaded. Allocates nothing.
     fn put(&mut self, next: NextState<J>)
-        requires { SameRows J.verdict_of next.changed (loaded_state self.old) next.state }
+        requires tops { AreTops next.changed.items }
+        requires same { SameRows J.verdict_of next.changed.items (loaded_state self.old) next.state }
         ensures loaded { loaded_state self.new ≡ loaded_state self.old }
         ensures state { self.new.state ≡ next.state }
     {

@@ -1,5 +1,5 @@
--- The files of two states at a path or below it are all of a text, where the others have no part in it.
-use Rattle.std.proofs.Common.{◌≡◌, ℕ, Bool, true, false, cond, not, List, [], ◌∷◌, ◌++◌, map, filter, Option, Some, None, Less, IsTrue, refl, sym, ap, subst, ◌∙◌}
+-- The files of two states at some paths or below them are all of a text, where the others have no part in it.
+use Rattle.std.proofs.Common.{◌≡◌, ℕ, suc, ◌+◌, ◌<◌, Bool, true, false, cond, not, List, [], ◌∷◌, ◌++◌, append_assoc, drop, drop-cons, get_or, length, map, filter, take, Option, Some, None, Less, IsTrue, refl, sym, ap, subst, ◌∙◌}
 use Rattle.std.specs.Prelude.{option_and_then, unwrap_or, if◌then◌else◌}
 use Rattle.std.specs.List.{flat_map, list_all}
 use Rattle.std.specs.Option.{option_or}
@@ -7,6 +7,8 @@ use Rattle.std.specs.Ordering.{is_gt, is_lt}
 use Rattle.std.specs.FinMap.{find, is_sorted}
 use Rattle.std.specs.FinMap.Entries.{below_all}
 use Rattle.std.proofs.lemmas.Bool.{and_parts}
+use Rattle.std.proofs.lemmas.List.{take_more, take-append-drop}
+use Rattle.std.proofs.lemmas.List.Concat.{flat_map-append}
 use Rattle.acl_names.specs.Below.{encloses}
 use Rattle.acl_names.specs.Paths.{path_cmp, PathOf}
 use Rattle.acl_names.proofs.Below.{early_not_within, convex}
@@ -17,14 +19,17 @@ use Rattle.path_map.specs.Merged.{put_all}
 use Rattle.path_map.proofs.Merges.{in_order-put_all}
 use Rattle.path_map.proofs.Rows.{find_put_all}
 use Rattle.acl_tree.specs.State.{State}
+use Rattle.path_classes.specs.ClassesWithin.{AreTops, inside, is_inside}
 use Rattle.path_classes.specs.Rows.{Rows}
+use Rattle.path_classes.proofs.FoundWithin.{inside_none, none_taken}
+use Rattle.path_classes.proofs.Tops.{inside_more, tops_parts}
 use Rattle.path_classes.proofs.Maps.{find-filter, map_filter, same_found}
 use Rattle.acl_rights.specs.Outside.{is_outside, SameOutside}
 use Rattle.acl_rights.specs.Rows.{Verdict}
 use Rattle.acl_rights.specs.Verdicts.{rows_granted}
 use Rattle.facl_answers.specs.declared.placed_users.PlacedUser.{PlacedUser}
 use Rattle.facl_answers.specs.BothStates.{RowsOfFile, front, rows_at, rows_of_both}
-use Rattle.facl_answers.specs.Inner.{keeps_place, lines_between, lines_of_file}
+use Rattle.facl_answers.specs.Inner.{keeps_place, lines_between, lines_of_file, lines_of_files}
 use Rattle.facl_answers.proofs.BothLines.{same_rows}
 use Rattle.facl_answers.proofs.ChangeLines.{paths, order_by_paths, rows_order}
 
@@ -105,7 +110,7 @@ module _ (top : PathOf) where
             let now = find-filter is_left row.0 after after_order ∙ passes (not (is_gt (path_cmp top row.0))) (find path_cmp row.0 after) (ap not is) in
             λ i. (row.0, (was i, now i)) ∷ more i
 
-    files_order : IsInOrder (rows_of_both before after)
+    pub files_order : IsInOrder (rows_of_both before after)
     files_order =
         subst (λ b. b ≡ true) (sym (order_by_paths (rows_of_both before after) (put_all after before) (file_paths before after (put_all after before))))
         (in_order-put_all after before before_order)
@@ -119,25 +124,51 @@ module _ (top : PathOf) where
 pub from_order : (top : PathOf) (rows : Rows) → IsInOrder rows → IsInOrder (from top rows)
 from_order top rows order = map_filter (λ e. not (is_gt (path_cmp top e.0))) rows order
 
+-- ---- top by top
+
+module _ (tops : List PathOf) (at : ℕ) (top d : PathOf) (lt : at < length tops) (is : top ≡ get_or tops at d) where
+  cut : tops ≡ take at tops ++ top ∷ drop (suc at) tops
+  cut = sym (take-append-drop at tops) ∙ ap (λ l. take at tops ++ l) (drop-cons tops at d lt ∙ ap (λ p. p ∷ drop (suc at) tops) (sym is))
+
+  pub one_inside : {A : Type 0} → AreTops tops → (files : List (PathOf × A)) → IsInOrder files → inside (take at tops) files ++ within top files ≡ inside (take (at + 1) tops) files
+  one_inside are files order =
+      sym (inside_more (take at tops) top (tops_parts (take at tops) top (drop (suc at) tops) (subst AreTops cut are)).0 files order)
+      ∙ ap (λ ts. inside ts files) (ap (λ p. take at tops ++ p ∷ []) is ∙ sym (take_more tops at d lt))
+
+pub none_inside : {A : Type 0} (tops : List PathOf) (files : List (PathOf × A)) → inside (take 0 tops) files ≡ []
+none_inside tops files = ap (λ ts. inside ts files) (none_taken tops) ∙ inside_none files
+
+-- all files are at the root or below it
+pub within_root : {A : Type 0} (top : PathOf) (files : List (PathOf × A)) → top ≡ [] → within top files ≡ files
+within_root top files root = ap (λ t. within t files) root ∙ all files
+  where
+    all : {A : Type 0} (files : List (PathOf × A)) → within [] files ≡ files
+    all [] = refl
+    all (file ∷ files) = ap (λ l. file ∷ l) (all files)
+
+-- the lines of some files are added, and those of more
+pub lines_more : (users : List PlacedUser) (text_of : PathOf → List ℕ) (start some all : List ℕ) (files more : List (PathOf × RowsOfFile)) → some ≡ start ++ lines_of_files users text_of files
+    → all ≡ some ++ lines_of_files users text_of more → all ≡ start ++ lines_of_files users text_of (files ++ more)
+lines_more users text_of start some all files more first second =
+    second ∙ ap (λ l. l ++ lines_of_files users text_of more) first
+    ∙ append_assoc start (lines_of_files users text_of files) (lines_of_files users text_of more)
+    ∙ ap (λ l. start ++ l) (sym (flat_map-append (lines_of_file users text_of) files more))
+
 -- ---- files that have no part in a text
 
 module _ {C : Type 0} (part_of : PathOf × RowsOfFile → List C) (before after : Rows) where
-  pub parts_within : (top : PathOf) → ((p : PathOf) → encloses top p ≡ false → part_of (p, (find path_cmp p before, find path_cmp p after)) ≡ [])
-      → (rows : Rows) → flat_map part_of (within top (map (file_at before after) rows)) ≡ flat_map part_of (map (file_at before after) rows)
-  parts_within top silent [] = refl
-  parts_within top silent (row ∷ rows) = by (encloses top row.0) refl (parts_within top silent rows)
+  pub parts_inside : (tops : List PathOf) → ((p : PathOf) → is_inside tops p ≡ false → part_of (p, (find path_cmp p before, find path_cmp p after)) ≡ [])
+      → (rows : Rows) → flat_map part_of (inside tops (map (file_at before after) rows)) ≡ flat_map part_of (map (file_at before after) rows)
+  parts_inside tops silent [] = refl
+  parts_inside tops silent (row ∷ rows) = by (is_inside tops row.0) refl (parts_inside tops silent rows)
     where
       files : List (PathOf × RowsOfFile)
       files = map (file_at before after) rows
 
-      by : (b : Bool) → encloses top row.0 ≡ b → flat_map part_of (within top files) ≡ flat_map part_of files
-          → flat_map part_of (cond b (file_at before after row ∷ within top files) (within top files)) ≡ part_of (file_at before after row) ++ flat_map part_of files
+      by : (b : Bool) → is_inside tops row.0 ≡ b → flat_map part_of (inside tops files) ≡ flat_map part_of files
+          → flat_map part_of (cond b (file_at before after row ∷ inside tops files) (inside tops files)) ≡ part_of (file_at before after row) ++ flat_map part_of files
       by true is more = ap (λ l. part_of (file_at before after row) ++ l) more
       by false is more = more ∙ sym (ap (λ l. l ++ flat_map part_of files) (silent row.0 is))
-
-  pub no_parts : ((p : PathOf) → part_of (p, (find path_cmp p before, find path_cmp p after)) ≡ []) → (rows : Rows) → flat_map part_of (map (file_at before after) rows) ≡ []
-  no_parts silent [] = refl
-  no_parts silent (row ∷ rows) = λ i. silent row.0 i ++ no_parts silent rows i
 
 -- ---- where rows are the same outside a part
 
@@ -148,13 +179,13 @@ module _ (V : Verdict) (along : Bool) (loaded now : State) (before_order : IsInO
   abbrev pub rows_after : Rows
   rows_after = rows_granted V along now
 
-  pub row_stays : (top : Option PathOf) → SameOutside V top loaded now → (p : PathOf) → is_outside top p ≡ true → find path_cmp p rows_before ≡ find path_cmp p rows_after
+  pub row_stays : (top : List PathOf) → SameOutside V top loaded now → (p : PathOf) → is_outside top p ≡ true → find path_cmp p rows_before ≡ find path_cmp p rows_after
   row_stays top same p apart =
       sym (find-filter (λ e. is_outside top e.0) p rows_before (rows_order V along loaded before_order) ∙ passes (is_outside top p) (find path_cmp p rows_before) apart)
       ∙ ap (find path_cmp p) (same along)
       ∙ (find-filter (λ e. is_outside top e.0) p rows_after (rows_order V along now after_order) ∙ passes (is_outside top p) (find path_cmp p rows_after) apart)
 
-  pub no_lines_outside : (users : List PlacedUser) (text_of : PathOf → List ℕ) → list_all keeps_place users ≡ true → (top : Option PathOf) → SameOutside V top loaded now
+  pub no_lines_outside : (users : List PlacedUser) (text_of : PathOf → List ℕ) → list_all keeps_place users ≡ true → (top : List PathOf) → SameOutside V top loaded now
       → (p : PathOf) → is_outside top p ≡ true → lines_of_file users text_of (p, rows_at V along loaded now p) ≡ []
   no_lines_outside users text_of keep top same p apart =
       let row : List ℕ = unwrap_or (find path_cmp p rows_after) [] in
@@ -166,6 +197,6 @@ none_passes : {A : Type 0} (es : List A) → filter (λ e. false) es ≡ []
 none_passes [] = refl
 none_passes (e ∷ es) = none_passes es
 
-pub same_outside_root : (V : Verdict) (top : PathOf) (loaded now : State) → top ≡ [] → SameOutside V (Some top) loaded now
+pub same_outside_root : (V : Verdict) (top : PathOf) (loaded now : State) → top ≡ [] → SameOutside V (top ∷ []) loaded now
 same_outside_root V top loaded now root =
-    subst (λ (t : PathOf). SameOutside V (Some t) loaded now) (sym root) (λ along. none_passes (rows_granted V along loaded) ∙ sym (none_passes (rows_granted V along now)))
+    subst (λ (t : PathOf). SameOutside V (t ∷ []) loaded now) (sym root) (λ along. none_passes (rows_granted V along loaded) ∙ sym (none_passes (rows_granted V along now)))

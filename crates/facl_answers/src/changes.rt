@@ -1,14 +1,14 @@
 //! What `changes` prints: what each user may do with each file, beside what the user might do before; and its lines.
 
-ghost use Rattle.std.specs.Prelude.{◌≡◌, [], false, option_map, true, unwrap_or, IfOk};
+ghost use Rattle.std.specs.Prelude.{◌≡◌, [], true, unwrap_or, IfOk};
 ghost use Rattle.std.specs.List.{list_all};
 ghost use Rattle.std.specs.Option.{option_copied};
 ghost use Rattle.acl_names.specs.Appends.{Appends};
-ghost use Rattle.acl_names.specs.Below.{encloses};
-ghost use Rattle.acl_names.specs.Paths.{PathOf};
+ghost use Rattle.path_map.specs.Below.{within};
 ghost use Rattle.path_map.specs.Entries.{IsInOrder};
+ghost use Rattle.path_classes.specs.ClassesWithin.{AreTops, inside};
 ghost use Rattle.acl_rights.specs.Outside.{SameOutside};
-ghost use Rattle.facl_answers.specs.BothStates.{both_of, front, rows_at, rows_in_both, rows_of_both, rows_of_key};
+ghost use Rattle.facl_answers.specs.BothStates.{both_of, front, rows_in_both, rows_of_both, rows_of_key};
 ghost use Rattle.facl_answers.specs.ChangesText.{changes_text};
 ghost use Rattle.facl_answers.specs.Inner.{keeps_place, lines_of_file, lines_of_files};
 ghost use Rattle.facl_answers.specs.PathTexts.{text_in};
@@ -82,7 +82,7 @@ fn push_both(
     Ok(())
 }
 
-/// Adds the lines of all files, where no other file has lines than those at a path or below it.
+/// Adds the lines of the files at a path or below it.
 fn push_within<J: Judge>(
     alloc: Global,
     text: &mut Vec<u8>,
@@ -91,14 +91,33 @@ fn push_within<J: Judge>(
     verdicts: &Verdicts<'_, J>,
     top: &Path,
 ) -> Result<(), AllocError>
-    requires silent { (p : PathOf) → encloses top.now p ≡ false
-        → lines_of_file users.now (text_in loaded.now.tree verdicts.now.state.now.tree) (p, rows_at J.verdict_of verdicts.now.along loaded.now verdicts.now.state.now p) ≡ [] }
     ensures { Appends result text.old text.new (lines_of_files users.now (text_in loaded.now.tree verdicts.now.state.now.tree)
-        (rows_in_both J.verdict_of verdicts.now.along loaded.now verdicts.now.state.now)) }
+        (within top.now (rows_in_both J.verdict_of verdicts.now.along loaded.now verdicts.now.state.now))) }
 {
     let mut both = BothClasses::of_states(alloc, loaded, verdicts, top);
     let trees = (loaded.state().tree(), verdicts.state.state().tree());
     push_both(alloc, text, users, trees, &mut both, top)
+}
+
+/// Adds the lines of the files at or below some paths, of which none is below another one.
+fn push_inside<J: Judge>(
+    alloc: Global,
+    text: &mut Vec<u8>,
+    users: &[PlacedUser],
+    loaded: &IndexedState<J>,
+    verdicts: &Verdicts<'_, J>,
+    tops: &[Path],
+) -> Result<(), AllocError>
+    requires tops { AreTops tops.now }
+    requires before { IsInOrder loaded.now.tree.files }
+    requires after { IsInOrder verdicts.now.state.now.tree.files }
+    ensures { Appends result text.old text.new (lines_of_files users.now (text_in loaded.now.tree verdicts.now.state.now.tree)
+        (inside tops.now (rows_in_both J.verdict_of verdicts.now.along loaded.now verdicts.now.state.now))) }
+{
+    for top in tops {
+        push_within(alloc, text, users, loaded, verdicts, top)?;
+    }
+    Ok(())
 }
 
 /// Adds the lines of all files, where users may do the same outside a part of the tree. Where no user has another place
@@ -109,33 +128,32 @@ fn push_part<J: Judge>(
     users: &[PlacedUser],
     loaded: &IndexedState<J>,
     verdicts: &Verdicts<'_, J>,
-    changed: Option<&Path>,
+    tops: &[Path],
 ) -> Result<(), AllocError>
-    requires same { SameOutside J.verdict_of (option_map (λ p. p.now) changed) loaded.now verdicts.now.state.now }
+    requires tops { AreTops tops.now }
+    requires same { SameOutside J.verdict_of tops.now loaded.now verdicts.now.state.now }
     requires before { IsInOrder loaded.now.tree.files }
     requires after { IsInOrder verdicts.now.state.now.tree.files }
     ensures { Appends result text.old text.new (lines_of_files users.now (text_in loaded.now.tree verdicts.now.state.now.tree)
         (rows_in_both J.verdict_of verdicts.now.along loaded.now verdicts.now.state.now)) }
 {
-    if !keep_places(users) {
-        let root = root(alloc);
-        return push_within(alloc, text, users, loaded, verdicts, &root);
-    }
-    match changed {
-        Some(top) => push_within(alloc, text, users, loaded, verdicts, top),
-        None => Ok(()),
+    if keep_places(users) {
+        push_inside(alloc, text, users, loaded, verdicts, tops)
+    } else {
+        push_within(alloc, text, users, loaded, verdicts, &root(alloc))
     }
 }
 
-/// What `changes` prints, where users may do the same in both states outside a part of the tree: it is one walk over both
-/// states' files of the part. Fails only if memory runs out.
+/// What `changes` prints, where users may do the same in both states outside a part of the tree, what is at or below some paths:
+/// it is a walk over both states' files for each of them. Fails only if memory runs out.
 pub fn write_changes_within<J: Judge>(
     alloc: Global,
     loaded: &IndexedState<J>,
     verdicts: &Verdicts<'_, J>,
-    changed: Option<&Path>,
+    tops: &[Path],
 ) -> Result<Vec<u8>, AllocError>
-    requires { SameOutside J.verdict_of (option_map (λ p. p.now) changed) loaded.now verdicts.now.state.now }
+    requires tops { AreTops tops.now }
+    requires same { SameOutside J.verdict_of tops.now loaded.now verdicts.now.state.now }
     ensures { IfOk result (λ text. text.items ≡ changes_text J.verdict_of verdicts.now.along loaded.now verdicts.now.state.now) }
 {
     loaded.state().tree().soundness_law();
@@ -143,7 +161,7 @@ pub fn write_changes_within<J: Judge>(
     let people = verdicts.state.state().people();
     let users = users_of_both(alloc, loaded.state().people(), people)?;
     let mut text = Vec::new(alloc);
-    push_part(alloc, &mut text, &users, loaded, verdicts, changed)?;
+    push_part(alloc, &mut text, &users, loaded, verdicts, tops)?;
     Ok(text)
 }
 
@@ -158,6 +176,5 @@ pub fn write_changes<J: Judge>(
 ) -> Result<Vec<u8>, AllocError>
     ensures { IfOk result (λ text. text.items ≡ changes_text J.verdict_of verdicts.now.along loaded.now verdicts.now.state.now) }
 {
-    let root = root(alloc);
-    write_changes_within(alloc, loaded, verdicts, Some(&root))
+    write_changes_within(alloc, loaded, verdicts, &[root(alloc)])
 }

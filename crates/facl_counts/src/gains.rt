@@ -1,18 +1,18 @@
 //! What `gains` prints: for each user and each change of what the user is granted, on how many files, and on which first.
 
-ghost use Rattle.std.specs.Prelude.{◌≡◌, ◌<◌, ◌+◌, ◌++◌, false, if◌then◌else◌, IfOk, OnOk, map, option_map};
+ghost use Rattle.std.specs.Prelude.{◌≡◌, ◌<◌, ◌+◌, ◌++◌, if◌then◌else◌, IfOk, OnOk, map, option_map};
 ghost use Rattle.std.specs.List.{flat_map, list_any};
 ghost use Rattle.acl_names.specs.Appends.{Appends};
 ghost use Rattle.path_map.specs.Entries.{IsInOrder};
-ghost use Rattle.acl_names.specs.Below.{encloses};
-ghost use Rattle.acl_names.specs.Paths.{PathOf};
+ghost use Rattle.path_map.specs.Below.{within};
+ghost use Rattle.path_classes.specs.ClassesWithin.{AreTops, inside};
 ghost use Rattle.acl_rights.specs.Outside.{SameOutside};
 ghost use Rattle.facl_answers.specs.Answers.{line};
 ghost use Rattle.facl_counts.specs.CountTexts.{count_text, spaced};
 ghost use Rattle.facl_counts.specs.Counting.{tallied};
 ghost use Rattle.facl_counts.specs.GainsText.{gains_text, is_same, is_same_side, side_of, side_text};
-ghost use Rattle.facl_answers.specs.BothStates.{rows_at, rows_in_both};
-ghost use Rattle.facl_counts.specs.InnerGains.{AreSilentOn, HaveChanges, count_line, is_before, lines_after, lines_of_user, tally_line, tally_lines};
+ghost use Rattle.facl_answers.specs.BothStates.{rows_in_both};
+ghost use Rattle.facl_counts.specs.InnerGains.{HaveChanges, count_line, is_before, lines_after, lines_of_user, tally_line, tally_lines};
 ghost use Rattle.facl_answers.specs.PathTexts.{text_in};
 ghost use Rattle.facl_counts.specs.Tallies.{count_where, first_where};
 
@@ -257,20 +257,38 @@ fn push_users(
     Ok(())
 }
 
-/// Counts each user's changes on the files at or below a path, where no user has one on another file.
-fn count_part<'x, J: Judge>(
+/// Counts each user's changes on the files at a path or below it.
+fn count_within_top<'x, J: Judge>(
     alloc: Global,
     users: &mut [UserGains<'x>],
     loaded: &'x IndexedState<J>,
     verdicts: &Verdicts<'x, J>,
     top: &Path,
 ) -> Result<(), AllocError>
-    requires silent { (p : PathOf) → encloses top.now p ≡ false → AreSilentOn (rows_at J.verdict_of verdicts.now.along loaded.now verdicts.now.state.now p) users.old }
-    ensures { OnOk result (HaveChanges (rows_in_both J.verdict_of verdicts.now.along loaded.now verdicts.now.state.now) users.old users.new) }
+    ensures { OnOk result (HaveChanges (within top.now (rows_in_both J.verdict_of verdicts.now.along loaded.now verdicts.now.state.now)) users.old users.new) }
 {
     let mut both = BothClasses::of_states(alloc, loaded, verdicts, top);
     let tallies = count_within(alloc, &mut both, top)?;
     count_changes(alloc, users, &both, tallies.as_slice())
+}
+
+/// Counts each user's changes on the files at or below some paths, of which none is below another one.
+fn count_inside<'x, J: Judge>(
+    alloc: Global,
+    users: &mut [UserGains<'x>],
+    loaded: &'x IndexedState<J>,
+    verdicts: &Verdicts<'x, J>,
+    tops: &[Path],
+) -> Result<(), AllocError>
+    requires tops { AreTops tops.now }
+    requires before { IsInOrder loaded.now.tree.files }
+    requires after { IsInOrder verdicts.now.state.now.tree.files }
+    ensures { OnOk result (HaveChanges (inside tops.now (rows_in_both J.verdict_of verdicts.now.along loaded.now verdicts.now.state.now)) users.old users.new) }
+{
+    for top in tops {
+        count_within_top(alloc, users, loaded, verdicts, top)?;
+    }
+    Ok(())
 }
 
 /// Counts each user's changes. Where no user has another place than before, only the files of the part are looked at
@@ -280,20 +298,18 @@ fn count_all<'x, J: Judge>(
     users: &mut [UserGains<'x>],
     loaded: &'x IndexedState<J>,
     verdicts: &Verdicts<'x, J>,
-    changed: Option<&Path>,
+    tops: &[Path],
 ) -> Result<(), AllocError>
-    requires same { SameOutside J.verdict_of (option_map (λ p. p.now) changed) loaded.now verdicts.now.state.now }
+    requires tops { AreTops tops.now }
+    requires same { SameOutside J.verdict_of tops.now loaded.now verdicts.now.state.now }
     requires before { IsInOrder loaded.now.tree.files }
     requires after { IsInOrder verdicts.now.state.now.tree.files }
     ensures { OnOk result (HaveChanges (rows_in_both J.verdict_of verdicts.now.along loaded.now verdicts.now.state.now) users.old users.new) }
 {
-    if !keep_places(users) {
-        let root = root(alloc);
-        return count_part(alloc, users, loaded, verdicts, &root);
-    }
-    match changed {
-        Some(top) => count_part(alloc, users, loaded, verdicts, top),
-        None => Ok(()),
+    if keep_places(users) {
+        count_inside(alloc, users, loaded, verdicts, tops)
+    } else {
+        count_within_top(alloc, users, loaded, verdicts, &root(alloc))
     }
 }
 
@@ -302,9 +318,10 @@ fn gains_of_users<'x, J: Judge>(
     alloc: Global,
     loaded: &'x IndexedState<J>,
     verdicts: &Verdicts<'x, J>,
-    changed: Option<&Path>,
+    tops: &[Path],
 ) -> Result<Vec<UserGains<'x>>, AllocError>
-    requires { SameOutside J.verdict_of (option_map (λ p. p.now) changed) loaded.now verdicts.now.state.now }
+    requires tops { AreTops tops.now }
+    requires same { SameOutside J.verdict_of tops.now loaded.now verdicts.now.state.now }
     ensures { IfOk result (λ users. flat_map (lines_of_user (text_in loaded.now.tree verdicts.now.state.now.tree)) users.items
         ≡ gains_text J.verdict_of verdicts.now.along loaded.now verdicts.now.state.now) }
 {
@@ -313,22 +330,23 @@ fn gains_of_users<'x, J: Judge>(
     let people = verdicts.state.state().people();
     let placed = users_of_both(alloc, loaded.state().people(), people)?;
     let mut users = without_counts(alloc, placed)?;
-    count_all(alloc, &mut users, loaded, verdicts, changed)?;
+    count_all(alloc, &mut users, loaded, verdicts, tops)?;
     Ok(users)
 }
 
-/// What `gains` prints, where users may do the same in both states outside a part of the tree: it is one walk over both
-/// states' files of the part. Fails only if memory runs out.
+/// What `gains` prints, where users may do the same in both states outside a part of the tree, what is at or below some paths:
+/// it is a walk over both states' files for each of them. Fails only if memory runs out.
 pub fn write_gains_within<'x, J: Judge>(
     alloc: Global,
     loaded: &'x IndexedState<J>,
     verdicts: &Verdicts<'x, J>,
-    changed: Option<&Path>,
+    tops: &[Path],
 ) -> Result<Vec<u8>, AllocError>
-    requires { SameOutside J.verdict_of (option_map (λ p. p.now) changed) loaded.now verdicts.now.state.now }
+    requires tops { AreTops tops.now }
+    requires same { SameOutside J.verdict_of tops.now loaded.now verdicts.now.state.now }
     ensures { IfOk result (λ text. text.items ≡ gains_text J.verdict_of verdicts.now.along loaded.now verdicts.now.state.now) }
 {
-    let users = gains_of_users(alloc, loaded, verdicts, changed)?;
+    let users = gains_of_users(alloc, loaded, verdicts, tops)?;
     let now = verdicts.state.state().tree();
     let mut text = Vec::new(alloc);
     push_users(alloc, &mut text, loaded.state().tree(), now, &users)?;
@@ -345,6 +363,5 @@ pub fn write_gains<'x, J: Judge>(
 ) -> Result<Vec<u8>, AllocError>
     ensures { IfOk result (λ text. text.items ≡ gains_text J.verdict_of verdicts.now.along loaded.now verdicts.now.state.now) }
 {
-    let root = root(alloc);
-    write_gains_within(alloc, loaded, verdicts, Some(&root))
+    write_gains_within(alloc, loaded, verdicts, &[root(alloc)])
 }

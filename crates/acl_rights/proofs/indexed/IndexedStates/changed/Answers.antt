@@ -1,13 +1,12 @@
-use Rattle.std.proofs.Common.{Some, None}
+use Rattle.std.proofs.Common.{sym, subst}
+use Rattle.path_classes.specs.ClassesWithin.{AreTops}
 use Rattle.acl_rights.proofs.Outside.{same_part}
 use Rattle.acl_rights.proofs.indexed.IndexedStates.changed.Goals as goal
 
-pub returns-in-Some : goal.returns-in-Some
-returns-in-Some g c =
-    let s = c.self.inside in
-    same_part g.J.Judge.verdict_of c.args.self.now (record { state = s.state; loaded = s.loaded }) s.changed (Some c.in-Some.top) c.self.view_is c.in-Some.is c.self.invariant
+pub returns-clause-tops : goal.returns-clause-tops
+returns-clause-tops g c = subst AreTops (sym c.deref.ensures.value) c.self.invariant.0
 
-pub returns-in-None : goal.returns-in-None
-returns-in-None g c =
+pub returns-clause-same : goal.returns-clause-same
+returns-clause-same g c =
     let s = c.self.inside in
-    same_part g.J.Judge.verdict_of c.args.self.now (record { state = s.state; loaded = s.loaded }) s.changed None c.self.view_is c.in-None.is c.self.invariant
+    same_part g.J.Judge.verdict_of c.args.self.now (record { state = s.state; loaded = s.loaded }) s.changed.items c.deref.result.now c.self.view_is (sym c.deref.ensures.value) c.self.invariant.1

@@ -8,9 +8,9 @@ use Rattle.acl_rights.specs.Outside.{SameRows}
 use Rattle.acl_rights.specs.States.{loaded_state}
 use Rattle.acl_rights.proofs.indexed.IndexedStates.replace.Goals as goal
 
-pub put-requires : goal.put-requires
-put-requires g c =
-    subst (λ (s : State). SameRows g.J.Judge.verdict_of c.in_ok-next.next.changed (loaded_state c.args.self.now) s) (sym c.in_ok-next.ensures.state) c.in_ok-next.ensures.same
+pub put-requires-clause-same : goal.put-requires-clause-same
+put-requires-clause-same g c =
+    subst (λ (s : State). SameRows g.J.Judge.verdict_of c.in_ok-next.next.changed.items (loaded_state c.args.self.now) s) (sym c.in_ok-next.ensures.state) c.in_ok-next.ensures.same
 
 pub returns-in_err-next-clause-asked : goal.returns-in_err-next-clause-asked
 returns-in_err-next-clause-asked g c = grind (arith, common_steps)

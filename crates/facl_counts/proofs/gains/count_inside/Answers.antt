@@ -1,0 +1,40 @@
+use Rattle.std.proofs.Common.{take, sym, ap, subst, ◌∙◌}
+use Rattle.std.proofs.lemmas.List.{take_all}
+use Rattle.path_map.specs.Below.{within}
+use Rattle.path_classes.specs.ClassesWithin.{inside}
+use Rattle.acl_rights.specs.Verdicts.{rows_granted}
+use Rattle.facl_answers.specs.BothStates.{rows_in_both}
+use Rattle.facl_answers.proofs.ChangeLines.{rows_order}
+use Rattle.facl_answers.proofs.PartRows.{files_order, none_inside, one_inside}
+use Rattle.facl_counts.specs.InnerGains.{HaveChanges}
+use Rattle.facl_counts.proofs.PartGains.{changes_more, no_changes}
+use Rattle.facl_counts.proofs.gains.count_inside.Goals as goal
+
+pub loop-top-init : goal.loop-top-init
+loop-top-init g c =
+    let V = g.J.Judge.verdict_of in
+    let asked = c.args.verdicts.now in
+    let loaded = c.args.loaded.now in
+    let now = asked.state.now in
+    subst (λ files. HaveChanges files c.args.users.now c.args.users.now) (sym (none_inside c.args.tops.now (rows_in_both V asked.along loaded now)))
+    (no_changes V asked.along loaded now c.args.users.now)
+
+pub loop-top-preserved : goal.loop-top-preserved
+loop-top-preserved g c =
+    let V = g.J.Judge.verdict_of in
+    let asked = c.args.verdicts.now in
+    let loaded = c.args.loaded.now in
+    let now = asked.state.now in
+    let files = rows_in_both V asked.along loaded now in
+    let order =
+    files_order c.top-item.result (rows_granted V asked.along loaded) (rows_granted V asked.along now) (rows_order V asked.along loaded c.requires.before) (rows_order V asked.along now c.requires.after) in
+    subst (λ some. HaveChanges some c.args.users.now c.count_within_top.new.users)
+    (one_inside c.args.tops.now c.loop-top.top-index c.top-item.result c.top-item.result c.loop-top-test.true c.top-item.is c.requires.tops files order)
+    (changes_more V asked.along loaded now (inside (take c.loop-top.top-index c.args.tops.now) files) (within c.top-item.result files) c.args.users.now c.loop-top.users c.count_within_top.new.users
+    c.loop-top.invariant c.in_ok-count_within_top.ensures)
+
+pub returns : goal.returns
+returns g c =
+    let asked = c.args.verdicts.now in
+    subst (λ tops. HaveChanges (inside tops (rows_in_both g.J.Judge.verdict_of asked.along c.args.loaded.now asked.state.now)) c.args.users.now c.loop-top.users)
+    (take_all c.loop-top.top-index c.args.tops.now c.loop-top-test.false) c.loop-top.invariant
