@@ -104,9 +104,10 @@ module _ (V : Verdict) (along : Bool) (loaded now : State) where
       let same : (mid.user.before, mid.user.after) ≡ places = ap (λ (p : Placed). p.1) first.0.0 in
       let joined = λ (others : List (Tallied Sides)).
       (λ i. (others ++ changes_of places files) ++ changes_of (same i) more) ∙ append_assoc others (changes_of places files) (changes_of places more)
-      ∙ ap (λ l. others ++ l) (sym (flat_map-append (change_in places) files more)) in
-      ((second.0.0 ∙ first.0.0, λ others says. subst (SaysAs new.tallies) (joined others) (second.0.1 (others ++ changes_of places files) (first.0.1 others says))),
-        changes_more files more olds mids news first.1 second.1)
+      ∙ ap (λ l. others ++ l) (sym (flat_map-append (change_in places) files more)) in (
+        (second.0.0 ∙ first.0.0, λ others says. subst (SaysAs new.tallies) (joined others) (second.0.1 (others ++ changes_of places files) (first.0.1 others says))),
+        changes_more files more olds mids news first.1 second.1,
+      )
 
   -- those of the files at or below some paths are all
   pub inside_changes : (tops : List PathOf) (olds news : List UserGains) → ((p : PathOf) → is_inside tops p ≡ false → AreSilentOn (rows_at V along loaded now p) olds)

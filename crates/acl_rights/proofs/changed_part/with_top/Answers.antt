@@ -20,5 +20,7 @@ returns-clause-tops c = copied_tops c.copied.result c.deref-2.result.now (subst 
 pub returns-clause-covers : goal.returns-clause-covers
 returns-clause-covers c =
     let all = ap (map seen) c.deref.ensures.value ∙ c.loop-path.invariant ∙ ap (map alone) (take_all c.loop-path.path-index c.args.tops.now c.loop-path-test.false) in
-    let covers = λ (q : PathOf). ap (λ ps. is_inside (paths_seen ps) q) c.deref-2.ensures.value ∙ c.in_ok-new.ensures.covers q ∙ ap (λ es. is_in_two es (alone c.args.top.now ∷ []) q) all ∙ one_covered c.args.tops.now c.args.top.now q in
+    let covers = λ (q : PathOf).
+    ap (λ ps. is_inside (paths_seen ps) q) c.deref-2.ensures.value ∙ c.in_ok-new.ensures.covers q ∙ ap (λ es. is_in_two es (alone c.args.top.now ∷ []) q) all
+    ∙ one_covered c.args.tops.now c.args.top.now q in
     copied_covers c.copied.result c.deref-2.result.now c.args.tops.now c.args.top.now covers c.copied.ensures

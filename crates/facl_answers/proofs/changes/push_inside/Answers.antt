@@ -36,7 +36,8 @@ loop-top-preserved g c =
     let now = asked.state.now in
     let files = rows_in_both V asked.along loaded now in
     let order =
-    files_order c.top-item.result (rows_granted V asked.along loaded) (rows_granted V asked.along now) (rows_order V asked.along loaded c.requires.before) (rows_order V asked.along now c.requires.after) in
+    files_order c.top-item.result (rows_granted V asked.along loaded) (rows_granted V asked.along now) (rows_order V asked.along loaded c.requires.before)
+    (rows_order V asked.along now c.requires.after) in
     lines_more c.args.users.now (text_in loaded.tree now.tree) c.args.text.now.items c.loop-top.text.items c.push_within.new.text.items
     (inside (take c.loop-top.top-index c.args.tops.now) files) (within c.top-item.result files) c.loop-top.invariant c.in_ok-push_within.ensures
     ∙ ap (λ some. c.args.text.now.items ++ lines_of_files c.args.users.now (text_in loaded.tree now.tree) some)

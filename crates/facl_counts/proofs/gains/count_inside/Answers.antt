@@ -27,7 +27,8 @@ loop-top-preserved g c =
     let now = asked.state.now in
     let files = rows_in_both V asked.along loaded now in
     let order =
-    files_order c.top-item.result (rows_granted V asked.along loaded) (rows_granted V asked.along now) (rows_order V asked.along loaded c.requires.before) (rows_order V asked.along now c.requires.after) in
+    files_order c.top-item.result (rows_granted V asked.along loaded) (rows_granted V asked.along now) (rows_order V asked.along loaded c.requires.before)
+    (rows_order V asked.along now c.requires.after) in
     subst (λ some. HaveChanges some c.args.users.now c.count_within_top.new.users)
     (one_inside c.args.tops.now c.loop-top.top-index c.top-item.result c.top-item.result c.loop-top-test.true c.top-item.is c.requires.tops files order)
     (changes_more V asked.along loaded now (inside (take c.loop-top.top-index c.args.tops.now) files) (within c.top-item.result files) c.args.users.now c.loop-top.users c.count_within_top.new.users
