@@ -617,8 +617,9 @@ class Lost(UserScripts):
 
     def test_files_of_a_number(self) -> None:
         os.mkdir(self.path("plan"))
-        mine, ours = BODY.replace(b"1001", b"1003"), BODY.replace(b"group: 100", b"group: 200")
-        self.write_removal(BODY, mine % (b"-", b"-"), mine % (b"x", b"x"), ours, ours, ours)
+        plain = BODY % (b"-", b"-")
+        mine, ours = plain.replace(b"1001", b"1003"), plain.replace(b"group: 100", b"group: 200")
+        self.write_removal(plain, mine, mine.replace(b"rw-", b"rwx"), ours, ours, ours)
         self.expect_lost()
         self.expect_run("by_hand", 0)
         self.write("rows.passwd", PASSWD.replace(b"mara:x:1003", b"nell:x:1004"))
