@@ -15,6 +15,7 @@ USER, GROUP, MASK, OTHER = b"user", b"group", b"mask", b"other"
 PLAIN_NAME = re.compile(rb"[A-Za-z_][A-Za-z0-9_.-]*\Z")
 LETTERS = (b"r", b"w", b"x")
 NOTHING = b"---"  # Of permissions, and of flags.
+MOST_KEPT = 1 << 16  # Records that were read: most snapshots have fewer, and some a million, for which there is no memory.
 Key = Tuple[bytes, bytes]  # The tag, and the id where it names one, or the name as the program prints it.
 OWNER_KEY, OWNING_GROUP_KEY, OTHER_KEY = (USER, b""), (GROUP, b""), (OTHER, b"")
 
@@ -76,7 +77,7 @@ def entries_of(text: bytes, is_default: bool = False) -> Entries:
                  for default, tag, name, permissions, effective in LINE.findall(text) if bool(default) == is_default)
 
 
-@lru_cache(maxsize=None)
+@lru_cache(maxsize=MOST_KEPT)
 def read_record(body: bytes) -> ReadRecord:
     """The lines of a record after the first one; ValueError where one of them has no place in a record."""
     head, lists = HEAD.match(body), lists_of(body)
