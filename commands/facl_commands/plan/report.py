@@ -35,7 +35,7 @@ class Outcome(NamedTuple):
     old: Files
     new: Files
     kinds: Kinds
-    rights: rights.RightsChanges  # Of each file, where these are asked for.
+    rights: rights.RightsChanges  # Of each file, with --full.
     no_gain: List[no_gain.NoGain]
     users: List[bytes]
     asked: List[Asked]
