@@ -7,8 +7,8 @@
 #
 # With --all it also tests facl-ask at a terminal, and several snapshots by GNU parallel, which takes a minute more.
 # Each of these counts as a failed test where it finds something: shellcheck, mypy and pyflakes3 where they are installed,
-# tools/check/documents.py, tools/check/memory_faults.py, tools/check/line_lengths.py. They come first; with --lint they are
-# all that is done, which takes no program and half a minute, and with --no-lint they are left out. Where there is a C
+# tools/check/documents.py, tools/check/memory_faults.py, tools/check/line_lengths.py, tools/check/edits_apply.py. They come first; with --lint they
+# are all that is done, which takes no program and half a minute, and with --no-lint they are left out. Where there is a C
 # compiler, tools/check/growth.py --quick is a test too. Pages are tested in Chromium where it is installed. What needs a real
 # file system and root is in tools/check/live.py, tools/check/snapshot.py and tools/check/daily.py.
 set -eu
@@ -52,7 +52,7 @@ run_linters() {
     lint shellcheck -x .ci/run commands/facl-snapshot commands/completion/facl.bash tools/*.sh tools/*/*.sh
     lint mypy
     lint pyflakes3 commands tools
-    for check in tools/check/documents.py tools/check/memory_faults.py tools/check/line_lengths.py; do
+    for check in tools/check/documents.py tools/check/memory_faults.py tools/check/line_lengths.py tools/check/edits_apply.py; do
         "$check" >&2 || lint_faults=$((lint_faults + 1))
     done
 }

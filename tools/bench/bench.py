@@ -1,13 +1,16 @@
 #!/usr/bin/env python3
 """Measures the program and the commands, and prints tables in Markdown.
 
-usage: tools/bench/bench.py MEASUREMENT PROGRAM [FOLDER] [--files N,..] [--users N] [--runs N] [--beside OTHER]
+usage: tools/bench/bench.py MEASUREMENT PROGRAM [FOLDER] [--files N,..] [--users N] [--runs N]
+                             [--beside OTHER] [--only RANGE,..]
        tools/bench/bench.py tree [--files N] [--users N]
 
   tools    each tool on the trees of tools/lib/texts.py (10000,100000,1000000 files, 1000 users, 3 runs)
   index    the index of who may do what on files of few and of different labels (100000 files, 1000 users, 2 runs)
   limits   a line of each kind on as many files and users as can be, but for those that it makes: 1048570 and 65536, of
            1000 labels (1 run)
+  grow     exponents: how the time of lines grows by files, labels, users, operands, depth and the entries of a list, by
+           grow.py; with --only RANGE,.. by some of them (2 runs)
   real     the program beside getfacl(1), setfacl(1), chmod(1), touch(1) and rm(1) on one tree, whose real files are
            made in FOLDER, which has to take lists (100000 files, 100 users, 3 runs)
   live     as root, facl-snapshot, facl-plan and facl-apply beside getfacl and setfacl on a tree that is made in FOLDER
@@ -42,145 +45,16 @@ from typing import Callable, Dict, Iterable, List, Mapping, NamedTuple, Optional
 sys.dont_write_bytecode = True
 TOOLS = os.path.dirname(os.path.dirname(os.path.realpath(__file__)))
 sys.path[:0] = [TOOLS, os.path.join(TOOLS, "lib")]
+import grow  # noqa: E402
 from kit import make_room  # noqa: E402
 from script import TOP, Failed, run, say  # noqa: E402
 from session import MeasuredSession, best_of, first_records, program_at  # noqa: E402
-from texts import PER_DIRECTORY, attribute, record, text_file, write_people, write_tree  # noqa: E402
+from sessions import (LOAD, LOAD_BYTES, MAX_RESTORED, OF_INDEX, OF_LIMITS, OF_LOAD, OF_TOOLS, WHO, Figures,  # noqa: E402
+                      NumberOf, Step, Tree, print_table, session_times, steps_of, write_labels)
+from texts import attribute, PER_DIRECTORY, write_tree  # noqa: E402
 
-# At most so many records of a dump are restored, since the bytes of a script are limited.
-MAX_RESTORED = 100_000
 Words = argparse.Namespace
-Figures = Dict[str, float]
-NumberOf = Callable[[int], int]  # The number of a file's label, by the file's own number.
-LOAD, LOAD_BYTES = "load, a file", "most bytes a file of the load"
-
-
-# What is printed.
-
-def shown(name: str, value: float) -> str:
-    """A figure in the unit that suits it."""
-    if "bytes" in name:
-        return f"{value:,.0f}"
-    if "memory" in name:
-        return f"{value / 1e9:.2f} GB"
-    for unit, size in (("s", 1), ("ms", 1e-3), ("us", 1e-6)):
-        if value >= size:
-            return f"{value / size:.2f} {unit}"
-    return f"{value / 1e-9:.1f} ns"
-
-
-def print_table(head: str, columns: Mapping[str, Mapping[str, Union[str, float]]]) -> None:
-    """Columns of figures and texts by the names of their rows."""
-    print("| " + " | ".join([head, *columns]) + " |\n|---" + "|---" * len(columns) + "|")
-    for name in dict.fromkeys(name for column in columns.values() for name in column):
-        cells = (column.get(name, "") for column in columns.values())
-        texts = (cell if isinstance(cell, str) else shown(name, cell) for cell in cells)
-        print("| " + " | ".join([name, *texts]) + " |", flush=True)
-
-
 BESIDE = ("tools", "index", "limits")  # What measures another program too.
-
-# The program on trees that are made.
-
-class Tree(NamedTuple):
-    """The texts in a folder, their sizes, how many files lines name, and how many lines look at much or change it."""
-
-    folder: str
-    files: int
-    users: int
-    named: int
-    few: int
-
-    def some(self) -> List[str]:
-        """Plain files all over the tree."""
-        directories = max(1, (self.files - 1) // (PER_DIRECTORY + 1))
-        return [f"d{k * 37 % directories:05}/f{k % PER_DIRECTORY:03}" for k in range(self.named)]
-
-
-class Step(NamedTuple):
-    """Lines of a kind: one with `{file}` for each of the named files, another with a brace a few times, and one without
-    one once. Then what is aimed at for files of few labels, and of different ones."""
-
-    name: str
-    line: str
-    few: str = ""
-    different: str = ""
-
-    def count(self, tree: Tree) -> int:
-        return tree.named if "{file}" in self.line else tree.few if "{" in self.line else 1
-
-    def lines(self, tree: Tree) -> List[str]:
-        if "--restore" in self.line:
-            return [self.line, *first_records(tree.folder, MAX_RESTORED), "."]
-        some, groups = tree.some(), max(1, tree.users // 10)
-        return [self.line.format(k=k, file=some[k], directory=some[k].split("/")[0], group=k % groups, id=999_900 + k,
-                                 user=k % tree.users, seventh=k * 7 % tree.users)
-                for k in range(self.count(tree))]
-
-    def parts(self, tree: Tree) -> int:
-        """What the time of the lines is divided by."""
-        if "--restore" in self.line:
-            return min(tree.files, MAX_RESTORED)
-        return self.count(tree) * (tree.files if self.name.endswith("a file") else 1)
-
-
-OF_LOAD = (Step(LOAD, "", "2.5 us", "4 us"), Step(LOAD_BYTES, "", "1,000", "2,500"))
-WHO = Step("`who`", "who r {file}")
-QUESTIONS = (
-    WHO, Step("`who --reach`", "who --reach r {file}"), Step("`may`, a file", "may u{k} w", "30 ns", "30 ns"),
-    Step("`may --reach`, a file", "may --reach u{k} w", "30 ns", "30 ns"))
-CHMOD = Step("`chmod` of one file", "chmod 640 {file}", "40 us", "40 us")
-SETFACL = Step("`setfacl -m` of one file", "setfacl -m u:u{user}:rwx {file}", "40 us", "40 us")
-DIRECTORY = Step("`chmod` of a directory", "chmod 751 {directory}")
-FIRST = Step("`chmod` of the first file", "chmod 000 d00000/f000")
-CHANGES = Step("`changes` of one file", "changes", "50 ms", "50 ms")
-BELOW = (Step("`below` of all files", "below r ."), Step("`below --reach` of all files", "below --reach r ."),
-         Step("`below` of a folder", "below r {directory}"), Step("`below --reach` of a folder", "below --reach r {directory}"))
-GAINS = (Step("`gains` of one file", "gains"), Step("`gains --reach` of one file", "gains --reach"))
-NEW = (Step("`creat`", "creat --user=u1 --mode=640 {file}.{k}", "40 us", "40 us"),
-       Step("`rm` of one file", "rm {file}.{k}", "40 us", "40 us"))
-MEMBERS = (Step("`gpasswd -a` of `few`", "gpasswd -a u{k} few", "20 ms", "60 ms"),
-           Step("`gpasswd -a` of `half`", "gpasswd -a u{k} half", "20 ms", "60 ms"))
-USERS = (Step("`useradd`", "useradd -u {id} -g g0 new{k}", "100 ms", "1.5 s"),
-         Step("`userdel`", "userdel new{k}", "100 ms", "1.5 s"))
-NO_SEARCH = Step("`chmod 700 .`", "chmod 700 .")
-OF_ALL = (Step("`chmod -R .`, a file", "chmod -R 750 .", "1.2 us", "2.5 us"),
-          Step("`setfacl -R -m .`, a file", "setfacl -R -m u:u1:rX .", "1.5 us", "1.5 us"),
-          Step("`setfacl --restore`, a record", "setfacl --restore=-", "3 us", "3 us"))
-# The steps of the sessions, in their order.
-OF_TOOLS = (
-    Step("`getfacl -R .`, a file", "getfacl -R ."), Step("`getfacl` of one file", "getfacl {file}"),
-    Step("`can`", "can u{user} {file}"), Step("`can --reach`", "can --reach u{user} {file}"), *QUESTIONS,
-    CHMOD, SETFACL, DIRECTORY, Step("`gpasswd -a`", "gpasswd -a u{seventh} g{group}"), *OF_ALL, *NEW, *USERS)
-OF_INDEX = (
-    *QUESTIONS, *BELOW, FIRST, CHANGES, Step("`changes --reach` of one file", "changes --reach"), *GAINS, CHMOD,
-    SETFACL, *NEW, DIRECTORY, *MEMBERS, *USERS, NO_SEARCH, Step("`chmod 755 .`", "chmod 755 ."), *OF_ALL)
-OF_LIMITS = (
-    WHO, Step("`can`", "can u1 {file}"), Step("`why --reach`", "why --reach u1 {file}"), Step("`may`", "may u1 w"),
-    Step("`getfacl`", "getfacl {file}"), CHMOD, CHANGES, SETFACL, *NEW, Step("`usermod -g`", "usermod -g g1 u2"),
-    *MEMBERS, NO_SEARCH, BELOW[0], GAINS[0])  # Along paths these take a row for each class: 16 s and 7 GB.
-
-
-def session_times(program: str, tree: Tree, steps: Iterable[Step]) -> Figures:
-    """What a load takes, and each step of the session after it: seconds, or bytes."""
-    with MeasuredSession(program, tree.folder) as session:
-        found = {LOAD: session.load / tree.files, "load, a file and user": session.load / tree.files / tree.users}
-        found[LOAD_BYTES] = session.memory / tree.files
-        found["bytes a file after it"] = session.present_memory() / tree.files
-        for step in steps:
-            found[step.name] = session.answer(step.lines(tree)) / step.parts(tree)
-        found["most bytes a file of the session"] = session.most_memory() / tree.files
-        found["bytes a file at its end"] = session.present_memory() / tree.files
-        session.end()
-    return found
-
-
-def steps_of(program: str, steps: Iterable[Step]) -> List[Step]:
-    """The steps whose tools a program has: of others it says so itself, and not as the tool."""
-    lines = {step: step.line.split(" ")[0] for step in steps}
-    script = "".join(f"{tool}\n" for tool in lines.values()).encode()
-    done = subprocess.run([program], input=script, capture_output=True, check=False)
-    return [step for number, step in enumerate(lines, 1) if b"line %d: facl: " % number not in done.stderr]
 
 
 def best_times(given: Words, tree: Tree, steps: Iterable[Step], number_of: Optional[NumberOf] = None) -> List[Figures]:
@@ -218,34 +92,8 @@ def measure_tools(given: Words) -> int:
 
 # The index.
 
-TEXTS = ("---", "--x", "-w-", "-wx", "r--", "r-x", "rw-", "rwx")
 NUMBER_OF: Dict[str, NumberOf] = {"few": lambda n: 1, "different": lambda n: n}
 LABELS = 1_000  # Of the tree of all limits.
-
-
-def entries(number: int, users: int, groups: int, named: str) -> List[str]:
-    """A list that no other number has, but for the numbers of other owners or groups."""
-    owner, turn = number % users, number // (users * groups)
-    user, group = TEXTS[(6 + turn) % 8], TEXTS[(4 + turn // 8) % 8]
-    more = [f"group:{named}:r-x"] if named else []
-    return ["user::rwx", f"user:u{owner}:{user}", "group::r-x", f"group:g{owner % groups}:{group}", *more,
-            "mask::rwx", "other::r-x"]
-
-
-def write_labels(folder: str, files: int, users: int, number_of: NumberOf) -> None:
-    """Files with the labels of some numbers: half of them mention the group `half`, and one of a hundred `few`."""
-    groups = write_people(folder, users)
-    with open(os.path.join(folder, "group"), "a", encoding="utf-8") as out:
-        out.write("half:x:900000:\nfew:x:900001:\n")
-    with text_file(folder, "dump") as out:
-        out.write(record(".", 0, 0, ["user::rwx", "group::r-x", "other::r-x"]))
-        for n in range(1, files):
-            directory, place = divmod(n - 1, PER_DIRECTORY + 1)
-            path = f"d{directory:05}/f{place - 1:03}" if place else f"d{directory:05}/"
-            number = number_of(n)
-            named = "few" if n % 100 == 1 else "half" if n % 2 else ""
-            out.write(record(path, number % users, number // users % groups, entries(number, users, groups, named)))
-
 
 def measure_index(given: Words) -> int:
     tree = Tree("", given.files[-1], given.users, 200, 4)
@@ -480,6 +328,10 @@ def measure_tree(given: Words) -> int:
     return 0
 
 
+def measure_grow(given: Words) -> int:
+    return grow.measure(given.program, given.runs, given.only)
+
+
 class Measurement(NamedTuple):
     """The sizes of a tree and the runs where none are given, and the tools that are needed."""
 
@@ -494,6 +346,7 @@ MEASUREMENTS = {
     "tools": Measurement(measure_tools, [10_000, 100_000, 1_000_000], 1_000, 3),
     "index": Measurement(measure_index, [100_000], 1_000, 2),
     "limits": Measurement(measure_limits, [1_048_570], 65_536, 1),
+    "grow": Measurement(measure_grow, [grow.FILES], grow.MEMBERS_OF_ALL, 2),
     "real": Measurement(measure_real, [100_000], 100, 3, ("getfacl", "setfacl")),
     "live": Measurement(measure_live, [100_000], 30, 3, ("getfacl", "setfacl")),
     "tree": Measurement(measure_tree, [100_000], 1_000, 1, ("rt",)),
@@ -510,6 +363,7 @@ def words() -> Words:
     options.add_argument("--users", type=int)
     options.add_argument("--runs", type=int)
     options.add_argument("--beside", type=program_at, metavar="OTHER")
+    options.add_argument("--only", type=lambda text: text.split(","), default=[], metavar="RANGE,..")
     given = options.parse_args()
     kind, chosen = given.measurement, MEASUREMENTS[given.measurement]
     given.files = given.files or chosen.files
@@ -522,7 +376,10 @@ def words() -> Words:
             (min(given.files) < PER_DIRECTORY + 2 or given.users < 10 or given.runs < 1,
              "FILES from 102 on, USERS from 10 on, RUNS from 1 on"),
             (len(given.files) > 1 and kind != "tools", "several FILES are of `tools` alone"),
-            (given.beside and kind not in BESIDE, "--beside is of tools, index and limits")):
+            (given.beside and kind not in BESIDE, "--beside is of tools, index and limits"),
+            (kind != "grow" and given.only, "--only is of `grow`"),
+            (not {*given.only} <= {grown.name for grown in grow.RANGES},
+             f"RANGE is one of {', '.join(grown.name for grown in grow.RANGES)}")):
         if is_so:
             options.error(f"{kind}: {text}")
     return given

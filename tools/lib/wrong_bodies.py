@@ -2,10 +2,11 @@
 
 An edit is as those of must-fail/: a line `file: src/lib.rt`, and pairs of lines `old: TEXT` and `new: TEXT`, of which each
 old TEXT is in that file once. Before them a line `function: NAME` has the function whose check must refuse it, by its path
-in the crate, as `draft::Draft::insert`.
+in the crate, as `draft::Draft::insert`: the module, the type if it is in an `impl`, and the name.
 """
 from __future__ import annotations
 
+import glob
 import os
 import re
 from typing import Dict, List, NamedTuple, Tuple
@@ -14,6 +15,7 @@ import script
 from script import TOP
 
 PARTS = ("src", "specs", "proofs")
+TYPES = re.compile(r"\b(?:struct|enum) (\w+)")
 ONLY = re.compile(r"only=(\d+) proved=(\d+)")
 # Lines that say where something is refused; and those of a proof that names what the edit took away.
 TOLD = re.compile(r"(note: )?\S+:\d+:\d+:")
@@ -65,16 +67,49 @@ def edited(lines: List[Tuple[str, str]], folder: str) -> Dict[str, str]:
     return texts
 
 
-def read(path: str, top: str = TOP) -> WrongBody:
-    """The edit of a file crates/NAME/wrong/EDIT.edit."""
+def lines_of(path: str) -> List[Tuple[str, str]]:
+    """The lines of an edit's file, each the word before its colon and the text after it."""
     lines = [line.partition(":")[::2] for line in read_text(path).split("\n") if line]
-    pairs = [(word, text[1:] if text.startswith(" ") else text) for word, text in lines]
-    functions = [text for word, text in pairs if word == "function"]
+    return [(word, text[1:] if text.startswith(" ") else text) for word, text in lines]
+
+
+def crate_of(path: str) -> str:
+    """The folder of the crate of an edit's file."""
+    return os.path.dirname(os.path.dirname(path))
+
+
+def place_of(function: str, folder: str) -> Tuple[str, List[str]]:
+    """The file of a function's module, by the function's path in the crate of a folder, and the names that follow in that path: the
+    type, where the function is in an `impl`, and its own."""
+    names = function.split("::")
+    for count in range(len(names) - 1, 0, -1):
+        path = os.path.join("src", *names[:count]) + ".rt"
+        if os.path.isfile(os.path.join(folder, path)):
+            return path, names[count:]
+    return os.path.join("src", "lib.rt"), names
+
+
+def hold_function(function: str, folder: str) -> None:
+    """Fails unless the crate in a folder has a function of this path. That of a type is named by the type's module, and may be in
+    another one; that of a trait by the type and the trait in one word."""
+    path, (*types, name) = place_of(function, folder)
+    text = read_text(os.path.join(folder, path))
+    if types and not any(types[0].startswith(declared) for declared in TYPES.findall(text)):
+        raise Fault(f"it names {function}, and {path} has no type `{types[0]}`")
+    everywhere = glob.glob(os.path.join(folder, "src", "**", "*.rt"), recursive=True)
+    if not any(re.search(rf"\bfn {re.escape(name)}\b", text) for text in (map(read_text, everywhere) if types else [text])):
+        raise Fault(f"it names {function}, and {'the crate' if types else path} has no `fn {name}`")
+
+
+def read(path: str) -> WrongBody:
+    """The edit of a file crates/NAME/wrong/EDIT.edit."""
+    lines, folder = lines_of(path), crate_of(path)
+    functions = [text for word, text in lines if word == "function"]
     if len(functions) != 1 or not functions[0]:
         raise Fault("it names no function, or several: one line `function: NAME` says which must be refused")
-    crate = os.path.basename(os.path.dirname(os.path.dirname(path)))
+    hold_function(functions[0], folder)
     name = os.path.basename(path)[:-len(".edit")]
-    return WrongBody(crate, name, functions[0], edited(pairs, os.path.join(top, "crates", crate)))
+    return WrongBody(os.path.basename(folder), name, functions[0], edited(lines, folder))
 
 
 def answers_of(crate: str, functions: List[str], status: int, said: str) -> List[str]:

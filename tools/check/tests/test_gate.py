@@ -181,12 +181,12 @@ class Memory(unittest.TestCase):
                 program.wait()
 
 
-# A prover: a function is proved unless its line in src/lib.rt has another word than `right`.
+# A prover: a function is proved unless its line `fn NAME is right` in src/lib.rt has another word than `right`.
 RATTLE = f"#!{sys.executable}\n" + r'''
 import os, signal, sys
 words = sys.argv[1:]
 crate = words[words.index("--crate-name") + 1]
-bodies = dict(line.split(" is ") for line in open("src/lib.rt").read().splitlines())
+bodies = dict(line[len("fn "):].split(" is ") for line in open("src/lib.rt").read().splitlines())
 asked = [word for before, word in zip(words, words[1:]) if before == "--only"]
 for function in asked:
     if function not in bodies:
@@ -220,8 +220,8 @@ class Edits(Case):
     def setUp(self) -> None:
         super().setUp()
         self.copy(*OF_EDITS)
-        self.write({"crates.txt": "low:\nhigh: low\n", "crates/low/src/lib.rt": "one is right\ntwo is right\n",
-                    "crates/high/src/lib.rt": "top is right\n", "crates/low/out/rlib/low.rlib/format": "",
+        self.write({"crates.txt": "low:\nhigh: low\n", "crates/low/src/lib.rt": "fn one is right\nfn two is right\n",
+                    "crates/high/src/lib.rt": "fn top is right\n", "crates/low/out/rlib/low.rlib/format": "",
                     "log": "rt: low: its tests are proved\n"})
         self.write({"bin/rt": RT, "bin/rattle": RATTLE}, 0o755)
 
@@ -269,11 +269,32 @@ class Edits(Case):
         self.faulty(EDIT.format("one", "vague"), "no verdict, status 3")
         self.faulty(EDIT.format("one", "unread"), "no verdict, status 1")
 
+    def test_function(self) -> None:
+        """The function that an edit names is where its path says: tools/check/edits_apply.py finds a fault before anything is proved."""
+        self.copy("tools/check/edits_apply.py")
+        self.write({"crates/low/src/map.rt": "struct Map\nfn new\n", "crates/low/src/map/more.rt": "impl Map\nfn put\n"})
+        for path, fault in (("one", ""), ("map::new", ""), ("map::Map::put", ""), ("map::MapTest::put", ""), ("map::more::put", ""),
+                            ("gone", "src/lib.rt has no `fn gone`"), ("put", "src/lib.rt has no `fn put`"),
+                            ("map::put", "src/map.rt has no `fn put`"), ("Map::put", "src/lib.rt has no type `Map`"),
+                            ("map::Map::gone", "the crate has no `fn gone`"), ("map::Pair::put", "src/map.rt has no type `Pair`")):
+            self.edits(it=EDIT.format("one", "bad").replace("function: one", f"function: {path}"))
+            status, lines, _ = self.run_script(sys.executable, "tools/check/edits_apply.py")
+            said = [f"crates/low/wrong/it.edit: it names {path}, and {fault}"] if fault else []
+            self.assertEqual((status, lines), (1 if fault else 0, said), path)
+        self.write({"crates/low/must-fail/two.edit": "file: src/lib.rt\nold: gone\nnew: two\n"})
+        self.edits(it=EDIT.format("one", "bad"))
+        self.assertEqual(self.run_script(sys.executable, "tools/check/edits_apply.py")[:2], (1, [
+            "crates/low/must-fail/two.edit: it does not apply: src/lib.rt has `gone` 0 times, and not once"]))
+
     def test_control(self) -> None:
         self.edits(it=EDIT.format("one", "bad").replace("function: one", "function: gone"))
         self.assertEqual(self.run_edits(), (1, [
-            "wrong body low/it: control: the check has no verdict, status 2: error: no function gone", "0 passed, 1 failed"]))
-        self.write({"crates/low/src/lib.rt": "one is right\ntwo is bad\n"})
+            "wrong body low/it: BAD EDIT: it names gone, and src/lib.rt has no `fn gone`", "0 passed, 1 failed"]))
+        self.write({"crates/low/src/map.rt": "fn one\n"})
+        self.edits(it=EDIT.format("one", "bad").replace("function: one", "function: map::one"))
+        self.assertEqual(self.run_edits(), (1, [
+            "wrong body low/it: control: the check has no verdict, status 2: error: no function map::one", "0 passed, 1 failed"]))
+        self.write({"crates/low/src/lib.rt": "fn one is right\nfn two is bad\n"})
         self.edits(it=EDIT.format("one", "bad").replace("function: one", "function: two"))
         status, lines = self.run_edits()
         self.assertEqual((status, lines[-1]), (1, "0 passed, 1 failed"))

@@ -17,13 +17,15 @@ from typing import Dict, List, Tuple
 HERE = os.path.dirname(os.path.realpath(__file__))
 LIB = os.path.realpath(os.path.join(HERE, "..", "..", "lib"))
 TOP = os.path.realpath(os.path.join(HERE, "..", "..", ".."))
-sys.path[:0] = [os.path.join(HERE, ".."), os.path.join(HERE, "..", ".."), LIB]
+sys.path[:0] = [os.path.join(HERE, ".."), os.path.join(HERE, "..", ".."), os.path.join(HERE, "..", "..", "bench"), LIB]
 
+import grow  # noqa: E402
 from documents import Checks  # noqa: E402
 from memory_faults import Source, faults_of  # noqa: E402
 from random_lines import Unit, is_of_tools, numbers_of, script_of  # noqa: E402
 from script import Failed, with_row  # noqa: E402
 from session import Expect, MeasuredSession, Session, TimedRun, has_tool, program_at, timed  # noqa: E402
+from sessions import Step, Tree  # noqa: E402
 from tool_rows import ToolRows  # noqa: E402
 from ways import Crates  # noqa: E402
 
@@ -42,6 +44,39 @@ class Case(unittest.TestCase):
         with open(path, "w", encoding="utf-8") as file:
             file.write(text)
         return path
+
+
+# --- bench/
+
+class Growth(Case):
+    def test_exponent(self) -> None:
+        """A power is found; a bend in the middle shows in the steepest."""
+        sizes = [10, 100, 1_000, 10_000]
+        for power in (0.0, 0.5, 1.0, 2.0):
+            self.assertAlmostEqual(grow.slope(sizes, [3e-6 * size**power for size in sizes]), power)
+        row = grow.row_of(sizes, [1e-6, 1e-6, 1e-4, 1e-4], "0.2")
+        self.assertEqual((row["10"], row["10,000"], row["steepest"], row["aim"]), ("1.00 us", "100.00 us", "2.00", "0.2"))
+
+    def test_lines(self) -> None:
+        """A line may name all files at once, and then its time is that of one; a tree may have files of its own."""
+        tree = Tree("", 1_000, 10, 3, 1)
+        step = Step("`chmod`, a named file", "chmod 640 {files}")
+        self.assertEqual(step.lines(tree), ["chmod 640 " + " ".join(tree.some())])
+        self.assertEqual((step.parts(tree), Step("`can`", "can u{user} {file}").parts(tree)), (3, 3))
+        self.assertEqual(Step("", "can u{user} {file}").lines(tree._replace(paths=("a/b", "c"))), ["can u0 a/b", "can u1 c", "can u2 a/b"])
+
+    def test_trees(self) -> None:
+        """The texts of each range have what it says, of a small size."""
+        def records() -> List[List[str]]:
+            with open(os.path.join(self.top, "dump"), encoding="utf-8") as dump:
+                return [record.splitlines() for record in dump.read().split("\n\n") if record]
+
+        tree = grow.make_depth(self.top, 4)
+        self.assertEqual([record[0] for record in records()], ["# file: .", "# file: d", "# file: d/d", "# file: d/d/d", "# file: d/d/d/f"])
+        self.assertEqual(tree.some()[:2], ["d/d/d/f", "d/d/d/f"])
+        tree = grow.make_entries(self.top, 30)
+        self.assertEqual(({len(record) - 3 for record in records()[2:]}, len(records())), ({30}, tree.files))
+        self.assertEqual(len({tuple(record[1:]) for record in records()[2:]}), 100)
 
 
 # --- check/documents.py

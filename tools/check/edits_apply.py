@@ -1,0 +1,46 @@
+#!/usr/bin/env python3
+"""Checks that each edit of must-fail/ and wrong/ applies, and that a function which one names is there.
+
+usage: tools/check/edits_apply.py
+
+It tries no edit: `rt ci` does, and tools/edits.py. It prints `FILE: FAULT` for each edit with a fault. The exit status is 1 where
+there is one.
+"""
+from __future__ import annotations
+
+import glob
+import os
+import sys
+from typing import Callable, Dict, Iterator
+
+sys.dont_write_bytecode = True
+sys.path.insert(0, os.path.join(os.path.dirname(os.path.dirname(os.path.realpath(__file__))), "lib"))
+import script  # noqa: E402
+import wrong_bodies  # noqa: E402
+
+
+def read_without_function(path: str) -> Dict[str, str]:
+    """The texts of the files that an edit of must-fail/ changes."""
+    return wrong_bodies.edited(wrong_bodies.lines_of(path), wrong_bodies.crate_of(path))
+
+
+READERS: Dict[str, Callable[[str], object]] = {"must-fail": read_without_function, "wrong": wrong_bodies.read}
+
+
+def faults(top: str) -> Iterator[str]:
+    for folder, read in READERS.items():
+        for path in sorted(glob.glob(os.path.join(top, "crates", "*", folder, "*.edit"))):
+            try:
+                read(path)
+            except wrong_bodies.Fault as fault:
+                yield f"{os.path.relpath(path, top)}: {fault}"
+
+
+def main() -> int:
+    found = [*faults(script.TOP)]
+    print("".join(f"{line}\n" for line in found), end="")
+    return 1 if found else 0
+
+
+if __name__ == "__main__":
+    script.run(main)
