@@ -11,6 +11,7 @@ from common import COMMANDS, Case, Done
 
 DEMO = os.path.join(COMMANDS, "..", "demo")
 LONGEST = 268435456
+LISTED = "# file: {}\n# owner: {}\n# group: staff\n{}user::rw-\nuser:joe:{}\ngroup::r--\nmask::rw-\nother::{}\n{}\n"
 RECORD = b"# file: %s\n# owner: lisa\n# group: staff\nuser::rw-\ngroup::r--\nother::---\n\n"
 
 
@@ -84,6 +85,27 @@ class Program(Case):
             self.write("dump", RECORD % b"./" + b"".join(RECORD % (b"f%d" % number) for number in range(files)))
             answer = b"%d lisa .\n%d lisa .\n%d joe .\n%d lisa .\n%d joe .\n" % (*[files + 1] * 4, files)
             self.expect(self.answer(script, *"--passwd passwd --group group --dump dump".split()), 0, answer, b"")
+
+    def test_a_listing_of_many_files_is_that_of_each(self) -> None:
+        """Files with nodes of their own, more in a row than are looked for one by one, before and among files that share nodes: nodes
+        that differ by one part alone are there in turn."""
+        self.write("passwd", b"lisa:x:1001:50:::\njoe:x:1000:60:::\n")
+        self.write("group", b"staff:x:50:\n")
+        default = "default:user::rwx\ndefault:group::r-x\ndefault:other::{}\n"
+        nodes = [("lisa", "", "rw-", "---", ""), ("joe", "", "rw-", "---", ""), ("lisa", "# flags: s--\n", "rw-", "---", ""),
+                 ("lisa", "", "r--", "---", ""), ("lisa", "", "rw-", "r--", "")]
+        folders = [("lisa", "", "rw-", "---", ""), ("lisa", "", "rw-", "---", default.format("---")),
+                   ("lisa", "", "rw-", "---", default.format("r--")), ("lisa", "# flags: --t\n", "rw-", "---", "")]
+        own = [(f"a{n:04}", (f"{70_000 + n}", "", "rw-", "---", "")) for n in range(1_500)]
+        shared = [(f"b{n:04}", nodes[n % 5]) for n in range(500)] + [(f"c{n:04}/", folders[n % 4]) for n in range(200)]
+        files = [("./", folders[0]), *own, *shared, *((f"d{name[1:]}", node) for name, node in own[:40]), ("e", nodes[0])]
+        self.write("dump", "".join(LISTED.format(name, *node) for name, node in files).encode())
+        words = "--passwd passwd --group group --dump dump".split()
+        for option in ("", "-n ", "-c ", "-e ", "-a ", "-s "):
+            alone = "".join(f"getfacl {option}{name.rstrip('/')}\n" for name, _ in files).encode()
+            each, whole = self.answer(alone, *words), self.answer(f"getfacl {option}-R .\n".encode(), *words)
+            self.assertEqual((each.status, each.messages, whole.status, whole.messages), (0, b"", 0, b""))
+            self.assertTrue(each.out == whole.out and each.out, option)
 
 
 if __name__ == "__main__":

@@ -7,3 +7,5 @@ pub mod AttributeRoundTrips
 pub mod ListRoundTrips
 pub mod ListsSet
 pub mod ListsPut
+pub mod KeptRanges
+pub mod AfterPaths

@@ -6,3 +6,5 @@ pub mod Listings
 pub mod Messages
 pub mod TestListing
 pub mod Texts
+pub mod KeptTexts
+pub mod AfterPaths

@@ -4,14 +4,12 @@ ghost use Rattle.std.specs.Prelude.{◌≡◌, ◌++◌, ◌∷◌, [], IfOk, co
 ghost use Rattle.acl_names.specs.Appends.{Appends};
 ghost use Rattle.hex.specs.Hex.{encode_lower};
 ghost use Rattle.acl_text.specs.Attr.{attr_bytes};
-ghost use Rattle.acl_text.specs.DumpWriting.{file_text};
-ghost use Rattle.facl_output.specs.Listings.{has_slash};
 ghost use Rattle.facl_output.specs.AttrListings.{attr_line, default_line, attr_lines, attr_text, attr_listing};
 
-use crate::listing::has_slash;
+use crate::listing::push_path;
 use acl_edit::Node;
 use acl_entry::Acl;
-use acl_text::{Header, NoNames, append_header, encode_attr};
+use acl_text::encode_attr;
 use acl_tree::FoundFile;
 use std::alloc::{AllocError, Global};
 
@@ -59,20 +57,6 @@ fn push_attributes(alloc: Global, text: &mut Vec<u8>, node: &Node) -> Result<(),
     push_line(alloc, text, b"system.posix_acl_access", &node.label.acl)?;
     push_default(alloc, text, &node.dacl)?;
     Ok(())
-}
-
-/// Adds the line of a file's path, as a listing of getfacl(1) without a header has it. Fails only if memory runs out.
-pub fn push_path(text: &mut Vec<u8>, file: &FoundFile<'_>) -> Result<(), AllocError>
-    ensures { Appends result text.old text.new (file_text file.now.path (has_slash file.now)) }
-{
-    let header = Header {
-        path: file.path(),
-        slash: has_slash(file),
-        owner: None,
-        group: None,
-        flags: None,
-    };
-    append_header(text, &header, &NoNames)
 }
 
 /// Adds what `attr` prints of a file.

@@ -5,6 +5,7 @@
 mod attr_listing;
 mod chacl_listing;
 mod fault;
+mod kept_texts;
 mod laws;
 mod listing;
 mod message;
@@ -13,14 +14,14 @@ mod round_trips;
 mod run_fault;
 mod test_listing;
 
-pub use attr_listing::{push_path, write_attributes};
+pub use attr_listing::write_attributes;
 pub use chacl_listing::write_chacl_listing;
 pub use fault::{LineFault, RunFault, Source};
 pub use laws::{
     attributes_are_read_again, listing_is_loaded_again, listing_is_restored_as_it_is,
     lists_are_read_again,
 };
-pub use listing::{Options, append_listing, end_line, push_path_shown};
+pub use listing::{Options, append_listing, end_line, push_path, push_path_shown};
 pub use message::{push_message, push_warning};
 pub use reserved_message::ReservedMessage;
 pub use run_fault::push_run_fault;

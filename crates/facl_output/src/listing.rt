@@ -1,10 +1,15 @@
 //! The listings of getfacl(1), by its options.
 
-ghost use Rattle.std.specs.Prelude.{◌≡◌, ◌++◌, ◌∷◌, []};
+ghost use Rattle.std.specs.Prelude.{◌≡◌, ◌++◌, ◌∷◌, [], length, MatchResult, OnOk};
+ghost use Rattle.std.specs.Io.{StartsWith};
+ghost use Rattle.acl_text.specs.DumpWriting as dump;
 ghost use Rattle.acl_text.specs.DumpWriting.{list_text};
 ghost use Rattle.acl_names.specs.Appends.{Appends, AppendsWhole};
 ghost use Rattle.facl_output.specs.Listings.{has_base_alone, is_listed, has_slash, path_shown, flags_shown, headers, default_entries, file_text, files_text, listing};
+ghost use Rattle.facl_output.specs.AfterPaths.{path_line, after_path};
+ghost use Rattle.facl_output.specs.KeptTexts.{AreKept};
 
+use crate::kept_texts::{KeptTexts, mark_of};
 use acl_edit::{Kind, Node};
 use acl_names::append_path;
 use acl_text::{Effective, Header, Names, NoNames, Which, append_header, append_list};
@@ -53,6 +58,20 @@ pub fn push_path_shown(text: &mut Vec<u8>, file: &FoundFile<'_>) -> Result<(), A
         text.push(b'/')?;
     }
     Ok(())
+}
+
+/// Adds the line of a file's path, as a listing of getfacl(1) begins with it. Fails only if memory runs out.
+pub fn push_path(text: &mut Vec<u8>, file: &FoundFile<'_>) -> Result<(), AllocError>
+    ensures { Appends result text.old text.new (dump.file_text file.now.path (has_slash file.now)) }
+{
+    let header = Header {
+        path: file.path(),
+        slash: has_slash(file),
+        owner: None,
+        group: None,
+        flags: None,
+    };
+    append_header(text, &header, &NoNames)
 }
 
 /// The flags, where one of them is set.
@@ -136,7 +155,7 @@ fn push_lists<N: Names>(
 }
 
 /// Adds the record of a file.
-fn push_file<N: Names>(
+fn push_record<N: Names>(
     text: &mut Vec<u8>,
     names: &N,
     options: &Options,
@@ -148,6 +167,95 @@ fn push_file<N: Names>(
     push_lists(text, names, options, file.node())
 }
 
+/// Adds the line of a file's path, unless the options leave out header lines.
+fn push_path_line(
+    text: &mut Vec<u8>,
+    options: &Options,
+    file: &FoundFile<'_>,
+) -> Result<(), AllocError>
+    ensures { Appends result text.old text.new (path_line options.now file.now) }
+{
+    if options.omit_header {
+        return Ok(());
+    }
+    push_path(text, file)
+}
+
+/// Adds the record of a file of which all but the line of its path is at hand.
+fn push_known_record(
+    text: &mut Vec<u8>,
+    options: &Options,
+    file: &FoundFile<'_>,
+    known: &[u8],
+) -> Result<(), AllocError>
+    ensures { Appends result text.old text.new (path_line options.now file.now ++ known.now) }
+{
+    push_path_line(text, options, file)?;
+    text.extend_from_slice(known)?;
+    Ok(())
+}
+
+/// Finds where the line of a file's path is going to end: it is added and taken away again.
+fn end_of_path_line(
+    text: &mut Vec<u8>,
+    options: &Options,
+    file: &FoundFile<'_>,
+) -> Result<usize, AllocError>
+    ensures { MatchResult result
+        (λ end. (end ≡ length (text.old.items ++ path_line options.now file.now)) × (text.new.items ≡ text.old.items))
+        (λ _. StartsWith text.new.items text.old.items) }
+{
+    let before = text.len();
+    push_path_line(text, options, file)?;
+    let end = text.len();
+    text.truncate(before);
+    Ok(end)
+}
+
+/// Adds the record of a file, and keeps what it has after the line of the path.
+fn push_new_record<'a, N: Names>(
+    text: &mut Vec<u8>,
+    kept: &mut KeptTexts<'a>,
+    names: &N,
+    options: &Options,
+    file: &FoundFile<'a>,
+    mark: u64,
+) -> Result<(), AllocError>
+    requires { AreKept (after_path (N.naming names.now) options.now) kept.old }
+    ensures text { Appends result text.old text.new (file_text (N.naming names.now) options.now file.now) }
+    ensures kept { OnOk result (AreKept (after_path (N.naming names.now) options.now) kept.new) }
+{
+    let end = end_of_path_line(text, options, file)?;
+    push_record(text, names, options, file)?;
+    kept.keep(mark, file.node(), text.as_slice(), end)?;
+    Ok(())
+}
+
+/// Adds the record of a file. What follows the line of its path is copied, if it was kept of a file with the same node.
+fn push_file<'a, N: Names>(
+    text: &mut Vec<u8>,
+    kept: &mut KeptTexts<'a>,
+    names: &N,
+    options: &Options,
+    file: &FoundFile<'a>,
+) -> Result<(), AllocError>
+    requires { AreKept (after_path (N.naming names.now) options.now) kept.old }
+    ensures text { Appends result text.old text.new (file_text (N.naming names.now) options.now file.now) }
+    ensures kept { OnOk result (AreKept (after_path (N.naming names.now) options.now) kept.new) }
+{
+    if !kept.seeks_next() {
+        push_record(text, names, options, file)?;
+        return Ok(());
+    }
+    let mark = mark_of(file.node());
+    if let Some(known) = kept.find(mark, file.node()) {
+        push_known_record(text, options, file, known)?;
+        kept.note_found();
+        return Ok(());
+    }
+    push_new_record(text, kept, names, options, file, mark)
+}
+
 /// Adds the records of the files that are listed.
 fn push_files<N: Names>(
     text: &mut Vec<u8>,
@@ -157,9 +265,10 @@ fn push_files<N: Names>(
 ) -> Result<(), AllocError>
     ensures { Appends result text.old text.new (files_text (N.naming names.now) options.now files.now) }
 {
+    let mut kept = KeptTexts::new(*text.allocator(), files.len())?;
     for file in files {
         if is_listed(options, file) {
-            push_file(text, names, options, file)?;
+            push_file(text, &mut kept, names, options, file)?;
         }
     }
     Ok(())

@@ -6,6 +6,7 @@ ghost use Rattle.facl_script.specs.Devices.{ReadsSome};
 
 use crate::devices::Feed;
 use crate::fault::ScriptFault;
+use memchr::memchr;
 use std::alloc::AllocError;
 
 /// How many bytes a script may have.
@@ -29,12 +30,7 @@ fn line_feed_at(piece: &[u8]) -> Option<usize>
         (n < length piece.now) × HasNoLineFeed (take n piece.now)
         × (piece.now ≡ take n piece.now ++ (10 ∷ drop (n + 1) piece.now))) }
 {
-    for (i, b) in piece.iter().enumerate() {
-        if *b == b'\n' {
-            return Some(i);
-        }
-    }
-    None
+    memchr(b'\n', piece)
 }
 
 /// Adds a piece to what is kept of a line, and returns whether the line is too long by now.

@@ -1,16 +1,17 @@
-use Rattle.std.proofs.Common.{◌++◌, ◌∷◌, [], subst}
-use Rattle.acl_edit.specs.declared.node.Node.{Node}
-use Rattle.acl_names.specs.Appends.{Appends}
-use Rattle.acl_text.specs.declared.fault.Which.TheVariants.{Access}
-use Rattle.acl_text.specs.DumpWriting.{list_text}
-use Rattle.facl_output.specs.Listings.{headers, default_entries}
-use Rattle.acl_text.proofs.Appending.{appends_both}
+use Rattle.std.proofs.Common.{◌++◌, sym, ap, ◌∙◌}
+use Rattle.facl_output.specs.AfterPaths.{path_line, after_path}
+use Rattle.facl_output.proofs.AfterPaths.{record_parts}
 use Rattle.facl_output.proofs.listing.push_file.Goals as goal
 
-pub returns : goal.returns
-returns g c =
+pub returns-in-Some : goal.returns-in-Some
+returns-in-Some g c =
     let naming = g.N.Names.naming c.args.names.now in
     let options = c.args.options.now in
-    let lists = λ (n : Node). list_text naming options.effective Access n.label.acl ++ (default_entries naming options n ++ 10 ∷ []) in
-    appends_both c.push_lists.result c.args.text.now c.push_headers.new.text c.push_lists.new.text (headers naming options c.args.file.now) (lists c.args.file.now.node)
-    c.in_ok-push_headers.ensures (subst (λ (n : Node). Appends c.push_lists.result c.push_headers.new.text c.push_lists.new.text (lists n)) c.node.ensures c.push_lists.ensures)
+    let file = c.args.file.now in
+    let old = c.args.text.now.items in
+    let sought = c.seeks_next.ensures (after_path naming options) c.requires in
+    let known = c.in-Some.ensures (after_path naming options) sought ∙ ap (after_path naming options) c.node-2.ensures in
+    record {
+      text = c.in_ok-push_known_record.ensures ∙ ap (λ l. old ++ (path_line options file ++ l)) known ∙ ap (λ l. old ++ l) (sym (record_parts naming options file));
+      kept = c.note_found.ensures (after_path naming options) sought;
+    }

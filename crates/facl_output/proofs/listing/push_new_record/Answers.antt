@@ -1,0 +1,33 @@
+use Rattle.std.proofs.Common.{◌≡◌, ◌++◌, ℕ, List, length, take, drop, sym, ap, subst, ◌∙◌, arith}
+use Rattle.std.proofs.lemmas.Grind.{common_steps}
+use Rattle.facl_output.specs.Listings.{file_text}
+use Rattle.facl_output.specs.AfterPaths.{path_line, after_path}
+use Rattle.facl_output.proofs.AfterPaths.{record_parts, rest_added, still_starts}
+use Rattle.facl_output.proofs.listing.push_new_record.Goals as goal
+
+pub returns-in_err-push_record-clause-text : goal.returns-in_err-push_record-clause-text
+returns-in_err-push_record-clause-text g c =
+    let new = c.push_record.new.text.items in
+    let begins = subst (λ (l : List ℕ). take (length l) new ≡ l) c.in_ok-end.ensures.1 c.in_err-push_record.ensures in
+    grind (arith, common_steps, begins)
+
+pub returns-in_err-keep-clause-text : goal.returns-in_err-keep-clause-text
+returns-in_err-keep-clause-text g c =
+    let record_text = file_text (g.N.Names.naming c.args.names.now) c.args.options.now c.args.file.now in
+    let begins = still_starts c.args.text.now.items c.end_of_path_line.new.text.items record_text c.push_record.new.text.items c.in_ok-end.ensures.1 c.in_ok-push_record.ensures in
+    grind (arith, common_steps, begins)
+
+pub returns : goal.returns
+returns g c =
+    let naming = g.N.Names.naming c.args.names.now in
+    let options = c.args.options.now in
+    let file = c.args.file.now in
+    let old = c.args.text.now.items in
+    let added = c.in_ok-push_record.ensures ∙ ap (λ l. l ++ file_text naming options file) c.in_ok-end.ensures.1 in
+    let rest = rest_added old (path_line options file) (after_path naming options file.node) c.push_record.new.text.items c.in_ok-end.end c.in_ok-end.ensures.0
+    (added ∙ ap (λ l. old ++ l) (record_parts naming options file)) in
+    record {
+      text = added;
+      kept = c.in_ok-keep.ensures (after_path naming options) c.requires
+          (ap (drop c.in_ok-end.end) c.as_slice.ensures.value ∙ (rest ∙ ap (after_path naming options) (sym c.node.ensures)));
+    }

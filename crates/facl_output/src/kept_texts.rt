@@ -1,0 +1,267 @@
+//! Texts of nodes that were listed, kept so that another file of the same node costs a comparison and a copy.
+
+ghost use Rattle.std.specs.Prelude.{◌≡◌, ◌<◌, List, ℕ, Some, true, length, drop, IfOk, IfSome, OnOk};
+ghost use Rattle.acl_edit.specs.declared.node.Node.{Node};
+ghost use Rattle.facl_output.specs.KeptTexts.{IsKept, AreKept};
+
+use acl_edit::{Kind, Node};
+use acl_entry::{Acl, Entry, Key};
+use std::alloc::{AllocError, Global};
+
+/// The most nodes whose texts are kept.
+const MAX_PLACES: usize = 1 << 16;
+
+/// The most bytes of kept texts, except that one text may be longer.
+const MAX_BYTES: usize = 1 << 24;
+
+/// After so many files in a row whose texts were not kept, only one file in [`SELDOM`] is looked for.
+const MAX_MISSES: usize = 1 << 10;
+
+/// See [`MAX_MISSES`].
+const SELDOM: usize = 1 << 5;
+
+/// What a mark is multiplied by, so that it spreads.
+const SPREAD: u64 = 0x9E37_79B9_7F4A_7C15;
+
+/// A mark with a number worked into it.
+fn mixed(mark: u64, number: u64) -> u64 {
+    (mark ^ number).wrapping_mul(SPREAD).rotate_left(29)
+}
+
+/// A number of an entry: its permissions and the id that it names.
+fn number_of(entry: &Entry) -> u64 {
+    let id = match entry.key {
+        Key::User(id) | Key::Group(id) => id.number(),
+        Key::Owner | Key::OwningGroup | Key::Mask | Key::Other => 0,
+    };
+    u64::from(id) << 8 | u64::from(entry.perm.number())
+}
+
+/// A mark with a list worked into it.
+fn mark_with(mark: u64, acl: &Acl) -> u64 {
+    let mut mark = mark;
+    for entry in acl.entries() {
+        mark = mixed(mark, number_of(entry));
+    }
+    mark
+}
+
+/// A number of the kind and the flags of a node.
+fn head_of(node: &Node) -> u64 {
+    let [setuid, setgid, sticky] = node.flags;
+    let is_directory = node.kind == Kind::Directory;
+    u64::from(is_directory) << 3
+        | u64::from(setuid) << 2
+        | u64::from(setgid) << 1
+        | u64::from(sticky)
+}
+
+/// A mark of a node. Nodes that are the same have one mark, and others seldom do.
+pub(crate) fn mark_of(node: &Node) -> u64 {
+    let label = &node.label;
+    let ids = u64::from(label.owner.number()) << 32 | u64::from(label.group.number());
+    let mark = mark_with(mixed(head_of(node), ids), &label.acl);
+    match &node.dacl {
+        Some(dacl) => mark_with(mark, dacl),
+        None => mark,
+    }
+}
+
+/// Whether both are one kind.
+fn is_same_kind(one: Kind, other: Kind) -> bool
+    ensures { result ≡ true → one ≡ other }
+{
+    one == other
+}
+
+/// Whether both have the same flags.
+fn has_same_flags(one: &Node, other: &Node) -> bool
+    ensures { result ≡ true → one.now.flags ≡ other.now.flags }
+{
+    one.flags == other.flags
+}
+
+/// Whether both are one default list, or none.
+fn is_same_default(one: &Option<Acl>, other: &Option<Acl>) -> bool
+    ensures { result ≡ true → one.now ≡ other.now }
+{
+    match (one, other) {
+        (None, None) => true,
+        (Some(one), Some(other)) => one.same(other),
+        _ => false,
+    }
+}
+
+/// Whether both nodes are the same.
+fn is_same(one: &Node, other: &Node) -> bool
+    ensures { result ≡ true → one.now ≡ other.now }
+{
+    if !is_same_kind(one.kind, other.kind) || !has_same_flags(one, other) {
+        return false;
+    }
+    one.same_label(other) && is_same_default(&one.dacl, &other.dacl)
+}
+
+/// Where the text of a node is among the bytes that are kept.
+#[derive(Clone, Copy)]
+pub(crate) struct Kept<'a> {
+    node: &'a Node,
+    mark: u64,
+    start: usize,
+    end: usize,
+}
+
+/// The texts of the nodes that were listed last, each at a place by the mark of its node; and for how many files in a row no
+/// text was kept.
+///
+/// A text is dropped when another node gets its place, and all are dropped when there is no room for one more.
+#[derive(Drop)]
+pub(crate) struct KeptTexts<'a> {
+    bytes: Vec<u8>,
+    places: Vec<Option<Kept<'a>>>,
+    misses: usize,
+}
+
+impl<'a> KeptTexts<'a> {
+    /// No texts, with a place for each of `files`, up to [`MAX_PLACES`].
+    ///
+    /// # Errors
+    ///
+    /// If memory runs out.
+    pub fn new(alloc: Global, files: usize) -> Result<KeptTexts<'a>, AllocError>
+        ensures { (text_of : Node → List ℕ) → IfOk result (AreKept text_of) }
+    {
+        let mut places = Vec::new(alloc);
+        places.resize(files.min(MAX_PLACES), None)?;
+        Ok(KeptTexts {
+            bytes: Vec::new(alloc),
+            places,
+            misses: 0,
+        })
+    }
+
+    /// Whether to look for the text of the next file, which counts as one that is not kept until it is found: where most
+    /// files have nodes of their own, it is seldom worth it.
+    pub fn seeks_next(&mut self) -> bool
+        ensures { (text_of : Node → List ℕ) → AreKept text_of self.old → AreKept text_of self.new }
+    {
+        let misses = self.misses;
+        self.misses = misses.wrapping_add(1);
+        misses < MAX_MISSES || misses % SELDOM == 0
+    }
+
+    /// Notes that the text of a file was found.
+    pub fn note_found(&mut self)
+        ensures { (text_of : Node → List ℕ) → AreKept text_of self.old → AreKept text_of self.new }
+    {
+        self.misses = 0;
+    }
+
+    /// The place of a mark, if there are places.
+    fn place_of(&self, mark: u64) -> Option<usize>
+        ensures { IfSome result (λ place. place < length self.now.places.items) }
+    {
+        (mark as usize).checked_rem(self.places.len())
+    }
+
+    /// What is at the place of a mark.
+    fn at(&self, mark: u64) -> Option<Kept<'a>>
+        ensures { (text_of : Node → List ℕ) → AreKept text_of self.now → IsKept text_of self.now.bytes.items result }
+    {
+        match self.places.get(self.place_of(mark)?) {
+            Some(kept) => *kept,
+            None => None,
+        }
+    }
+
+    /// The text of a node of this mark, if it is kept. Allocates nothing.
+    pub fn find(&self, mark: u64, node: &Node) -> Option<&[u8]>
+        ensures { (text_of : Node → List ℕ) → AreKept text_of self.now → IfSome result (λ text. text.now ≡ text_of node.now) }
+    {
+        let kept = self.at(mark)?;
+        if kept.mark != mark || !is_same(kept.node, node) {
+            return None;
+        }
+        self.bytes.get(kept.start..kept.end)
+    }
+
+    /// Drops all texts.
+    ///
+    /// # Errors
+    ///
+    /// If memory runs out.
+    fn clear(&mut self) -> Result<(), AllocError>
+        ensures { (text_of : Node → List ℕ) → OnOk result (AreKept text_of self.new) }
+    {
+        let count = self.places.len();
+        self.bytes.clear();
+        self.places.clear();
+        self.places.resize(count, None)?;
+        Ok(())
+    }
+
+    /// Keeps what a text has from a place on, which is that of a node of this mark.
+    ///
+    /// # Errors
+    ///
+    /// If memory runs out.
+    pub fn keep(
+        &mut self,
+        mark: u64,
+        node: &'a Node,
+        text: &[u8],
+        start: usize,
+    ) -> Result<(), AllocError>
+        ensures { (text_of : Node → List ℕ) → AreKept text_of self.old → drop start text.now ≡ text_of node.now → OnOk result (AreKept text_of self.new) }
+    {
+        let Some(kept) = text.get(start..) else {
+            return Ok(());
+        };
+        self.make_room(kept.len())?;
+        self.add(mark, node, kept)
+    }
+
+    /// Drops all texts where there is no room for `bytes` more.
+    ///
+    /// # Errors
+    ///
+    /// If memory runs out.
+    fn make_room(&mut self, bytes: usize) -> Result<(), AllocError>
+        ensures { (text_of : Node → List ℕ) → AreKept text_of self.old → OnOk result (AreKept text_of self.new) }
+    {
+        if self.bytes.len().saturating_add(bytes) <= MAX_BYTES {
+            return Ok(());
+        }
+        self.clear()
+    }
+
+    /// Keeps the text of a node of this mark, however long it is.
+    ///
+    /// # Errors
+    ///
+    /// If memory runs out.
+    fn add(&mut self, mark: u64, node: &'a Node, text: &[u8]) -> Result<(), AllocError>
+        ensures { (text_of : Node → List ℕ) → AreKept text_of self.old → text.now ≡ text_of node.now → OnOk result (AreKept text_of self.new) }
+    {
+        let start = self.bytes.len();
+        self.bytes.extend_from_slice(text)?;
+        let end = self.bytes.len();
+        self.put(Kept {
+            node,
+            mark,
+            start,
+            end,
+        });
+        Ok(())
+    }
+
+    /// Puts what is kept of a node at the place of its mark.
+    fn put(&mut self, kept: Kept<'a>)
+        ensures { (text_of : Node → List ℕ) → AreKept text_of self.old → IsKept text_of self.old.bytes.items (Some kept.entry) → AreKept text_of self.new }
+    {
+        let Some(place) = self.place_of(kept.mark) else {
+            return;
+        };
+        self.places[place] = Some(kept);
+    }
+}
