@@ -1,12 +1,16 @@
 -- What is listed of a file, in two parts: what its path makes, and what its node makes.
-use Rattle.std.specs.Prelude.{ℕ, List, [], ◌∷◌, ◌++◌, if◌then◌else◌, Some}
+use Rattle.std.specs.Prelude.{ℕ, List, [], ◌∷◌, ◌++◌, if◌then◌else◌, Some, codes}
+use Rattle.acl_entry.specs.Lists.{entries}
 use Rattle.acl_edit.specs.declared.node.Node.{Node}
 use Rattle.acl_text.specs.Naming.{Naming}
 use Rattle.acl_text.specs.declared.fault.Which.TheVariants.{Access}
 use Rattle.acl_text.specs.DumpWriting as dump
 use Rattle.acl_text.specs.DumpWriting.{owner_text, group_text, flags_text, list_text}
+use Rattle.acl_text.specs.Writing.{short}
 use Rattle.acl_tree.specs.Found.{FoundFile}
 use Rattle.facl_output.specs.Listings.{has_slash, flags_shown, default_entries}
+use Rattle.facl_output.specs.TestListing.{lists_text}
+use Rattle.facl_output.specs.ChaclListings.{default_part}
 use Rattle.facl_output.specs.declared.listing.Options.{Options}
 
 abbrev pub path_line : Options → FoundFile → List ℕ
@@ -21,3 +25,10 @@ module _ (naming : Naming) where
   -- the lines of a record after that of the path
   abbrev pub after_path : Options → Node → List ℕ
   after_path options n = id_lines options n ++ (list_text naming options.effective Access n.label.acl ++ (default_entries naming options n ++ 10 ∷ []))
+
+  -- the same of setfacl's `--test`, and of chacl's `-l`
+  abbrev pub after_tested_path : Node → List ℕ
+  after_tested_path n = codes ": " ++ (lists_text naming n ++ 10 ∷ [])
+
+  abbrev pub after_chacl_path : Node → List ℕ
+  after_chacl_path n = codes " [" ++ (short naming (entries n.label.acl) ++ (default_part naming n.dacl ++ 93 ∷ 10 ∷ []))

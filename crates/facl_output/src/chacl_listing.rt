@@ -1,10 +1,14 @@
 //! The listing of chacl(1) `-l`.
 
-ghost use Rattle.std.specs.Prelude.{◌≡◌, IfOk};
+ghost use Rattle.std.specs.Prelude.{◌≡◌, IfOk, OnOk};
 ghost use Rattle.acl_names.specs.Appends.{Appends};
+ghost use Rattle.facl_output.specs.AfterPaths.{after_chacl_path};
+ghost use Rattle.facl_output.specs.KeptTexts.{AreKept};
 ghost use Rattle.facl_output.specs.ChaclListings.{default_part, chacl_line, chacl_listing};
 
+use crate::kept_texts::{KeptTexts, NodeText};
 use crate::listing::push_path_shown;
+use acl_edit::Node;
 use acl_entry::Acl;
 use acl_text::{Names, append_short};
 use acl_tree::FoundFile;
@@ -25,21 +29,44 @@ fn push_default<N: Names>(
     Ok(())
 }
 
-/// Adds the line of a file.
-fn push_line<N: Names>(
-    text: &mut Vec<u8>,
-    names: &N,
-    file: &FoundFile<'_>,
-) -> Result<(), AllocError>
-    ensures { Appends result text.old text.new (chacl_line (N.naming names.now) file.now) }
+/// Adds what comes after a path.
+fn push_after_path<N: Names>(text: &mut Vec<u8>, names: &N, node: &Node) -> Result<(), AllocError>
+    ensures { Appends result text.old text.new (after_chacl_path (N.naming names.now) node.now) }
 {
-    push_path_shown(text, file)?;
     text.extend_from_slice(b" [")?;
-    let node = file.node();
     append_short(text, &node.label.acl, names)?;
     push_default(text, names, &node.dacl)?;
     text.extend_from_slice(b"]\n")?;
     Ok(())
+}
+
+/// What comes after the path of a file, with names.
+#[derive(Clone, Copy)]
+struct BracketedLists<'n, N: Names> {
+    names: &'n N,
+}
+
+impl<'n, N: Names> NodeText for BracketedLists<'n, N> {
+    ghost text_of = { λ lists. after_chacl_path (N.naming lists.names.now) };
+
+    fn push(&self, text: &mut Vec<u8>, node: &Node) -> Result<(), AllocError> {
+        push_after_path(text, self.names, node)
+    }
+}
+
+/// Adds the line of a file.
+fn push_line<'a, N: Names>(
+    text: &mut Vec<u8>,
+    kept: &mut KeptTexts<'a>,
+    names: &N,
+    file: &FoundFile<'a>,
+) -> Result<(), AllocError>
+    requires { AreKept (after_chacl_path (N.naming names.now)) kept.old }
+    ensures text { Appends result text.old text.new (chacl_line (N.naming names.now) file.now) }
+    ensures kept { OnOk result (AreKept (after_chacl_path (N.naming names.now)) kept.new) }
+{
+    push_path_shown(text, file)?;
+    kept.push(text, &BracketedLists { names }, file.node())
 }
 
 /// Adds the lines of files.
@@ -50,8 +77,9 @@ fn push_lines<N: Names>(
 ) -> Result<(), AllocError>
     ensures { Appends result text.old text.new (chacl_listing (N.naming names.now) files.now) }
 {
+    let mut kept = KeptTexts::new(*text.allocator(), files.len())?;
     for file in files {
-        push_line(text, names, file)?;
+        push_line(text, &mut kept, names, file)?;
     }
     Ok(())
 }

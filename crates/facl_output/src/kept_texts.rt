@@ -1,6 +1,7 @@
 //! Texts of nodes that were listed, kept so that another file of the same node costs a comparison and a copy.
 
 ghost use Rattle.std.specs.Prelude.{◌≡◌, ◌<◌, List, ℕ, Some, true, length, drop, IfOk, IfSome, OnOk};
+ghost use Rattle.acl_names.specs.Appends.{Appends};
 ghost use Rattle.acl_edit.specs.declared.node.Node.{Node};
 ghost use Rattle.facl_output.specs.KeptTexts.{IsKept, AreKept};
 
@@ -100,6 +101,20 @@ fn is_same(one: &Node, other: &Node) -> bool
         return false;
     }
     one.same_label(other) && is_same_default(&one.dacl, &other.dacl)
+}
+
+/// What writes the text of a node.
+pub(crate) trait NodeText {
+    /// The text of a node.
+    ghost text_of: { Self → Node → List ℕ };
+
+    /// Adds the text of a node.
+    ///
+    /// # Errors
+    ///
+    /// If memory runs out.
+    fn push(&self, text: &mut Vec<u8>, node: &Node) -> Result<(), AllocError>
+        ensures { Appends result text.old text.new (text_of self.now node.now) };
 }
 
 /// Where the text of a node is among the bytes that are kept.
@@ -263,5 +278,36 @@ impl<'a> KeptTexts<'a> {
             return;
         };
         self.places[place] = Some(kept);
+    }
+
+    /// Adds the text of a node: a copy, if it is kept.
+    ///
+    /// # Errors
+    ///
+    /// If memory runs out.
+    pub fn push<W: NodeText>(
+        &mut self,
+        text: &mut Vec<u8>,
+        writer: &W,
+        node: &'a Node,
+    ) -> Result<(), AllocError>
+        requires { AreKept (W.text_of writer.now) self.old }
+        ensures text { Appends result text.old text.new (W.text_of writer.now node.now) }
+        ensures kept { OnOk result (AreKept (W.text_of writer.now) self.new) }
+    {
+        if !self.seeks_next() {
+            writer.push(text, node)?;
+            return Ok(());
+        }
+        let mark = mark_of(node);
+        if let Some(known) = self.find(mark, node) {
+            text.extend_from_slice(known)?;
+            self.note_found();
+            return Ok(());
+        }
+        let start = text.len();
+        writer.push(text, node)?;
+        self.keep(mark, node, text.as_slice(), start)?;
+        Ok(())
     }
 }

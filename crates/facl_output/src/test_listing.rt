@@ -1,10 +1,13 @@
 //! What setfacl(1) prints with `--test`.
 
-ghost use Rattle.std.specs.Prelude.{◌++◌, ◌∷◌, [], codes};
+ghost use Rattle.std.specs.Prelude.{◌++◌, ◌∷◌, [], OnOk};
 ghost use Rattle.std.specs.List.{flat_map};
 ghost use Rattle.acl_names.specs.Appends.{Appends, AppendsWhole};
+ghost use Rattle.facl_output.specs.AfterPaths.{after_tested_path};
+ghost use Rattle.facl_output.specs.KeptTexts.{AreKept};
 ghost use Rattle.facl_output.specs.TestListing.{default_entry, default_entries, lists_text, file_line, test_listing};
 
+use crate::kept_texts::{KeptTexts, NodeText};
 use crate::listing::{end_line, push_path_shown};
 use acl_edit::Node;
 use acl_entry::{Acl, Entry};
@@ -69,23 +72,40 @@ fn push_lists_line<N: Names>(text: &mut Vec<u8>, names: &N, node: &Node) -> Resu
 }
 
 /// Adds what comes after a path.
-fn push_lists_of<N: Names>(text: &mut Vec<u8>, names: &N, node: &Node) -> Result<(), AllocError>
-    ensures { Appends result text.old text.new (codes ": " ++ (lists_text (N.naming names.now) node.now ++ 10 ∷ [])) }
+fn push_after_path<N: Names>(text: &mut Vec<u8>, names: &N, node: &Node) -> Result<(), AllocError>
+    ensures { Appends result text.old text.new (after_tested_path (N.naming names.now) node.now) }
 {
     text.extend_from_slice(b": ")?;
     push_lists_line(text, names, node)
 }
 
+/// What comes after the path of a file, with names.
+#[derive(Clone, Copy)]
+struct TestedLists<'n, N: Names> {
+    names: &'n N,
+}
+
+impl<'n, N: Names> NodeText for TestedLists<'n, N> {
+    ghost text_of = { λ lists. after_tested_path (N.naming lists.names.now) };
+
+    fn push(&self, text: &mut Vec<u8>, node: &Node) -> Result<(), AllocError> {
+        push_after_path(text, self.names, node)
+    }
+}
+
 /// Adds the line of a file.
-fn push_file<N: Names>(
+fn push_file<'a, N: Names>(
     text: &mut Vec<u8>,
+    kept: &mut KeptTexts<'a>,
     names: &N,
-    file: &FoundFile<'_>,
+    file: &FoundFile<'a>,
 ) -> Result<(), AllocError>
-    ensures { Appends result text.old text.new (file_line (N.naming names.now) file.now) }
+    requires { AreKept (after_tested_path (N.naming names.now)) kept.old }
+    ensures text { Appends result text.old text.new (file_line (N.naming names.now) file.now) }
+    ensures kept { OnOk result (AreKept (after_tested_path (N.naming names.now)) kept.new) }
 {
     push_path_shown(text, file)?;
-    push_lists_of(text, names, file.node())
+    kept.push(text, &TestedLists { names }, file.node())
 }
 
 /// Adds the lines of files.
@@ -96,8 +116,9 @@ fn push_files<N: Names>(
 ) -> Result<(), AllocError>
     ensures { Appends result text.old text.new (test_listing (N.naming names.now) files.now) }
 {
+    let mut kept = KeptTexts::new(*text.allocator(), files.len())?;
     for file in files {
-        push_file(text, names, file)?;
+        push_file(text, &mut kept, names, file)?;
     }
     Ok(())
 }

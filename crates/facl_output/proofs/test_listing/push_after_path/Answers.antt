@@ -1,7 +1,7 @@
 use Rattle.std.proofs.Common.{◌++◌, ◌∷◌, [], codes}
 use Rattle.facl_output.specs.TestListing.{lists_text}
 use Rattle.acl_text.proofs.Appending.{appends_both}
-use Rattle.facl_output.proofs.test_listing.push_lists_of.Goals as goal
+use Rattle.facl_output.proofs.test_listing.push_after_path.Goals as goal
 
 pub returns : goal.returns
 returns g c =
