@@ -101,11 +101,12 @@ class Program(Case):
         files = [("./", folders[0]), *own, *shared, *((f"d{name[1:]}", node) for name, node in own[:40]), ("e", nodes[0])]
         self.write("dump", "".join(LISTED.format(name, *node) for name, node in files).encode())
         words = "--passwd passwd --group group --dump dump".split()
-        for option in ("", "-n ", "-c ", "-e ", "-a ", "-s "):
-            alone = "".join(f"getfacl {option}{name.rstrip('/')}\n" for name, _ in files).encode()
-            each, whole = self.answer(alone, *words), self.answer(f"getfacl {option}-R .\n".encode(), *words)
-            self.assertEqual((each.status, each.messages, whole.status, whole.messages), (0, b"", 0, b""))
-            self.assertTrue(each.out == whole.out and each.out, option)
+        lines = [(f"getfacl {option}", f"getfacl -R {option}") for option in ("", "-n ", "-c ", "-e ", "-a ", "-s ")]
+        for one, all_of in (*lines, ("chacl -l ", "chacl -lr "), ("setfacl --test -m u:joe:rX ", "setfacl --test -R -m u:joe:rX ")):
+            alone = "".join(f"{one}{name.rstrip('/')}\n" for name, _ in files).encode()
+            each, whole = self.answer(alone, *words), self.answer(f"{all_of}.\n".encode(), *words)
+            self.assertEqual((each.status, each.messages, whole.status, whole.messages), (0, b"", 0, b""), one)
+            self.assertTrue(each.out == whole.out and each.out, one)
 
 
 if __name__ == "__main__":
