@@ -6,7 +6,7 @@ usage: tools/bench/bench.py MEASUREMENT PROGRAM [FOLDER] [--files N,..] [--users
        tools/bench/bench.py tree [--files N] [--users N]
 
   tools    each tool on the trees of tools/lib/texts.py (10000,100000,1000000 files, 1000 users, 3 runs)
-  index    the index of who may do what on files of few and of different labels (100000 files, 1000 users, 2 runs)
+  index    the index of who may do what on files of few labels, of 2000 and of different ones (100000 files, 1000 users, 2 runs)
   limits   a line of each kind on as many files and users as can be, but for those that it makes: 1048570 and 65536, of
            1000 labels (1 run)
   grow     exponents: how the time of lines grows by files, labels, users, operands, depth and the entries of a list, by
@@ -92,15 +92,18 @@ def measure_tools(given: Words) -> int:
 
 # The index.
 
-NUMBER_OF: Dict[str, NumberOf] = {"few": lambda n: 1, "different": lambda n: n}
+SOME = 2_000  # Labels in the middle of the range, of directories too.
+NUMBER_OF: Dict[str, NumberOf] = {"few": lambda n: 1, "some": lambda n: n % SOME, "different": lambda n: n}
 LABELS = 1_000  # Of the tree of all limits.
+
 
 def measure_index(given: Words) -> int:
     tree = Tree("", given.files[-1], given.users, 200, 4)
     columns: Dict[str, Mapping[str, Union[str, float]]] = {}
     for kind, number_of in NUMBER_OF.items():
         columns.update(columns_of(f"{kind} labels", best_times(given, tree, OF_INDEX, number_of)))
-        columns[f"aimed at: {kind}"] = {step.name: getattr(step, kind) for step in (*OF_LOAD, *OF_INDEX)}
+        if hasattr(Step, kind):
+            columns[f"aimed at: {kind}"] = {step.name: getattr(step, kind) for step in (*OF_LOAD, *OF_INDEX)}
     print_table(f"{tree.files:,} files, {tree.users:,} users", columns)
     return 0
 
