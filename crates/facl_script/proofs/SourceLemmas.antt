@@ -4,7 +4,7 @@ use Rattle.facl_script.specs.declared.source.ByteSource.{ByteSource}
 use Rattle.facl_script.specs.declared.fault.ScriptFault.{ScriptFault}
 use Rattle.facl_script.specs.declared.fault.ScriptFault.TheVariants.{Read, Write, TooLong, NoMemory}
 use Rattle.std.proofs.Common.{◌≡◌, ℕ, Bool, List, ◌++◌, Option, None, Some, sym, ap, ◌∙◌, append_assoc}
-use Rattle.std.proofs.KnownBytes.{Consumes-trans}
+use Rattle.std.proofs.KnownBytes.{Consumes-trans, Keeps-refl}
 use Rattle.std.specs.Io.KnownBytes.{Consumes, Keeps, prepend_known}
 
 -- what was returned grows by the front of what was read
@@ -23,3 +23,8 @@ stops_later Read s before mid r failed text more p h = (Consumes-trans before mi
 stops_later TooLong s before mid r failed text more p h = ((h.0.0, h.0.1, rw append_assoc (Consumes-trans before mid r text _ p h.0.2)), h.1, h.2)
 stops_later NoMemory s before mid r failed text more p h = Consumes-trans before mid _ text more p h
 stops_later Write s before mid r failed text more p h = absurd h
+
+-- what was returned grows by the front of what is read already
+pub handed_pending : (before r : Option (List ℕ)) (all front rest text : List ℕ) → Consumes before (prepend_known all r) text → all ≡ front ++ rest
+    → Consumes before (prepend_known rest r) (text ++ front)
+handed_pending before r all front rest text p e = handed before (prepend_known all r) r all front rest text p (Keeps-refl (prepend_known all r)) e

@@ -1,11 +1,13 @@
 -- Lemmas on the text of a unit.
 use Rattle.std.proofs.Common.{◌≡◌, ◌<◌, ◌≤◌, ◌+◌, ℕ, Bool, true, false, not, cond, List, [], ◌∷◌, ◌++◌, refl, sym, ap, ◌∙◌, append_assoc, append-nil, length, length-append, arith, Option, None, Some}
-use Rattle.std.specs.Prelude.{nat_le}
+use Rattle.std.proofs.Common.{take, drop, add-zero, add_assoc, take-append-drop, length-take-le}
+use Rattle.std.proofs.Math.Seq.{take-append_seam}
+use Rattle.std.specs.Prelude.{nat_le, option_map}
 use Rattle.std.proofs.lemmas.Bool.{le-leb}
 use Rattle.std.proofs.lemmas.Bool.Decides.{nat_tests}
 use Rattle.facl_script.specs.Lines.{lines_of, HasNoLineFeed, spelled}
 use Rattle.facl_script.specs.Units.{Open, within, outside, unended, cut, is_end, with_text_line, more_text, ended_text, closed, full_units}
-use Rattle.facl_script.specs.ReadText.{HoldsText, IsTextFound}
+use Rattle.facl_script.specs.ReadText.{HoldsText, IsTextFound, IsTextPart}
 use Rattle.facl_script.specs.declared.text.TextFound.{TextFound}
 use Rattle.facl_script.specs.declared.text.TextFound.TheVariants.{Absent, Whole, TooLong, Unended, Lost}
 use Rattle.facl_script.proofs.LineLemmas.{lines_of-ended, lines_of-rest}
@@ -77,3 +79,44 @@ more_text_short text line h = rw (le-leb (length line) 65536 h) refl
 -- the unit with this text so far
 abbrev pub so_far : ℕ → List ℕ → Option (List ℕ) → Open
 so_far number line text = record { number = number; line = line; text = text }
+
+-- ---- lines that are taken at once
+
+pub part_none : IsTextPart [] 0
+part_none = record {
+  splits = λ asks number line content n rest i. cut asks (within (record { number = number; line = line; text = sym (same content) i })) (sym (add-zero n) i) (lines_of rest);
+  few = omega arith;
+}
+  where
+    same : (content : Option (List ℕ)) → option_map (λ t. t ++ []) content ≡ content
+    same None = refl
+    same (Some t) = ap Some (append-nil t)
+
+pub part_more : (part line : List ℕ) (lines : ℕ) → IsTextPart part lines → HasNoLineFeed line → is_end line ≡ false → length line ≤ 65536
+    → IsTextPart (part ++ (line ++ 10 ∷ [])) (lines + 1)
+part_more part line lines p none goes short = record {
+  splits = λ asks number l content n rest.
+      ap (λ bs. cut asks (within (so_far number l content)) n (lines_of bs)) (append_assoc part (line ++ 10 ∷ []) rest)
+      ∙ p.splits asks number l content n ((line ++ 10 ∷ []) ++ rest)
+      ∙ text_line asks (so_far number l (option_map (λ t. t ++ part) content)) (n + lines) line rest none goes
+      ∙ (λ i. cut asks (within (so_far number l (more content i))) (add_assoc n lines 1 i) (lines_of rest));
+  few = omega (arith, p.few, length-append part (line ++ 10 ∷ []), length-append line (10 ∷ []));
+}
+  where
+    more : (content : Option (List ℕ)) → more_text (option_map (λ t. t ++ part) content) line ≡ option_map (λ t. t ++ (part ++ (line ++ 10 ∷ []))) content
+    more None = refl
+    more (Some t) = more_text_short (t ++ part) line short ∙ ap Some (append_assoc t part (line ++ 10 ∷ []))
+
+-- what is taken with one more line
+pub part_taken : (piece after : List ℕ) (end at : ℕ) → end ≤ length piece → after ≡ drop end piece → at < length after → after ≡ take at after ++ (10 ∷ drop (at + 1) after)
+    → take (end + (at + 1)) piece ≡ take end piece ++ (take at after ++ 10 ∷ [])
+part_taken piece after end at le is lt split =
+    let line : List ℕ = take at after ++ 10 ∷ [] in
+    let front : List ℕ = take end piece ++ line in
+    let rest : List ℕ = drop (at + 1) after in
+    let whole : piece ≡ front ++ rest =
+    sym (take-append-drop end piece) ∙ ap (λ l. take end piece ++ l) (sym is ∙ split ∙ sym (append_assoc (take at after) (10 ∷ []) rest)) ∙ sym (append_assoc (take end piece) line rest) in
+    let one : length (take end piece) ≡ end = length-take-le end piece le in
+    let two : length (take at after) ≡ at = length-take-le at after (omega (arith, lt)) in
+    let long : end + (at + 1) ≡ length front = omega (arith, one, two, length-append (take end piece) line, length-append (take at after) (10 ∷ [])) in
+    (λ i. take (long i) (whole i)) ∙ take-append_seam front rest

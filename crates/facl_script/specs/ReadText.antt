@@ -1,8 +1,8 @@
 -- What reading a text finds.
-use Rattle.std.specs.Prelude.{◌≡◌, ◌≤◌, ◌+◌, ℕ, Bool, false, List, [], ◌∷◌, ◌++◌, length, Option, None, Some, Result, MatchResult}
+use Rattle.std.specs.Prelude.{◌≡◌, ◌≤◌, ◌+◌, ℕ, Bool, false, List, [], ◌∷◌, ◌++◌, length, Option, None, Some, option_map, Result, MatchResult}
 use Rattle.std.specs.Io.KnownBytes.{Consumes, IsAtEnd}
 use Rattle.facl_script.specs.Lines.{lines_of}
-use Rattle.facl_script.specs.ByteSource.{unread, taken_count, StopsReading}
+use Rattle.facl_script.specs.ByteSource.{pending, unread, taken_count, StopsReading}
 use Rattle.facl_script.specs.Units.{opened, UnitText, none, whole, too_long, unended, outside, within, cut, closed, HasNoUnitWithin}
 use Rattle.facl_script.specs.declared.fault.ScriptFault.{ScriptFault}
 use Rattle.facl_script.specs.declared.source.ByteSource.{ByteSource}
@@ -17,6 +17,21 @@ HoldsText TooLong held content = content ≡ None
 HoldsText Lost held content = Unit {0}
 HoldsText Absent held content = ⊥
 HoldsText Unended held content = ⊥
+
+-- These are so many whole lines of a text, of which none ends it: they come after those so far (for inner functions).
+pub record IsTextPart (part : List ℕ) (lines : ℕ) : Type 0 where
+  pub splits : (asks : List ℕ → Bool) (number : ℕ) (line : List ℕ) (content : Option (List ℕ)) (n : ℕ) (rest : List ℕ)
+      → cut asks (within (record { number = number; line = line; text = content })) n (lines_of (part ++ rest))
+      ≡ cut asks (within (record { number = number; line = line; text = option_map (λ t. t ++ part) content })) (n + lines) (lines_of rest)
+  pub few : lines ≤ length part
+
+-- So many lines that are read already are taken, and kept where the others are (for inner functions).
+pub record TakesLines (lines : ℕ) (was is : TextFound) (old_text new_text : List ℕ) (old new : ByteSource) : Type 0 where
+  pub part : List ℕ
+  pub are : IsTextPart part lines
+  pub taken : pending old ≡ part ++ pending new
+  pub count : taken_count new ≡ taken_count old + length part
+  pub holds : (content : Option (List ℕ)) → HoldsText was old_text content → HoldsText is new_text (option_map (λ t. t ++ part) content)
 
 -- the code has the text of a unit, or has lost it
 abbrev pub IsTextFound : TextFound → List ℕ → UnitText → Type 0

@@ -25,7 +25,7 @@ pub(crate) struct LineRead {
 }
 
 /// The place of the first LF, if there is one.
-fn line_feed_at(piece: &[u8]) -> Option<usize>
+pub(crate) fn line_feed_at(piece: &[u8]) -> Option<usize>
     ensures { MatchOption result (HasNoLineFeed piece.now) (λ n.
         (n < length piece.now) × HasNoLineFeed (take n piece.now)
         × (piece.now ≡ take n piece.now ++ (10 ∷ drop (n + 1) piece.now))) }
@@ -88,14 +88,14 @@ impl ByteSource {
     }
 
     /// The bytes that are read and not taken yet.
-    fn pending(&self) -> &[u8]
+    pub fn pending(&self) -> &[u8]
         ensures { result.now ≡ pending self.now }
     {
         &self.chunk[self.start..self.end]
     }
 
     /// Takes the first bytes of those.
-    fn skip(&mut self, n: usize)
+    pub fn skip(&mut self, n: usize)
         requires { n ≤ length (pending self.old) }
         ensures pending { pending self.new ≡ drop n (pending self.old) }
         ensures count { taken_count self.new ≡ taken_count self.old + n }

@@ -1,13 +1,13 @@
 //! The text of a unit: the lines up to a line `.`.
-ghost use Rattle.std.specs.Prelude.{◌≡◌, ◌≤◌, ℕ, List, [], ◌∷◌, ◌++◌, false, OnOk, Option};
-ghost use Rattle.facl_script.specs.ByteSource.{taken_count};
+ghost use Rattle.std.specs.Prelude.{◌≡◌, ◌≤◌, ◌+◌, ℕ, List, [], ◌∷◌, ◌++◌, false, take, drop, length, OnOk, Option, option_map};
+ghost use Rattle.facl_script.specs.ByteSource.{pending, taken_count};
 ghost use Rattle.facl_script.specs.Units.{is_end as ends_text, more_text};
 ghost use Rattle.facl_script.specs.Lines.{Held};
-ghost use Rattle.facl_script.specs.ReadText.{HoldsText, ReadsText};
+ghost use Rattle.facl_script.specs.ReadText.{HoldsText, IsTextPart, TakesLines, ReadsText};
 
 use crate::devices::Feed;
 use crate::fault::ScriptFault;
-use crate::source::ByteSource;
+use crate::source::{ByteSource, LINE_LIMIT, line_feed_at};
 use std::alloc::AllocError;
 
 /// What is held of the text of a unit.
@@ -75,6 +75,47 @@ fn keep(text: &mut Vec<u8>, held: TextFound, is_too_long: bool, line: &[u8]) -> 
     }
 }
 
+/// How far whole lines go of which none ends a text, and how many they are.
+fn lines_of_text(piece: &[u8]) -> (usize, u64)
+    ensures within { result.0 ≤ length piece.now }
+    ensures part { IsTextPart (take result.0 piece.now) result.1 }
+{
+    let mut end = 0;
+    let mut lines = 0;
+    while let Some(at) = line_feed_at(&piece[end..]) {
+        if at > LINE_LIMIT || is_end(&piece[end..end + at]) {
+            break;
+        }
+        end += at + 1;
+        lines += 1;
+    }
+    (end, lines)
+}
+
+/// Adds lines to what is kept of a text, and returns what is kept by now.
+fn keep_part(text: &mut Vec<u8>, held: TextFound, part: &[u8]) -> TextFound
+    ensures { (content : Option (List ℕ)) → HoldsText held text.old.items content
+        → HoldsText result text.new.items (option_map (λ t. t ++ part.now) content) }
+{
+    match held {
+        TextFound::Whole => match text.extend_from_slice(part) {
+            Ok(()) => TextFound::Whole,
+            Err(_) => TextFound::Lost,
+        },
+        _ => held,
+    }
+}
+
+/// Takes the whole lines that are read already, up to one that ends the text: how many they are, and what is kept by now.
+fn take_lines(source: &mut ByteSource, text: &mut Vec<u8>, held: TextFound) -> (u64, TextFound)
+    ensures { TakesLines result.0 held result.1 text.old.items text.new.items source.old source.new }
+{
+    let (end, lines) = lines_of_text(source.pending());
+    let held = keep_part(text, held, &source.pending()[..end]);
+    source.skip(end);
+    (lines, held)
+}
+
 /// Reads a text to its end, line by line, and keeps it where it can.
 pub(crate) fn read_text<R: Feed>(
     source: &mut ByteSource,
@@ -107,6 +148,9 @@ pub(crate) fn read_text<R: Feed>(
             });
         }
         held = keep(text, held, found.is_too_long, line);
+        let (more, now) = take_lines(source, text, held);
+        lines += more;
+        held = now;
     }
     Ok(TextRead {
         lines,

@@ -167,6 +167,24 @@ fn keeps_bytes_at_the_edges_of_chunks(rt: HostRuntime) {
     expect_echo(&rt, alloc, script.as_slice(), Ok(false), (&text, b""));
 }
 
+fn push_all(rt: &impl Abort, text: &mut Vec<u8>, lines: &[u8], times: usize) {
+    for _ in 0..times {
+        text.extend_from_slice(lines).expect(rt, "memory");
+    }
+}
+
+/// Lines that are taken many at a time, of several chunks: an empty one, and ones that begin as the last one does.
+#[test]
+fn keeps_a_text_of_many_lines(rt: HostRuntime) {
+    let alloc = rt.alloc();
+    let mut text = Vec::new(alloc);
+    push_all(&rt, &mut text, b"load\n", 1);
+    push_all(&rt, &mut text, b"\n..\n. \nline\n", 20_000);
+    let mut script = text.clone().expect(&rt, "memory");
+    push_all(&rt, &mut script, b".\n# silent\n", 1);
+    expect_echo(&rt, alloc, script.as_slice(), Ok(false), (&text, b""));
+}
+
 const TOTALS: [(u64, Result<bool, ScriptFault>); 3] = [
     (SCRIPT_LIMIT, Ok(false)),
     (SCRIPT_LIMIT + 1, Err(ScriptFault::TooLong)),

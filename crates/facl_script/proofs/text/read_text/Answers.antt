@@ -1,11 +1,12 @@
 use Rattle.std.proofs.Common.{◌≡◌, ◌+◌, ℕ, Bool, true, false, List, [], ◌∷◌, ◌++◌, length, length-append, refl, sym, ap, ◌∙◌, subst, append_assoc, append-nil, arith, add_assoc}
 use Rattle.std.proofs.lemmas.Result.{err_from_is_err_and}
 use Rattle.std.proofs.KnownBytes.{Consumes-trans}
+use Rattle.std.specs.Prelude.{option_map}
 use Rattle.std.specs.Io.KnownBytes.{Consumes}
 use Rattle.facl_script.specs.Lines.{lines_of, Held, spelled}
 use Rattle.facl_script.specs.ByteSource.{unread, taken_count}
 use Rattle.facl_script.specs.Units.{opened, within, outside, unended, cut, closed, is_end, more_text, ended_text, full_units}
-use Rattle.facl_script.proofs.SourceLemmas.{stops_later}
+use Rattle.facl_script.proofs.SourceLemmas.{stops_later, handed_pending}
 use Rattle.facl_script.proofs.TextLemmas.{so_far, text_line, text_end, text_breaks, no_unit, spelled_some, of_not, of_not_not, holds_ended}
 use Rattle.facl_script.proofs.text.read_text.Goals as goal
 
@@ -93,18 +94,26 @@ loop-found-preserved g c =
     let held2 = subst (λ (l : List ℕ). Held c.in-Some.found.is_too_long l t) (sym c.deref-in-Some.ensures.value) line.held in
     let goes : is_end t ≡ false = sym (c.ends_here.ensures t held) ∙ c.if-ends_here.false in
     let more = t ++ 10 ∷ [] in
+    let taken = c.take_lines-more.ensures in
+    let part = taken.part in
+    let front = inv.piece ++ more in
     let count = subst (λ (b : Bool). taken_count c.next_line.new.self ≡ taken_count c.loop-found.source + length (spelled t b)) ended line.count in
+    let consumed = Consumes-trans _ _ _ _ _ inv.consumes
+    (subst (λ (b : Bool). Consumes (unread c.loop-found.source (g.R.Feed.remaining c.loop-found.reader))
+    (unread c.next_line.new.self (g.R.Feed.remaining c.next_line.new.reader)) (spelled t b)) ended line.consumes) in
+    let k : ℕ = c.loop-found.lines in
     record {
       works = c.in_ok-found.ensures.reads.1;
-      piece = inv.piece ++ more;
-      content = more_text inv.content t;
-      consumes = Consumes-trans _ _ _ _ _ inv.consumes
-          (subst (λ (b : Bool). Consumes (unread c.loop-found.source (g.R.Feed.remaining c.loop-found.reader))
-          (unread c.next_line.new.self (g.R.Feed.remaining c.next_line.new.reader)) (spelled t b)) ended line.consumes);
-      splits = λ asks number l n rest. ap (λ bs. cut asks (within (opened number l)) n (lines_of bs)) (append_assoc inv.piece more rest) ∙ inv.splits asks number l n (more ++ rest)
-          ∙ text_line asks (so_far number l inv.content) (n + c.loop-found.lines) t rest line.no_line_feed goes
-          ∙ ap (λ k. cut asks (within (so_far number l (more_text inv.content t))) k (lines_of rest)) (add_assoc n c.loop-found.lines 1);
-      holds = c.keep-held.ensures inv.content t inv.holds held2;
-      count = omega (arith, count, inv.count, length-append inv.piece more);
-      lines = omega (arith, inv.lines, length-append inv.piece more, length-append t (10 ∷ []));
+      piece = front ++ part;
+      content = option_map (λ l. l ++ part) (more_text inv.content t);
+      consumes = handed_pending _ (g.R.Feed.remaining c.next_line.new.reader) _ part _ front consumed taken.taken;
+      splits = λ asks number l n rest. ap (λ bs. cut asks (within (opened number l)) n (lines_of bs)) (append_assoc front part rest ∙ append_assoc inv.piece more (part ++ rest))
+          ∙ inv.splits asks number l n (more ++ (part ++ rest))
+          ∙ text_line asks (so_far number l inv.content) (n + k) t (part ++ rest) line.no_line_feed goes
+          ∙ ap (λ m. cut asks (within (so_far number l (more_text inv.content t))) m (lines_of (part ++ rest))) (add_assoc n k 1)
+          ∙ taken.are.splits asks number l (more_text inv.content t) (n + (k + 1)) rest
+          ∙ ap (λ m. cut asks (within (so_far number l (option_map (λ l. l ++ part) (more_text inv.content t)))) m (lines_of rest)) (add_assoc n (k + 1) c.take_lines-more.result.0);
+      holds = taken.holds (more_text inv.content t) (c.keep-held.ensures inv.content t inv.holds held2);
+      count = omega (arith, taken.count, count, inv.count, length-append inv.piece more, length-append front part);
+      lines = omega (arith, taken.are.few, inv.lines, length-append inv.piece more, length-append front part, length-append t (10 ∷ []));
     }
