@@ -15,11 +15,14 @@ const MAX_PLACES: usize = 1 << 16;
 /// The most bytes of kept texts, except that one text may be longer.
 const MAX_BYTES: usize = 1 << 24;
 
-/// After so many files in a row whose texts were not kept, only one file in [`SELDOM`] is looked for.
-const MAX_MISSES: usize = 1 << 10;
+/// How many files more are looked for than pay, before only one in [`SELDOM`] is: one that is found pays for [`WORTH`].
+const MAX_CREDIT: usize = 1 << 10;
 
-/// See [`MAX_MISSES`].
+/// See [`MAX_CREDIT`].
 const SELDOM: usize = 1 << 5;
+
+/// See [`MAX_CREDIT`]: a copy saves more than a look costs.
+const WORTH: usize = 3;
 
 /// What a mark is multiplied by, so that it spreads.
 const SPREAD: u64 = 0x9E37_79B9_7F4A_7C15;
@@ -126,15 +129,16 @@ pub(crate) struct Kept<'a> {
     end: usize,
 }
 
-/// The texts of the nodes that were listed last, each at a place by the mark of its node; and for how many files in a row no
-/// text was kept.
+/// The texts of the nodes that were listed last, each at a place by the mark of its node; and how often it is still worth it to
+/// look for one.
 ///
 /// A text is dropped when another node gets its place, and all are dropped when there is no room for one more.
 #[derive(Drop)]
 pub(crate) struct KeptTexts<'a> {
     bytes: Vec<u8>,
     places: Vec<Option<Kept<'a>>>,
-    misses: usize,
+    credit: usize,
+    turn: usize,
 }
 
 impl<'a> KeptTexts<'a> {
@@ -151,25 +155,28 @@ impl<'a> KeptTexts<'a> {
         Ok(KeptTexts {
             bytes: Vec::new(alloc),
             places,
-            misses: 0,
+            credit: MAX_CREDIT,
+            turn: 0,
         })
     }
 
-    /// Whether to look for the text of the next file, which counts as one that is not kept until it is found: where most
-    /// files have nodes of their own, it is seldom worth it.
+    /// Whether to look for the text of the next file: where most files have nodes of their own, it is seldom worth it.
     pub fn seeks_next(&mut self) -> bool
         ensures { (text_of : Node → List ℕ) → AreKept text_of self.old → AreKept text_of self.new }
     {
-        let misses = self.misses;
-        self.misses = misses.wrapping_add(1);
-        misses < MAX_MISSES || misses % SELDOM == 0
+        self.turn = self.turn.wrapping_add(1);
+        if self.credit == 0 {
+            return self.turn % SELDOM == 0;
+        }
+        self.credit -= 1;
+        true
     }
 
     /// Notes that the text of a file was found.
     pub fn note_found(&mut self)
         ensures { (text_of : Node → List ℕ) → AreKept text_of self.old → AreKept text_of self.new }
     {
-        self.misses = 0;
+        self.credit = self.credit.saturating_add(WORTH).min(MAX_CREDIT);
     }
 
     /// The place of a mark, if there are places.
