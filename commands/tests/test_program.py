@@ -87,8 +87,8 @@ class Program(Case):
             self.expect(self.answer(script, *"--passwd passwd --group group --dump dump".split()), 0, answer, b"")
 
     def test_a_listing_of_many_files_is_that_of_each(self) -> None:
-        """Files with nodes of their own, more in a row than are looked for one by one, before and among files that share nodes: nodes
-        that differ by one part alone are there in turn."""
+        """First 1,500 files with nodes of their own, after which only one file in 32 is compared with those that are kept; then files
+        that share nodes, and nodes that differ by one part alone, in turn."""
         self.write("passwd", b"lisa:x:1001:50:::\njoe:x:1000:60:::\n")
         self.write("group", b"staff:x:50:\n")
         default = "default:user::rwx\ndefault:group::r-x\ndefault:other::{}\n"

@@ -73,7 +73,7 @@ def make_depth(folder: str, size: int) -> Tree:
 
 
 def make_entries(folder: str, size: int) -> Tree:
-    """A hundred files of lists of so many entries, in a folder; the users are more than the entries."""
+    """A hundred files in a folder, each with a list of `size` entries; there are more users than entries."""
     users = 5_000
     write_people(folder, users)
     with text_file(folder, "dump") as out:

@@ -8,7 +8,7 @@ from typing import Callable, Dict, Iterable, List, Mapping, NamedTuple, Tuple, U
 from session import MeasuredSession, first_records
 from texts import PER_DIRECTORY, record, text_file, write_people
 
-# At most so many records of a dump are restored, since the bytes of a script are limited.
+# The most records of a dump that are restored, since the bytes of a script are limited.
 MAX_RESTORED = 100_000
 Figures = Dict[str, float]
 NumberOf = Callable[[int], int]  # The number of a file's label, by the file's own number.
