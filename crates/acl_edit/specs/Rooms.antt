@@ -19,7 +19,7 @@ size m = length (entries m)
 abbrev pub puts_of : Part → ℕ
 puts_of p = length p.set + length p.modify
 
--- so many entries find room with no allocation
+-- a number of entries finds room with no allocation
 abbrev pub Fits : ℕ → Type 0
 Fits n = n ≤ inline_entries
 
@@ -27,7 +27,7 @@ Fits n = n ≤ inline_entries
 abbrev pub size_of : Option KeyMap → ℕ
 size_of o = size (unwrap_or o maps.empty)
 
--- a list that the line names finds room, beside what the line puts into it and so many more entries
+-- a list that the line names finds room, beside what the line puts into it and a number of further entries
 abbrev pub FitsPart : Change → Which → ℕ → KeyMap → Type 0
 FitsPart c which more m = names (part c which) ≡ true → Fits (size m + puts_of (part c which) + more)
 

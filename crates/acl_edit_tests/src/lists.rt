@@ -186,7 +186,7 @@ fn reading(rt: &impl Abort, dflt: bool, user: u32) -> Spec {
     }
 }
 
-/// A line that gives so many named users read.
+/// A line that gives `count` named users read.
 fn giving_users(rt: &impl Abort, alloc: Global, dflt: bool, users: u32) -> Edit {
     let mut entries = Vec::new(alloc);
     for user in 0..users {

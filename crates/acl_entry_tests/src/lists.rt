@@ -74,7 +74,7 @@ fn lists_are_refused(rt: HostRuntime) {
 
 static BASE_AND_MASK: [Row; 4] = [(Owner, 6), (OwningGroup, 4), (Mask, 7), (Other, 0)];
 
-/// The named users 0, 1, .., so many, and after them the base entries and a mask.
+/// The named users 0, 1, .. (`named` of them), and after them the base entries and a mask.
 fn with_users(rt: &impl Abort, alloc: Global, named: u32) -> Vec<Entry> {
     let mut entries = Vec::new(alloc);
     for number in 0..named {

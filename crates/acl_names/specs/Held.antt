@@ -1,4 +1,4 @@
--- How bytes are kept: as so many of the first bytes of an array, or in an allocation.
+-- How bytes are kept: as the first bytes of an array, with their number, or in an allocation.
 use Rattle.std.specs.Prelude.{◌≡◌, ℕ, ◌≤◌, List, length, take, ⊤}
 use Rattle.acl_names.specs.declared.held_bytes.FewBytes.{FewBytes}
 use Rattle.acl_names.specs.declared.held_bytes.BytesForm.{BytesForm}

@@ -24,7 +24,7 @@ pub(crate) enum BytesForm {
     Many(Vec<u8>),
 }
 
-/// So many of the first bytes of an array.
+/// The first `count` bytes of an array.
 #[derive(Clone, Copy, Debug, Drop)]
 pub(crate) struct FewBytes {
     count: u8,
@@ -49,7 +49,7 @@ impl Bytes {
         }
     }
 
-    /// No bytes, with room for so many. Allocates nothing for at most `INLINE_BYTES`.
+    /// No bytes, with room for `count`. Allocates nothing for at most `INLINE_BYTES`.
     pub(crate) fn with_capacity(alloc: Global, count: usize) -> Result<Bytes, AllocError>
         ensures { IfOk result (λ bytes. bytes ≡ []) }
     {

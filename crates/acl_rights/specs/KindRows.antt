@@ -40,7 +40,7 @@ each_row f es = map (λ e. (e.0, f e.1)) es
 abbrev pub with_last : Verdict → Person → LabelRow → LabelRow
 with_last V u r = record { label = r.label; row = r.row ++ V u r.label ∷ [] }
 
--- a row without the user at a place, if it has so many
+-- a row without the user at `at`, if it is that long
 abbrev pub without_at : ℕ → LabelRow → LabelRow
 without_at at r = record { label = r.label; row = if nat_lt at (length r.row) then remove r.row at else r.row }
 
@@ -48,14 +48,14 @@ without_at at r = record { label = r.label; row = if nat_lt at (length r.row) th
 abbrev pub mentions_any : List ℕ → LabelRow → Bool
 mentions_any groups r = meets (mentions r.label) groups
 
--- a row with a user's verdict asked for again where the label mentions one of some groups, if it has so many
+-- a row with a user's verdict asked for again where the label mentions one of `groups`, if it is that long
 abbrev pub with_again : Verdict → ℕ → Person → List ℕ → LabelRow → LabelRow
 with_again V at u groups r =
     if mentions_any groups r && nat_lt at (length r.row)
     then record { label = r.label; row = slice_set r.row at (V u r.label) }
     else r
 
--- a row with a user's verdict asked for again, if it has so many
+-- a row with a user's verdict asked for again, if it is that long
 abbrev pub asked_again : Verdict → ℕ → Person → LabelRow → LabelRow
 asked_again V at u r = if nat_lt at (length r.row) then record { label = r.label; row = slice_set r.row at (V u r.label) } else r
 

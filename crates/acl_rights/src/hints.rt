@@ -24,7 +24,7 @@ pub(crate) struct Hints {
 /// Where there are more hints than these, all are dropped before others are added.
 const MAX_HINTS: usize = 1 << 20;
 
-/// So many numbers of a tree are hinted at, after its load and after a line on many files.
+/// How many numbers of a tree are hinted at, after its load and after a line on many files.
 pub(crate) const FIRST_HINTS: usize = 1 << 16;
 
 /// The number of a hash in a block.

@@ -75,7 +75,7 @@ fn is_next(alloc: Global, classes: &mut FileClasses<'_>, wanted: &Wanted) -> Opt
     Some(path.order(&wanted_path) == Ordering::Equal && row.as_slice() == wanted.1.as_slice())
 }
 
-/// Whether the files are these, in this order, in so many classes.
+/// Whether the files are `all`, in this order, in `count` classes.
 fn are(alloc: Global, classes: FileClasses<'_>, all: &[Wanted], count: usize) -> Option<bool> {
     let mut rest = classes;
     for wanted in all {

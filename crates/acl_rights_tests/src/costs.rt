@@ -64,7 +64,7 @@ fn lines_cost_nothing_where_nobody_is(rt: HostRuntime) {
     expect_none(&rt, first_wrong(rt.alloc(), &mut world, &NOBODY_IS_LOADED));
 }
 
-/// An index that is made of a state asks for so many verdicts.
+/// An index that is made of a state asks for `asked` verdicts.
 fn expect_build(rt: &impl Abort, alloc: Global, world: World, asked: u64) {
     let found = asked_by_build(alloc, &world.state);
     drop(world);

@@ -78,7 +78,7 @@ fn without(alloc: Global, users: &Subjects, at: usize) -> Option<Subjects> {
     users.without(alloc, at).ok()
 }
 
-/// The verdicts of acl(5)'s check on all users, and how many it counted for so many files.
+/// The verdicts of acl(5)'s check on all users, and how many it counted for `files` files.
 fn at_once(alloc: Global, users: &Subjects, label: &Label, files: u64) -> Option<(Vec<u8>, u64)> {
     if files == 0 || files > 1000 || users.len() > 1000 {
         return None;

@@ -1,4 +1,4 @@
--- The lowest of the kinds of fault that a piece has, whatever order they are looked for in.
+-- The lowest of the kinds of fault that a piece has, in whatever order they are searched.
 use Rattle.std.specs.Prelude.{◌≡◌, ℕ, ◌≤◌, ◌⊎◌, List, length, Option, Some, None, Result, Ok, Err, Bool, false}
 use Rattle.acl_entry.specs.declared.entry.Key.{Key}
 use Rattle.acl_names.specs.Pieces.{pieces}

@@ -23,7 +23,7 @@ begins_one line = begins_record (content_of line).0
 abbrev pub BeginNone : List (List ℕ) → Type 0
 BeginNone lines = AllByRecursion (λ l. begins_one l ≡ false) lines
 
--- so many whole lines, none of which begins a record
+-- `count` whole lines, none of which begins a record
 pub record IsBody (bytes : List ℕ) (count : ℕ) : Type 0 where
   pub each : List (List ℕ)
   pub parts : pieces 10 bytes ≡ each ++ [] ∷ []
@@ -88,6 +88,6 @@ module _ (naming : Naming) where
     abbrev pub rest_of : List DumpRecord → ℕ → List ℕ → Result (List DumpRecord) TextFault
     rest_of records at text = rest_if records None at text
 
-    -- a text is read, with a record open, as its lines up to those after so many, which leave records that are closed
+    -- a text is read, with a record open, as its lines up to those after `count`, which leave records that are closed
     abbrev pub ReadsTo : List DumpRecord → RecordDraft → List ℕ → List DumpRecord → ℕ → List ℕ → Type 0
     ReadsTo records draft text more count after = (at : ℕ) → rest_if records (Some draft) at text ≡ rest_of more (at + count) after

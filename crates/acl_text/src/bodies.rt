@@ -8,20 +8,20 @@ ghost use Rattle.acl_text.specs.KnownBodies.{IsAmong};
 use crate::body::{Body, after_body};
 use std::alloc::{AllocError, Global};
 
-/// At most so many bodies are kept.
-const MOST: usize = 16384;
+/// The most bodies that are kept.
+const MAX_BODIES: usize = 16384;
 
-/// So many bytes of a dump let one more body be kept.
-const BYTES_EACH: usize = 256;
+/// How many bytes of a dump let one more body be kept.
+const BYTES_PER_BODY: usize = 256;
 
-/// Where so many bodies were not found, one after another, most bodies are not looked for.
-const MANY: usize = 64;
+/// How many bodies in a row may be missed before only one in [`SELDOM`] is looked up.
+const MAX_MISSED: usize = 64;
 
-/// Of so many bodies one is then looked for.
-const ONE_OF: usize = 32;
+/// See [`MAX_MISSED`].
+const SELDOM: usize = 32;
 
-/// Where more bodies, one after another, were not one of those that were looked for last, these are not tried.
-const FEW: usize = 8;
+/// How many bodies in a row may be none of those found last, before these are no longer tried first.
+const MAX_STRAYED: usize = 8;
 
 /// What a mark is multiplied by, so that it spreads.
 const SPREAD: u64 = 0x9e37_79b9_7f4a_7c15;
@@ -77,7 +77,7 @@ impl<'a> Bodies<'a> {
     pub(crate) fn new(alloc: Global, bytes: usize) -> Result<Bodies<'a>, AllocError>
         ensures { IfOk result (λ bodies. (k : Known) → IsAmong bodies k → ⊥) }
     {
-        let places = (bytes / BYTES_EACH).min(MOST) + 1;
+        let places = (bytes / BYTES_PER_BODY).min(MAX_BODIES) + 1;
         let mut kept = Vec::with_capacity(alloc, places)?;
         for _ in 0..places {
             kept.push(None)?;
@@ -94,7 +94,7 @@ impl<'a> Bodies<'a> {
     pub(crate) fn first_recent(&self, text: &'a [u8]) -> Option<(Known<'a>, &'a [u8])>
         ensures { IfSome result (λ found. (IsAmong self.now found.0) × ((text.now ≡ found.0.body.bytes.now ++ found.1.now) × Ends found.1.now)) }
     {
-        if self.strayed > FEW {
+        if self.strayed > MAX_STRAYED {
             return None;
         }
         for at in &self.recent {
@@ -134,7 +134,7 @@ impl<'a> Bodies<'a> {
         ensures { (k : Known) → IsAmong self.new k → IsAmong self.old k }
     {
         self.missed = self.missed.wrapping_add(1);
-        self.missed < MANY || self.missed % ONE_OF == 0
+        self.missed < MAX_MISSED || self.missed % SELDOM == 0
     }
 
     /// The body of these bytes.

@@ -14,7 +14,7 @@ use Rattle.facl_answers.specs.BothStates.{Sides}
 abbrev pub AreBytes : Verdict → Type 0
 AreBytes V = (u : Person) (f : Label) → V u f < 256
 
--- the sum of what the first so many numbers give
+-- the sum of what the numbers below a bound give
 unfoldable pub sum_up_to : (ℕ → ℕ) → ℕ → ℕ
 sum_up_to count_of zero = 0
 sum_up_to count_of (suc n) = sum_up_to count_of n + count_of n

@@ -58,7 +58,7 @@ side_of (suc granted) = Some granted
 abbrev pub number_of_sides : ℕ
 number_of_sides = 257
 
--- the lines of the first so many numbers
+-- the lines of the numbers below a bound
 unfoldable pub lines_up_to : (ℕ → List ℕ) → ℕ → List ℕ
 lines_up_to lines_of zero = []
 lines_up_to lines_of (suc n) = lines_up_to lines_of n ++ lines_of n

@@ -57,7 +57,7 @@ change_of places rows =
 abbrev pub AreSilentOn : RowsOfFile → List UserGains → Type 0
 AreSilentOn rows users = AllByRecursion (λ user. change_of (user.user.before, user.user.after) rows ≡ None) users
 
--- so many files with a key, of which one is the first; none where there is no key
+-- `count` files with a key, of which `first` is the first; none where there is no key
 abbrev pub keyed : {K : Type 0} → Option K → (count : ℕ) → (first : PathOf) → List (Tallied K)
 keyed None count first = []
 keyed (Some key) count first = record { key = key; count = count; first = first } ∷ []
@@ -85,7 +85,7 @@ AllOfBoth P [] (y ∷ ys) = ⊥
 AllOfBoth P (x ∷ xs) [] = ⊥
 AllOfBoth P (x ∷ xs) (y ∷ ys) = P x y × AllOfBoth P xs ys
 
--- a user's counts have so many files more with these rows
+-- a user's counts have `count` files more with these rows
 abbrev pub IsCountedFor : RowsOfFile → (count : ℕ) → (first : PathOf) → (old new : Gained) → Type 0
 IsCountedFor rows count first old new =
     (new.0 ≡ old.0) × ((others : List (Tallied Sides)) → SaysAs old.1 others → SaysAs new.1 (others ++ keyed (change_of old.0.1 rows) count first))
@@ -118,7 +118,7 @@ abbrev pub count_line : Sides → (count : ℕ) → (user path : List ℕ) → L
 count_line sides count user path =
     (spaced (side_text sides.0) ++ spaced (side_text sides.1)) ++ (count_text count user ++ line path)
 
--- that of so many files, of which one is the first; nothing where there are none
+-- that of `count` files, of which `first` is the first; nothing where there are none
 abbrev pub counted_line : (text_of : PathOf → List ℕ) → (user : List ℕ) → Sides → ℕ → Option PathOf → List ℕ
 counted_line text_of user sides count None = []
 counted_line text_of user sides count (Some first) = count_line sides count user (text_of first)

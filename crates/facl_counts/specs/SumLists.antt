@@ -8,7 +8,7 @@ use Rattle.acl_entry.specs.Perms.{Perms}
 use Rattle.acl_names.specs.Paths.{PathOf}
 use Rattle.facl_counts.specs.Sums.{Sum}
 
--- the counts, where so many files are added to those of the users to whom a row grants a request
+-- the counts, where `more` files are added to those of the users to whom a row grants a request
 abbrev pub counts_after : Perms → (more : ℕ) → (row counts : List ℕ) → List ℕ
 counts_after q more row [] = []
 counts_after q more [] (n ∷ counts) = n ∷ counts
@@ -30,7 +30,7 @@ grants_one q (c ∷ row) (w ∷ waits) = (w && has c q) || grants_one q row wait
 abbrev pub AreWithin : ℕ → List ℕ → Type 0
 AreWithin most counts = AllByRecursion (λ n. n ≤ most) counts
 
--- so many more fit a number of 64 bits
+-- with `more` added, each fits a number of 64 bits
 abbrev pub AreSmall : ℕ → List ℕ → Type 0
 AreSmall more counts = AllByRecursion (λ n. n + more < 2 ^ 64) counts
 

@@ -28,7 +28,7 @@ no_sum a = (0, None)
 abbrev pub sum_of : UserSum → Sum
 sum_of s = (s.count, option_map (λ p. p.now) s.first)
 
--- so many files more, which come later
+-- `t.count` files more, which come later
 abbrev pub added : Tallied Sides → Sum → Sum
 added t s = (s.0 + t.count, option_or s.1 (Some t.first))
 

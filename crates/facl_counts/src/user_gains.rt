@@ -131,7 +131,7 @@ fn hint_number(key: Sides) -> usize
 }
 
 impl<'a> UserGains<'a> {
-    /// Counts so many files more with these rows, of which one is the first.
+    /// Counts `count` files more with these rows, of which `first` is the first.
     fn count(
         &mut self,
         before: &GivenRow<'_>,
@@ -152,7 +152,7 @@ impl<'a> UserGains<'a> {
     }
 }
 
-/// Counts so many files more with these rows for each user.
+/// Counts `count` files more with these rows for each user.
 fn count_for_each<'a>(
     users: &mut [UserGains<'a>],
     before: &GivenRow<'_>,
@@ -189,7 +189,7 @@ pub(crate) fn keep_places(users: &[UserGains<'_>]) -> bool
         .all(|entry| same_place(entry.user.before, entry.user.after))
 }
 
-/// Counts so many files more with these rows for each user, who all keep their places or may not. There is no change where
+/// Counts `count` files more with these rows for each user: `is_kept` says that all keep their places. There is no change where
 /// the rows and the users are the same.
 fn count_rows<'a>(
     users: &mut [UserGains<'a>],
@@ -208,7 +208,7 @@ fn count_rows<'a>(
     count_for_each(users, before, after, count, first)
 }
 
-/// Counts so many files more with the rows of a key for each user, who all keep their places or may not.
+/// Counts the files of one key more for each user: `is_kept` says that all keep their places.
 fn count_tally<'a>(
     alloc: Global,
     users: &mut [UserGains<'a>],

@@ -15,7 +15,7 @@ const MAX_PLACES: usize = 1 << 16;
 /// The most bytes of kept texts, except that one text may be longer.
 const MAX_BYTES: usize = 1 << 24;
 
-/// How many files more are looked for than pay, before only one in [`SELDOM`] is: one that is found pays for [`WORTH`].
+/// How many look-ups may find nothing before only one file in [`SELDOM`] is looked up: one that finds a text pays for [`WORTH`].
 const MAX_CREDIT: usize = 1 << 10;
 
 /// See [`MAX_CREDIT`].

@@ -18,14 +18,14 @@ HoldsText Lost held content = Unit {0}
 HoldsText Absent held content = ⊥
 HoldsText Unended held content = ⊥
 
--- These are so many whole lines of a text, of which none ends it: they come after those so far (for inner functions).
+-- `part` is `lines` whole lines of a text, of which none ends it: they come after those so far (for inner functions).
 pub record IsTextPart (part : List ℕ) (lines : ℕ) : Type 0 where
   pub splits : (asks : List ℕ → Bool) (number : ℕ) (line : List ℕ) (content : Option (List ℕ)) (n : ℕ) (rest : List ℕ)
       → cut asks (within (record { number = number; line = line; text = content })) n (lines_of (part ++ rest))
       ≡ cut asks (within (record { number = number; line = line; text = option_map (λ t. t ++ part) content })) (n + lines) (lines_of rest)
   pub few : lines ≤ length part
 
--- So many lines that are read already are taken, and kept where the others are (for inner functions).
+-- `lines` lines that are read already are taken, and kept where the others are (for inner functions).
 pub record TakesLines (lines : ℕ) (was is : TextFound) (old_text new_text : List ℕ) (old new : ByteSource) : Type 0 where
   pub part : List ℕ
   pub are : IsTextPart part lines

@@ -48,7 +48,7 @@ fn faulty_writer(alloc: Global, call: usize, takes_nothing: bool) -> FaultyWrite
     }
 }
 
-/// How a run ends whose writer takes so many of all its bytes.
+/// How a run ends whose writer takes `taken` of `all` bytes.
 fn status_at(taken: usize, all: usize) -> Result<bool, ScriptFault> {
     if taken < all {
         Err(ScriptFault::Write)

@@ -79,7 +79,7 @@ fn answers_each_unit_before_the_next_read(rt: HostRuntime) {
     expect_answers_before_reads(&rt, rt.alloc(), true);
 }
 
-/// Adds a line of so many `#`, after and before other bytes.
+/// Adds a line of `n` times `#`, between `before` and `after`.
 fn push_line(rt: &impl Abort, script: &mut Vec<u8>, before: &[u8], n: usize, after: &[u8]) {
     script.extend_from_slice(before).expect(rt, "memory");
     for _ in 0..n {

@@ -44,4 +44,4 @@ pub use pairs::set::PairSet;
 pub use placed::{GivenNode, PlacedMap};
 pub use put::KindPuts;
 pub use renew::{KindTest, Renewal};
-pub use tagged::{Tagged, TaggedMap, push_found};
+pub use tagged::{Tagged, TaggedMap, push_found, rising_numbers};

@@ -28,10 +28,10 @@ struct Marks {
     missed: usize,
 }
 
-/// How many nodes in a row may be missed before only some are looked for.
-const MANY: usize = 64;
+/// How many nodes in a row may be missed before only one in [`SELDOM`] is looked up.
+const MAX_MISSED: usize = 64;
 
-/// How many nodes there are then for one that is looked for.
+/// See [`MAX_MISSED`].
 const SELDOM: usize = 32;
 
 /// Nodes by numbers, where the paths that got the number given last are not counted yet.
@@ -128,7 +128,7 @@ fn number_noted<N: Drop, L: Likeness<N>>(
 
 /// Whether the next node is looked for: where many in a row were not found, only one of some is.
 fn is_looked_for(marks: &Marks) -> bool {
-    marks.missed < MANY || marks.missed % SELDOM == 0
+    marks.missed < MAX_MISSED || marks.missed % SELDOM == 0
 }
 
 /// Finds the number of a node: `last`, the one that was given last, to `pending` paths; or one by its mark; or a new one.

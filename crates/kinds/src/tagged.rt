@@ -48,8 +48,8 @@ impl<N: Tagged> Model for TaggedMap<N> {
     ghost invariant = { λ t. AreTagsOf N.tags_of t.map.0 t.pairs };
 }
 
-/// Numbers in order, each once.
-fn rising_numbers(numbers: Vec<usize>) -> Vec<usize>
+/// `numbers` in rising order, each once. Allocates nothing.
+pub fn rising_numbers(numbers: Vec<usize>) -> Vec<usize>
     ensures rising { IsStrictlyIncreasing result.items }
     ensures same { (n : ℕ) → is_one n result.items ≡ is_one n numbers.items }
 {

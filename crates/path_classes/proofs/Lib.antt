@@ -30,3 +30,4 @@ pub mod KeptCounts
 pub mod Rerowed
 pub mod SomeNumbers
 pub mod RelabelledFile
+pub mod PathsBelow

@@ -10,7 +10,7 @@ ghost use Rattle.path_classes.specs.Renewing.{IsOwnClass};
 use crate::label_row::LabelRow;
 use crate::path_class::PathClass;
 use crate::renewed_searches::relabelled_classes;
-use crate::rerowed_classes::touched_paths;
+use crate::rerowed_classes::paths_below;
 use crate::tagged_classes::classes_below;
 use acl_names::Path;
 use kinds::{KindMap, TaggedMap};
@@ -67,7 +67,7 @@ pub(crate) fn relabelled_file(
     };
     let new = relabelled_classes(alloc, rows, before, number, kind)?;
     let (classes, changed) = new;
-    let below = touched_paths(alloc, &classes, &[], &changed)?;
+    let below = paths_below(alloc, &classes, changed)?;
     let Some(count) = below.checked_add(1) else {
         return Err(AllocError);
     };

@@ -1,6 +1,6 @@
 //! Classes of the same paths, where the rows of labels are others, and how many files may have other answers by that.
 
-ghost use Rattle.std.specs.Prelude.{◌≡◌, ◌≤◌, ◌++◌, ℕ, List, true, false, length, map, count_by, IfOk, OnOk};
+ghost use Rattle.std.specs.Prelude.{◌≡◌, ◌≤◌, ◌++◌, [], ℕ, List, true, false, length, map, count_by, IfOk, OnOk};
 ghost use Rattle.acl_names.specs.Paths.{PathOf};
 ghost use Rattle.kinds.specs.Given.{used_at};
 ghost use Rattle.kinds.specs.Numbered.{entries_in};
@@ -17,7 +17,7 @@ use crate::label_row::LabelRow;
 use crate::path_class::PathClass;
 use crate::renewed_searches::renewed_classes;
 use crate::tagged_classes::classes_of_labels;
-use kinds::{KindMap, Kinds, TaggedMap};
+use kinds::{KindMap, Kinds, TaggedMap, rising_numbers};
 use std::alloc::{AllocError, Global};
 
 /// Adds the tags of the classes right below some.
@@ -42,6 +42,28 @@ pub(crate) fn touched_paths(
     let mut tags = label_tags(alloc, labels)?;
     push_below_tags(&mut tags, changed)?;
     let count = classes.paths_tagged(alloc, &tags)?;
+    Ok(count)
+}
+
+/// How many paths have a class right below one of some: each path counts once. They are counted class by class, so that only
+/// the classes above are sorted.
+pub(crate) fn paths_below(
+    alloc: Global,
+    classes: &TaggedMap<PathClass>,
+    above: Vec<usize>,
+) -> Result<usize, AllocError>
+    ensures { IfOk result (λ count. count ≡ count_by (λ e. is_touched [] above.items e.1) (entries_in classes.now)) }
+{
+    let above = rising_numbers(above);
+    let mut count = 0usize;
+    for class in above.as_slice() {
+        let tag = below_tag(*class)?;
+        let more = classes.paths_tagged(alloc, &[tag])?;
+        let Some(sum) = count.checked_add(more) else {
+            return Err(AllocError);
+        };
+        count = sum;
+    }
     Ok(count)
 }
 

@@ -1,13 +1,12 @@
-use Rattle.std.proofs.Common.{◌≡◌, ◌≤◌, ℕ, List, ◌∷◌, [], Option, Some, length, sym, ap, subst, ◌∙◌}
-use Rattle.std.specs.Prelude.{count_by, IfSome}
+use Rattle.std.proofs.Common.{◌≡◌, ◌≤◌, ℕ, ◌∷◌, [], Option, Some, length, sym, ap, subst, ◌∙◌}
+use Rattle.std.specs.Prelude.{IfSome}
 use Rattle.std.specs.FinMap.{find}
 use Rattle.acl_names.specs.Paths.{path_cmp, PathOf}
-use Rattle.kinds.specs.Numbered.{Kept, Numbers, entries_in}
+use Rattle.kinds.specs.Numbered.{Kept, Numbers}
 use Rattle.path_classes.specs.declared.label_row.LabelRow.{LabelRow}
 use Rattle.path_classes.specs.declared.path_class.PathClass.{PathClass}
 use Rattle.path_classes.specs.ClassedRows.{AreCounted}
 use Rattle.path_classes.specs.ClassesWithin.{inside}
-use Rattle.path_classes.specs.FoundClasses.{is_touched}
 use Rattle.path_classes.specs.Renewing.{IsOwnClass}
 use Rattle.path_classes.proofs.RelabelledFile.{are_relabelled, own_inside, file_counted, file_within}
 use Rattle.path_classes.proofs.relabelled_file.relabelled_file.Goals as goal
@@ -36,7 +35,7 @@ returns-clause-least c =
     c.order_law.ensures c.order_law-2.ensures c.kinds-labels_before.ensures.sound c.in_ok-new.new.0 c.in_ok-new.ensures.classes c.in_ok-new.ensures.paths
     c.in_ok-new.new.1.items c.in_ok-new.ensures.search
     (c.in_ok-new.ensures.inside (p ∷ []) inner) c.in_ok-below.below
-    (c.in_ok-below.ensures ∙ ap (λ (l : List ℕ). count_by (λ (e : PathOf × PathClass). is_touched [] l e.1) (entries_in c.in_ok-new.new.0)) c.deref.ensures.value))
+    c.in_ok-below.ensures)
 
 pub returns-clause-most : goal.returns-clause-most
 returns-clause-most c =
@@ -52,4 +51,4 @@ returns-clause-most c =
     c.order_law.ensures c.order_law-2.ensures c.kinds-labels_before.ensures.sound c.in_ok-new.new.0 c.in_ok-new.ensures.classes c.in_ok-new.ensures.paths
     c.in_ok-new.new.1.items c.in_ok-new.ensures.search
     (c.in_ok-new.ensures.inside (p ∷ []) inner) c.in_ok-below.below
-    (c.in_ok-below.ensures ∙ ap (λ (l : List ℕ). count_by (λ (e : PathOf × PathClass). is_touched [] l e.1) (entries_in c.in_ok-new.new.0)) c.deref.ensures.value))
+    c.in_ok-below.ensures)
