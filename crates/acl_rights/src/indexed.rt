@@ -1,7 +1,7 @@
 //! A state with the index of who may do what in it, and what users are granted in it, with or without search along the path;
 //! the present one with the one after the texts were loaded, the states that the lines of a script see.
 
-ghost use Rattle.std.specs.Prelude.{◌≡◌, [], ◌+◌, ◌<◌, ◌≤◌, ◌^◌, IfOk, OnOk, OnErr};
+ghost use Rattle.std.specs.Prelude.{◌≡◌, [], ◌+◌, ◌<◌, ◌≤◌, ◌^◌, map, slice_get, IfOk, OnOk, OnErr};
 ghost use Rattle.acl_tree.specs.Reports.{Reports};
 ghost use Rattle.acl_rights.specs.Stages.{most_asked};
 ghost use Rattle.acl_rights.specs.Rows.{Asks};
@@ -12,6 +12,7 @@ ghost use Rattle.acl_rights.specs.States.{IsPrepared, from_start, loaded_state, 
 ghost use Rattle.path_classes.specs.ClassesWithin.{AreTops};
 ghost use Rattle.acl_rights.specs.Outside.{SameOutside, SameRows};
 ghost use Rattle.path_map.specs.Below.{from};
+ghost use Rattle.path_classes.specs.Tallies.{class_tally, AreTallied};
 
 use crate::changed_part::with_changes;
 use crate::index::Index;
@@ -19,7 +20,7 @@ use crate::judge::Judge;
 use acl_entry::{Perm, Requests};
 use acl_names::Path;
 use acl_tree::{FilesIter, Staged, State};
-use path_classes::{FileClasses, FileRows};
+use path_classes::{ClassFiles, FileClasses, FileRows};
 use std::alloc::{AllocError, Global};
 use std::marker::Model;
 use std::mem;
@@ -180,6 +181,18 @@ impl<'a, J: Judge> Verdicts<'a, J> {
     {
         let index = self.state.index();
         index.file_rows(self.along)
+    }
+
+    /// All files by their classes: how many files have each, and the first of them. Fails only if memory runs out.
+    pub fn counted_classes(
+        &self,
+        alloc: Global,
+    ) -> Result<(FileClasses<'a>, Vec<ClassFiles<'a>>), AllocError>
+        ensures { IfOk result (λ found. AreTallied (slice_get found.0.0) (rows_granted J.verdict_of self.now.along self.now.state.now) (map class_tally found.1.items)) }
+    {
+        let index = self.state.index();
+        let found = index.counted_classes(alloc, self.along)?;
+        Ok(found)
     }
 
     /// Each file that is not before a path with its class, in path order: files of a class have the same row. Allocates

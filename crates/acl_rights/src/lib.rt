@@ -48,7 +48,7 @@ mod stage;
 pub use index::{Index, Rows};
 pub use indexed::{IndexedState, IndexedStates, States, Verdicts};
 pub use judge::{Judge, Posix};
-pub use path_classes::{Cells, FileClasses, FileRow, FileRows, same_row};
+pub use path_classes::{Cells, ClassFiles, FileClasses, FileRow, FileRows, same_row};
 
 // The public calls take and give these values of the crates below.
 pub use acl_edit::{Edit, Kind, Specs};

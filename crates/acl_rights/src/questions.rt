@@ -1,18 +1,19 @@
 //! What an index answers: who may do what, with and without search along the files' paths.
 
-ghost use Rattle.std.specs.Prelude.{◌≡◌, [], IfOk};
+ghost use Rattle.std.specs.Prelude.{◌≡◌, [], map, slice_get, IfOk};
 ghost use Rattle.std.specs.Option.{option_copied};
 ghost use Rattle.std.specs.FinMap.{find};
 ghost use Rattle.acl_names.specs.Paths.{path_cmp};
 ghost use Rattle.acl_tree.specs.State as states;
 ghost use Rattle.path_map.specs.Below.{from};
+ghost use Rattle.path_classes.specs.Tallies.{class_tally, AreTallied};
 
 use crate::index::Index;
 use crate::judge::Judge;
 use acl_entry::{NoMemory, Perm, Requests};
 use acl_names::Path;
-use path_classes::{FileClasses, FileRows, granted_users};
-use std::alloc::Global;
+use path_classes::{ClassFiles, FileClasses, FileRows, granted_users};
+use std::alloc::{AllocError, Global};
 
 impl<J: Judge> Index<J> {
     ghost use Rattle.acl_rights.specs.Tables.{IsWhole, FindsUsers, FindsFiles, cell_at, users_at, files_at, verdict_at, row_at, users_granted_alone, files_granted_alone};
@@ -213,6 +214,18 @@ impl<J: Judge> Index<J> {
     {
         let now = &self.table;
         now.rows.rows.file_classes(alloc, along)
+    }
+
+    /// All files by their classes: how many files have each, and the first of them. Fails only if memory runs out.
+    pub fn counted_classes(
+        &self,
+        alloc: Global,
+        along: bool,
+    ) -> Result<(FileClasses<'_>, Vec<ClassFiles<'_>>), AllocError>
+        ensures { IfOk result (λ found. AreTallied (slice_get found.0.0) (rows_along along self.now.rows) (map class_tally found.1.items)) }
+    {
+        let now = &self.table;
+        now.rows.rows.counted_classes(alloc, along)
     }
 
     /// Each file that is not before a path with its class, in path order, as [`Index::file_classes`] has them. Allocates

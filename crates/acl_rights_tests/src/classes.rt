@@ -1,10 +1,10 @@
-//! Files by classes: the row of each file's class, and how many classes there are.
+//! Files by classes: the row of each file's class, how many classes there are, and how many files have each.
 use crate::lines::Line;
 use crate::rows::{Wanted, bytes};
 use crate::small_tree::{GROUP, PASSWD};
 use crate::world::{Row, first_wrong, nothing};
 use acl_names::read_path;
-use acl_rights::FileClasses;
+use acl_rights::{ClassFiles, FileClasses};
 use acl_tree::Table;
 use std::alloc::Global;
 use std::cmp::Ordering;
@@ -113,4 +113,64 @@ fn each_file_from_a_path_on_has_a_class(rt: HostRuntime) {
     let is_along = are(alloc, along, ALONG.split_at(2).1, 3);
     drop(world);
     assert!(rt; (is_alone, is_along) == (Some(true), Some(true)));
+}
+
+/// The first file of a class, with the row of the class, and how many files have it.
+type Counted = (Wanted, usize);
+
+static COUNTED_ALONE: [Counted; 3] = [
+    ((b".", [0xff, 0x33, 0x33]), 2),
+    ((b"a", [0xff, 0x01, 0x01]), 1),
+    ((b"a/f", [0x55, 0x11, 0x11]), 3),
+];
+
+static COUNTED_ALONG: [Counted; 5] = [
+    ((b".", [0xff, 0x33, 0x33]), 1),
+    ((b"a", [0xff, 0x01, 0x01]), 1),
+    ((b"a/f", [0x55, 0x00, 0x00]), 1),
+    ((b"b", [0xff, 0x33, 0x33]), 1),
+    ((b"b/f", [0x55, 0x11, 0x11]), 2),
+];
+
+/// Whether files of a class are these.
+fn is_counted(
+    alloc: Global,
+    classes: &FileClasses<'_>,
+    files: &ClassFiles<'_>,
+    counted: &Counted,
+) -> Option<bool> {
+    let (wanted, count) = counted;
+    let first = read_path(alloc, wanted.0).ok()??;
+    let cells = classes.row(alloc, files.class).ok()??;
+    let row = bytes(alloc, cells.as_slice())?;
+    let is_first = files.first.order(&first) == Ordering::Equal;
+    Some(is_first && files.count == *count && row.as_slice() == wanted.1.as_slice())
+}
+
+/// Whether the classes that were counted are `all`, in this order.
+fn are_counted(
+    alloc: Global,
+    classes: &FileClasses<'_>,
+    found: &[ClassFiles<'_>],
+    all: &[Counted],
+) -> Option<bool> {
+    for at in 0..all.len() {
+        if !is_counted(alloc, classes, found.get(at)?, all.get(at)?)? {
+            return Some(false);
+        }
+    }
+    Some(found.len() == all.len())
+}
+
+#[test]
+fn files_are_counted_by_their_classes(rt: HostRuntime) {
+    let alloc = rt.alloc();
+    let mut world = nothing(alloc).expect(&rt, "memory");
+    assert_eq!(rt; first_wrong(alloc, &mut world, &SETUP), None);
+    let alone = world.index.counted_classes(alloc, false);
+    let (classes, found) = alone.expect(&rt, "memory");
+    assert!(rt; are_counted(alloc, &classes, &found, &COUNTED_ALONE) == Some(true));
+    let along = world.index.counted_classes(alloc, true);
+    let (classes, found) = along.expect(&rt, "memory");
+    assert!(rt; are_counted(alloc, &classes, &found, &COUNTED_ALONG) == Some(true));
 }

@@ -4,8 +4,8 @@ use crate::followed::{Followed, follow, tried};
 use crate::judge::OwnerAlone;
 use crate::small_tree::{load, path};
 use acl_rights::{
-    Acl, Cells, Command, FileClasses, FileRow, FileRows, Id, Index, Judge, Label, Membership,
-    NoMemory, Path, Perm, Posix, Requests, Subject, read_name,
+    Acl, Cells, ClassFiles, Command, FileClasses, FileRow, FileRows, Id, Index, Judge, Label,
+    Membership, NoMemory, Path, Perm, Posix, Requests, Subject, read_name,
 };
 use std::alloc::Global;
 use std::cmp::Ordering;
@@ -115,6 +115,16 @@ fn expect_classes(rt: &impl Abort, alloc: Global, index: &Index<OwnerAlone>) {
     assert!(rt; path.components().is_empty() && row.expect(rt, "a class").as_slice().len() == 3);
 }
 
+fn expect_counted_classes(rt: &impl Abort, alloc: Global, index: &Index<OwnerAlone>) {
+    let counted = index.counted_classes(alloc, true).expect(rt, "memory");
+    let (classes, found): (FileClasses<'_>, Vec<ClassFiles<'_>>) = counted;
+    let first: &ClassFiles<'_> = found.get(0).expect(rt, "a class");
+    let row: Option<Cells> = classes.row(alloc, first.class).expect(rt, "memory");
+    let path: &Path = first.first;
+    let count: usize = first.count;
+    assert!(rt; path.components().is_empty() && count == 1 && row.is_some());
+}
+
 #[test]
 fn verdicts_and_questions(rt: HostRuntime) {
     let index: Index<OwnerAlone> = kept_index(&rt, rt.alloc());
@@ -126,6 +136,7 @@ fn verdicts_and_questions(rt: HostRuntime) {
     expect_may_along_the_path(&rt, rt.alloc(), &index);
     expect_rows(&rt, rt.alloc(), &index);
     expect_classes(&rt, rt.alloc(), &index);
+    expect_counted_classes(&rt, rt.alloc(), &index);
     drop(index);
 }
 

@@ -6,7 +6,7 @@ use Rattle.path_map.specs.Entries.{IsInOrder}
 use Rattle.path_classes.specs.Classes.{KeepRows}
 use Rattle.facl_answers.specs.BothStates.{AreClassesOf, BothClassed, IsClassOf, IsTaken, RowsOfFile, Sides, TakesNextWithin, front, rows_of_both}
 use Rattle.facl_counts.specs.InnerGains.{AreCounted, AreKeysOf}
-use Rattle.facl_counts.specs.Tallies.{Tallied, SaysAs, one}
+use Rattle.path_classes.specs.Tallies.{Tallied, SaysAs, one}
 
 -- ---- counts
 

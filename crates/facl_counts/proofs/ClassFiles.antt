@@ -1,18 +1,21 @@
 -- Files counted by classes, one after another.
-use Rattle.std.proofs.Common.{◌≡◌, ℕ, true, false, cond, List, [], ◌∷◌, ◌++◌, append_assoc, append-nil, map, Some, None, refl, sym, ap, subst, ◌∙◌}
-use Rattle.std.specs.List.{AllByRecursion}
-use Rattle.std.specs.Prelude.{option_map, Option}
+use Rattle.std.proofs.Common.{◌≡◌, ◌+◌, ℕ, Bool, true, false, cond, List, [], ◌∷◌, ◌++◌, append_assoc, append-nil, length, map, Some, None, refl, sym, ap, subst, ◌∙◌, arith}
+use Rattle.std.specs.List.{AllByRecursion, find}
+use Rattle.std.specs.Prelude.{◌==◌, option_map, slice_get, Option}
+use Rattle.std.proofs.lemmas.Bool.{eqb-true}
 use Rattle.std.proofs.lemmas.List.{map-append}
 use Rattle.acl_names.specs.Below.{encloses}
 use Rattle.acl_names.specs.Paths.{PathOf}
 use Rattle.acl_names.proofs.Basics.{all_end}
 use Rattle.path_classes.specs.Classes.{Classed, KeepRows, TakesFile}
+use Rattle.path_map.specs.Below.{within}
 use Rattle.path_map.specs.Entries.{first}
 use Rattle.path_classes.specs.Rows.{Rows}
+use Rattle.path_classes.proofs.Making.{within_root}
 use Rattle.facl_answers.specs.BothStates.{front}
 use Rattle.facl_answers.specs.BothStates.{Sides}
-use Rattle.facl_counts.specs.Tallies.{Tallied, SaysAs, one}
-use Rattle.facl_counts.specs.Sums.{row_of, Keyed, one_of, AreCounted, TakesWithin, IsCounting}
+use Rattle.path_classes.specs.Tallies.{Tallied, SaysAs, one, count_where, first_where, AreTallied}
+use Rattle.facl_counts.specs.Sums.{row_of, of_class, Keyed, one_of, AreCounted, TakesWithin, IsCounting}
 
 all_each : {A : Type 0} (P Q : A → Type 0) (xs : List A) → ((x : A) → P x → Q x) → AllByRecursion P xs → AllByRecursion Q xs
 all_each P Q [] each all = tt
@@ -96,3 +99,60 @@ pub counting_ends : (top : PathOf) (all : Rows) (left new : Classed) (ts : List 
 counting_ends top all left new ts ended at =
     subst (λ (c : Classed). AreCounted c.0 all ts) (sym ended.1)
     (subst (λ (rows : Rows). AreCounted left.0 rows ts) (sym (append-nil at.seen) ∙ ap (λ (l : Rows). at.seen ++ l) (sym ended.0) ∙ at.whole) at.counted)
+
+-- ---- all files, counted by classes already
+
+abbrev side : ℕ × (PathOf × List ℕ) → Keyed
+side k = ((None, Some k.0), k.1)
+
+module _ (test : Sides → Bool) where
+  abbrev on_class : ℕ → Bool
+  on_class class = test (None, Some class)
+
+  count_of_classes : (ts : List (Tallied ℕ)) → count_where test (map of_class ts) ≡ count_where on_class ts
+  count_of_classes [] = refl
+  count_of_classes (t ∷ ts) = ap (λ n. cond (on_class t.key) t.count 0 + n) (count_of_classes ts)
+
+  first_of_classes : (ts : List (Tallied ℕ)) → first_where test (map of_class ts) ≡ first_where on_class ts
+  first_of_classes [] = refl
+  first_of_classes (t ∷ ts) = by (on_class t.key) (first_of_classes ts)
+    where
+      by : (b : Bool) → first_where test (map of_class ts) ≡ first_where on_class ts
+          → option_map (λ (u : Tallied Sides). u.first) (cond b (Some (of_class t)) (find (λ (u : Tallied Sides). test u.key) (map of_class ts)))
+          ≡ option_map (λ (u : Tallied ℕ). u.first) (cond b (Some t) (find (λ (u : Tallied ℕ). on_class u.key) ts))
+      by true more = refl
+      by false more = more
+
+sides_are : (files : List (ℕ × (PathOf × List ℕ))) → map of_class (map (λ k. one k.0 k.1.0) files) ≡ map one_of (map side files)
+sides_are [] = refl
+sides_are (k ∷ files) = ap (λ l. one_of (side k) ∷ l) (sides_are files)
+
+files_are : (files : List (ℕ × (PathOf × List ℕ))) → map (λ (k : ℕ × (PathOf × List ℕ)). k.1) files ≡ map (λ (k : Keyed). k.1) (map side files)
+files_are [] = refl
+files_are (k ∷ files) = ap (λ (l : Rows). k.1 ∷ l) (files_are files)
+
+sides_have : (classes : List (List ℕ)) (files : List (ℕ × (PathOf × List ℕ))) → AllByRecursion (λ k. slice_get classes k.0 ≡ Some k.1.1) files
+    → AllByRecursion (λ k. row_of classes k.0 ≡ Some k.1.1) (map side files)
+sides_have classes [] have = tt
+sides_have classes (k ∷ files) have = (have.0, sides_have classes files have.1)
+
+pub all_counted : (classes : List (List ℕ)) (rows : Rows) (found : List (Tallied ℕ)) (ts : List (Tallied Sides)) → AreTallied (slice_get classes) rows found
+    → SaysAs ts (map of_class found) → AreCounted classes rows ts
+all_counted classes rows found ts are says = record {
+  files = map side are.files;
+  says = record {
+    counts = λ test.
+        says.counts test ∙ count_of_classes test found ∙ are.says.counts (on_class test) ∙ sym (count_of_classes test (map (λ k. one k.0 k.1.0) are.files))
+        ∙ ap (count_where test) (sides_are are.files);
+    firsts = λ test.
+        says.firsts test ∙ first_of_classes test found ∙ are.says.firsts (on_class test) ∙ sym (first_of_classes test (map (λ k. one k.0 k.1.0) are.files))
+        ∙ ap (first_where test) (sides_are are.files);
+  };
+  are = sym (files_are are.files) ∙ are.are;
+  have = sides_have classes are.files are.have;
+}
+
+-- all files are at the root or below it
+pub root_within : (top : PathOf) (rows : Rows) → (length top == 0) ≡ true → rows ≡ within top rows
+root_within [] rows is = sym (within_root rows)
+root_within (name ∷ top) rows is = let none : length (name ∷ top) ≡ 0 = eqb-true (length (name ∷ top)) 0 is in absurd (omega (arith, none))

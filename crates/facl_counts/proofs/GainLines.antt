@@ -9,9 +9,9 @@ use Rattle.facl_counts.specs.Counting.{tallied}
 use Rattle.facl_counts.specs.GainsText.{is_same, is_same_side, side_of, number_of_sides, lines_up_to}
 use Rattle.facl_counts.specs.InnerGains.{count_line, counted_line, is_before, lines_after, tally_line}
 use Rattle.facl_answers.specs.BothStates.{Sides}
-use Rattle.facl_counts.specs.Tallies.{Tallied, SaysAs, count_where, first_where}
+use Rattle.path_classes.specs.Tallies.{Tallied, SaysAs, count_where, first_where}
 use Rattle.facl_counts.specs.declared.tallies.Tally.{Tally}
-use Rattle.facl_counts.proofs.Tallying.{count_append}
+use Rattle.path_classes.proofs.Tallies.{count_append}
 use Rattle.facl_counts.proofs.UserChanges.{drop_here}
 
 -- ---- the lines of numbers

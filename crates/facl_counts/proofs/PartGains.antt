@@ -21,10 +21,11 @@ use Rattle.facl_answers.proofs.PartRows.{parts_inside, row_stays}
 use Rattle.facl_answers.specs.Inner.{Placed}
 use Rattle.facl_counts.specs.InnerGains.{AreCounted, AreKeysOf, ArePassed, AreSilentOn, HaveChanges}
 use Rattle.facl_counts.specs.InnerGains.{change_of, changes_of, keeps, keyed, rekeyed}
-use Rattle.facl_counts.specs.Tallies.{Tallied, SaysAs, count_where, first_where}
+use Rattle.path_classes.specs.Tallies.{Tallied, SaysAs, count_where, first_where}
 use Rattle.facl_counts.specs.declared.user_gains.UserGains.{UserGains}
 use Rattle.facl_counts.proofs.Rekeyed.{says_rekeyed}
-use Rattle.facl_counts.proofs.Tallying.{count_append, first_append, says_both}
+use Rattle.path_classes.proofs.Tallies.{count_append, first_append}
+use Rattle.facl_counts.proofs.Tallying.{says_both}
 use Rattle.facl_counts.proofs.UserChanges.{unchanged}
 
 -- ---- counts of files by their rows

@@ -5,7 +5,7 @@ use Rattle.std.specs.List.{find}
 use Rattle.std.specs.Option.{option_map_or}
 use Rattle.acl_names.specs.Paths.{PathOf}
 use Rattle.facl_answers.specs.BothStates.{Sides}
-use Rattle.facl_counts.specs.Tallies.{Tallied, SaysAs, count_where, first_where}
+use Rattle.path_classes.specs.Tallies.{Tallied, SaysAs, count_where, first_where}
 use Rattle.facl_counts.specs.InnerGains.{keyed, rekeyed}
 
 abbrev Ts : Type 0

@@ -27,7 +27,7 @@ use Rattle.facl_counts.specs.InnerGains.{AllOfBoth, Gained, HasChanges, HaveChan
 use Rattle.facl_counts.specs.InnerGains.{verdict_given, cells_of_both, change_of, changes_of, count_line, counted_line, gained_of, keyed, lines_of_user}
 use Rattle.facl_counts.specs.InnerGains.{tally_line}
 use Rattle.facl_answers.specs.PathTexts.{text_in}
-use Rattle.facl_counts.specs.Tallies.{Tallied, SaysAs, one, count_where, first_where}
+use Rattle.path_classes.specs.Tallies.{Tallied, SaysAs, one, count_where, first_where}
 use Rattle.facl_answers.specs.declared.placed_users.PlacedUser.{PlacedUser}
 use Rattle.facl_counts.specs.declared.user_gains.UserGains.{UserGains}
 use Rattle.facl_answers.proofs.ChangeLines.{paths, same_paths, some_by_paths, table_of, whole_table, rows_paths, cell_along, texts_are}

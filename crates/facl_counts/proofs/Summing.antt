@@ -9,11 +9,12 @@ use Rattle.std.proofs.lemmas.List.Sums.{sum_by-cons}
 use Rattle.acl_entry.specs.Perms.{Perms}
 use Rattle.acl_names.specs.Paths.{PathOf}
 use Rattle.facl_answers.specs.BothStates.{Sides}
-use Rattle.facl_counts.specs.Tallies.{Tallied, count_where, first_where}
+use Rattle.path_classes.specs.Tallies.{Tallied, count_where, first_where}
 use Rattle.path_classes.specs.Rows.{Rows, grants, grants_to}
+use Rattle.path_classes.proofs.Tallies.{first_path_append}
 use Rattle.facl_counts.specs.Sums.{Sum, no_sum, added, after_row, row_of, after_tally, after_tallies, Keyed, one_of, AreCounted, sum_in, AreSums}
 
--- counts and first ones of two lists
+-- counts of two lists
 count_two : {A : Type 0} (test : A → Bool) (xs ys : List A) → count_by test (xs ++ ys) ≡ count_by test xs + count_by test ys
 count_two test [] ys = omega arith
 count_two test (x ∷ xs) ys =
@@ -21,18 +22,6 @@ count_two test (x ∷ xs) ys =
     let here = sum_by-cons (λ r. cond (test r) 1 0) x (xs ++ ys) in
     let there = sum_by-cons (λ r. cond (test r) 1 0) x xs in
     omega (arith, more, here, there)
-
-first_two : (test : PathOf × List ℕ → Bool) (xs ys : Rows) → option_map (λ (r : PathOf × List ℕ). r.0) (find test (xs ++ ys))
-    ≡ option_or (option_map (λ (r : PathOf × List ℕ). r.0) (find test xs)) (option_map (λ (r : PathOf × List ℕ). r.0) (find test ys))
-first_two test [] ys = refl
-first_two test (x ∷ xs) ys = by (test x) (first_two test xs ys)
-  where
-    by : (b : Bool) → option_map (λ (r : PathOf × List ℕ). r.0) (find test (xs ++ ys))
-        ≡ option_or (option_map (λ (r : PathOf × List ℕ). r.0) (find test xs)) (option_map (λ (r : PathOf × List ℕ). r.0) (find test ys))
-        → option_map (λ (r : PathOf × List ℕ). r.0) (cond b (Some x) (find test (xs ++ ys)))
-        ≡ option_or (option_map (λ (r : PathOf × List ℕ). r.0) (cond b (Some x) (find test xs))) (option_map (λ (r : PathOf × List ℕ). r.0) (find test ys))
-    by true more = refl
-    by false more = more
 
 module _ (q : Perms) (user : ℕ) where
   at_row : (t : Tallied Sides) (row : List ℕ) (sums : List Sum) (u : ℕ) → slice_get (after_row q t row sums) u ≡ option_map (λ s. cond (grants q u row) (added t s) s) (slice_get sums u)
@@ -135,7 +124,7 @@ module _ {A : Type 0} (q : Perms) (users : List A) where
           let first = are.says.firsts (test q user classes) ∙ firsts_are q user classes are.files are.have
           ∙ ap (λ (rs : Rows). option_map (λ (r : PathOf × List ℕ). r.0) (find (grants_to q user) rs)) are.are in
           let counts = ap (λ n. count_by (grants_to q user) seen + n) count ∙ sym (count_two (grants_to q user) seen rows) in
-          let firsts = ap (option_or (option_map (λ (r : PathOf × List ℕ). r.0) (find (grants_to q user) seen))) first ∙ sym (first_two (grants_to q user) seen rows) in
+          let firsts = ap (option_or (option_map (λ (r : PathOf × List ℕ). r.0) (find (grants_to q user) seen))) first ∙ sym (first_path_append (grants_to q user) seen rows) in
           λ i. (counts i, firsts i)
 
       by : (o : Option A) → option_map (summed q user classes ts) (option_map (λ _. sum_in q user seen) o) ≡ option_map (λ _. sum_in q user (seen ++ rows)) o

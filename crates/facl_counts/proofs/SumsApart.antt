@@ -11,7 +11,7 @@ use Rattle.acl_names.specs.Paths.{PathOf}
 use Rattle.facl_counts.specs.SumLists.{counts_after, firsts_after, grants_one, waits_of, sums_kept, AreSmall, AreWithin}
 use Rattle.facl_counts.specs.Sums.{Sum, no_sum, added, after_row}
 use Rattle.facl_answers.specs.BothStates.{Sides}
-use Rattle.facl_counts.specs.Tallies.{Tallied}
+use Rattle.path_classes.specs.Tallies.{Tallied}
 
 -- ---- loops that are at the end of one of two lists
 

@@ -11,7 +11,8 @@ use Rattle.facl_counts.specs.Counting.{tallied, HasKey}
 use Rattle.facl_answers.specs.Inner.{same_place}
 use Rattle.facl_counts.specs.declared.tallies.Tally.{Tally}
 use Rattle.facl_answers.specs.BothStates.{Sides}
-use Rattle.facl_counts.specs.Tallies.{Tallied, SaysAs, count_where, first_where}
+use Rattle.path_classes.specs.Tallies.{Tallied, SaysAs, count_where, first_where}
+use Rattle.path_classes.proofs.Tallies.{count_append, first_append}
 
 pub same_of : (some other : Option ℕ) → same_place some other ≡ true → some ≡ other
 same_of None None h = refl
@@ -21,21 +22,6 @@ same_of (Some n) (Some m) h = ap Some (eqb-true n m h)
 
 abbrev Ts : Type 0
 Ts = List (Tallied Sides)
-
-module _ (test : Sides → Bool) where
-  pub count_append : (xs ys : Ts) → count_where test (xs ++ ys) ≡ count_where test xs + count_where test ys
-  count_append [] ys = omega arith
-  count_append (x ∷ xs) ys = let more = count_append xs ys in omega arith
-
-  pub first_append : (xs ys : Ts) → first_where test (xs ++ ys) ≡ option_or (first_where test xs) (first_where test ys)
-  first_append [] ys = refl
-  first_append (x ∷ xs) ys = by (test x.key) (first_append xs ys)
-    where
-      by : (b : Bool) → first_where test (xs ++ ys) ≡ option_or (first_where test xs) (first_where test ys)
-          → option_map (λ (t : Tallied Sides). t.first) (cond b (Some x) (find (λ t. test t.key) (xs ++ ys)))
-          ≡ option_or (option_map (λ (t : Tallied Sides). t.first) (cond b (Some x) (find (λ t. test t.key) xs))) (first_where test ys)
-      by true more = refl
-      by false more = more
 
 pub says_one_more : (xs others : Ts) (x : Tallied Sides) → SaysAs xs others → SaysAs (xs ++ x ∷ []) (others ++ x ∷ [])
 says_one_more xs others x says = record {

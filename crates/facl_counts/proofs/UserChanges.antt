@@ -1,5 +1,5 @@
 -- What the counts of users have after some counts of files by classes.
-use Rattle.std.proofs.Common.{◌≡◌, ℕ, zero, suc, ◌+◌, ◌<◌, arith, Bool, true, false, cond, List, [], ◌∷◌, ◌++◌, append-nil, append_assoc, map, length, take, drop, set, get_or}
+use Rattle.std.proofs.Common.{◌≡◌, ℕ, zero, suc, ◌+◌, ◌<◌, arith, true, false, cond, List, [], ◌∷◌, ◌++◌, append-nil, append_assoc, map, length, take, drop, set, get_or}
 use Rattle.std.proofs.Common.{◌≤◌, Option, Some, None, refl, sym, ap, subst, ◌∙◌}
 use Rattle.std.specs.Prelude.{◌||◌, ◌&&◌, unwrap_or}
 use Rattle.std.specs.List.{list_all}
@@ -14,7 +14,7 @@ use Rattle.facl_counts.specs.InnerGains.{cells_of_both, change_of, gained_of, ke
 use Rattle.facl_counts.specs.InnerGains.{keyed, row_given, rekeyed}
 use Rattle.facl_counts.specs.Counting.{tallied}
 use Rattle.facl_answers.specs.BothStates.{Sides, rows_of_key}
-use Rattle.facl_counts.specs.Tallies.{Tallied, SaysAs}
+use Rattle.path_classes.specs.Tallies.{Tallied, SaysAs}
 use Rattle.facl_counts.specs.declared.tallies.Tally.{Tally}
 use Rattle.facl_counts.specs.declared.user_gains.GivenRow.{GivenRow}
 use Rattle.facl_counts.specs.declared.user_gains.UserGains.{UserGains}

@@ -1,7 +1,7 @@
 -- For inner functions: counts of files by keys, as they are kept.
 use Rattle.std.specs.Prelude.{◌≡◌, ℕ, List, slice_get, Some}
 use Rattle.facl_answers.specs.BothStates.{Sides}
-use Rattle.facl_counts.specs.Tallies.{Tallied}
+use Rattle.path_classes.specs.Tallies.{Tallied}
 use Rattle.facl_counts.specs.declared.tallies.Tally.{Tally}
 
 -- a count as it is kept

@@ -7,7 +7,7 @@ use Rattle.facl_counts.specs.CountTexts.{count_text, spaced}
 use Rattle.facl_counts.specs.GainsText.{is_change, is_same, is_same_side, side_of, side_text, number_of_sides, lines_up_to, lines_by_sides}
 use Rattle.facl_answers.specs.Inner.{Placed, placed_of, keeps_place}
 use Rattle.facl_answers.specs.BothStates.{AreClassesOf, BothClassed, RowsOfFile, Sides, rows_of_key}
-use Rattle.facl_counts.specs.Tallies.{Tallied, SaysAs, one, count_where, first_where}
+use Rattle.path_classes.specs.Tallies.{Tallied, SaysAs, one, count_where, first_where}
 use Rattle.facl_counts.specs.declared.tallies.Tally.{Tally}
 use Rattle.facl_counts.specs.declared.user_gains.GivenRow.{GivenRow}
 use Rattle.facl_counts.specs.declared.user_gains.UserGains.{UserGains}

@@ -6,4 +6,3 @@ pub mod GainsText
 pub mod InnerGains
 pub mod SumLists
 pub mod Sums
-pub mod Tallies

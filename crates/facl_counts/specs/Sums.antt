@@ -1,7 +1,7 @@
 -- For inner functions of `below`: what is added to each user's sum, row by row.
-use Rattle.std.specs.Prelude.{◌≡◌, ℕ, ◌+◌, true, false, if◌then◌else◌, List, [], ◌∷◌, ◌++◌, map, slice_get, count_by, zip, Option, Some, None, option_map, option_and_then}
+use Rattle.std.specs.Prelude.{◌≡◌, ℕ, ◌+◌, true, false, if◌then◌else◌, List, [], ◌∷◌, ◌++◌, slice_get, count_by, zip, Option, Some, None, option_map, option_and_then}
 use Rattle.std.specs.Option.{option_map_or, option_or}
-use Rattle.std.specs.List.{AllByRecursion, find, flat_map}
+use Rattle.std.specs.List.{find, flat_map}
 use Rattle.acl_entry.specs.Check.{has}
 use Rattle.acl_entry.specs.Perms.{Perms}
 use Rattle.acl_names.specs.Below.{encloses}
@@ -15,7 +15,7 @@ use Rattle.facl_counts.specs.CountTexts.{count_text}
 use Rattle.facl_answers.specs.BothStates.{front}
 use Rattle.facl_counts.specs.declared.sums.UserSum.{UserSum}
 use Rattle.facl_answers.specs.BothStates.{Sides}
-use Rattle.facl_counts.specs.Tallies.{Tallied, SaysAs, one}
+use Rattle.path_classes.specs.Tallies.{Tallied, one, AreTallied}
 
 -- how many files, and the first of them, if there is one
 abbrev pub Sum : Type 0
@@ -58,11 +58,12 @@ abbrev pub one_of : Keyed → Tallied Sides
 one_of k = one k.0 k.1.0
 
 -- counts by classes say the same as these files, of which each has the row of its class
-pub record AreCounted (classes : List (List ℕ)) (rows : Rows) (ts : List (Tallied Sides)) : Type 0 where
-  pub files : List Keyed
-  pub says : SaysAs ts (map one_of files)
-  pub are : map (λ k. k.1) files ≡ rows
-  pub have : AllByRecursion (λ k. row_of classes k.0 ≡ Some k.1.1) files
+abbrev pub AreCounted : List (List ℕ) → Rows → List (Tallied Sides) → Type 0
+AreCounted classes rows ts = AreTallied (row_of classes) rows ts
+
+-- the files of a class, by a key of both states
+abbrev pub of_class : Tallied ℕ → Tallied Sides
+of_class t = record { key = (None, Some t.key); count = t.count; first = t.first }
 
 -- the first file that was to come is taken, if it is at a path or below it
 abbrev pub TakesWithin : PathOf → Classed → Option (PathOf × ℕ) → Classed → Type 0

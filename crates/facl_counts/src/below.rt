@@ -13,7 +13,7 @@ ghost use Rattle.facl_answers.specs.Answers.{file_line};
 ghost use Rattle.facl_counts.specs.BelowText.{below_text};
 ghost use Rattle.facl_counts.specs.Sums.{sum_of, sum_line, sum_lines, AreSums};
 
-use crate::class_counts::{add_tallies, count_files};
+use crate::class_counts::{add_tallies, count_files, count_found};
 use crate::count_texts::push_count;
 use crate::sums::{UserSum, UserSums};
 use acl_entry::Perm;
@@ -85,6 +85,23 @@ fn tops<'a>(alloc: Global, files: &[FoundFile<'a>]) -> Result<Vec<&'a Path>, All
     Ok(tops)
 }
 
+/// Adds all files to the sums of users.
+fn add_all<'a, J: Judge>(
+    alloc: Global,
+    sums: &mut UserSums<'a>,
+    verdicts: &Verdicts<'a, J>,
+    request: Perm,
+    names: &[Vec<u8>],
+) -> Result<(), AllocError>
+    ensures { OnOk result ((seen : Rows) → AreSums request seen names.now sums.old
+        → AreSums request (seen ++ rows_granted J.verdict_of verdicts.now.along verdicts.now.state.now) names.now sums.new) }
+{
+    let (classes, found) = verdicts.counted_classes(alloc)?;
+    let tallies = count_found(alloc, &found)?;
+    add_tallies(alloc, sums, &classes, request, tallies.as_slice())?;
+    Ok(())
+}
+
 /// Adds the files at a path or below it to the sums of users, where files before them were added.
 fn add_below<'a, J: Judge>(
     alloc: Global,
@@ -97,6 +114,9 @@ fn add_below<'a, J: Judge>(
     ensures { OnOk result ((seen : Rows) → AreSums request seen names.now sums.old
         → AreSums request (seen ++ within top.now (rows_granted J.verdict_of verdicts.now.along verdicts.now.state.now)) names.now sums.new) }
 {
+    if top.borrowed().is_root() {
+        return add_all(alloc, sums, verdicts, request, names);
+    }
     verdicts.state.state().tree().soundness_law();
     let mut classes = verdicts.classes_from(alloc, top);
     let tallies = count_files(alloc, &mut classes, top)?;

@@ -4,15 +4,15 @@ ghost use Rattle.std.specs.Prelude.{◌≡◌, ◌++◌, ◌∷◌, [], List, No
 ghost use Rattle.path_map.specs.Entries.{seen};
 ghost use Rattle.facl_counts.specs.Counting.{tallied};
 ghost use Rattle.facl_answers.specs.BothStates.{front};
-ghost use Rattle.facl_counts.specs.Sums.{row_of, after_tally, after_tallies, AreCounted, TakesWithin};
+ghost use Rattle.facl_counts.specs.Sums.{row_of, of_class, after_tally, after_tallies, AreCounted, TakesWithin};
 ghost use Rattle.facl_answers.specs.BothStates.{Sides};
-ghost use Rattle.facl_counts.specs.Tallies.{Tallied, SaysAs, one};
+ghost use Rattle.path_classes.specs.Tallies.{Tallied, SaysAs, class_tally};
 
 use crate::sums::UserSums;
 use crate::tallies::{Tallies, Tally};
 use acl_entry::Perm;
 use acl_names::Path;
-use acl_rights::{Cells, FileClasses};
+use acl_rights::{Cells, ClassFiles, FileClasses};
 use facl_answers::Sides;
 use std::alloc::{AllocError, Global};
 
@@ -55,13 +55,17 @@ impl<'a> Counter<'a> {
         Ok(())
     }
 
-    /// One file more has a class. Fails only if memory, or the numbers, run out.
-    fn count(&mut self, class: usize, path: &'a Path) -> Result<(), AllocError>
+    /// Files more have a class. Fails only if memory, or the numbers, run out.
+    fn count(&mut self, files: ClassFiles<'a>) -> Result<(), AllocError>
         ensures { OnOk result ((others : List (Tallied Sides)) → SaysAs self.old.tallies others
-            → SaysAs self.new.tallies (others ++ one (None, Some class) path.now ∷ [])) }
+            → SaysAs self.new.tallies (others ++ of_class (class_tally files.entry) ∷ [])) }
     {
+        let class = files.class;
         let hint = self.hint(class);
-        let at = self.tallies.add(hint, (None, Some(class)), 1, path)?;
+        let key = (None, Some(class));
+        let at = self
+            .tallies
+            .add(hint, key, files.count as u64, files.first)?;
         self.expect(class, at)
     }
 }
@@ -89,8 +93,27 @@ pub(crate) fn count_files<'a>(
     ensures { IfOk result (λ tallies. AreCounted classes.new.0 (front top.now classes.old.1) tallies) }
 {
     let mut counter = Counter::new(alloc);
-    while let Some((path, class)) = next_within(alloc, classes, top)? {
-        counter.count(class, path)?;
+    while let Some((first, class)) = next_within(alloc, classes, top)? {
+        let count = 1;
+        counter.count(ClassFiles {
+            class,
+            count,
+            first,
+        })?;
+    }
+    Ok(counter.tallies)
+}
+
+/// Counts files that are counted by classes already, where a class may come more than once.
+pub(crate) fn count_found<'a>(
+    alloc: Global,
+    found: &[ClassFiles<'a>],
+) -> Result<Tallies<'a>, AllocError>
+    ensures { IfOk result (λ tallies. SaysAs tallies (map (λ files. of_class (class_tally files)) found.now)) }
+{
+    let mut counter = Counter::new(alloc);
+    for files in found {
+        counter.count(*files)?;
     }
     Ok(counter.tallies)
 }

@@ -14,7 +14,7 @@ ghost use Rattle.facl_counts.specs.GainsText.{gains_text, is_same, is_same_side,
 ghost use Rattle.facl_answers.specs.BothStates.{rows_in_both};
 ghost use Rattle.facl_counts.specs.InnerGains.{HaveChanges, count_line, is_before, lines_after, lines_of_user, tally_line, tally_lines};
 ghost use Rattle.facl_answers.specs.PathTexts.{text_in};
-ghost use Rattle.facl_counts.specs.Tallies.{count_where, first_where};
+ghost use Rattle.path_classes.specs.Tallies.{count_where, first_where};
 
 use crate::both_counts::count_within;
 use crate::count_texts::{push_count, push_path};

@@ -3,7 +3,7 @@
 ghost use Rattle.std.specs.Prelude.{◌≡◌, ◌+◌, ◌++◌, ◌∷◌, [], List, true, IfOk, map};
 ghost use Rattle.facl_counts.specs.Counting.{tallied, HasKey};
 ghost use Rattle.facl_answers.specs.BothStates.{Sides};
-ghost use Rattle.facl_counts.specs.Tallies.{Tallied, SaysAs};
+ghost use Rattle.path_classes.specs.Tallies.{Tallied, SaysAs};
 
 use acl_names::Path;
 use facl_answers::{Sides, same_place};

@@ -31,3 +31,5 @@ pub mod Rerowed
 pub mod SomeNumbers
 pub mod RelabelledFile
 pub mod PathsBelow
+pub mod Tallies
+pub mod ClassCounts

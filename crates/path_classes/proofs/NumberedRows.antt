@@ -1,5 +1,5 @@
 -- The rows of files by the numbers of their labels, and along paths by those of their path classes.
-use Rattle.std.proofs.Common.{◌≡◌, ℕ, Bool, true, false, not, cond, ◌&&◌, List, [], ◌∷◌, map, filter, Option, Some, None, refl, sym, ap, subst, ◌∙◌}
+use Rattle.std.proofs.Common.{◌≡◌, ◌<◌, ℕ, Bool, true, false, not, cond, ◌&&◌, List, [], ◌∷◌, length, map, filter, Option, Some, None, refl, sym, ap, subst, ◌∙◌}
 use Rattle.std.specs.Prelude.{option_map}
 use Rattle.std.specs.List.{AllByRecursion}
 use Rattle.std.specs.Option.{option_map_or}
@@ -9,8 +9,9 @@ use Rattle.acl_entry.specs.Perms.{Perms}
 use Rattle.acl_names.specs.Paths.{path_cmp, PathOf}
 use Rattle.path_map.specs.Below.{from}
 use Rattle.path_map.specs.Entries.{IsInOrder}
-use Rattle.kinds.specs.Kinds.{KindsOf, node_at}
-use Rattle.kinds.specs.Numbered.{Kept, Numbers, AreUsed, with_node, entries_by, entries_in}
+use Rattle.kinds.specs.Kinds.{KindsOf, node_at, count_at}
+use Rattle.kinds.specs.Numbered.{Kept, Numbers, AreUsed, with_node, entries_by, entries_in, paths_with}
+use Rattle.kinds.proofs.Numbers.{node_within}
 use Rattle.path_classes.specs.declared.label_row.LabelRow.{LabelRow}
 use Rattle.path_classes.specs.declared.path_class.PathClass.{PathClass}
 use Rattle.path_classes.specs.Rows.{Rows, grants, grants_to, may_in}
@@ -73,8 +74,8 @@ module _ (rows : Kept LabelRow) (classes : Kept PathClass) (used : AreUsed rows.
         ∙ reached_each classes.1 w.each
 
     -- along paths files' rows are found by classes
-    pub class_numbers : AreNumbers true rows (Some classes.0) classes.1
-    class_numbers = record { have = have_rows classes.1 w.each; are = sym reached_by }
+    pub class_numbers : ((n : ℕ) → count_at classes.0 n ≡ paths_with n classes.1) → AreNumbers true rows (Some classes.0) classes.1
+    class_numbers counted = record { have = have_rows classes.1 w.each; are = sym reached_by; counted = counted }
 
     module _ (p : PathOf) where
       -- what is reached at a path without a file, and at one of a file
@@ -87,8 +88,13 @@ module _ (rows : Kept LabelRow) (classes : Kept PathClass) (used : AreUsed rows.
           ap (find path_cmp p) reached_by ∙ find-values (class_row rows.0 classes.0) p classes.1 ∙ ap (option_map (class_row rows.0 classes.0)) is
 
 -- alone files' rows are found by labels
-pub label_numbers : (rows : Kept LabelRow) → AreUsed rows.0 rows.1 → AreNumbers false rows None rows.1
-label_numbers rows used = record { have = used; are = sym (rows_by_numbers rows.0 rows.1 used) }
+pub label_numbers : (rows : Kept LabelRow) → AreUsed rows.0 rows.1 → ((n : ℕ) → count_at rows.0 n ≡ paths_with n rows.1) → AreNumbers false rows None rows.1
+label_numbers rows used counted = record { have = used; are = sym (rows_by_numbers rows.0 rows.1 used); counted = counted }
+
+-- numbers that have nodes are below their end
+pub numbers_below : {N : Type 0} (k : KindsOf N) (ns : Numbers) → AreUsed k ns → AllByRecursion (λ e. e.1 < length k.0) ns
+numbers_below k [] used = tt
+numbers_below k (e ∷ ns) used = (node_within k.0 e.1 used.0.0 used.0.1, numbers_below k ns used.1)
 
 -- ---- files on which a user is granted a request
 

@@ -14,5 +14,7 @@ pub mod ClassedRows
 pub mod NumberedRows
 pub mod Codes
 pub mod Classes
+pub mod Tallies
+pub mod ClassCounts
 pub mod ChangedAnswers
 pub mod Tops

@@ -5,8 +5,8 @@ use Rattle.std.specs.List.{AllByRecursion}
 use Rattle.std.specs.Option.{option_map_or}
 use Rattle.acl_names.specs.Paths.{PathOf}
 use Rattle.path_map.specs.Entries.{seen}
-use Rattle.kinds.specs.Kinds.{KindsOf, node_at, IsNode}
-use Rattle.kinds.specs.Numbered.{Kept, Numbers, entries_in}
+use Rattle.kinds.specs.Kinds.{KindsOf, node_at, count_at, IsNode}
+use Rattle.kinds.specs.Numbered.{Kept, Numbers, entries_in, paths_with}
 use Rattle.path_classes.specs.declared.label_row.LabelRow.{LabelRow}
 use Rattle.path_classes.specs.declared.path_class.PathClass.{PathClass}
 use Rattle.path_classes.specs.Rows.{Rows}
@@ -44,6 +44,11 @@ abbrev pub row_of : KindsOf LabelRow → Option ClassKinds → ℕ → List ℕ
 row_of rows None n = label_row rows n
 row_of rows (Some k) n = class_row rows k n
 
+-- how many files have a number
+abbrev pub files_of : KindsOf LabelRow → Option ClassKinds → ℕ → ℕ
+files_of rows None n = count_at rows n
+files_of rows (Some k) n = count_at k n
+
 -- a number has a row
 abbrev pub HasRow : KindsOf LabelRow → Option ClassKinds → ℕ → Type 0
 HasRow rows None n = IsNode rows n
@@ -60,6 +65,7 @@ rows_by row numbers = map (λ e. (e.0, row e.1)) numbers
 pub record AreNumbers (along : Bool) (rows : Kept LabelRow) (classes : Option ClassKinds) (numbers : Numbers) : Type 0 where
   pub have : HaveRows rows.0 classes numbers
   pub are : rows_by (row_of rows.0 classes) numbers ≡ rows_along along (rows_at (entries_in rows))
+  pub counted : (n : ℕ) → files_of rows.0 classes n ≡ paths_with n numbers
 
 -- ---- files that are still to come
 
@@ -76,6 +82,9 @@ pub record FilesLeft : Type 0 where
 
 abbrev pub row_at : FilesLeft → ℕ → List ℕ
 row_at f n = row_of f.rows f.classes n
+
+abbrev pub files_with : FilesLeft → ℕ → ℕ
+files_with f n = files_of f.rows f.classes n
 
 abbrev pub rows_left : FilesLeft → Rows
 rows_left f = rows_by (row_at f) f.left

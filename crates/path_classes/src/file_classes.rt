@@ -21,8 +21,8 @@ use std::marker::Model;
 /// classes so far, and the rows of these files. The row of a class is made where it is taken: none is kept.
 #[derive(Drop)]
 pub struct FileClasses<'a> {
-    files: NumberedFiles<'a>,
-    met: MetRows,
+    pub(crate) files: NumberedFiles<'a>,
+    pub(crate) met: MetRows,
 }
 
 impl<'a> Model for FileClasses<'a> {

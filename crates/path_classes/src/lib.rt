@@ -32,6 +32,7 @@ mod cells;
 mod changed_answers;
 mod changed_files;
 mod class_builder;
+mod class_counts;
 mod class_hints;
 mod class_tags;
 mod class_walk;
@@ -62,6 +63,7 @@ mod top_paths;
 
 pub use answers::granted_users;
 pub use cells::{Cells, same_row};
+pub use class_counts::ClassFiles;
 pub use classed_rows::ClassedRows;
 pub use file_classes::FileClasses;
 pub use file_rows::{FileRow, FileRows};

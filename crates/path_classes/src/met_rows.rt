@@ -2,6 +2,7 @@
 
 ghost use Rattle.std.specs.Prelude.{◌≡◌, ◌==◌, ℕ, [], None, Some, get_or, slice_get, IfOk, IfSome, OnOk, OnErr, if◌then◌else◌};
 ghost use Rattle.path_classes.specs.Classes.{KeepRows};
+ghost use Rattle.path_classes.specs.ClassCounts.{is_met, IsPlacePut};
 ghost use Rattle.path_classes.specs.NumberedRows.{row_at, rows_met, HasRow, AreMet};
 
 use crate::numbered_files::NumberedFiles;
@@ -61,6 +62,13 @@ impl MetRows {
         }
     }
 
+    /// Whether a number was met. Allocates nothing.
+    pub fn is_met(&self, number: usize) -> bool
+        ensures { result ≡ is_met self.now.places.items number }
+    {
+        entry(&self.places, number).is_some()
+    }
+
     /// The place of a row that a number has, if a hint leads there.
     fn same_place(&self, files: &NumberedFiles<'_>, hash: u64, number: usize) -> Option<usize>
         ensures { IfSome result (λ place. slice_get (rows_met files.now self.now.numbers.items) place ≡ Some (row_at files.now number)) }
@@ -81,6 +89,7 @@ impl MetRows {
         ensures here { IfOk result (λ place. slice_get (rows_met files.now self.new.numbers.items) place ≡ Some (row_at files.now number)) }
         ensures met { AreMet files.now self.new.places.items self.new.numbers.items }
         ensures keep { KeepRows (rows_met files.now self.old.numbers.items) (rows_met files.now self.new.numbers.items) }
+        ensures same { self.new.places ≡ self.old.places }
     {
         let hash = self.hints.hash(files, number)?;
         if let Some(place) = self.same_place(files, hash, number) {
@@ -103,6 +112,7 @@ impl MetRows {
         ensures here { IfOk result (λ place. slice_get (rows_met files.now self.new.numbers.items) place ≡ Some (row_at files.now number)) }
         ensures met { AreMet files.now self.new.places.items self.new.numbers.items }
         ensures keep { KeepRows (rows_met files.now self.old.numbers.items) (rows_met files.now self.new.numbers.items) }
+        ensures put { IfOk result (λ place. IsPlacePut self.old.places.items number place self.new.places.items) }
     {
         if let Some(place) = entry(&self.places, number) {
             return Ok(place);

@@ -1,7 +1,8 @@
 //! Files with the numbers by which their rows are found, one after another: those of labels, or along paths those of path
 //! classes.
 
-ghost use Rattle.std.specs.Prelude.{◌≡◌, true, drop, option_map, IfOk, IfSome};
+ghost use Rattle.std.specs.Prelude.{◌≡◌, ◌<◌, true, drop, option_map, IfOk, IfSome};
+ghost use Rattle.std.specs.List.{AllByRecursion};
 ghost use Rattle.path_map.specs.Below.{from};
 ghost use Rattle.path_map.specs.Entries.{first, seen};
 ghost use Rattle.kinds.specs.Kinds.{IsNode};
@@ -9,7 +10,8 @@ ghost use Rattle.kinds.specs.Numbered.{entries_in};
 ghost use Rattle.path_classes.specs.KindRows.{rows_at};
 ghost use Rattle.path_classes.specs.ReachedRows.{rows_along};
 ghost use Rattle.path_classes.specs.ClassBuilding.{IsRightAt};
-ghost use Rattle.path_classes.specs.NumberedRows.{label_row, class_row, HasRow, HaveRows, AreNumbers, row_at, rows_left};
+ghost use Rattle.path_classes.specs.ClassCounts.{AreAll};
+ghost use Rattle.path_classes.specs.NumberedRows.{label_row, class_row, files_with, HasRow, HaveRows, AreNumbers, row_at, rows_left};
 
 use crate::cells::Cells;
 use crate::classed_rows::ClassedRows;
@@ -177,6 +179,16 @@ impl<'a> NumberedFiles<'a> {
         }
     }
 
+    /// How many of all files have a number. Allocates nothing.
+    pub fn count(&self, number: usize) -> usize
+        ensures { result ≡ files_with self.now number }
+    {
+        match self.classes {
+            Some(classes) => classes.count(number),
+            None => self.labels.count(number),
+        }
+    }
+
     /// The row of a number: shared with that of a label, where both are the same. Fails only if memory runs out.
     pub fn row(&self, alloc: Global, number: usize) -> Result<Cells, AllocError>
         requires { HasRow self.now.rows self.now.classes number }
@@ -190,33 +202,47 @@ impl<'a> NumberedFiles<'a> {
 }
 
 impl ClassedRows {
-    /// The numbers by which files' rows are found, alone or along paths; and the path classes, if the numbers are theirs.
-    fn file_numbers(&self, along: bool) -> (&PathMap<usize>, Option<&Kinds<PathClass>>)
-        ensures { AreNumbers along self.now (option_map (λ k. k.now) result.1) result.0.now }
+    /// The numbers by which files' rows are found, alone or along paths; the path classes, if the numbers are theirs; and a
+    /// number above all of these.
+    fn file_numbers(&self, along: bool) -> (&PathMap<usize>, Option<&Kinds<PathClass>>, usize)
+        ensures numbers { AreNumbers along self.now (option_map (λ k. k.now) result.1) result.0.now }
+        ensures end { AllByRecursion (λ e. e.1 < result.2) result.0.now }
     {
         let rows = self.rows();
         rows.order_law();
         let labels = rows.numbers();
         if !along {
-            return (labels, None);
+            return (labels, None, rows.map().numbers_len());
         }
         let classes = self.classes();
-        (classes.numbers(), Some(classes.kinds()))
+        let end = classes.map().numbers_len();
+        (classes.numbers(), Some(classes.kinds()), end)
     }
 
     /// All files with their numbers. Allocates nothing.
     pub(crate) fn numbered_files(&self, along: bool) -> NumberedFiles<'_>
         ensures { rows_left result ≡ rows_along along (rows_at (entries_in self.now)) }
     {
-        let (numbers, classes) = self.file_numbers(along);
-        NumberedFiles::new(self.rows().kinds(), classes, numbers.iter())
+        let (files, _end) = self.all_numbered(along);
+        files
+    }
+
+    /// All files with their numbers, and a number above all of these. Allocates nothing.
+    pub(crate) fn all_numbered(&self, along: bool) -> (NumberedFiles<'_>, usize)
+        ensures rows { rows_left result.0 ≡ rows_along along (rows_at (entries_in self.now)) }
+        ensures all { AreAll result.0 }
+        ensures end { AllByRecursion (λ e. e.1 < result.1) result.0.left }
+    {
+        let (numbers, classes, end) = self.file_numbers(along);
+        let files = NumberedFiles::new(self.rows().kinds(), classes, numbers.iter());
+        (files, end)
     }
 
     /// The files that are not before a path, with their numbers. Allocates nothing.
     pub(crate) fn numbered_files_from(&self, along: bool, top: &Path) -> NumberedFiles<'_>
         ensures { rows_left result ≡ from top.now (rows_along along (rows_at (entries_in self.now))) }
     {
-        let (numbers, classes) = self.file_numbers(along);
+        let (numbers, classes, _end) = self.file_numbers(along);
         NumberedFiles::new(self.rows().kinds(), classes, numbers.from(top))
     }
 }

@@ -1,4 +1,5 @@
-use Rattle.std.proofs.Common.{subst, sym, ap, ◌++◌, ◌∙◌}
+use Rattle.std.proofs.Common.{subst, sym, ap, length, ◌++◌, ◌∙◌}
+use Rattle.std.specs.Prelude.{◌==◌, OnOk}
 use Rattle.path_classes.specs.Classes.{Classed}
 use Rattle.path_classes.specs.Rows.{Rows}
 use Rattle.path_map.specs.Below.{within}
@@ -10,6 +11,7 @@ use Rattle.facl_answers.specs.BothStates.{front}
 use Rattle.facl_answers.proofs.ChangeLines.{rows_order}
 use Rattle.facl_answers.proofs.PartRows.{front_within}
 use Rattle.facl_counts.specs.Sums.{after_tallies, AreCounted, AreSums}
+use Rattle.facl_counts.proofs.ClassFiles.{root_within}
 use Rattle.facl_counts.proofs.Summing.{sums_more}
 use Rattle.facl_counts.proofs.below.add_below.Goals as goal
 
@@ -26,3 +28,12 @@ returns g c seen were =
     subst (AreSums c.args.request (seen ++ within top all) c.args.names.now)
     (sym (c.in_ok-add_tallies.ensures ∙ ap (λ ts. after_tallies classes.0 c.args.request ts c.args.sums.now) c.as_slice.ensures))
     (sums_more c.args.request c.args.names.now classes.0 seen (within top all) c.in_ok-tallies.tallies c.args.sums.now are were)
+
+pub returns-then-is_root : goal.returns-then-is_root
+returns-then-is_root g c =
+    let asked = c.args.verdicts.now in
+    let all : Rows = rows_granted g.J.Judge.verdict_of asked.along asked.state.now in
+    let q = c.args.request in
+    let names = c.args.names.now in
+    subst (λ (rows : Rows). OnOk c.add_all.result ((seen : Rows) → AreSums q seen names c.args.sums.now → AreSums q (seen ++ rows) names c.add_all.new.sums))
+    (root_within c.args.top.now all (ap (λ p. length p == 0) (sym c.borrowed.ensures) ∙ sym c.is_root.ensures ∙ c.if-is_root.true)) c.add_all.ensures

@@ -1,4 +1,4 @@
-use Rattle.std.proofs.Common.{take, sym, ap, subst, ◌∙◌}
+use Rattle.std.proofs.Common.{take, sym, subst}
 use Rattle.std.proofs.lemmas.List.{take_all}
 use Rattle.path_map.specs.Below.{within}
 use Rattle.path_classes.specs.ClassesWithin.{inside}

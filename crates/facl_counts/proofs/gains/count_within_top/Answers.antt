@@ -2,7 +2,7 @@ use Rattle.std.proofs.Common.{map, subst, sym}
 use Rattle.path_map.specs.Below.{within}
 use Rattle.facl_counts.specs.Counting.{tallied}
 use Rattle.facl_answers.specs.BothStates.{both_of, rows_in_both}
-use Rattle.facl_counts.specs.InnerGains.{AreCounted, HaveChanges}
+use Rattle.facl_counts.specs.InnerGains.{AreCounted}
 use Rattle.facl_counts.proofs.PartGains.{on_ok, counted_changes}
 use Rattle.facl_counts.proofs.gains.count_within_top.Goals as goal
 

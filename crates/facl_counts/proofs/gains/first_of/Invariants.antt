@@ -1,7 +1,7 @@
 use Rattle.std.proofs.Common.{◌≡◌, map}
 use Rattle.facl_counts.specs.Counting.{tallied}
 use Rattle.facl_counts.specs.GainsText.{is_same}
-use Rattle.facl_counts.specs.Tallies.{first_where}
+use Rattle.path_classes.specs.Tallies.{first_where}
 use Rattle.facl_counts.proofs.GainLines.{first_left}
 use Rattle.facl_counts.proofs.gains.first_of.Given as goal
 
