@@ -63,10 +63,11 @@ OPENS, CLOSES = set("{(["), set("})]")
 
 
 class Token(NamedTuple):
-    """A piece of a source: a name, a text, a number or a mark, and its line counted from 1."""
+    """A piece of a source: a name, a text, a number or a mark, its line counted from 1, and where it starts."""
 
     text: str
     line: int
+    start: int
 
 
 class Scope(NamedTuple):
@@ -77,8 +78,17 @@ class Scope(NamedTuple):
     arguments: str = ""
 
 
+class Clause(NamedTuple):
+    """A clause: `requires` or `ensures`, its name if it has one, and what is in its braces, with the line that this starts in."""
+
+    kind: str
+    name: Optional[str]
+    line: int
+    text: str
+
+
 class Function(NamedTuple):
-    """A function or method, with its own clauses by kind and name; public is also what a trait has."""
+    """A function or method, with the place of its word `fn` among the tokens, and its own clauses; public is also what a trait has."""
 
     name: str
     crate: str
@@ -86,7 +96,8 @@ class Function(NamedTuple):
     line: int
     end: int
     is_public: bool
-    clauses: List[Tuple[str, Optional[str]]]
+    place: int
+    clauses: List[Clause]
     body: List[Token]
 
     @property
@@ -99,7 +110,7 @@ def tokens_of(text: str) -> List[Token]:
     tokens, line = [], 1
     for match in TOKEN.finditer(text):
         if match["skip"] is None:
-            tokens.append(Token(match.group(), line))
+            tokens.append(Token(match.group(), line, match.start()))
         line += match.group().count("\n")
     return tokens
 
@@ -155,7 +166,7 @@ class Source:
     """What a file has: its functions, and all tokens."""
 
     def __init__(self, file: str, text: str) -> None:
-        self.file, self.text, self.tokens = file, text, tokens_of(text)
+        self.file, self.text, self.tokens, self.lines = file, text, tokens_of(text), text.split("\n")
         self.crate = file.split("/")[1]
         self.functions: List[Function] = []
         self.read(0, len(self.tokens), Scope())
@@ -179,17 +190,19 @@ class Source:
     def function(self, at: int, scope: Scope) -> int:
         """Reads the function at a place, with its clauses and its body. The place after it."""
         tokens, first, stops = self.tokens, at, ("{", ";", "requires", "ensures")
-        clauses: List[Tuple[str, Optional[str]]] = []
+        clauses: List[Clause] = []
         at = find(tokens, at, stops)
         while at < len(tokens) and tokens[at].text in stops[2:]:
-            name = tokens[at + 1].text
-            clauses.append((tokens[at].text, None if name == "{" else name))
-            at = find(tokens, end_of_group(tokens, find(tokens, at, "{")), stops)
+            kind, name, open_at = tokens[at].text, tokens[at + 1].text, find(tokens, at, "{")
+            at = end_of_group(tokens, open_at)
+            text = self.text[tokens[open_at].start + 1:tokens[at - 1].start] if open_at < at else ""
+            clauses.append(Clause(kind, None if name == "{" else name, tokens[min(open_at, at - 1)].line, text))
+            at = find(tokens, at, stops)
         end = end_of_group(tokens, at) if at < len(tokens) and tokens[at].text == "{" else at + 1
         is_public = tokens[first - 1].text == "pub" or (scope.type is not None and scope.type == scope.trait)
         last = tokens[min(end, len(tokens)) - 1].line
         self.functions.append(Function(tokens[first + 1].text, self.crate, scope, tokens[first].line, last, is_public,
-                                       clauses, tokens[at + 1:end - 1]))
+                                       first, clauses, tokens[at + 1:end - 1]))
         return end
 
 
@@ -226,7 +239,7 @@ class Library:
         """The names of a function's clauses, with those of its trait."""
         scope = function.scope
         of_trait = self.traits.get((scope.trait, function.name), []) if scope.trait not in (None, scope.type) else []
-        return list(dict.fromkeys(name for kind, name in function.clauses + of_trait if name and kind in kinds))
+        return list(dict.fromkeys(clause.name for clause in function.clauses + of_trait if clause.name and clause.kind in kinds))
 
 
 # --- where memory ran out
