@@ -14,8 +14,8 @@ usage: tools/check/documents.py [--write | --files [CRATE]..]
   first two and the README have no others (tool_rows.py).
 - docs/READING.md: each line of its examples is one of the sources or definitions.
 - tools/README.md names each script of tools/, and none that is not there.
-- The blocks `<!-- graph -->` of docs/ARCHITECTURE.md and `<!-- index -->` of docs/PROOFS.md are as the sources have
-  them; --write makes them so, and does nothing else.
+- The blocks `<!-- graph -->` of docs/ARCHITECTURE.md, `<!-- index -->` of docs/PROOFS.md and `<!-- chain -->` of
+  docs/READING.md, which chain.py counts, are as the sources have them; --write makes them so, and does nothing else.
 - Each file of src/ and specs/ of a crate, and each script of commands/ and tools/, has a sentence at its head; --files
   prints these sentences, of some crates or of all and the scripts, and does nothing else.
 - All documents: each link within the repository, and each path that starts with a folder of it or of a crate, leads to
@@ -32,9 +32,12 @@ from pathlib import Path
 from typing import Dict, Iterable, Iterator, List, NamedTuple, Set, Tuple
 
 sys.dont_write_bytecode = True
-sys.path.insert(0, os.path.join(os.path.dirname(os.path.realpath(__file__)), ".."))
+HERE = os.path.dirname(os.path.realpath(__file__))
+sys.path[:0] = [os.path.join(HERE, ".."), os.path.join(HERE, "..", "lib")]
 
+import chain  # noqa: E402
 from memory_faults import TOP, Function, Library, found_in, is_of_tests, text_of  # noqa: E402
+from script import Failed, run  # noqa: E402
 from tool_rows import ToolRows  # noqa: E402
 from ways import Crates  # noqa: E402
 
@@ -49,9 +52,20 @@ NAME = re.compile(r"(?:[A-Za-z]\w*::)*[A-Za-z]\w*")
 PLACEHOLDER = re.compile(r"X_\w+|\w+_")
 IN_PARENTHESES = re.compile(r"\(((?:[^()]|\([^()]*\))*)\)")
 PIECE = re.compile(r"`([^`]*)`|(\w+|[();])")
-BLOCK = re.compile(r"^<!-- (graph|index) -->\n(.*?)^<!-- end -->$", re.M | re.S)
+BLOCK = re.compile(r"^<!-- (graph|index|chain) -->\n(.*?)^<!-- end -->$", re.M | re.S)
 LAW = re.compile(r"^ */// Proof only.*\n(?: *(?:///|#\[).*\n)* *(?:pub )?fn ", re.M)
 SOURCES = ("crates/*/src/**/*.rt", "crates/*/specs/*.antt")
+# The documents with a block that is made of the sources.
+BLOCKS = {ARCHITECTURE: "graph", PROOFS: "index", READING: "chain"}
+# What one may read, by words of chain.py.
+READ = {
+    "headline": "all clauses of `run`",
+    "frame": "its frame: the same, without what tools, loading, messages, the check and costs are",
+    "check": "acl(5)'s check",
+    "frame check chmod": "the frame, the check and `chmod`",
+    "chmod": "`chmod`", "rm": "`rm`", "userdel": "`userdel`", "gpasswd": "`gpasswd`", "creat": "`creat`", "can": "`can`",
+    "setfacl": "`setfacl`",
+}
 # The folders of edits that must be refused: by rt ci, which checks the whole crate, and by tools/edits.py, one function.
 EDITS = {"must-fail": "Wrong bodies", "wrong": "Wrong bodies, each tried by its function alone"}
 SCRIPTS = ("commands/facl-*", "commands/facl_commands/**/*.py",
@@ -245,18 +259,27 @@ class Checks:
     # --- what is made of the sources
 
     def blocks(self) -> Iterator[Fault]:
-        for path, kind in ((ARCHITECTURE, "graph"), (PROOFS, "index")):
-            if f"<!-- {kind} -->" not in self.texts[path] or self.written(self.texts[path]) != self.texts[path]:
-                yield path, 1, f"the block {kind} is not as the sources have it: tools/check/documents.py --write"
+        for path, kind in BLOCKS.items():
+            try:
+                if f"<!-- {kind} -->" not in self.texts[path] or self.written(self.texts[path]) != self.texts[path]:
+                    yield path, 1, f"the block {kind} is not as the sources have it: tools/check/documents.py --write"
+            except Failed as fault:
+                yield path, 1, str(fault)
 
     def written(self, text: str) -> str:
         """A document with all of its blocks made of the sources."""
+        made = {"graph": self.graph, "index": self.index, "chain": self.amounts}
 
         def block(match: "re.Match[str]") -> str:
-            lines = self.graph() if match[1] == "graph" else self.index()
-            return f"<!-- {match[1]} -->\n" + "".join(line + "\n" for line in lines) + "<!-- end -->"
+            return f"<!-- {match[1]} -->\n" + "".join(line + "\n" for line in made[match[1]]()) + "<!-- end -->"
 
         return BLOCK.sub(block, text)
+
+    def amounts(self) -> Iterator[str]:
+        """How much one reads, by what one reads from."""
+        yield from ("| What one reads | By `chain.py` | Definitions | Lines | Files |", "|---|---|---|---|---|")
+        for words, counts in chain.rows(self.top, READ):
+            yield f"| {READ[words]} | `{words}` | {counts.definitions:,} | {counts.lines:,} | {counts.files:,} |"
 
     def graph(self) -> Iterator[str]:
         """The crates of the program, each with an arrow to those that it lists and that no other one on the way has."""
@@ -351,7 +374,7 @@ def main() -> int:
     if sys.argv[1:2] == ["--files"] and set(sys.argv[2:]) <= set(checks.listed):
         print("".join(f"{path}: {head}\n" for path, head in checks.heads(sys.argv[2:])), end="")
     elif sys.argv[1:] == ["--write"]:
-        for path in (ARCHITECTURE, PROOFS):
+        for path in BLOCKS:
             Path(TOP, path).write_text(checks.written(checks.texts[path]), encoding="utf-8")
     elif sys.argv[1:]:
         sys.exit(__doc__)
@@ -362,4 +385,4 @@ def main() -> int:
 
 
 if __name__ == "__main__":
-    sys.exit(main())
+    run(main)

@@ -12,6 +12,7 @@ import sys
 import tempfile
 import time
 import unittest
+import unittest.mock
 from typing import Dict, List, Tuple
 
 HERE = os.path.dirname(os.path.realpath(__file__))
@@ -19,6 +20,7 @@ LIB = os.path.realpath(os.path.join(HERE, "..", "..", "lib"))
 TOP = os.path.realpath(os.path.join(HERE, "..", "..", ".."))
 sys.path[:0] = [os.path.join(HERE, ".."), os.path.join(HERE, "..", ".."), os.path.join(HERE, "..", "..", "bench"), LIB]
 
+import documents  # noqa: E402
 import grow  # noqa: E402
 from documents import Checks  # noqa: E402
 from memory_faults import Source, faults_of  # noqa: E402
@@ -85,6 +87,8 @@ A = r"""//! Maps, by
 //! `a|b`.
 //!
 //! More, with fn text() and { a brace.
+ghost use Rattle.std.specs.Prelude.{◌≡◌};
+ghost use Rattle.low.specs.Maps.{look_up};
 pub const MOST: usize = 4_096;
 pub struct Map { ghost sorted: { x } }
 pub trait Judge<'a> { /* one
@@ -160,6 +164,25 @@ Not \-\-other.
 maps  4,095
 .SH EXAMPLES
 """
+MAPS = """-- What a map is.
+use Rattle.std.specs.Prelude.{ℕ}
+use Rattle.low.specs.declared.a.Map.{Map}
+
+abbrev pub look_up : Map → ℕ
+look_up m = 1
+"""
+READING = """# To `read`: short
+```
+abbrev pub look_up : Map → ℕ
+
+pub const MOST: usize = 4_096;
+```
+<!-- chain -->
+| What one reads | By `chain.py` | Definitions | Lines | Files |
+|---|---|---|---|---|
+| a map | `low::Map::get` | 1 | 2 | 1 |
+<!-- end -->
+"""
 README = """[a](tools/README.md), tools/lib/a.py, [b](docs/READING.md#to-read-short), [here](https://example.org/a).
 `low/src/a.rt`, `src/b.rt`, specs/Maps.antt, crates/low/out/facl, `[a](b)`.
 `look_up`, `Map::get`, `anyhow::Error`, `X_tests`, `of_`.
@@ -180,7 +203,7 @@ FILES: Dict[str, str] = {
     "crates/low/src/a.rt": A,
     "crates/low/src/open.rt": "//! Cut.\npub fn cut() ensures pieces { x } {}",
     "crates/low/src/b.rt": "//! Closed.\npub fn closed() ensures no { x } {}",
-    "crates/low/specs/Maps.antt": "-- What a map is.\nabbrev pub look_up : Map → ℕ\n",
+    "crates/low/specs/Maps.antt": MAPS,
     "crates/low/must-fail/grows_by_one.edit": "file: src/a.rt\nold: ensures grown { x } { 2 }\nnew: 3\n",
     "crates/low/must-fail/one_too_many.edit": "file: src/a.rt\nold: MOST: usize = 4\nnew: 5\n",
     "crates/facl/src/tools.rt": '//! Tools.\nrow!(Can, "can", can::SYNTAX),\nrow!(Chmod, "chmod", chmod::SYNTAX),\n',
@@ -196,7 +219,7 @@ FILES: Dict[str, str] = {
     "docs/ARCHITECTURE.md": ARCHITECTURE,
     "docs/facl.1": PAGE,
     "docs/SPECIFICATION.md": "4,096 maps of 1000; `can --reach`, `chmod -Rv`, `-R`, `-v`.\n",
-    "docs/READING.md": "# To `read`: short\n```\nabbrev pub look_up : Map → ℕ\n\npub const MOST: usize = 4_096;\n```\n",
+    "docs/READING.md": READING,
     "CONTRIBUTING.md": "| Crates | Tests |\n|---|---|\n| low | low_tests |\n| facl, facl_script | none |\n",
     "README.md": README,
 }
@@ -225,7 +248,9 @@ FAULTS: Dict[str, List[Tuple[str, ...]]] = {
         (r"[\-Rv]", r"[\-Rw]", "1: chmod does not read -w", "1: chmod has no -v here"),
         ("SS can", "SS may", "1: the program has no tool may", "1: the tool can is not in it"),
         (r"\-\-dump", r"\-\-dumps", "1: facl does not read --dumps", "1: facl has no --dump here")],
-    "docs/READING.md": [("4_096", "4_097", "5: is in no source")],
+    "docs/READING.md": [("4_096", "4_097", "5: is in no source"), ("| 2 |", "| 3 |", f"1: the block chain {MADE}")],
+    "crates/low/specs/Maps.antt": [
+        ("{ℕ}", "{ℤ}", "1: crates/low/specs/Maps.antt:5: nothing declares, imports or binds `ℕ`")],
     "CONTRIBUTING.md": [
         ("| low |", "| facl |", "3: low_tests does not use facl: crates.txt", "1: low is not in the table of tests")],
     "tools/README.md": [("lib/a.py", "gone.sh", "1: lib/a.py is not named", "1: no gone.sh in tools/")],
@@ -252,6 +277,9 @@ RULES, PAGE_PATH = "docs/SPECIFICATION.md", "docs/facl.1"
 class Documents(Case):
     def setUp(self) -> None:
         super().setUp()
+        read = unittest.mock.patch.object(documents, "READ", {"low::Map::get": "a map"})
+        read.start()
+        self.addCleanup(read.stop)
         for name, text in FILES.items():
             self.write(name, text)
 
