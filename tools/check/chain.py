@@ -14,8 +14,9 @@ START is what one reads from; several are read as one:
 
 A definition comes before those that it names, and these follow in the order of how much each leads to, the least first: so
 each line of thought goes on to its end, and small words are explained at once. A lemma is its statement, without the proof.
-Types, traits and constants of Rust that definitions name are shown by their text, and not followed; names of the kit (std,
-clap and others) are listed at the end. What --stop names is listed, but neither shown nor followed.
+Types, traits and constants of Rust that definitions name are shown by their text, and not followed: what the value of a type
+is, its `Model`, is beside it in the source, and so is that of a type in a function's signature. Names of the kit (std, clap and
+others) are listed at the end. What --stop names is listed, but neither shown nor followed.
 
 Prints each definition with its place and how many lines it has, and then the counts; with --names the names alone, with
 --text the definitions with their comments, with --count the counts alone. Lines are without comments, imports and blank
@@ -251,7 +252,8 @@ def names_of(chain: Chain) -> Iterator[Tuple[str, str, int]]:
 
 def statement_text(statement: Statement) -> Iterator[str]:
     function = statement.function
-    yield f"// {statement.source.file}:{function.line}: the clauses of {function.label}"
+    yield f"// {statement.source.file}:{function.line}: {function.label}"
+    yield statement.signature
     for clause in statement.clauses:
         yield f"{clause.kind}{' ' + clause.name if clause.name else ''} {{{clause.text}}}"
 
@@ -315,7 +317,7 @@ def main() -> int:
     words = Starts(repository)
     starts = [words.start(word, given.clause) for word in given.starts]
     starts.append(Start([], [], {words.definition(word) for word in given.stop}))
-    print("\n".join(lines_of(chain_of(repository, starts), starts, given)))
+    print("".join(f"{line}\n" for line in lines_of(chain_of(repository, starts), starts, given)), end="")
     return 0
 
 

@@ -712,6 +712,12 @@ class Statement(NamedTuple):
     clauses: List[Clause]
     targets: List[Target]
 
+    @property
+    def signature(self) -> str:
+        """The text of the function before its clauses."""
+        tokens, start = self.source.tokens, self.function.place
+        return self.source.text[tokens[start].start:tokens[find(tokens, start, ("{", ";", "requires", "ensures"))].start].rstrip()
+
 
 def statement_of(repository: Repository, source: Source, function: Function, names: List[str]) -> Statement:
     """A function with its clauses of some names, or with all of them."""

@@ -433,7 +433,8 @@ class Order(Case):
             "-- an operator, with its fixity", "infixl 10 ◌>>=◌",
             "abbrev pub ◌>>=◌ : {A B F : Type 0} → Result A F → (A → Result B F) → Result B F"])
         self.assertEqual([*statement_text(self.start("high::run", "ok").statements[0])], [
-            f"// {place(RUN_PATH, 'pub fn run')}: the clauses of run", "ensures ok { IfOk result (λ whole. whole ≡ n) }"])
+            f"// {place(RUN_PATH, 'pub fn run')}: run", "fn run<T>(alloc: T, n: u8) -> Result<u8, AllocError>",
+            "ensures ok { IfOk result (λ whole. whole ≡ n) }"])
 
 
 if __name__ == "__main__":
