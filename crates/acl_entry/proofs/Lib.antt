@@ -7,6 +7,7 @@ pub mod Maps
 pub mod Faults
 pub mod Bytes
 pub mod Removed
+pub mod Rising
 pub mod Same
 pub mod Groups
 pub mod Modes

@@ -1,7 +1,7 @@
 //! A list that is not valid yet, and entries in list order: where a key is, what is wrong with them, and other sets at their
 //! keys.
 
-ghost use Rattle.std.specs.Prelude.{◌≡◌, ◌<◌, ◌≤◌, true, Some, IfOk, IfErr, IsOk, OnOk, OnErr, length, ◌≢◌, Ok, Err, IsTrue, option_map, map, filter};
+ghost use Rattle.std.specs.Prelude.{◌≡◌, ◌<◌, ◌≤◌, ◌+◌, take, true, Some, IfOk, IfErr, IsOk, OnOk, OnErr, length, ◌≢◌, Ok, Err, IsTrue, option_map, map, filter};
 ghost use Rattle.std.specs.FinMap as maps;
 ghost use Rattle.acl_entry.specs.Lists as lists;
 ghost use Rattle.acl_entry.specs.Lists.{HasIds, IsValid, IsAt, IsGapFor, IsInOrder, IsList, pairs, keys, repeated, in_class, perm_of_entry};
@@ -15,6 +15,7 @@ use crate::acl::{Acl, INLINE_ENTRIES, MAX_ENTRIES};
 use crate::{Entry, Key, ListFault, Perm};
 use smallvec::SmallVec;
 use std::alloc::{AllocError, Global};
+use std::cmp::Ordering;
 use std::marker::Model;
 
 /// A map from keys to permission sets that need not be a valid list yet: what edits and readers of
@@ -167,8 +168,8 @@ pub(crate) fn set_perm(entries: &mut [Entry], key: &Key, perm: Perm)
     }
 }
 
-/// The entries in list order, or the first key that comes twice.
-pub(crate) fn in_order(
+/// The same, where each entry is put after the others: finds the first key that comes twice.
+fn one_by_one(
     alloc: Global,
     entries: &[Entry],
 ) -> Result<SmallVec<Entry, INLINE_ENTRIES>, ListFault>
@@ -189,6 +190,72 @@ pub(crate) fn in_order(
         }
     }
     Ok(sorted)
+}
+
+/// Whether the key at a place is above the one before it, if there is one.
+fn rises_at(entries: &[Entry], at: usize) -> bool
+    requires in_range { at < length entries.now }
+    requires in_order { IsInOrder (take at entries.now) }
+    ensures { result ≡ true → IsInOrder (take (at + 1) entries.now) }
+{
+    if at == 0 {
+        return true;
+    }
+    let before = entries[at - 1].key;
+    before.order(entries[at].key) == Ordering::Less
+}
+
+/// Whether keys rise from entry to entry.
+fn rises(entries: &[Entry]) -> bool
+    ensures in_order { result ≡ true → IsInOrder entries.now }
+    ensures ids { result ≡ true → HasIds entries.now }
+{
+    for at in 0..entries.len() {
+        let _id = entries[at].key.id();
+        if !rises_at(entries, at) {
+            return false;
+        }
+    }
+    true
+}
+
+/// A copy of entries, sorted by their keys where these do not rise.
+fn sorted_copy(
+    alloc: Global,
+    entries: &[Entry],
+) -> Result<SmallVec<Entry, INLINE_ENTRIES>, AllocError>
+    ensures permutation { IfOk result (λ sorted. IsPermutation entries.now sorted.items) }
+    ensures inline { length entries.now ≤ INLINE_ENTRIES → IsOk result }
+{
+    let mut sorted = SmallVec::from_slice(alloc, entries)?;
+    if !rises(&sorted) {
+        sorted
+            .as_mut_slice()
+            .sort_unstable_by_key(|entry| entry.key);
+    }
+    Ok(sorted)
+}
+
+/// The entries in list order, or the first key that comes twice.
+pub(crate) fn in_order(
+    alloc: Global,
+    entries: &[Entry],
+) -> Result<SmallVec<Entry, INLINE_ENTRIES>, ListFault>
+    requires { length entries.now ≤ MAX_ENTRIES }
+    ensures once { OnOk result (repeated (keys entries.now) ≡ None) }
+    ensures in_order { IfOk result (λ sorted. IsInOrder sorted.items) }
+    ensures permutation { IfOk result (λ sorted. IsPermutation entries.now sorted.items) }
+    ensures ids { IfOk result (λ sorted. HasIds sorted.items) }
+    ensures same { IfOk result (λ sorted. (k : Key) → maps.find key_cmp k (pairs sorted.items) ≡ maps.find key_cmp k (pairs entries.now)) }
+    ensures err { IfErr result (λ fault. fault ≢ ListFault.NoMemory → option_map ListFault.Repeated (repeated (keys entries.now)) ≡ Some fault) }
+    ensures inline { length entries.now ≤ INLINE_ENTRIES → result ≢ Err ListFault.NoMemory }
+{
+    let sorted = sorted_copy(alloc, entries)?;
+    if rises(&sorted) {
+        Ok(sorted)
+    } else {
+        one_by_one(alloc, entries)
+    }
 }
 
 /// Whether there is an entry of the key.

@@ -113,6 +113,21 @@ fn keeps_the_most_entries(rt: HostRuntime) {
     }
 }
 
+/// More entries than a list keeps with no allocation, in falling order, and one of them again.
+#[test]
+fn entries_in_falling_order_make_the_same_list(rt: HostRuntime) {
+    let rising = with_users(&rt, rt.alloc(), 300);
+    let mut falling = with_users(&rt, rt.alloc(), 300);
+    falling.reverse();
+    let list = Acl::from_entries(rt.alloc(), &rising).expect(&rt, "a list");
+    let same = Acl::from_entries(rt.alloc(), &falling).expect(&rt, "a list");
+    assert!(rt; list.same(&same));
+    let again = *falling.last().expect(&rt, "an entry");
+    falling.push(again).expect(&rt, "memory");
+    let fault = fault_of(rt.alloc(), &falling);
+    assert!(rt; fault == Some(ListFault::Repeated { at: 305 }));
+}
+
 #[test]
 fn refuses_one_entry_more(rt: HostRuntime) {
     let fault = fault_of(rt.alloc(), &with_users(&rt, rt.alloc(), 4093));

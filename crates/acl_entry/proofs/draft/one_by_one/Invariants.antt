@@ -5,7 +5,7 @@ use Rattle.acl_entry.specs.declared.entry.Key.{Key}
 use Rattle.acl_entry.specs.declared.acl.TheConstants.{INLINE_ENTRIES}
 use Rattle.acl_entry.specs.Keys.{key_cmp}
 use Rattle.acl_entry.specs.Lists.{pairs, keys, IsInOrder, HasIds, repeated, repeated_from}
-use Rattle.acl_entry.proofs.draft.in_order.Given as goal
+use Rattle.acl_entry.proofs.draft.one_by_one.Given as goal
 
 abbrev pub invariant-loop-i : goal.invariant-loop-i
 invariant-loop-i l = record {
