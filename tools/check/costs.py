@@ -17,8 +17,9 @@ tools/lib/answers.py:
 - fetched: as a user joins or leaves groups, at least each label that mentions one of them, at most each file that does,
   and those that mention several as often; else none.
 - found again, where files change: all users on each file that is new, whose row differs, or above which others are let
-  through. One directory alone that gets another label may count too, and a line on all files counts each. At most all
-  users on the files at or below those that changed.
+  through. One directory alone that gets another label may count too, and a line on all files counts each. The root, where
+  it was there and no file went, comes after the others that change: the counts of both steps are added, up to that of all
+  files. At most all users on the files at or below those that changed.
 - found again, as a user joins or leaves groups: the user on as many files as above; at most on those with another row,
   and those below a directory whose row lets others search; and on the files at or below those that mention one of the
   groups. Of a new user each file, else none.
@@ -32,6 +33,7 @@ from __future__ import annotations
 
 import argparse
 import collections
+import copy
 import functools
 import os
 import random
@@ -325,6 +327,14 @@ class State:
             lines.append(f"{bytes(self.rows[path]).hex()} {along.hex()}".encode())
         return lines
 
+    def with_root_of(self, other: State) -> State:
+        """The same files, but the root as it is in another state."""
+        new = copy.copy(self)
+        new.labels, new.rows, new.above = dict(self.labels), dict(self.rows), {}
+        new.labels[()], new.rows[()] = other.labels[()], other.rows[()]
+        new.find_searchers()
+        return new
+
     def all_labels(self) -> Set[Label]:
         return set(self.labels.values())
 
@@ -417,17 +427,29 @@ class Step:
         users, labels = len(self.after.users), {self.after.labels[path] for path in self.changed}
         others = len(labels - self.before.all_labels()) * users
         most = self.after.at_or_below(self.changed) * users
-        if () in self.changed and len(self.changed) >= self.numbers:
+        if () in self.changed and len(self.changed) >= max(self.numbers, len(self.after.labels) // 8):
             files = len(self.after.labels) * users
             return "all files", Bounds(others, others), NONE, Bounds(self.differing(), most, frozenset({files}))
         asked = Bounds(others, len(labels) * users)
-        again = len(self.found_again())
-        values = {again * users}
-        if len(self.changed) == 1 and not self.gone:
-            (path,) = self.changed
-            is_counted = path in self.before.labels and self.after.has_below(path) and path not in self.found_again()
-            values |= {(again + 1) * users} if is_counted else set()
+        values = {count * users for count in self.counts_of_all()}
         return "files", asked, NONE, Bounds(self.differing(), most, frozenset(values))
+
+    def counts(self) -> Set[int]:
+        """How many files may count where all that changed are put at once."""
+        again = self.found_again()
+        if len(self.changed) != 1 or self.gone:
+            return {len(again)}
+        (path,) = self.changed
+        is_counted = path in self.before.labels and self.after.has_below(path) and path not in again
+        return {len(again), len(again) + is_counted}
+
+    def counts_of_all(self) -> Set[int]:
+        """How many files may count, where the root comes after the others."""
+        if len(self.changed) < 2 or self.gone or () not in self.changed or () not in self.before.labels:
+            return self.counts()
+        between = self.after.with_root_of(self.before)
+        others, root = Step(self.before, between, 0).counts(), Step(between, self.after, 0).counts()
+        return {min(one + other, len(self.after.labels)) for one in others for other in root}
 
 
 def fault_of(step: Step, costs: Costs, bounds: Tuple[str, Bounds, Bounds, Bounds]) -> Optional[str]:

@@ -1,5 +1,5 @@
 -- What is asked of the verdicts on files alone or along their paths, as a part of the state.
-use Rattle.std.proofs.Common.{◌≡◌, ℕ, suc, Bool, true, false, cond, List, [], ◌∷◌, map, filter, Option, Some, None, refl, ap, ◌∙◌}
+use Rattle.std.proofs.Common.{◌≡◌, ℕ, suc, Bool, true, false, cond, List, [], ◌∷◌, map, Option, Some, None, refl, ap, ◌∙◌}
 use Rattle.std.specs.Prelude.{option_map, option_and_then, slice_get}
 use Rattle.std.specs.FinMap.{find}
 use Rattle.acl_entry.specs.Check.{has}
@@ -14,9 +14,9 @@ use Rattle.path_classes.specs.Rows.{places_from}
 use Rattle.acl_rights.specs.Rows.{Verdict}
 use Rattle.acl_rights.specs.Tables.{verdict_at}
 use Rattle.acl_rights.specs.Tables as tables
-use Rattle.acl_rights.specs.Reach.{reach, reach_at, users_reaching, files_reached}
+use Rattle.acl_rights.specs.Reach.{reach, reach_at, users_reaching}
 use Rattle.acl_rights.proofs.Asked.{got-map}
-use Rattle.acl_rights.specs.Verdicts.{granted, can_requests, users_granted, paths_granted}
+use Rattle.acl_rights.specs.Verdicts.{granted, can_requests, users_granted}
 
 places-map : {A B : Type 0} (test : B → Bool) (f : A → B) (n : ℕ) (xs : List A) → places_from test n (map f xs) ≡ places_from (λ x. test (f x)) n xs
 places-map test f n [] = refl
@@ -71,18 +71,3 @@ module _ (V : Verdict) (s : State) where
           ≡ option_map (λ n. places_from (λ row. has (granted V true s row (p, n)) q) 0 us) o
       by None = refl
       by (Some n) = ap Some (places-map (λ u. has (reach V s.tree.files u (p, n)) q) as_person 0 us)
-
-  -- ---- of a user
-
-  one_list : (f : Person → List PathOf) (user : ℕ) → option_map f (slice_get (persons s.people) user) ≡ option_map (λ row. f (as_person row)) (slice_get us user)
-  one_list f user = ap (option_map f) (got-map as_person us user) ∙ by (slice_get us user)
-    where
-      by : (o : Option PasswdRow) → option_map f (option_map as_person o) ≡ option_map (λ row. f (as_person row)) o
-      by None = refl
-      by (Some row) = refl
-
-  pub may_alone : (user : ℕ) (q : Perms) → tables.files_granted_alone V s user q ≡ paths_granted V false s user q
-  may_alone user q = one_list (λ u. map (λ (e : PathOf × Node). e.0) (filter (λ e. has (V u e.1.label) q) s.tree.files)) user
-
-  pub may_along : (user : ℕ) (q : Perms) → files_reached V s user q ≡ paths_granted V true s user q
-  may_along user q = one_list (λ u. map (λ (e : PathOf × Node). e.0) (filter (λ e. has (reach V s.tree.files u e) q) s.tree.files)) user

@@ -19,3 +19,5 @@ mod Outside
 pub mod Unlike
 pub mod MovedRows
 pub mod PutRows
+pub mod KeptLabels
+pub mod RootLast

@@ -1,9 +1,10 @@
 -- For each file its label, and its row of verdicts.
-use Rattle.std.specs.Prelude.{◌≡◌, ◌≤◌, ◌+◌, ℕ, Bool, ◌++◌, ◌&&◌, nat_lt, List, [], ◌∷◌, Option, Some, map, length, slice_get, slice_set, if◌then◌else◌}
+use Rattle.std.specs.Prelude.{◌≡◌, ◌≤◌, ◌+◌, ℕ, Bool, true, ◌++◌, ◌&&◌, nat_lt, List, [], ◌∷◌, Option, Some, map, length, slice_get, slice_set, if◌then◌else◌}
 use Rattle.std.specs.Borrow.{Bor}
 use Rattle.std.specs.declared.rc.Rc.{Rc}
 use Rattle.std.specs.List.{remove, AllByRecursion}
 use Rattle.acl_names.specs.Paths.{PathOf}
+use Rattle.path_map.specs.Merged.{has}
 use Rattle.kinds.specs.Kinds.{node_at}
 use Rattle.kinds.specs.Numbered.{Kept, entries_in}
 use Rattle.kinds.specs.Placed.{IsOfEntry}
@@ -48,14 +49,14 @@ without_at at r = record { label = r.label; row = if nat_lt at (length r.row) th
 abbrev pub mentions_any : List ℕ → LabelRow → Bool
 mentions_any groups r = meets (mentions r.label) groups
 
--- a row with a user's verdict asked for again where the label mentions one of `groups`, if it is that long
+-- a row where a user is judged again if the label mentions one of `groups`, and the row is that long
 abbrev pub with_again : Verdict → ℕ → Person → List ℕ → LabelRow → LabelRow
 with_again V at u groups r =
     if mentions_any groups r && nat_lt at (length r.row)
     then record { label = r.label; row = slice_set r.row at (V u r.label) }
     else r
 
--- a row with a user's verdict asked for again, if it is that long
+-- a row where a user is judged again, if it is that long
 abbrev pub asked_again : Verdict → ℕ → Person → LabelRow → LabelRow
 asked_again V at u r = if nat_lt at (length r.row) then record { label = r.label; row = slice_set r.row at (V u r.label) } else r
 
@@ -98,6 +99,14 @@ pub record IsPlaced (l : Label) (old new : List Label) (at : ℕ) : Type 0 where
 pub record ArePlaced (paths : List (PathOf × Label)) (ls : List Label) (es : List (PathOf × ℕ)) : Type 0 where
   pub are : labels_at ls es ≡ some_labels paths
   pub few : length ls ≤ length paths
+
+-- the root, which has a row, is the first of some paths with labels, and no path is gone
+pub record BeginWithRoot {W : Type 0} (es : RowedPaths) (labels : List (PathOf × Label)) (gone : List (PathOf × W)) : Type 0 where
+  pub label : Label
+  pub others : List (PathOf × Label)
+  pub first : labels ≡ ([], label) ∷ others
+  pub there : has [] es ≡ true
+  pub none : gone ≡ []
 
 -- ---- rows that are known; for inner functions
 

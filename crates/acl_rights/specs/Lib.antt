@@ -11,3 +11,4 @@ pub mod Rows
 pub mod Differing
 pub mod KindRows
 pub mod Outside
+pub mod KeptLabels

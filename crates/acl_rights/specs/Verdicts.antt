@@ -1,5 +1,5 @@
 -- The verdicts of a state: those on its files alone, or those that count only with search along the path.
-use Rattle.std.specs.Prelude.{ℕ, Bool, if◌then◌else◌, List, map, filter, slice_get, Option, option_map, option_and_then}
+use Rattle.std.specs.Prelude.{ℕ, Bool, if◌then◌else◌, List, slice_get, Option, option_map, option_and_then}
 use Rattle.std.specs.FinMap.{find}
 use Rattle.acl_entry.specs.Check.{has}
 use Rattle.acl_entry.specs.Perms.{Perms}
@@ -29,10 +29,6 @@ module _ (V : Verdict) (along : Bool) (s : State) where
   -- the places of the users who are granted a request on a file
   abbrev pub users_granted : PathOf → Perms → Option (List ℕ)
   users_granted p q = option_map (λ n. places_from (λ row. has (granted V along s row (p, n)) q) 0 s.people.users) (find path_cmp p s.tree.files)
-
-  -- the paths of the files on which a user is granted a request
-  abbrev pub paths_granted : ℕ → Perms → Option (List PathOf)
-  paths_granted user q = option_map (λ row. map (λ e. e.0) (filter (λ e. has (granted V along s row e) q) s.tree.files)) (slice_get s.people.users user)
 
   -- for each file the verdicts on all users
   abbrev pub rows_granted : Rows

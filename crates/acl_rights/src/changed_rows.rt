@@ -1,13 +1,13 @@
 //! Rows of verdicts by kinds after some files changed: of labels that differ each is judged once.
 
-ghost use Rattle.std.specs.Prelude.{◌≡◌, ◌+◌, ◌*◌, ◌++◌, ◌<◌, ◌≤◌, ◌^◌, Some, true, length, map, slice_get, IfOk, IfSome, OnOk};
+ghost use Rattle.std.specs.Prelude.{◌≡◌, ◌+◌, ◌*◌, ◌++◌, ◌<◌, ◌≤◌, ◌^◌, ℕ, Some, true, length, map, slice_get, IfOk, IfSome, OnOk};
 ghost use Rattle.path_map.specs.Entries.{IsInOrder, seen};
-ghost use Rattle.path_map.specs.Merged.{merged};
+ghost use Rattle.path_map.specs.Merged.{has, merged};
 ghost use Rattle.kinds.specs.Numbered.{entries_in};
 ghost use Rattle.kinds.specs.Placed.{given};
 ghost use Rattle.path_classes.specs.ClassedRows.{AreCounted, paths_of};
 ghost use Rattle.path_classes.specs.ClassesWithin.{inside};
-ghost use Rattle.acl_rights.specs.KindRows.{label_row, some_row, rowed_labels, with_label, borrowed_labels, AreRowsOf, HasLabel, IsPlaced, ArePlaced};
+ghost use Rattle.acl_rights.specs.KindRows.{label_row, some_row, rowed_labels, with_label, borrowed_labels, AreRowsOf, HasLabel, IsPlaced, ArePlaced, BeginWithRoot};
 
 use crate::hash::hash_of;
 use crate::hints::Hints;
@@ -179,11 +179,43 @@ fn given_rows<J: Judge>(
     Ok(nodes)
 }
 
+/// Whether a path has a row.
+fn has_row(rows: &KindRows, path: &Path) -> bool
+    ensures { result ≡ has path.now (entries_in rows.now.rows) }
+{
+    rows.rows.rows().get(path).is_some()
+}
+
+/// Whether the root, which has a row, is the first of some files that changed, and others follow; and no file is gone.
+fn begin_with_root<W>(rows: &KindRows, changed: &[(&Path, &Label)], gone: &[(&Path, W)]) -> bool
+    ensures { result ≡ true → BeginWithRoot (entries_in rows.now.rows) (map with_label changed.now) (map seen gone.now) }
+{
+    if changed.len() < 2 || !gone.is_empty() {
+        return false;
+    }
+    let (path, _) = &changed[0];
+    if !path.borrowed().is_root() {
+        return false;
+    }
+    has_row(rows, path)
+}
+
+/// The sum of two counts, or `most` where that is less.
+fn sum_up_to(most: usize, one: usize, other: usize) -> usize
+    ensures most { result ≤ most }
+    ensures least { (n : ℕ) → n ≤ one + other → n ≤ most → n ≤ result }
+{
+    match one.checked_add(other) {
+        Some(sum) if sum < most => sum,
+        _ => most,
+    }
+}
+
 impl KindRows {
     /// The rows after some files have other labels and others are gone, and of how many files the answers along their paths
     /// were found again. Each different label is judged at most once, and not where hints find a file that has it. Fails only
     /// if memory, or the numbers, run out.
-    pub fn with_files<'a, J: Judge, W>(
+    fn with_labels<'a, J: Judge, W>(
         &self,
         alloc: Global,
         judge: &mut J,
@@ -225,5 +257,40 @@ impl KindRows {
         let _kinds = labelled.map().kinds();
         let (rows, refreshed) = self.rows.with_files(alloc, labelled, changed, gone)?;
         Ok((KindRows { rows, hints }, refreshed))
+    }
+
+    /// The rows of `with_labels`. Where the root changed beside other files, it gets its label after these: so the files below
+    /// it keep their path classes, where they did not change. A file that is counted twice by that counts at most as the
+    /// number of all files allows.
+    pub fn with_files<'a, J: Judge, W>(
+        &self,
+        alloc: Global,
+        judge: &mut J,
+        users: &Subjects,
+        changed: &[(&'a Path, &'a Label)],
+        gone: &[(&Path, W)],
+    ) -> Result<(KindRows, usize), AllocError>
+        requires room { J.asked_of judge.old + length changed.now * length users.now < 2 ^ 64 }
+        requires known { AreRowsOf J.verdict_of users.now (entries_in self.now.rows) }
+        requires changed { IsInOrder (map with_label changed.now) }
+        requires gone { IsInOrder (map seen gone.now) }
+        requires few { length (merged (rowed_labels J.verdict_of users.now (map with_label changed.now)) (map seen gone.now) (entries_in self.now.rows)) < 2 ^ 64 }
+        ensures rows { IfOk result (λ new. entries_in new.0.rows
+            ≡ merged (rowed_labels J.verdict_of users.now (map with_label changed.now)) (map seen gone.now) (entries_in self.now.rows)) }
+        ensures least { IfOk result (λ new. AreCounted self.now.rows new.0.rows new.1) }
+        ensures most { IfOk result (λ new. new.1 ≤ length (inside (paths_of (map with_label changed.now) ++ paths_of (map seen gone.now)) (entries_in new.0.rows))) }
+        ensures at_most { J.asked_of judge.new ≤ J.asked_of judge.old + length changed.now * length users.now }
+    {
+        if !begin_with_root(self, changed, gone) {
+            return self.with_labels(alloc, judge, users, changed, gone);
+        }
+        self.rows.rows().order_law();
+        let (root, others) = changed.split_at(1);
+        let (between, count) = self.with_labels(alloc, judge, users, others, gone)?;
+        let _between = between.rows.rows().kinds();
+        let (new, more) = between.with_labels(alloc, judge, users, root, gone)?;
+        let _new = new.rows.rows().kinds();
+        let files = new.rows.rows().len();
+        Ok((new, sum_up_to(files, count, more)))
     }
 }

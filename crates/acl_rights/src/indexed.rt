@@ -6,8 +6,8 @@ ghost use Rattle.acl_tree.specs.Reports.{Reports};
 ghost use Rattle.acl_rights.specs.Stages.{most_asked};
 ghost use Rattle.acl_rights.specs.Rows.{Asks};
 ghost use Rattle.acl_rights.specs.Costs.{all_pairs, most_pairs, most_between};
-ghost use Rattle.acl_rights.specs.Tables.{IsWhole, FindsUsers, FindsFiles};
-ghost use Rattle.acl_rights.specs.Verdicts.{can_requests, users_granted, paths_granted, rows_granted};
+ghost use Rattle.acl_rights.specs.Tables.{IsWhole, FindsUsers};
+ghost use Rattle.acl_rights.specs.Verdicts.{can_requests, users_granted, rows_granted};
 ghost use Rattle.acl_rights.specs.States.{IsPrepared, from_start, loaded_state, states_after, states_in, state_after, most_after};
 ghost use Rattle.path_classes.specs.ClassesWithin.{AreTops};
 ghost use Rattle.acl_rights.specs.Outside.{SameOutside, SameRows};
@@ -20,7 +20,7 @@ use crate::judge::Judge;
 use acl_entry::{Perm, Requests};
 use acl_names::Path;
 use acl_tree::{FilesIter, Staged, State};
-use path_classes::{ClassFiles, FileClasses, FileRows};
+use path_classes::{ClassFiles, FileClasses};
 use std::alloc::{AllocError, Global};
 use std::marker::Model;
 use std::mem;
@@ -155,32 +155,6 @@ impl<'a, J: Judge> Verdicts<'a, J> {
         } else {
             index.who(alloc, path, request)
         }
-    }
-
-    /// The files on which a user is granted a request, if the user is there, in path order. Fails only if memory runs
-    /// out.
-    pub fn may(
-        &self,
-        alloc: Global,
-        user: usize,
-        request: Perm,
-    ) -> Result<Option<Vec<&'a Path>>, AllocError>
-        ensures { FindsFiles result (paths_granted J.verdict_of self.now.along self.now.state.now user request) }
-    {
-        let index = self.state.index();
-        if self.along {
-            index.may_reach(alloc, user, request)
-        } else {
-            index.may(alloc, user, request)
-        }
-    }
-
-    /// Each file with what each user may do with it, in path order. Allocates nothing.
-    pub fn rows(&self) -> FileRows<'a>
-        ensures { result ≡ rows_granted J.verdict_of self.now.along self.now.state.now }
-    {
-        let index = self.state.index();
-        index.file_rows(self.along)
     }
 
     /// All files by their classes: how many files have each, and the first of them. Fails only if memory runs out.

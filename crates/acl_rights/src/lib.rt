@@ -16,9 +16,12 @@
 //! - A line that changes files: each different label of a changed file that hints do not find is judged once, for all users
 //!   (more often where hashes collide), and the changed files get the number of their new row. All other files keep theirs.
 //!   The groups that the label of each number that files got or lost mentions are compared before and after the line, and the
-//!   pairs that differ are taken out or put in. The files at or below the changed ones get their path classes again. Where the
-//!   root changed, and as many files as the tree has numbers of kinds, the rows are those of these numbers: each is judged at
-//!   most once, and not where a row of its label is there; and all files get their path classes again.
+//!   pairs that differ are taken out or put in. The files at or below the changed ones get their path classes again; but the
+//!   root, where it changed beside others, gets its label after these, and no file another class by that. Where the root
+//!   changed, and at least as many files as the tree has numbers of kinds, and an eighth of all, the rows are those of these
+//!   numbers: each is judged at most once, and not where a row of its label is there. Labels keep their numbers, and so do path
+//!   classes, where files that had one label have one label again; else all files get the tree's numbers, and their path
+//!   classes again.
 //! - A membership: the lists of the groups give the rows whose label mentions one of them. For each of these the one user is
 //!   judged again; no other row is looked at. Path classes of these labels, and those below, say again by whom directories can
 //!   be searched.
@@ -40,6 +43,7 @@ mod index;
 mod indexed;
 mod judge;
 mod judged;
+mod kept_labels;
 mod kind_rows;
 mod many_rows;
 mod questions;
@@ -48,7 +52,7 @@ mod stage;
 pub use index::{Index, Rows};
 pub use indexed::{IndexedState, IndexedStates, States, Verdicts};
 pub use judge::{Judge, Posix};
-pub use path_classes::{Cells, ClassFiles, FileClasses, FileRow, FileRows, same_row};
+pub use path_classes::{Cells, ClassFiles, FileClasses, same_row};
 
 // The public calls take and give these values of the crates below.
 pub use acl_edit::{Edit, Kind, Specs};

@@ -3,13 +3,15 @@
 
 ghost use Rattle.std.specs.Prelude.{◌≡◌, ◌+◌, ◌*◌, ◌++◌, ◌∷◌, ◌<◌, ◌≤◌, ◌^◌, [], length, option_map, IfOk, IfSome};
 ghost use Rattle.kinds.specs.Numbered.{entries_in};
-ghost use Rattle.kinds.specs.Given.{used_at, shared_nodes};
+ghost use Rattle.kinds.specs.Given.{used_at, shared_nodes, HaveNodes};
+ghost use Rattle.kinds.specs.Placed.{placed};
 ghost use Rattle.kinds.specs.Renewed.{renewed_before};
 ghost use Rattle.acl_rights.specs.KindRows.{label_row, node_row, rowed, shared_rows, AreRowsOf, AreRows, AreOfEntries, IsAmongRows};
 
 use crate::changed_rows::{is_same_label, judged_row};
 use crate::hash::hash_of;
 use crate::judge::Judge;
+use crate::kept_labels::kept_labels;
 use crate::kind_rows::{KindRows, hints_of};
 use acl_edit::Node;
 use acl_entry::Label;
@@ -159,9 +161,45 @@ fn rows_of_numbers<J: Judge>(
 }
 
 impl KindRows {
-    /// The rows of the files of a map by kinds, which share its paths; path classes are found anew for all files. Each number of
-    /// the map is judged at most once, and not where a file of these rows has its label. Fails only if memory, or the numbers,
-    /// run out.
+    /// Other rows for the same labels, by their numbers.
+    fn with_own_rows(&self, alloc: Global, map: KindMap<LabelRow>) -> Result<KindRows, AllocError>
+        requires { map.1 ≡ self.now.rows.1 }
+        ensures { IfOk result (λ new. entries_in new.rows ≡ entries_in map) }
+    {
+        let hints = hints_of(alloc, &map)?;
+        let before = self.rows.rows();
+        let tagged = before.replaced(alloc, map)?;
+        let rows = self.rows.with_all_rows(alloc, tagged)?;
+        Ok(KindRows { rows, hints })
+    }
+
+    /// The rows of a tree's files, given one for each number of the tree: the labels' own numbers stay where files that had
+    /// one label have one again, and else they are those of the tree.
+    fn with_rows_of(
+        &self,
+        alloc: Global,
+        files: &KindMap<Node>,
+        nodes: &[Option<Rc<LabelRow>>],
+    ) -> Result<KindRows, AllocError>
+        requires long { length nodes.now ≡ length files.now.0.0 }
+        requires used { HaveNodes (shared_nodes nodes.now) files.now.1 }
+        ensures { IfOk result (λ new. entries_in new.rows ≡ placed (shared_nodes nodes.now) files.now.1) }
+    {
+        let before = self.rows.rows();
+        let kept = kept_labels(alloc, before.map(), files, nodes)?;
+        if let Some(map) = kept {
+            return self.with_own_rows(alloc, map);
+        }
+        let map = files.with_nodes(alloc, nodes)?;
+        let hints = hints_of(alloc, &map)?;
+        let tagged = before.replaced(alloc, map)?;
+        let rows = ClassedRows::of(alloc, tagged)?;
+        Ok(KindRows { rows, hints })
+    }
+
+    /// The rows of the files of a map by kinds. Labels and path classes keep their numbers where files that had one label have
+    /// one again; else rows share the map's paths, and path classes are found anew for all files. Each number of the map is
+    /// judged at most once, and not where a file of these rows has its label. Fails only if memory, or the numbers, run out.
     pub fn of_kinds<J: Judge>(
         &self,
         alloc: Global,
@@ -178,10 +216,7 @@ impl KindRows {
         let before = self.rows.rows();
         let known = known_rows(alloc, before.map())?;
         let nodes = rows_of_numbers(alloc, judge, users, known, files)?;
-        let map = files.with_nodes(alloc, &nodes)?;
-        let hints = hints_of(alloc, &map)?;
-        let tagged = before.replaced(alloc, map)?;
-        let rows = ClassedRows::of(alloc, tagged)?;
-        Ok(KindRows { rows, hints })
+        let new = self.with_rows_of(alloc, files, &nodes)?;
+        Ok(new)
     }
 }

@@ -12,7 +12,7 @@ use crate::index::Index;
 use crate::judge::Judge;
 use acl_entry::{NoMemory, Perm, Requests};
 use acl_names::Path;
-use path_classes::{ClassFiles, FileClasses, FileRows, granted_users};
+use path_classes::{ClassFiles, FileClasses, granted_users};
 use std::alloc::{AllocError, Global};
 
 impl<J: Judge> Index<J> {
@@ -196,15 +196,6 @@ impl<J: Judge> Index<J> {
         ensures verdicts { (s : states.State) → IsWhole J.verdict_of s self.now → option_copied result ≡ row_at J.verdict_of s path.now }
     {
         self.cells(path)
-    }
-
-    /// Each file with what each user may do with it, in path order; with `along` only where the user can search each
-    /// recorded directory above the file. Allocates nothing.
-    pub fn file_rows(&self, along: bool) -> FileRows<'_>
-        ensures { result ≡ rows_along along self.now.rows }
-    {
-        let now = &self.table;
-        now.rows.rows.file_rows(along)
     }
 
     /// Each file with its class, in path order: files of a class have the same row, with `along` what is left of their rows

@@ -123,8 +123,18 @@ fn all_rows<J: Judge>(
     Ok((new, count))
 }
 
-/// The rows after a line by which files change and no user does. Where the root changed, and as many files as the tree has
-/// numbers of kinds, no list of them is made, and the rows of all files are found from these numbers.
+/// From how many changed files on the rows of all files are found again: as many as the tree has numbers of kinds, so that
+/// no more is judged; and an eighth of all files, since putting a changed file takes some three times as long as passing
+/// over one.
+fn many_of(files: &KindMap<Node>) -> usize
+    requires { length (entries_in files.now) < 2 ^ 64 }
+    ensures { length files.now.0.0 ≤ result }
+{
+    files.numbers_len().max(files.len() / 8)
+}
+
+/// The rows after a line by which files change and no user does. Where the root changed, and many files did, no list of them is
+/// made, and the rows of all files are found from the numbers of the tree.
 fn changed_rows<J: Judge>(
     alloc: Global,
     judge: &mut J,
@@ -147,7 +157,7 @@ fn changed_rows<J: Judge>(
     }
     let users = staged.people().all_subjects();
     let files = staged.tree().files_whole().files_by_path();
-    match fewer_labels(alloc, staged.changed(), files.numbers_len())? {
+    match fewer_labels(alloc, staged.changed(), many_of(files))? {
         Some(changed) => with_changed(alloc, judge, rows, staged, &changed),
         None => all_rows(alloc, judge, rows, files, users),
     }

@@ -1,6 +1,6 @@
 //! Files by classes: the row of each file's class, how many classes there are, and how many files have each.
 use crate::lines::Line;
-use crate::rows::{Wanted, bytes};
+use crate::rows::{Wanted, bytes, is_next};
 use crate::small_tree::{GROUP, PASSWD};
 use crate::world::{Row, first_wrong, nothing};
 use acl_names::read_path;
@@ -65,15 +65,6 @@ static ALONG: [Wanted; 6] = [
     (b"b/f", [0x55, 0x11, 0x11]),
     (b"b/g", [0x55, 0x11, 0x11]),
 ];
-
-/// Whether the next file is this one, and its class has this row.
-fn is_next(alloc: Global, classes: &mut FileClasses<'_>, wanted: &Wanted) -> Option<bool> {
-    let (path, class) = classes.next(alloc).ok()??;
-    let cells = classes.row(alloc, class).ok()??;
-    let row = bytes(alloc, cells.as_slice())?;
-    let wanted_path = read_path(alloc, wanted.0).ok()??;
-    Some(path.order(&wanted_path) == Ordering::Equal && row.as_slice() == wanted.1.as_slice())
-}
 
 /// Whether the files are `all`, in this order, in `count` classes.
 fn are(alloc: Global, classes: FileClasses<'_>, all: &[Wanted], count: usize) -> Option<bool> {

@@ -109,13 +109,13 @@ pub static LIKE_ANOTHER: [Row; 2] = [
     },
 ];
 
-/// All five files change. Then there are four labels: the root and run have the same owner, group and list. Joe's verdicts on
-/// f and log are others.
+/// All five files change, which are as many as the tree has numbers of kinds: each of them counts. Then there are four labels:
+/// the root and run have the same owner, group and list. Joe's verdicts on f and log are others.
 pub static FOUR_LABELS: [Row; 1] = [Row {
     line: Line::Setfacl(b"u:joe:rX", true, b"."),
     asked: (0, 12),
     looked: 0,
-    refreshed: 6,
+    refreshed: 15,
     verdicts: &[
         Verdict {
             user: JOE,
@@ -174,3 +174,103 @@ pub static SEARCH: [Row; 1] = [Row {
         },
     ],
 }];
+
+const CLOSED: &[u8] = b"# file: .\nuser::rwx\ngroup::r-x\nother::r--\n\n\
+# file: f\nuser::rw-\ngroup::r--\nother::r--\n\n\
+# file: log\nuser::rw-\ngroup::r--\nother::r--\n";
+
+const OPENED: &[u8] = b"# file: .\nuser::rwx\ngroup::r-x\nother::r-x\n\n\
+# file: f\nuser::rw-\ngroup::r--\nother::---\n";
+
+const WRITTEN: &[u8] = b"# file: .\nuser::rwx\ngroup::rwx\nother::r-x\n\n\
+# file: f\nuser::rw-\ngroup::r--\nother::r--\n";
+
+/// The root changes beside other files. Two of five files get other verdicts, and then the root and the four files below it are
+/// found again: five are counted, since there are no more. So are they where the root is opened again, whose label is that of
+/// run. Who writes the root changes no answer of joe or ann: then the root and one file count.
+pub static RESTORED: [Row; 3] = [
+    Row {
+        line: Line::Restore(CLOSED),
+        asked: (0, 9),
+        looked: 0,
+        refreshed: 15,
+        verdicts: &[
+            Verdict {
+                user: JOE,
+                path: b"f",
+                byte: 0x11,
+            },
+            Verdict {
+                user: ANN,
+                path: b"log",
+                byte: 0x11,
+            },
+        ],
+        reach: &[
+            Verdict {
+                user: JOE,
+                path: b".",
+                byte: 0x11,
+            },
+            Verdict {
+                user: JOE,
+                path: b"f",
+                byte: 0,
+            },
+            Verdict {
+                user: LISA,
+                path: b"f",
+                byte: 0x55,
+            },
+            Verdict {
+                user: ANN,
+                path: b"pub",
+                byte: 0,
+            },
+        ],
+    },
+    Row {
+        line: Line::Restore(OPENED),
+        asked: (0, 3),
+        looked: 0,
+        refreshed: 15,
+        verdicts: &[Verdict {
+            user: JOE,
+            path: b"f",
+            byte: 0x01,
+        }],
+        reach: &[
+            Verdict {
+                user: ANN,
+                path: b"log",
+                byte: 0x11,
+            },
+            Verdict {
+                user: ANN,
+                path: b"pub",
+                byte: 0xff,
+            },
+            Verdict {
+                user: JOE,
+                path: b"run",
+                byte: 0x33,
+            },
+        ],
+    },
+    Row {
+        line: Line::Restore(WRITTEN),
+        asked: (0, 6),
+        looked: 0,
+        refreshed: 6,
+        verdicts: &[Verdict {
+            user: JOE,
+            path: b".",
+            byte: 0x33,
+        }],
+        reach: &[Verdict {
+            user: JOE,
+            path: b"f",
+            byte: 0x11,
+        }],
+    },
+];

@@ -2,7 +2,7 @@
 ghost use Rattle.acl_entry.specs.Check.{rights};
 ghost use Rattle.acl_rights.specs.Tables.{IsWhole};
 
-use crate::cost_rows::{FILES_ALONE, FOUR_LABELS, LIKE_ANOTHER, SEARCH, SETUP};
+use crate::cost_rows::{FILES_ALONE, FOUR_LABELS, LIKE_ANOTHER, RESTORED, SEARCH, SETUP};
 use crate::people_rows::{
     COMES_AND_GOES, COMES_BACK, LISTED, MEMBERSHIPS, NAMED, NOBODY_IS_LEFT, NOBODY_IS_LOADED,
     PRIMARY,
@@ -37,7 +37,13 @@ fn lines_on_files_cost_what_they_change(rt: HostRuntime) {
     expect_all(
         &rt,
         rt.alloc(),
-        &[&FILES_ALONE, &FOUR_LABELS, &LIKE_ANOTHER, &SEARCH],
+        &[
+            &FILES_ALONE,
+            &FOUR_LABELS,
+            &LIKE_ANOTHER,
+            &RESTORED,
+            &SEARCH,
+        ],
     );
 }
 

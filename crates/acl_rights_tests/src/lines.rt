@@ -4,8 +4,8 @@ use acl_edit::{Edit, Specs};
 use acl_entry::Id;
 use acl_names::{Name, Path, read_path};
 use acl_people::{People, UserName};
-use acl_text::{Sep, Want, read_entries};
-use acl_tree::{Command, Membership, NewUser, Paths, Table};
+use acl_text::{DumpUse, Sep, Want, read_dump, read_entries};
+use acl_tree::{Command, DumpRecords, Membership, NewUser, Paths, Table};
 use std::alloc::Global;
 
 /// A command, its operands and texts as they are written.
@@ -14,6 +14,7 @@ pub enum Line {
     Chmod(u16, &'static [u8]),
     /// Entries that are modified, and whether all files below are edited too.
     Setfacl(&'static [u8], bool, &'static [u8]),
+    Restore(&'static [u8]),
     Rm(&'static [u8]),
     /// A user and a group.
     Join(&'static [u8], &'static [u8]),
@@ -82,6 +83,13 @@ fn edit(
     })
 }
 
+fn restore(alloc: Global, people: &People, text: &[u8]) -> Option<Command<'static>> {
+    let records = read_dump(alloc, text, DumpUse::Restore, people).ok()?;
+    Some(Command::Restore {
+        records: DumpRecords::new(records),
+    })
+}
+
 fn new_user(alloc: Global, text: &[u8], uid: u32, group: &[u8]) -> Option<Command<'static>> {
     let uid = Id::new(uid)?;
     let name_of_group = name(alloc, group)?;
@@ -105,6 +113,7 @@ pub fn command(alloc: Global, people: &People, line: &Line) -> Option<Command<'s
             recursive: false,
         }),
         Line::Setfacl(modify, recursive, text) => edit(alloc, people, modify, *recursive, text),
+        Line::Restore(text) => restore(alloc, people, text),
         Line::Rm(text) => Some(Command::Rm {
             paths: paths(alloc, text)?,
             recursive: false,

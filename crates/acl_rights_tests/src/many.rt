@@ -203,9 +203,60 @@ static THEN_ONE: [Row; 2] = [
     },
 ];
 
+/// A directory has the label that files have, and a line on all files gives it another one than these: `X` is search for a
+/// directory alone.
+static A_LABEL_PARTS: [Row; 2] = [
+    Row {
+        line: Line::Chmod(0o640, b"b"),
+        asked: (0, 0),
+        looked: 0,
+        refreshed: 15,
+        verdicts: &[Verdict {
+            user: JOE,
+            path: b"b",
+            byte: 0x01,
+        }],
+        reach: &[Verdict {
+            user: JOE,
+            path: b"b/1",
+            byte: 0,
+        }],
+    },
+    Row {
+        line: Line::Setfacl(b"u:joe:rX", true, b"."),
+        asked: (0, 9),
+        looked: 0,
+        refreshed: 36,
+        verdicts: &[
+            Verdict {
+                user: JOE,
+                path: b"b",
+                byte: 0x33,
+            },
+            Verdict {
+                user: JOE,
+                path: b"c",
+                byte: 0x11,
+            },
+        ],
+        reach: &[
+            Verdict {
+                user: JOE,
+                path: b"b/1",
+                byte: 0x11,
+            },
+            Verdict {
+                user: ANN,
+                path: b"b/1",
+                byte: 0,
+            },
+        ],
+    },
+];
+
 #[test]
 fn lines_on_many_files_cost_their_labels(rt: HostRuntime) {
-    for rows in [&ALL_FILES as &[Row], &A_FOLDER, &THEN_ONE] {
+    for rows in [&ALL_FILES as &[Row], &A_FOLDER, &THEN_ONE, &A_LABEL_PARTS] {
         let mut world = nothing(rt.alloc()).expect(&rt, "memory");
         assert_eq!(rt; first_wrong(rt.alloc(), &mut world, &SETUP), None);
         assert_eq!(rt; first_wrong(rt.alloc(), &mut world, rows), None);

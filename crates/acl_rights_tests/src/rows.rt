@@ -1,10 +1,10 @@
-//! The rows of files, one after another.
+//! The rows of files, one after another, by their classes.
 use crate::costs::after;
 use crate::lines::Line;
 use crate::world::Row;
 use acl_entry::Requests;
 use acl_names::read_path;
-use acl_rights::{FileRow, FileRows};
+use acl_rights::FileClasses;
 use std::alloc::Global;
 use std::cmp::Ordering;
 
@@ -46,20 +46,32 @@ pub fn bytes(alloc: Global, row: &[Requests]) -> Option<Vec<u8>> {
     Some(bytes)
 }
 
-fn is_row(alloc: Global, row: FileRow<'_>, wanted: &Wanted) -> Option<bool> {
-    let path = read_path(alloc, wanted.0).ok()??;
-    Some(
-        row.path.order(&path) == Ordering::Equal
-            && bytes(alloc, row.requests.as_slice())?.as_slice() == wanted.1.as_slice(),
-    )
+/// Whether the verdicts on a class, user by user, are these.
+fn are_cells(classes: &FileClasses<'_>, class: usize, wanted: &[u8; 3]) -> Option<bool> {
+    for user in 0..wanted.len() {
+        if classes.cell(class, user)?.bits() != wanted[user] {
+            return Some(false);
+        }
+    }
+    Some(classes.cell(class, wanted.len()).is_none())
 }
 
-/// Whether the rows are these, in this order.
-fn are(alloc: Global, rows: FileRows<'_>, all: &[Wanted]) -> Option<bool> {
-    let mut rest = rows;
+/// Whether the next file is this one, and its class has this row.
+pub fn is_next(alloc: Global, classes: &mut FileClasses<'_>, wanted: &Wanted) -> Option<bool> {
+    let (path, class) = classes.next(alloc).ok()??;
+    let cells = classes.row(alloc, class).ok()??;
+    let row = bytes(alloc, cells.as_slice())?;
+    let wanted_path = read_path(alloc, wanted.0).ok()??;
+    let is_file = path.order(&wanted_path) == Ordering::Equal;
+    let is_row = row.as_slice() == wanted.1.as_slice();
+    Some(is_file && is_row && are_cells(classes, class, &wanted.1)?)
+}
+
+/// Whether the files are these, in this order, with these rows.
+fn are(alloc: Global, classes: FileClasses<'_>, all: &[Wanted]) -> Option<bool> {
+    let mut rest = classes;
     for wanted in all {
-        let row = rest.next(alloc).ok()??;
-        if !is_row(alloc, row, wanted)? {
+        if !is_next(alloc, &mut rest, wanted)? {
             return Some(false);
         }
     }
@@ -70,8 +82,8 @@ fn are(alloc: Global, rows: FileRows<'_>, all: &[Wanted]) -> Option<bool> {
 fn each_file_has_a_row(rt: HostRuntime) {
     let alloc = rt.alloc();
     let world = after(&rt, alloc, &ROOT_CLOSED);
-    let alone = are(alloc, world.index.file_rows(false), &ALONE);
-    let along = are(alloc, world.index.file_rows(true), &ALONG);
+    let alone = are(alloc, world.index.file_classes(alloc, false), &ALONE);
+    let along = are(alloc, world.index.file_classes(alloc, true), &ALONG);
     drop(world);
     assert!(rt; (alone, along) == (Some(true), Some(true)));
 }

@@ -4,8 +4,8 @@ use crate::followed::{Followed, follow, tried};
 use crate::judge::OwnerAlone;
 use crate::small_tree::{load, path};
 use acl_rights::{
-    Acl, Cells, ClassFiles, Command, FileClasses, FileRow, FileRows, Id, Index, Judge, Label,
-    Membership, NoMemory, Path, Perm, Posix, Requests, Subject, read_name,
+    Acl, Cells, ClassFiles, Command, FileClasses, Id, Index, Judge, Label, Membership, NoMemory,
+    Path, Perm, Posix, Requests, Subject, read_name,
 };
 use std::alloc::Global;
 use std::cmp::Ordering;
@@ -95,16 +95,6 @@ fn expect_may_along_the_path(rt: &impl Abort, alloc: Global, index: &Index<Owner
     assert!(rt; may.expect(rt, "a user").is_empty());
 }
 
-fn expect_rows(rt: &impl Abort, alloc: Global, index: &Index<OwnerAlone>) {
-    let mut rows: FileRows<'_> = index.file_rows(true);
-    let next: Option<&Path> = rows.path();
-    assert!(rt; next.expect(rt, "the root").components().is_empty());
-    let root: Option<FileRow<'_>> = rows.next(alloc).expect(rt, "memory");
-    let FileRow { path, requests } = root.expect(rt, "the root");
-    let row: Cells = requests;
-    assert!(rt; path.components().is_empty() && row.as_slice().len() == 3);
-}
-
 fn expect_classes(rt: &impl Abort, alloc: Global, index: &Index<OwnerAlone>) {
     let mut classes: FileClasses<'_> = index.file_classes(alloc, true);
     let next: Option<&Path> = classes.path();
@@ -112,7 +102,9 @@ fn expect_classes(rt: &impl Abort, alloc: Global, index: &Index<OwnerAlone>) {
     let root: Option<(&Path, usize)> = classes.next(alloc).expect(rt, "memory");
     let (path, class) = root.expect(rt, "the root");
     let row: Option<Cells> = classes.row(alloc, class).expect(rt, "memory");
-    assert!(rt; path.components().is_empty() && row.expect(rt, "a class").as_slice().len() == 3);
+    let cell: Option<Requests> = classes.cell(class, 0);
+    assert!(rt; path.components().is_empty() && cell.is_some());
+    assert!(rt; row.expect(rt, "a class").as_slice().len() == 3);
 }
 
 fn expect_counted_classes(rt: &impl Abort, alloc: Global, index: &Index<OwnerAlone>) {
@@ -134,7 +126,6 @@ fn verdicts_and_questions(rt: HostRuntime) {
     expect_who(&rt, rt.alloc(), &index, &f);
     expect_may(&rt, rt.alloc(), &index);
     expect_may_along_the_path(&rt, rt.alloc(), &index);
-    expect_rows(&rt, rt.alloc(), &index);
     expect_classes(&rt, rt.alloc(), &index);
     expect_counted_classes(&rt, rt.alloc(), &index);
     drop(index);

@@ -7,7 +7,6 @@ use Rattle.std.specs.Option.{option_or}
 use Rattle.std.specs.Ordering.{is_eq, is_lt}
 use Rattle.std.specs.FinMap.{find, is_sorted}
 use Rattle.std.specs.FinMap.Entries.{below_all}
-use Rattle.acl_tree.specs.Inner.{next_file_below}
 use Rattle.acl_names.specs.Paths.{PathOf, path_cmp}
 use Rattle.acl_names.proofs.PathOrder.{exact_paths}
 use Rattle.path_map.specs.Entries.{IsInOrder}
@@ -32,7 +31,7 @@ use Rattle.facl_output.specs.Listings.{path_shown}
 use Rattle.acl_rights.specs.Verdicts.{can_requests, rows_granted}
 use Rattle.facl_answers.specs.BothStates.{rows_at, rows_in_both}
 use Rattle.facl_answers.specs.ChangesText.{change_lines, users_of_both, shown_files, files_of_both, place_of, granted_to, changes_text}
-use Rattle.facl_answers.specs.Inner.{Placed, placed_of, placed_in, verdict_or_none, lines_of_file, lines_of_files, has_next_below, next_path, walk_of}
+use Rattle.facl_answers.specs.Inner.{Placed, placed_of, placed_in, verdict_or_none, lines_of_file, lines_of_files}
 use Rattle.facl_answers.specs.PathTexts.{text_in}
 use Rattle.acl_rights.proofs.AskedAlong.{can_alone, can_along}
 
@@ -115,16 +114,6 @@ find_made f p (e ∷ es) = by (path_cmp p e.0) refl (find_made f p es)
     by Less is more = more
     by Equal is more = ap (λ q. Some (f q)) (sym (exact_paths p e.0 is))
     by Greater is more = more
-
--- ---- a walk
-
-pub no_files : (rows : Rows) → walk_of [] rows ≡ []
-no_files [] = refl
-no_files (row ∷ rows) = refl
-
-pub next_below : (p : PathOf) (es : Files) → has_next_below p (next_path es) ≡ next_file_below p es
-next_below p [] = refl
-next_below p (e ∷ es) = refl
 
 abbrev pub shown : FoundFile → PathOf × List ℕ
 shown file = (file.path, path_shown file)

@@ -5,13 +5,14 @@ pub mod BothRows
 pub mod ChangeLines
 pub mod DecidedAlong
 pub mod Deciding
-pub mod FileLines
 pub mod Gained
 pub mod GainsAndLosses
+pub mod GrantedClasses
+pub mod GrantedFiles
 pub mod IndexLines
-pub mod NextFile
 pub mod PartRows
 pub mod PathShown
 pub mod Spaced
 pub mod Unchanged
 pub mod UserLines
+pub mod WalkedTexts

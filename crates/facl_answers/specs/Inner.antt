@@ -1,34 +1,39 @@
 -- For inner functions: no public contract names these definitions.
-use Rattle.std.specs.Prelude.{ℕ, ◌==◌, Bool, true, false, not, if◌then◌else◌, List, [], ◌∷◌, ◌++◌, zip, position, slice_get, Option, Some, None, is_some, option_map, option_and_then, unwrap_or}
+use Rattle.std.specs.Prelude.{◌≡◌, ℕ, ◌==◌, ◌<◌, Bool, true, false, not, if◌then◌else◌, List, [], ◌∷◌, ◌++◌, get_or, length, map, zip, position, slice_get}
+use Rattle.std.specs.Prelude.{Option, Some, None, is_some, option_and_then, unwrap_or}
 use Rattle.std.specs.List.{flat_map, list_any}
 use Rattle.std.specs.Option.{option_map_or}
-use Rattle.std.specs.Ordering.{eq_by_cmp}
 use Rattle.std.specs.FinMap as maps
 use Rattle.acl_entry.specs.Check.{is_for}
 use Rattle.acl_entry.specs.Keys.{same_key}
 use Rattle.acl_entry.specs.Lists.{IsValid, entries}
+use Rattle.acl_entry.specs.Perms.{Perms}
 use Rattle.acl_entry.specs.Person.{Person}
 use Rattle.acl_entry.specs.declared.entry.Entry.{Entry}
 use Rattle.acl_entry.specs.declared.entry.Key.{Key}
 use Rattle.acl_entry.specs.declared.entry.Key.TheVariants.{Owner, User, Other}
 use Rattle.acl_entry.specs.declared.label.Label.{Label}
-use Rattle.acl_names.specs.Paths.{path_cmp, PathOf}
+use Rattle.acl_names.specs.Paths.{PathOf}
 use Rattle.acl_edit.specs.declared.node.Node.{Node}
 use Rattle.acl_tree.specs.Walks.{ancestors}
 use Rattle.acl_tree.specs.Files.{Files}
-use Rattle.acl_names.specs.Below.{is_above}
-use Rattle.path_map.specs.Entries.{first}
 use Rattle.acl_names.specs.Names.{escaped}
 use Rattle.acl_people.specs.KnownPeople.{KnownPeople, users_of}
 use Rattle.acl_people.specs.NameTables.{is_name}
 use Rattle.acl_tree.specs.Found.{FoundFile, found_file}
-use Rattle.path_classes.specs.Rows.{Rows}
+use Rattle.acl_tree.specs.Inner.{next_file_below}
+use Rattle.acl_tree.specs.State.{State}
+use Rattle.path_classes.specs.Classes.{Classed, KeepRows}
+use Rattle.path_classes.specs.Rows.{Rows, grants}
+use Rattle.acl_rights.specs.Rows.{Verdict}
+use Rattle.acl_rights.specs.Verdicts.{granted}
 use Rattle.facl_output.specs.Listings.{path_shown}
-use Rattle.facl_answers.specs.Answers.{user_line, verdict_line}
+use Rattle.facl_answers.specs.Answers.{all_files, file_line, user_line, verdict_line}
 use Rattle.facl_answers.specs.BothStates.{RowsOfFile}
 use Rattle.facl_answers.specs.ChangesText.{change_lines}
 use Rattle.facl_answers.specs.declared.placed_users.PlacedUser.{PlacedUser}
-use Rattle.facl_answers.specs.declared.row_walk.FileWithRow.{FileWithRow}
+use Rattle.facl_answers.specs.declared.file_walk.FileInClass.{FileInClass}
+use Rattle.facl_answers.specs.declared.file_walk.Walk.{Walk}
 
 -- ---- what `why` looks at
 
@@ -61,17 +66,6 @@ HasValidList e = IsValid e.1.label.acl
 -- the line of the user at a place
 abbrev pub line_at : KnownPeople → ℕ → List ℕ
 line_at known user = option_map_or user_line (slice_get known.users user) []
-
--- the first of some paths is this one
-abbrev pub is_first : PathOf → List PathOf → Bool
-is_first p [] = false
-is_first p (q ∷ paths) = eq_by_cmp path_cmp q p
-
--- the files of some paths, where both are in path order
-abbrev pub in_step : List PathOf → List FoundFile → List FoundFile
-in_step [] files = []
-in_step (p ∷ paths) [] = []
-in_step (p ∷ paths) (file ∷ files) = if eq_by_cmp path_cmp p file.path then file ∷ in_step paths files else in_step (p ∷ paths) files
 
 -- the lines of a file, by the verdicts on the users of these names
 abbrev pub row_lines : List ℕ → List (List ℕ) → List ℕ → List ℕ
@@ -118,32 +112,62 @@ lines_of_file users text_of file = lines_between users (text_of file.0) (unwrap_
 abbrev pub lines_of_files : List PlacedUser → (text_of : PathOf → List ℕ) → List (PathOf × RowsOfFile) → List ℕ
 lines_of_files users text_of files = flat_map (lines_of_file users text_of) files
 
--- ---- a walk over files with their rows
+-- ---- a walk over files with their classes
 
--- files by their paths, each as it is printed, with its row
-abbrev pub Walked : Type 0
-Walked = List (PathOf × (List ℕ × List ℕ))
+-- a file with its row
+abbrev pub RowedFile : Type 0
+RowedFile = FoundFile × List ℕ
 
--- whether the next file, if there is one, is below a path
-abbrev pub has_next_below : PathOf → Option PathOf → Bool
-has_next_below p next = option_map_or (λ q. is_above p q) next false
-
--- the path of the first file, if there is one
-abbrev pub next_path : Files → Option PathOf
-next_path es = option_map (λ e. e.0) (first es)
-
-abbrev pub shown_before : Option PathOf → PathOf × Node → List ℕ
-shown_before next e = path_shown (found_file (has_next_below e.0 next) e)
+-- the files of a state, each with what each user is granted on it
+abbrev pub files_granted : Verdict → Bool → State → List RowedFile
+files_granted V along s = map (λ file. (file, map (λ row. granted V along s row (file.path, file.node)) s.people.users)) (all_files s)
 
 -- files with their rows, where both are in the same order
-abbrev pub walk_of : Files → Rows → Walked
-walk_of es [] = []
-walk_of [] (row ∷ rows) = []
-walk_of (e ∷ es) (row ∷ rows) = (row.0, (shown_before (next_path es) e, row.1)) ∷ walk_of es rows
+abbrev pub rowed_files : Files → Rows → List RowedFile
+rowed_files es [] = []
+rowed_files [] (row ∷ rows) = []
+rowed_files (e ∷ es) (row ∷ rows) = (found_file (next_file_below e.0 es) e, row.1) ∷ rowed_files es rows
 
--- the lines of files, by the verdicts on the users of these names
-abbrev pub lines_of_walk : List (List ℕ) → Walked → List ℕ
-lines_of_walk names files = flat_map (λ file. row_lines file.1.0 names file.1.1) files
+-- the files that are still to come; the rows of the classes so far, and those of these files
+abbrev pub Walked : Type 0
+Walked = Files × Classed
 
-abbrev pub shown_row : FileWithRow → List ℕ × List ℕ
-shown_row step = (shown_before (option_map (λ next. next.now) step.next) (step.path.now, step.node.now), step.requests)
+abbrev pub walked : Walk → Walked
+walked walk = (walk.files, walk.classes)
+
+-- the files that are still to come, with their rows
+abbrev pub files_left : Walked → List RowedFile
+files_left w = rowed_files w.0 w.1.1
+
+-- a file before those that are still to come, with the row of its class
+abbrev pub rowed_file : Walked → FileInClass → RowedFile
+rowed_file rest file = (found_file (next_file_below file.path.now rest.0) (file.path.now, file.node.now), unwrap_or (slice_get rest.1.0 file.class) [])
+
+-- the first file that was to come, with a class that has its row
+pub record IsStep (old : Walked) (file : FileInClass) (new : Walked) : Type 0 where
+  pub first : files_left old ≡ rowed_file new file ∷ files_left new
+  pub row : List ℕ
+  pub has : slice_get new.1.0 file.class ≡ Some row
+  pub keep : KeepRows old.1.0 new.1.0
+  pub fewer : length (files_left new) < length (files_left old)
+
+-- the next file with its class, if one was to come
+abbrev pub TakesStep : Walked → Option FileInClass → Walked → Type 0
+TakesStep old None new = files_left old ≡ []
+TakesStep old (Some file) new = IsStep old file new
+
+-- the lines of a file, by the verdicts on the users of these names
+abbrev pub row_text : List (List ℕ) → RowedFile → List ℕ
+row_text names file = row_lines (path_shown file.0) names file.1
+
+-- the line of a file, if its row grants a user a request
+abbrev pub granted_text : Perms → ℕ → RowedFile → List ℕ
+granted_text q user file = if grants q user file.1 then file_line file.0 else []
+
+-- whether the files of a class grant a user a request
+abbrev pub IsGranted : Perms → ℕ → (rows : List (List ℕ)) (class : ℕ) → Bool → Type 0
+IsGranted q user rows class granted = (row : List ℕ) × ((slice_get rows class ≡ Some row) × (granted ≡ grants q user row))
+
+-- the same of the first classes
+abbrev pub AreGranted : Perms → ℕ → (rows : List (List ℕ)) → List Bool → Type 0
+AreGranted q user rows table = (class : ℕ) → class < length table → IsGranted q user rows class (get_or table class false)

@@ -28,7 +28,7 @@ fn row_of_class(
 }
 
 /// The files of a state that are not before a path, by classes.
-fn classes_from<'a, J: Judge>(
+pub(crate) fn classes_from<'a, J: Judge>(
     alloc: Global,
     verdicts: &Verdicts<'a, J>,
     top: &Path,

@@ -24,7 +24,7 @@ use acl_tree::Tree;
 use std::alloc::{AllocError, Global};
 
 /// A row, or that of nobody where there is none.
-fn row_or_none(row: &Option<Cells>) -> &[Requests]
+pub(crate) fn row_or_none(row: &Option<Cells>) -> &[Requests]
     ensures { result.now ≡ unwrap_or row.now [] }
 {
     match row {

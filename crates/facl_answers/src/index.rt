@@ -1,13 +1,15 @@
 //! What `index` prints: what each user may do with each file.
 
 ghost use Rattle.std.specs.Prelude.{◌≡◌, map, IfOk};
+ghost use Rattle.std.specs.List.{flat_map};
 ghost use Rattle.acl_names.specs.Appends.{Appends};
 ghost use Rattle.acl_names.specs.Names.{escaped};
 ghost use Rattle.facl_output.specs.Listings.{path_shown};
 ghost use Rattle.facl_answers.specs.Answers.{hex_digits, verdict_line, index_text};
-ghost use Rattle.facl_answers.specs.Inner.{row_lines, lines_of_walk, shown_row};
+ghost use Rattle.facl_answers.specs.Inner.{files_left, row_lines, row_text, rowed_file, walked};
 
-use crate::row_walk::{FileWithRow, Walk};
+use crate::changes::row_or_none;
+use crate::file_walk::{FileInClass, Walk};
 use acl_entry::Requests;
 use acl_names::write_name;
 use acl_people::People;
@@ -74,39 +76,33 @@ pub fn path_shown(alloc: Global, file: &FoundFile<'_>) -> Result<Vec<u8>, AllocE
     Ok(path)
 }
 
-/// The path of a file as it is printed.
-fn shown(alloc: Global, file: &FileWithRow<'_>) -> Result<Vec<u8>, AllocError>
-    ensures { IfOk result (λ path. path.items ≡ (shown_row file.now).0) }
-{
-    let found = file.found();
-    path_shown(alloc, &found)
-}
-
-/// Adds the lines of a file.
+/// Adds the lines of a file before those of `rest`, by the row of its class.
 fn push_file(
     alloc: Global,
     text: &mut Vec<u8>,
     names: &[Vec<u8>],
-    file: &FileWithRow<'_>,
+    rest: &Walk<'_>,
+    file: &FileInClass<'_>,
 ) -> Result<(), AllocError>
-    ensures { Appends result text.old text.new (row_lines (shown_row file.now).0 (map (λ n. n.items) names.now) (shown_row file.now).1) }
+    ensures { Appends result text.old text.new (row_text (map (λ n. n.items) names.now) (rowed_file (walked rest.now) file.now)) }
 {
-    let path = shown(alloc, file)?;
-    push_row(text, names, file.requests.as_slice(), &path)
+    let found = file.found(rest);
+    let path = path_shown(alloc, &found)?;
+    let row = rest.classes.row(alloc, file.class)?;
+    push_row(text, names, row_or_none(&row), &path)
 }
 
-/// Adds the lines of the files of a walk.
+/// Adds the lines of the files of a walk that are still to come.
 fn push_files(
     alloc: Global,
     text: &mut Vec<u8>,
     names: &[Vec<u8>],
-    files: Walk<'_>,
+    rest: &mut Walk<'_>,
 ) -> Result<(), AllocError>
-    ensures { Appends result text.old text.new (lines_of_walk (map (λ n. n.items) names.now) files.entry) }
+    ensures { Appends result text.old text.new (flat_map (row_text (map (λ n. n.items) names.now)) (files_left (walked rest.old))) }
 {
-    let mut rest = files;
     while let Some(file) = rest.next(alloc)? {
-        push_file(alloc, text, names, &file)?;
+        push_file(alloc, text, names, rest, &file)?;
     }
     Ok(())
 }
@@ -135,7 +131,7 @@ pub fn write_index<J: Judge>(
     let names = written_names(alloc, indexed.state().people())?;
     let mut text = Vec::new(alloc);
     let verdicts = indexed.verdicts(false);
-    let files = Walk::of_verdicts(&verdicts);
-    push_files(alloc, &mut text, &names, files)?;
+    let mut files = Walk::of_verdicts(alloc, &verdicts);
+    push_files(alloc, &mut text, &names, &mut files)?;
     Ok(text)
 }

@@ -9,13 +9,13 @@
 mod both_classes;
 mod change_lines;
 mod changes;
+mod file_walk;
 mod index;
 mod laws;
 mod may;
 mod path_texts;
 mod placed_users;
 mod requests;
-mod row_walk;
 mod two_paths;
 mod who;
 mod why;

@@ -1,31 +1,19 @@
 //! What `may` prints: the files on which a user is granted a request.
 
-ghost use Rattle.std.specs.Prelude.{◌≡◌, map, IfOk, option_map};
-ghost use Rattle.acl_names.specs.Appends.{Appends};
+ghost use Rattle.std.specs.Prelude.{◌≡◌, ◌<◌, [], if◌then◌else◌, false, length, IfOk, OnOk, option_map};
+ghost use Rattle.std.specs.Option.{option_map_or};
 ghost use Rattle.std.specs.List.{flat_map};
-ghost use Rattle.acl_tree.specs.Inner.{next_file_below};
-ghost use Rattle.acl_tree.specs.Found.{found_file, found_in};
+ghost use Rattle.acl_entry.specs.Check.{has};
+ghost use Rattle.acl_names.specs.Appends.{Appends};
 ghost use Rattle.facl_answers.specs.Answers.{file_line, may_text};
-ghost use Rattle.facl_answers.specs.Inner.{is_first, in_step};
+ghost use Rattle.facl_answers.specs.Inner.{AreGranted, IsGranted, files_left, granted_text, rowed_file, walked};
 
-use acl_edit::Node;
-use acl_entry::Perm;
-use acl_names::Path;
-use acl_rights::{Judge, Verdicts};
-use acl_tree::{FilesIter, FoundFile, Tree};
+use crate::file_walk::{FileInClass, Walk};
+use acl_entry::{Perm, Requests};
+use acl_rights::{FileClasses, Judge, Verdicts};
+use acl_tree::FoundFile;
 use facl_output::push_path_shown;
 use std::alloc::{AllocError, Global};
-use std::cmp::Ordering;
-
-/// Whether the first of some paths is this one.
-fn is_first(paths: &[&Path], path: &Path) -> bool
-    ensures { result ≡ is_first path.now (map (λ p. p.now) paths.now) }
-{
-    match paths {
-        [first, ..] => first.order(path) == Ordering::Equal,
-        [] => false,
-    }
-}
 
 /// Adds the line of a file.
 pub fn push_file(text: &mut Vec<u8>, file: &FoundFile<'_>) -> Result<(), AllocError>
@@ -36,31 +24,67 @@ pub fn push_file(text: &mut Vec<u8>, file: &FoundFile<'_>) -> Result<(), AllocEr
     Ok(())
 }
 
-/// Adds the line of a file, by those that come after it.
-fn push_before(
-    text: &mut Vec<u8>,
-    path: &Path,
-    node: &Node,
-    rest: &FilesIter<'_>,
-) -> Result<(), AllocError>
-    ensures { Appends result text.old text.new (file_line (found_file (next_file_below path.now rest.now) (path.now, node.now))) }
+/// Whether a verdict, if there is one, contains a request.
+fn contains(verdict: Option<Requests>, request: Perm) -> bool
+    ensures { result ≡ option_map_or (λ c. has c request) verdict false }
 {
-    let found = FoundFile::before(path, node, rest);
-    push_file(text, &found)
+    match verdict {
+        Some(granted) => granted.has(request),
+        None => false,
+    }
 }
 
-/// Adds the files of some paths, in one walk over both.
-fn push_files(text: &mut Vec<u8>, tree: &Tree, paths: &[&Path]) -> Result<(), AllocError>
-    ensures { Appends result text.old text.new (flat_map file_line (in_step (map (λ p. p.now) paths.now) (found_in tree.now.files tree.now.files))) }
+/// Whether a user is granted a request on the files of a class, by a table of the first classes: it gets longer where it does
+/// not have the class.
+fn is_granted(
+    table: &mut Vec<bool>,
+    classes: &FileClasses<'_>,
+    class: usize,
+    user: usize,
+    request: Perm,
+) -> Result<bool, AllocError>
+    requires there { class < length classes.now.0 }
+    requires known { AreGranted request user classes.now.0 table.old.items }
+    ensures known { OnOk result (AreGranted request user classes.now.0 table.new.items) }
+    ensures granted { IfOk result (λ granted. IsGranted request user classes.now.0 class granted) }
 {
-    tree.soundness_law();
-    let mut rest = paths;
-    let mut files = tree.iter();
-    while let Some(file) = files.next() {
-        if is_first(rest, file.0) {
-            push_before(text, file.0, file.1, &files)?;
-            rest = &rest[1..];
-        }
+    while table.len() <= class {
+        let granted = contains(classes.cell(table.len(), user), request);
+        table.push(granted)?;
+    }
+    Ok(table[class])
+}
+
+/// Adds the line of a file before those of `rest`, if a request is granted on it.
+fn push_granted(
+    text: &mut Vec<u8>,
+    granted: bool,
+    file: &FileInClass<'_>,
+    rest: &Walk<'_>,
+) -> Result<(), AllocError>
+    ensures { Appends result text.old text.new (if granted then file_line (rowed_file (walked rest.now) file.now).0 else []) }
+{
+    if granted {
+        push_file(text, &file.found(rest))
+    } else {
+        Ok(())
+    }
+}
+
+/// Adds the lines of the files of a walk that are still to come, if their classes grant a user a request.
+fn push_files(
+    alloc: Global,
+    text: &mut Vec<u8>,
+    rest: &mut Walk<'_>,
+    user: usize,
+    request: Perm,
+) -> Result<(), AllocError>
+    ensures { Appends result text.old text.new (flat_map (granted_text request user) (files_left (walked rest.old))) }
+{
+    let mut table = Vec::new(alloc);
+    while let Some(file) = rest.next(alloc)? {
+        let granted = is_granted(&mut table, &rest.classes, file.class, user, request)?;
+        push_granted(text, granted, &file, rest)?;
     }
     Ok(())
 }
@@ -75,12 +99,11 @@ pub fn write_may<J: Judge>(
 ) -> Result<Option<Vec<u8>>, AllocError>
     ensures { IfOk result (λ text. option_map (λ t. t.items) text ≡ may_text J.verdict_of verdicts.now.along verdicts.now.state.now request user) }
 {
-    let Some(paths) = verdicts.may(alloc, user, request)? else {
+    let Some(_row) = verdicts.state.state().people().user_row(user) else {
         return Ok(None);
     };
-    let state = verdicts.state.state();
-    state.tree().soundness_law();
     let mut text = Vec::new(alloc);
-    push_files(&mut text, state.tree(), &paths)?;
+    let mut files = Walk::of_verdicts(alloc, verdicts);
+    push_files(alloc, &mut text, &mut files, user, request)?;
     Ok(Some(text))
 }

@@ -14,14 +14,12 @@ use Rattle.std.proofs.lemmas.List.Sums.{length-filter}
 use Rattle.std.proofs.lemmas.Option.{slice_get-map}
 use Rattle.acl_entry.specs.Check.{has}
 use Rattle.acl_entry.specs.Perms.{Perms}
-use Rattle.acl_entry.specs.Person.{Person}
 use Rattle.acl_names.specs.Names.{escaped}
 use Rattle.acl_names.specs.Paths.{path_cmp, PathOf}
 use Rattle.acl_names.proofs.PathOrder.{path_total}
 use Rattle.acl_names.proofs.Basics.{is_less}
 use Rattle.acl_text.specs.declared.rows.PasswdRow.{PasswdRow}
 use Rattle.acl_edit.specs.declared.node.Node.{Node}
-use Rattle.acl_people.specs.KnownPeople.{person, persons}
 use Rattle.path_map.specs.Below.{holds_below}
 use Rattle.path_map.specs.Entries.{IsInOrder}
 use Rattle.path_map.proofs.Places.{above}
@@ -30,13 +28,11 @@ use Rattle.acl_tree.specs.Found.{FoundFile, found_file, found_in, files_found}
 use Rattle.acl_tree.specs.Operands.{is_file}
 use Rattle.acl_tree.specs.State.{State}
 use Rattle.acl_tree.proofs.Follows.{before_it}
-use Rattle.acl_rights.specs.Reach.{reach}
-use Rattle.path_classes.specs.ReachedRows.{reached_from, rows_along}
 use Rattle.path_classes.specs.Rows.{Rows, grants, grants_to}
-use Rattle.acl_rights.specs.Rows.{Verdict, cells_of, rows_of}
+use Rattle.acl_rights.specs.Rows.{Verdict}
 use Rattle.acl_rights.specs.Verdicts.{granted, rows_granted}
-use Rattle.acl_rights.proofs.Reached.{cell_reached}
 use Rattle.facl_answers.specs.Answers.{file_line}
+use Rattle.facl_answers.proofs.GrantedFiles.{cell_granted, cells_granted, rows_are, same_items}
 use Rattle.facl_counts.specs.BelowText.{below_line, granted_below, below_text}
 use Rattle.facl_counts.specs.CountTexts.{count_text}
 use Rattle.facl_counts.specs.Sums.{Sum, sum_in, sum_line, sum_lines, AreSums}
@@ -124,37 +120,8 @@ module _ (V : Verdict) (along : Bool) (s : State) where
   abbrev t : Files
   t = s.tree.files
 
-  abbrev us : List Person
-  us = persons s.people
-
-  abbrev row_along : Bool → PathOf × Node → List ℕ
-  row_along b e = cond b (reached_from (rows_of V us t) e.0 0 (cells_of V us e.1)) (cells_of V us e.1)
-
-  rows_are : rows_granted V along s ≡ map {B = PathOf × List ℕ} (λ (e : PathOf × Node). (e.0, row_along along e)) t
-  rows_are = by along
-    where
-      each : (es : Files) → map {B = PathOf × List ℕ} (λ (r : PathOf × List ℕ). (r.0, reached_from (rows_of V us t) r.0 0 r.1)) (rows_of V us es)
-          ≡ map {B = PathOf × List ℕ} (λ (e : PathOf × Node). (e.0, row_along true e)) es
-      each [] = refl
-      each (e ∷ es) = ap (λ (l : Rows). (e.0, row_along true e) ∷ l) (each es)
-
-      by : (b : Bool) → rows_along b (rows_of V us t) ≡ map {B = PathOf × List ℕ} (λ (e : PathOf × Node). (e.0, row_along b e)) t
-      by true = each t
-      by false = refl
-
-  cell : (b : Bool) (e : PathOf × Node) (user : ℕ) → slice_get (row_along b e) user ≡ option_map (λ row. granted V b s row e) (slice_get s.people.users user)
-  cell b e user = by b
-    where
-      person_at : (f : Person → ℕ) → option_map f (slice_get us user) ≡ option_map (λ row. f (person s.people.groups row)) (slice_get s.people.users user)
-      person_at f = ap (option_map f) (slice_get-map (person s.people.groups) s.people.users user) ∙ twice (slice_get s.people.users user)
-        where
-          twice : (o : Option PasswdRow) → option_map f (option_map (person s.people.groups) o) ≡ option_map (λ row. f (person s.people.groups row)) o
-          twice None = refl
-          twice (Some row) = refl
-
-      by : (c : Bool) → slice_get (row_along c e) user ≡ option_map (λ row. granted V c s row e) (slice_get s.people.users user)
-      by true = cell_reached V us t e.0 user (Some e.1) ∙ person_at (λ u. reach V t u e)
-      by false = slice_get-map (λ u. V u e.1.label) us user ∙ person_at (λ u. V u e.1.label)
+  abbrev cells : PathOf × Node → List ℕ
+  cells e = cells_granted V s along e
 
   module _ (q : Perms) (paths : List PathOf) where
     abbrev asked : PathOf × Node → Bool
@@ -167,11 +134,11 @@ module _ (V : Verdict) (along : Bool) (s : State) where
       abbrev test : PathOf × Node → Bool
       test e = has (granted V along s row e) q
 
-      grants_is : (e : PathOf × Node) → grants q user (row_along along e) ≡ test e
-      grants_is e = ap (λ o. option_map_or (λ c. has c q) o false) (cell along e user ∙ ap (option_map (λ r. granted V along s r e)) is)
+      grants_is : (e : PathOf × Node) → grants q user (cells e) ≡ test e
+      grants_is e = ap (λ o. option_map_or (λ c. has c q) o false) (cell_granted V s along e user ∙ ap (option_map (λ r. granted V along s r e)) is)
 
       abbrev of_rows : Files → Rows
-      of_rows es = filter (grants_to q user) (asked_rows (map {B = PathOf × List ℕ} (λ (e : PathOf × Node). (e.0, row_along along e)) es))
+      of_rows es = filter (grants_to q user) (asked_rows (map {B = PathOf × List ℕ} (λ (e : PathOf × Node). (e.0, cells e)) es))
 
       abbrev of_files : Files → List FoundFile
       of_files es = passing t asked test (found_in t (filter asked es))
@@ -181,7 +148,7 @@ module _ (V : Verdict) (along : Bool) (s : State) where
       same_paths (e ∷ es) = by (asked e) (same_paths es)
         where
           here : (a b : Bool) → a ≡ b → map (λ (r : PathOf × List ℕ). r.0) (of_rows es) ≡ map (λ (f : FoundFile). f.path) (of_files es)
-              → map (λ (r : PathOf × List ℕ). r.0) (cond a ((e.0, row_along along e) ∷ of_rows es) (of_rows es))
+              → map (λ (r : PathOf × List ℕ). r.0) (cond a ((e.0, cells e) ∷ of_rows es) (of_rows es))
               ≡ map (λ (f : FoundFile). f.path) (cond b (found_file (holds_below t e.0) e ∷ of_files es) (of_files es))
           here true true h more = ap (λ l. e.0 ∷ l) more
           here true false h more = absurd (cc h)
@@ -189,16 +156,16 @@ module _ (V : Verdict) (along : Bool) (s : State) where
           here false false h more = more
 
           by : (b : Bool) → map (λ (r : PathOf × List ℕ). r.0) (of_rows es) ≡ map (λ (f : FoundFile). f.path) (of_files es)
-              → map (λ (r : PathOf × List ℕ). r.0) (filter (grants_to q user) (cond b ((e.0, row_along along e) ∷ asked_rows
-              (map {B = PathOf × List ℕ} (λ (x : PathOf × Node). (x.0, row_along along x)) es)) (asked_rows (map {B = PathOf × List ℕ} (λ (x : PathOf × Node). (x.0, row_along along x)) es))))
+              → map (λ (r : PathOf × List ℕ). r.0) (filter (grants_to q user) (cond b ((e.0, cells e) ∷ asked_rows
+              (map {B = PathOf × List ℕ} (λ (x : PathOf × Node). (x.0, cells x)) es)) (asked_rows (map {B = PathOf × List ℕ} (λ (x : PathOf × Node). (x.0, cells x)) es))))
               ≡ map (λ (f : FoundFile). f.path) (passing t asked test (found_in t (cond b (e ∷ filter asked es) (filter asked es))))
-          by true more = here (grants q user (row_along along e)) (test e) (grants_is e) more
+          by true more = here (grants q user (cells e)) (test e) (grants_is e) more
           by false more = more
 
       -- the sum of the user
       sum_is : sum_in q user (asked_rows (rows_granted V along s)) ≡ sum_of_files (granted_below V along s q paths row)
       sum_is =
-          let all = rows_are in
+          let all = rows_are V s along in
           let passes = filter (grants_to q user) (asked_rows (rows_granted V along s)) in
           let same : map (λ (r : PathOf × List ℕ). r.0) passes ≡ map (λ (f : FoundFile). f.path) (granted_below V along s q paths row) =
           ap (λ (rows : Rows). map (λ (r : PathOf × List ℕ). r.0) (filter (grants_to q user) (asked_rows rows))) all ∙ same_paths t
@@ -227,12 +194,6 @@ module _ (V : Verdict) (along : Bool) (s : State) where
               ∙ ap (λ (l : List ℕ). decimal (1 + length rest) ++ (32 ∷ (name ++ (32 ∷ l)))) (append-nil (file_line file))
 
 -- ---- all lines
-
-same_items : {A : Type 0} (xs ys : List A) → ((i : ℕ) → slice_get xs i ≡ slice_get ys i) → xs ≡ ys
-same_items [] [] h = refl
-same_items [] (y ∷ ys) h = absurd (let differ = h 0 in cc)
-same_items (x ∷ xs) [] h = absurd (let differ = h 0 in cc)
-same_items (x ∷ xs) (y ∷ ys) h = let here : Some x ≡ Some y = h 0 in let same : x ≡ y = cc in λ i. same i ∷ same_items xs ys (λ n. h (suc n)) i
 
 each_line : {A : Type 0} (t : Files) (name : A → List ℕ) (sum : A → Sum) (xs : List A) → sum_lines t (map name xs) (map sum xs) ≡ flat_map (λ x. sum_line t (name x) (sum x)) xs
 each_line t name sum [] = refl

@@ -31,3 +31,4 @@ pub mod SameNodes
 pub mod TagCounts
 pub mod OtherNumbers
 pub mod CountedPuts
+pub mod WholeEdits

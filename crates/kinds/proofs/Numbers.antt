@@ -1,5 +1,5 @@
 -- Nodes by numbers, and counts.
-use Rattle.std.proofs.Common.{◌≡◌, ◌≢◌, ℕ, zero, suc, ◌+◌, ◌-◌, ◌<◌, ◌≤◌, Bool, true, false, cond, List, [], ◌∷◌, ◌++◌, length, map, set, get_or}
+use Rattle.std.proofs.Common.{◌≡◌, ◌≢◌, ℕ, zero, suc, ◌-◌, ◌<◌, ◌≤◌, Bool, true, false, cond, List, [], ◌∷◌, ◌++◌, length, map, set, get_or}
 use Rattle.std.proofs.Common.{get_or-set_same, get_or-set_other, Option, Some, None, refl, sym, ap, ◌∙◌, arith, ltb-true, ltb-false}
 use Rattle.std.specs.Prelude.{◌==◌, nat_lt, slice_get, unwrap_or, if◌then◌else◌}
 use Rattle.std.proofs.lemmas.Option.{slice_get_within}

@@ -1,5 +1,5 @@
 -- Entries put among those of a map, and others removed: their numbers have nodes, and the counts of their paths.
-use Rattle.std.proofs.Common.{◌≡◌, ℕ, ◌+◌, ◌-◌, ◌<◌, not, List, [], ◌∷◌, ◌++◌, Option, ◌∙◌, arith}
+use Rattle.std.proofs.Common.{◌≡◌, ℕ, ◌+◌, ◌<◌, not, List, [], ◌∷◌, ◌++◌, Option, ◌∙◌, arith}
 use Rattle.acl_names.specs.Paths.{PathOf}
 use Rattle.path_map.specs.Entries.{IsInOrder, found}
 use Rattle.path_map.specs.Merged.{has, put_all, without_all}

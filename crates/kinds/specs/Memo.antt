@@ -1,6 +1,6 @@
 -- Edits of nodes by their numbers: what an edit makes of a number is computed once. For inner functions: no public contract
 -- names these definitions.
-use Rattle.std.specs.Prelude.{◌≡◌, ℕ, ◌+◌, ◌-◌, ◌<◌, ◌≤◌, ◌==◌, ◌||◌, Bool, false, if◌then◌else◌, List, [], ◌∷◌, ◌++◌, length, get_or, slice_set, Some, Result, Ok, Err}
+use Rattle.std.specs.Prelude.{◌≡◌, ℕ, ◌+◌, ◌-◌, ◌<◌, ◌≤◌, ◌==◌, ◌||◌, Bool, false, if◌then◌else◌, List, [], ◌∷◌, ◌++◌, length, get_or, slice_set, Option, Some, Result, Ok, Err}
 use Rattle.std.specs.List.{AllByRecursion}
 use Rattle.acl_names.specs.Paths.{PathOf}
 use Rattle.path_map.specs.Merged.{put_all}
@@ -8,6 +8,7 @@ use Rattle.kinds.specs.declared.memo.Met.{Met}
 use Rattle.kinds.specs.Kinds.{KindsOf, node_at, count_at, IsNode}
 use Rattle.kinds.specs.Numbered.{Numbers, Kept, entries_by, entries_in, paths_with, AreUsed}
 use Rattle.kinds.specs.Inner.{Extends, paths_in}
+use Rattle.kinds.specs.Given.{used_at}
 
 -- an edit of nodes
 abbrev pub NodeEdit : Type 0 → Type 0 → Type 0
@@ -99,3 +100,7 @@ pub record Moves {N : Type 0} (old : KindsOf N) (met : List Met) (new : KindsOf 
 pub record ArePut {N : Type 0} (old new : Kept N) (puts : Numbers) : Type 0 where
   pub used : AreUsed new.0 puts
   pub put : entries_in new ≡ put_all (entries_by new.0 puts) (entries_in old)
+
+-- a node is what an edit makes of that of a number, if paths have the number
+abbrev pub EditsUsed : {N F : Type 0} → NodeEdit N F → KindsOf N → ℕ → Option N → Type 0
+EditsUsed {N} edit k n made = (x : N) → used_at k n ≡ Some x → (y : N) × ((made ≡ Some y) × (edit x ≡ Ok y))

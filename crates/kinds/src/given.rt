@@ -103,7 +103,8 @@ impl<N: Drop> KindMap<N> {
     ) -> Result<KindMap<M>, AllocError>
         requires long { length nodes.now ≡ length self.now.0.0 }
         requires used { HaveNodes (shared_nodes nodes.now) self.now.1 }
-        ensures { IfOk result (λ new. entries_in new ≡ placed (shared_nodes nodes.now) self.now.1) }
+        ensures entries { IfOk result (λ new. entries_in new ≡ placed (shared_nodes nodes.now) self.now.1) }
+        ensures paths { IfOk result (λ new. new.1 ≡ self.now.1) }
     {
         let kinds = self.kinds().with_nodes(alloc, nodes)?;
         let numbers = self.numbers().share()?;

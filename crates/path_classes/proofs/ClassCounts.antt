@@ -103,27 +103,6 @@ module _ (old new : List (Option ℕ)) (n at : ℕ) (none : get_or old n None �
         by true more = refl
         by false more = more
 
-pub below_put : (f : FilesLeft) (old new : List (Option ℕ)) (n at : ℕ) → get_or old n None ≡ None → IsPlacePut old n at new → (end : ℕ) → AreMetBelow f old end → AreMetBelow f new end
-below_put f old new n at none put end below m lt = by (is_met old m) refl (below m lt)
-  where
-    by : (b : Bool) → is_met old m ≡ b → (b || (files_with f m == 0)) ≡ true → (is_met new m || (files_with f m == 0)) ≡ true
-    by true is h = ap (λ b. b || (files_with f m == 0)) (still_met old new n at none put m is)
-    by false is h = ap (λ b. is_met new m || b) h ∙ or_true (is_met new m)
-      where
-        or_true : (b : Bool) → (b || true) ≡ true
-        or_true true = refl
-        or_true false = refl
-
-pub below_next : (f : FilesLeft) (places : List (Option ℕ)) (n : ℕ) → AreMetBelow f places n → (is_met places n || (files_with f n == 0)) ≡ true → AreMetBelow f places (n + 1)
-below_next f places n below here m lt = by (m == n) refl
-  where
-    by : (b : Bool) → (m == n) ≡ b → (is_met places m || (files_with f m == 0)) ≡ true
-    by true same = ap (λ k. is_met places k || (files_with f k == 0)) (eqb-true m n same) ∙ here
-    by false other = below m (smaller other)
-      where
-        smaller : (m == n) ≡ false → m < n
-        smaller other = grind (arith, other, lt)
-
 -- ---- one file after another
 
 module _ (all left : Numbers) (places : List (Option ℕ)) (found : List (Tallied ℕ)) where
@@ -363,9 +342,6 @@ meeting_begins all places found none nothing =
       counts = λ test. no_number test all;
       firsts = λ test. refl;
     }))
-
-pub none_below : (f : FilesLeft) (places : List (Option ℕ)) → AreMetBelow f places 0
-none_below f places n lt = absurd (omega (arith, lt))
 
 pub first_is : (es : Numbers) (e : PathOf × ℕ) → first es ≡ Some e → es ≡ e ∷ drop 1 es
 first_is [] e is = absurd (none-some e is)

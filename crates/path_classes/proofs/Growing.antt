@@ -11,7 +11,7 @@ use Rattle.path_classes.specs.declared.label_row.LabelRow.{LabelRow}
 use Rattle.path_classes.specs.declared.path_class.PathClass.{PathClass}
 use Rattle.path_classes.specs.PathClasses.{ClassKinds, kept_search, search_above, depth_below, AboveKeeps, IsRight}
 use Rattle.path_classes.specs.Searching.{searchers}
-use Rattle.path_classes.specs.ClassBuilding.{IsKnown, IsRightAt, IsRightAbove, AreRight, AreKept, IsKeptClass, Stays, Grows, Widens, IsThere, Fills, Keeps, Finds}
+use Rattle.path_classes.specs.ClassBuilding.{IsKnown, IsRightAt, IsRightAbove, AreRight, AreKept, IsKeptClass, Stays, Grows, Widens, Fills, Keeps, Finds}
 use Rattle.kinds.specs.Renumbered.{Replaces}
 
 pub stays_itself : (c : PathClass) → Stays c c
@@ -68,10 +68,6 @@ module _ (rows : KindsOf LabelRow) (old new : ClassKinds) (g : Grows old new) wh
     depth = r.depth ∙ sym (depth_grown c.above r.above);
     search = subst (λ o. IfSome c.search (λ s. s ≡ searchers o r.row.row)) (sym (search_grown c.above r.above)) r.search;
   }
-
-  pub there_grown : (above : Option ℕ) → IsThere old above → IsThere new above
-  there_grown None h = tt
-  there_grown (Some n) h = let d = g n h.0 h.1 in (d.0, d.1.0)
 
 pub some_is : {A : Type 0} (o : Option A) (x y : A) → o ≡ Some x → o ≡ Some y → x ≡ y
 some_is o x y h k = let e : Some x ≡ Some y = sym h ∙ k in cc

@@ -2,7 +2,8 @@
 use Rattle.std.proofs.Common.{◌≡◌, ℕ, zero, suc, ◌+◌, ◌<◌, ◌≤◌, ◌&&◌, Bool, true, false, cond, List, [], ◌∷◌, ◌++◌, take, drop, length, replicate, get_or, min, ◌-◌, drop-cons, Option, Some, None}
 use Rattle.std.proofs.Common.{refl, sym, ap, ◌∙◌, arith}
 use Rattle.std.proofs.lemmas.List.{get_or_past, length-take-le, take-append-drop, take-append-le, take_all}
-use Rattle.std.specs.Prelude.{◌==◌}
+use Rattle.std.specs.Prelude.{◌==◌, option_map, slice_get}
+use Rattle.std.specs.Option.{option_map_or}
 use Rattle.std.proofs.lemmas.Nat.Bits.{bit_at-zero}
 use Rattle.acl_entry.specs.Check.{has}
 use Rattle.acl_entry.specs.Perms.{Perms, number}
@@ -76,7 +77,7 @@ left_in_place above cells items u is new written n len =
     ∙ (λ i. written i ++ replicate (length cells - len i) 0)
     ∙ left_below above 0 u (length cells - u) cells (omega (arith, is)) (omega (arith, short)) (λ lt. omega (arith, is, lt))
 
--- what is reached at a path is what-- what is reached at a path is what those who get through are left
+-- what is reached at a path is what those who get through are left
 pub reached_left : (all : Rows) (p : PathOf) (above : Option (List Bool)) → ((user : ℕ) → passes_in all user p ≡ gets_through above user) → (n : ℕ) (cells : List ℕ)
     → reached_from all p n cells ≡ left_from above n cells
 reached_left all p above same n [] = refl
@@ -87,12 +88,23 @@ granted_cell : (q : Perms) (c : ℕ) (b : Bool) → has (cond b c 0) q ≡ (has 
 granted_cell q c true = sym (and_true (has c q))
 granted_cell q c false = ap (λ n. n == 1) (bit_at-zero (number q)) ∙ sym (and_false (has c q))
 
-granted_from : (above : Option (List Bool)) (q : Perms) (n user : ℕ) (cells : List ℕ) → grants q user (left_from above n cells) ≡ (grants q user cells && gets_through above (n + user))
-granted_from above q n user [] = refl
-granted_from above q n zero (c ∷ cells) = let e : n ≡ n + 0 = omega arith in granted_cell q c (gets_through above n) ∙ ap (λ k. has c q && gets_through above k) e
-granted_from above q n (suc user) (c ∷ cells) =
-    let e : suc n + user ≡ n + suc user = omega arith in granted_from above q (suc n) user cells ∙ ap (λ k. grants q user cells && gets_through above k) e
+left_get : (above : Option (List Bool)) (n user : ℕ) (cells : List ℕ) → slice_get (left_from above n cells) user ≡ option_map (λ c. cond (gets_through above (n + user)) c 0) (slice_get cells user)
+left_get above n user [] = refl
+left_get above n zero (c ∷ cells) = let e : n ≡ n + 0 = omega arith in ap (λ k. Some (cond (gets_through above k) c 0)) e
+left_get above n (suc user) (c ∷ cells) =
+    let e : suc n + user ≡ n + suc user = omega arith in
+    left_get above (suc n) user cells ∙ ap (λ k. option_map (λ c. cond (gets_through above k) c 0) (slice_get cells user)) e
+
+-- what is left of the verdict on a user
+pub cell_left : (above : Option (List Bool)) (user : ℕ) (cells : List ℕ) → slice_get (left_from above 0 cells) user ≡ option_map (λ c. cond (gets_through above user) c 0) (slice_get cells user)
+cell_left above user cells =
+    let e : 0 + user ≡ user = omega arith in
+    left_get above 0 user cells ∙ ap (λ k. option_map (λ c. cond (gets_through above k) c 0) (slice_get cells user)) e
 
 -- what is left grants a user a request if the row does, and the user gets through
 pub granted_left : (above : Option (List Bool)) (q : Perms) (user : ℕ) (cells : List ℕ) → grants q user (left_from above 0 cells) ≡ (grants q user cells && gets_through above user)
-granted_left above q user cells = let e : 0 + user ≡ user = omega arith in granted_from above q 0 user cells ∙ ap (λ k. grants q user cells && gets_through above k) e
+granted_left above q user cells = ap (λ o. option_map_or (λ c. has c q) o false) (cell_left above user cells) ∙ by (slice_get cells user)
+  where
+    by : (o : Option ℕ) → option_map_or (λ c. has c q) (option_map (λ c. cond (gets_through above user) c 0) o) false ≡ (option_map_or (λ c. has c q) o false && gets_through above user)
+    by None = refl
+    by (Some c) = granted_cell q c (gets_through above user)

@@ -15,6 +15,7 @@ pub mod Renewals
 pub mod Inside
 pub mod ClassTags
 pub mod RenewedClasses
+pub mod SearchedOnce
 pub mod Relabelled
 pub mod Touched
 pub mod Places

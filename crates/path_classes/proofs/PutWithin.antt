@@ -16,7 +16,7 @@ use Rattle.path_map.specs.Below.{within, nearest_above}
 use Rattle.path_map.specs.Merged.{has, merged}
 use Rattle.path_map.proofs.Merges.{in_order-merged}
 use Rattle.path_map.proofs.Rows.{kept, find_filter, find_merged, in_order-filter, in_order-rows, sorted_rows}
-use Rattle.kinds.specs.Kinds.{node_at, count_at, IsNode}
+use Rattle.kinds.specs.Kinds.{node_at, count_at}
 use Rattle.kinds.specs.Numbered.{Kept, Numbers, AreUsed, paths_with}
 use Rattle.kinds.specs.Inner.{AreAmong}
 use Rattle.kinds.proofs.Chosen.{among_all}
@@ -132,9 +132,6 @@ module _ (rows : Kept LabelRow) (tops : List PathOf) (old : Numbers) (first k : 
 
   pub made_used : AreUsed k made
   made_used = used_each (λ (e : PathOf × ℕ). option_or (class_above e.0 made) (class_above e.0 (outside tops old))) made f.each
-
-  pub still_there : (n : ℕ) → IsNode first n → IsNode k n
-  still_there n x = let d = f.widens.grows n x.0 x.1 in (d.0, d.1.0)
 
   pub tags_stay : KeepsTags (λ (c : PathClass). class_tags c.above c.kind) first k
   tags_stay n x is = let d = f.widens.grows n x is in (d.0, (d.1.0, (λ i. class_tags (d.1.1.above i) (d.1.1.kind i))))

@@ -9,7 +9,7 @@ use Rattle.acl_names.specs.Paths.{path_cmp, PathOf}
 use Rattle.acl_names.proofs.PathOrder.{exact_paths}
 use Rattle.acl_names.proofs.Basics.{is_equal}
 use Rattle.path_map.specs.Entries.{IsInOrder}
-use Rattle.kinds.specs.Kinds.{node_at, IsNode}
+use Rattle.kinds.specs.Kinds.{node_at}
 use Rattle.kinds.specs.Numbered.{Kept, AreUsed, entries_in}
 use Rattle.kinds.proofs.Counts.{found_entry}
 use Rattle.path_classes.specs.declared.label_row.LabelRow.{LabelRow}
@@ -17,7 +17,7 @@ use Rattle.path_classes.specs.declared.path_class.PathClass.{PathClass}
 use Rattle.path_classes.specs.KindRows.{rows_at}
 use Rattle.path_classes.specs.ReachedRows.{passes_in, reached_at}
 use Rattle.path_classes.specs.Searching.{gets_through}
-use Rattle.path_classes.specs.PathClasses.{search_above, kind_at, AboveKeeps, HasClass, AreClasses}
+use Rattle.path_classes.specs.PathClasses.{search_above, kind_at, HasClass, AreClasses}
 use Rattle.path_classes.proofs.Maps.{find-values}
 use Rattle.path_classes.proofs.Searched.{in_order_at, cell_of_none, cell_here}
 use Rattle.path_classes.proofs.Growing.{some_is}
@@ -50,25 +50,16 @@ module _ (rows : Kept LabelRow) (classes : Kept PathClass) (used : AreUsed rows.
     abbrev has : HasClass rows.0 classes.0 classes.1 (p, n)
     has = all_found (HasClass rows.0 classes.0 classes.1) p classes.1 n w.each found
 
-    pub class_there : IsNode classes.0 n
-    class_there = (has.class, has.is)
-
     module _ (class : PathClass) (is : node_at classes.0 n ≡ Some class) where
       same_class : has.class ≡ class
       same_class = some_is (node_at classes.0 n) has.class class has.is is
 
-      pub row_there : IsNode rows.0 class.kind
-      row_there = (has.right.row, ap (λ (c : PathClass). node_at rows.0 c.kind) (sym same_class) ∙ has.right.has_row)
-
-      pub above_keeps : AboveKeeps classes.0 class.above
-      above_keeps = subst (λ (c : PathClass). AboveKeeps classes.0 c.above) same_class has.right.above
-
-      pub row_found : (row : LabelRow) → node_at rows.0 class.kind ≡ Some row → find path_cmp p (entries_in rows) ≡ Some row
+      row_found : (row : LabelRow) → node_at rows.0 class.kind ≡ Some row → find path_cmp p (entries_in rows) ≡ Some row
       row_found row row_is =
           rows_of ∙ ap (λ (o : Option ℕ). option_and_then (node_at rows.0) (option_map (kind_at classes.0) o)) found
           ∙ ap (λ (o : Option PathClass). node_at rows.0 (option_map_or (λ c. c.kind) o 0)) is ∙ row_is
 
-      pub passes_found : IsInOrder (entries_in rows) → (user : ℕ) → gets_through (search_above classes.0 class.above) user ≡ passes_in (rows_at (entries_in rows)) user p
+      passes_found : IsInOrder (entries_in rows) → (user : ℕ) → gets_through (search_above classes.0 class.above) user ≡ passes_in (rows_at (entries_in rows)) user p
       passes_found order user =
           ap (λ (c : PathClass). gets_through (search_above classes.0 c.above) user) (sym same_class)
           ∙ sym (passes_class rows classes used w (in_order_at (entries_in rows) order) user (p, n) has)

@@ -46,9 +46,6 @@ valued g es = map {B = PathOf × ℕ} (λ e. (e.0, g e.1)) es
 one_here : (n m : ℕ) → (m == n) ≡ true → one_if n m ≡ 1
 one_here n m same = ap (λ b. if b then 1 else 0) same
 
-one_apart : (n m : ℕ) → (m == n) ≡ false → one_if n m ≡ 0
-one_apart n m apart = ap (λ b. if b then 1 else 0) apart
-
 itself : (n : ℕ) → (n == n) ≡ true
 itself n = from_T (n == n) (eqb_refl n)
 

@@ -23,9 +23,6 @@ use Rattle.path_classes.proofs.Growing.{some_is, some_of}
 same_number : (n : ℕ) → eqb n n ≡ true
 same_number n = from_T (eqb n n) (eqb_refl n)
 
-one_first : (n : ℕ) (ns : List ℕ) → is_one n (n ∷ ns) ≡ true
-one_first n ns = ap (λ b. b || list_any (λ m. eqb m n) ns) (same_number n)
-
 or_false : (a b : Bool) → (a || b) ≡ false → (a ≡ false) × (b ≡ false)
 or_false true b h = cc
 or_false false b h = (refl, h)
@@ -56,7 +53,7 @@ one_later n m ns h = by (eqb n m)
     by true = refl
     by false = h
 
-not_both : (b : Bool) → b ≡ true → b ≡ false → ⊥
+pub not_both : (b : Bool) → b ≡ true → b ≡ false → ⊥
 not_both b h k = cc
 
 -- ---- shapes
@@ -105,6 +102,43 @@ module _ (rows : KindsOf LabelRow) (before k : ClassKinds) (same : (n : ℕ) →
         depth = depth ∙ l.depth ∙ sym (depth_shaped d.0.above) ∙ ap (depth_below k) (sym above);
       }
 
+-- ---- a class that is made again
+
+module _ (k : ClassKinds) (n : ℕ) (x : PathClass) (new : ClassKinds) (r : Replaces k x n new) where
+  at_new : node_at new n ≡ Some x
+  at_new = r.nodes n ∙ ap (λ b. if b then Some x else node_at k n) (same_number n)
+
+  pub is_new : (m : ℕ) (c : PathClass) → eqb m n ≡ true → node_at new m ≡ Some c → x ≡ c
+  is_new m c here is = some_is (node_at new m) x c (ap (node_at new) (eqb→eq m n (to_T (eqb m n) here)) ∙ at_new) is
+
+  pub at_other : (m : ℕ) → eqb m n ≡ false → node_at new m ≡ node_at k m
+  at_other m apart = r.nodes m ∙ ap (λ b. if b then Some x else node_at k m) apart
+
+  pub shapes_still : (c : PathClass) → node_at k n ≡ Some c → shape x ≡ shape c → (m : ℕ) → shape_at new m ≡ shape_at k m
+  shapes_still c was same m = by (eqb m n) refl
+    where
+      by : (b : Bool) → eqb m n ≡ b → shape_at new m ≡ shape_at k m
+      by true here =
+          let e : m ≡ n = eqb→eq m n (to_T (eqb m n) here) in
+          ap (shape_at new) e ∙ ap (option_map shape) at_new ∙ ap Some same ∙ sym (ap (option_map shape) was) ∙ ap (shape_at k) (sym e)
+      by false apart = ap (option_map shape) (at_other m apart)
+
+  -- what gets through a class above that is another one stays
+  search_other : (above : Option ℕ) → (above ≡ Some n → ⊥) → search_above new above ≡ search_above k above
+  search_other None h = refl
+  search_other (Some m) h = by (eqb m n) refl
+    where
+      by : (b : Bool) → eqb m n ≡ b → search_above new (Some m) ≡ search_above k (Some m)
+      by true here = absurd (h (ap Some (eqb→eq m n (to_T (eqb m n) here))))
+      by false apart = ap (λ o. Some (unwrap_or (kept_search o) [])) (at_other m apart)
+
+  pub fresh_still : (rows : KindsOf LabelRow) (c : PathClass) → (c.above ≡ Some n → ⊥) → IsFresh rows k c → IsFresh rows new c
+  fresh_still rows c h f = by c.search f
+    where
+      by : (o : Option (List Bool)) → IfSome o (IsSearch rows k c) → IfSome o (IsSearch rows new c)
+      by None f = tt
+      by (Some s) f = λ row has. f row has ∙ ap (λ o. searchers o row.row) (sym (search_other c.above h))
+
 -- ---- a class that waits
 
 module _ (rows : KindsOf LabelRow) (before k : ClassKinds) (linked : AreLinked rows before) (n : ℕ) (rest changed : List ℕ) (w : Awaits rows before k (n ∷ rest) changed) where
@@ -127,37 +161,6 @@ module _ (rows : KindsOf LabelRow) (before k : ClassKinds) (linked : AreLinked r
 
   -- it changes
   module _ (x : PathClass) (a : IsAgain rows k n x) (new : ClassKinds) (r : Replaces k x n new) (below : List ℕ) (b : AreBelow before n below) where
-    at_new : node_at new n ≡ Some x
-    at_new = r.nodes n ∙ ap (λ b. if b then Some x else node_at k n) (same_number n)
-
-    at_other : (m : ℕ) → eqb m n ≡ false → node_at new m ≡ node_at k m
-    at_other m apart = r.nodes m ∙ ap (λ b. if b then Some x else node_at k m) apart
-
-    shapes : (m : ℕ) → shape_at new m ≡ shape_at k m
-    shapes m = by (eqb m n) refl
-      where
-        by : (b : Bool) → eqb m n ≡ b → shape_at new m ≡ shape_at k m
-        by true here =
-            let e : m ≡ n = eqb→eq m n (to_T (eqb m n) here) in
-            ap (shape_at new) e ∙ ap (option_map shape) at_new ∙ ap Some a.shape ∙ sym (ap (option_map shape) a.is) ∙ ap (shape_at k) (sym e)
-        by false apart = ap (option_map shape) (at_other m apart)
-
-    -- what gets through a class above that is another one stays
-    search_other : (above : Option ℕ) → (above ≡ Some n → ⊥) → search_above new above ≡ search_above k above
-    search_other None h = refl
-    search_other (Some m) h = by (eqb m n) refl
-      where
-        by : (b : Bool) → eqb m n ≡ b → search_above new (Some m) ≡ search_above k (Some m)
-        by true here = absurd (h (ap Some (eqb→eq m n (to_T (eqb m n) here))))
-        by false apart = ap (λ o. Some (unwrap_or (kept_search o) [])) (at_other m apart)
-
-    fresh_still : (c : PathClass) → (c.above ≡ Some n → ⊥) → IsFresh rows k c → IsFresh rows new c
-    fresh_still c h f = by c.search f
-      where
-        by : (o : Option (List Bool)) → IfSome o (IsSearch rows k c) → IfSome o (IsSearch rows new c)
-        by None f = tt
-        by (Some s) f = λ row has. f row has ∙ ap (λ o. searchers o row.row) (sym (search_other c.above h))
-
     -- a class is not above itself
     above_apart : x.above ≡ Some n → ⊥
     above_apart up =
@@ -177,16 +180,13 @@ module _ (rows : KindsOf LabelRow) (before k : ClassKinds) (linked : AreLinked r
     fresh_next m c used is out = by (eqb m n) refl
       where
         by : (b : Bool) → eqb m n ≡ b → IsFresh rows new c
-        by true here =
-            let e : m ≡ n = eqb→eq m n (to_T (eqb m n) here) in
-            let same : x ≡ c = some_is (node_at new m) x c (ap (node_at new) e ∙ at_new) is in
-            subst (IsFresh rows new) same (fresh_still x above_apart a.fresh)
+        by true here = subst (IsFresh rows new) (is_new k n x new r m c here is) (fresh_still k n x new r rows x above_apart a.fresh)
         by false apart =
             let outs = one_append m rest below out in
-            let old : node_at k m ≡ Some c = sym (at_other m apart) ∙ is in
+            let old : node_at k m ≡ Some c = sym (at_other k n x new r m apart) ∙ is in
             let there : 0 < count_at k m = let e = r.counts m in omega (arith, used, e) in
             let turned : eqb n m ≡ false = grind (arith, apart) in
-            fresh_still c (above_below m c there old outs.1) (w.fresh m c there old (ap (λ b. b || list_any (λ i. eqb i m) rest) turned ∙ outs.0))
+            fresh_still k n x new r rows c (above_below m c there old outs.1) (w.fresh m c there old (ap (λ b. b || list_any (λ i. eqb i m) rest) turned ∙ outs.0))
 
     used_both : (ms ns : List ℕ) → AllByRecursion (λ m. 0 < count_at k m) ms → AllByRecursion (IsBelow before n) ns
         → AllByRecursion (λ m. 0 < count_at new m) (ms ++ ns)
@@ -197,13 +197,13 @@ module _ (rows : KindsOf LabelRow) (before k : ClassKinds) (linked : AreLinked r
     pub awaits_more : Awaits rows before new (rest ++ below) (changed ++ n ∷ [])
     awaits_more = record {
       counts = λ m. r.counts m ∙ w.counts m;
-      shapes = λ m. shapes m ∙ w.shapes m;
+      shapes = λ m. shapes_still k n x new r a.class a.is a.shape m ∙ w.shapes m;
       fresh = fresh_next;
       used = used_both rest below w.used.1 b.each;
       same = λ m out.
           let outs = one_append m changed (n ∷ []) out in
           let turned : eqb m n ≡ false = let apart = (one_none m n [] outs.1).0 in grind (arith, apart) in
-          at_other m turned ∙ w.same m outs.0;
+          at_other k n x new r m turned ∙ w.same m outs.0;
     }
 
 -- ---- one step
@@ -269,9 +269,6 @@ some_power b (suc k) = let more = some_power b k in omega (arith, more)
 -- what counts for a class that waits: more than for all classes that may wait for it
 abbrev pub weight : ClassKinds → ℕ → ℕ
 weight k n = power (suc (length k.0)) (suc (deepest k.0 - depth_at k n))
-
-pub weight_some : (k : ClassKinds) (n : ℕ) → 1 ≤ weight k n
-weight_some k n = some_power (length k.0) (suc (deepest k.0 - depth_at k n))
 
 weights_few : (k : ClassKinds) (p most : ℕ) (ns : List ℕ) → AllByRecursion (λ m. weight k m ≡ p) ns → length ns ≤ most → sum_by (weight k) ns ≤ times most p
 weights_few k p most [] h few = omega arith

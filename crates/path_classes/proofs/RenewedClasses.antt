@@ -6,7 +6,7 @@ use Rattle.std.specs.List.{AllByRecursion}
 use Rattle.std.specs.Option.{option_map_or}
 use Rattle.acl_names.specs.Paths.{PathOf}
 use Rattle.acl_names.proofs.Basics.{to_T, from_T}
-use Rattle.kinds.specs.Kinds.{node_at, count_at, IsNode}
+use Rattle.kinds.specs.Kinds.{KindsOf, node_at, count_at, IsNode}
 use Rattle.kinds.specs.Tagged.{tags_at}
 use Rattle.kinds.specs.Numbered.{Kept, Numbers, AreUsed, AreSound, paths_with, one_if}
 use Rattle.path_classes.specs.declared.label_row.LabelRow.{LabelRow}
@@ -15,7 +15,7 @@ use Rattle.path_classes.specs.Searching.{searchers}
 use Rattle.path_classes.specs.PathClasses.{ClassKinds, kind_at, search_above, IsRight, HasClass, AreClasses}
 use Rattle.path_classes.specs.ClassTags.{class_tags}
 use Rattle.path_classes.specs.ClassedRows.{verdicts_at, ChangesRows}
-use Rattle.path_classes.specs.Renewing.{is_one, IsLinked, IsSearch, IsFresh, AreLinked, Shape, shape, Awaits, HasLinked, FitBut, AreClassesOf, AreSearched}
+use Rattle.path_classes.specs.Renewing.{is_one, IsLinked, IsSearch, IsFresh, AreLinked, Shape, shape, shape_at, Awaits, AreRenewed, HasLinked, FitBut, AreClassesOf, AreSearched}
 use Rattle.path_classes.proofs.Growing.{some_is}
 use Rattle.path_classes.proofs.Renewals.{shape_of, linked_shaped}
 
@@ -40,32 +40,38 @@ tags_by_shape true None = refl
 tags_by_shape true (Some c) = refl
 tags_by_shape false o = refl
 
+-- classes of the same shapes
+module _ (classes : Kept PathClass) (sound : AreSound classes.0 classes.1) (new : ClassKinds) (counts : (n : ℕ) → count_at new n ≡ count_at classes.0 n)
+    (shapes : (n : ℕ) → shape_at new n ≡ shape_at classes.0 n) where
+  node_still : (n : ℕ) → IsNode classes.0 n → IsNode new n
+  node_still n x = let d = shape_of classes.0 new (λ m. sym (shapes m)) n x.0 x.1 in (d.0, d.1.0)
+
+  used_still : (es : Numbers) → AreUsed classes.0 es → AreUsed new es
+  used_still [] h = tt
+  used_still (e ∷ es) h = (node_still e.1 h.0, used_still es h.1)
+
+  pub still_sound : AreSound new classes.1
+  still_sound = record { order = sound.order; used = used_still classes.1 sound.used; counted = λ n. counts n ∙ sound.counted n }
+
+  same_tags : (n : ℕ) → tags_at tags_of_class new n ≡ tags_at tags_of_class classes.0 n
+  same_tags n =
+      tags_by_shape (nat_lt 0 (count_at new n)) (node_at new n)
+      ∙ (λ i. option_map_or tags_of_shape (if nat_lt 0 (counts n i) then shapes n i else None) [])
+      ∙ sym (tags_by_shape (nat_lt 0 (count_at classes.0 n)) (node_at classes.0 n))
+
+  pub tags_still : (last : Kept PathClass) → last ≡ (new, classes.1) → (n : ℕ) → tags_at tags_of_class last.0 n ≡ tags_at tags_of_class classes.0 n
+  tags_still last is n = ap (λ (l : Kept PathClass). tags_at tags_of_class l.0 n) is ∙ same_tags n
+
+pub renewed_all : (rows : KindsOf LabelRow) (before k : ClassKinds) (changed : List ℕ) → Awaits rows before k [] changed → AreRenewed rows before k
+renewed_all rows before k changed a = record { counts = a.counts; shapes = a.shapes; fresh = λ n c used is. a.fresh n c used is refl }
+
 module _ (rows : Kept LabelRow) (classes : Kept PathClass) (sound : AreSound classes.0 classes.1) (waiting : List ℕ) (w : FitBut rows classes waiting) where
   pub fit_linked : AreLinked rows.0 classes.0
   fit_linked n c used is =
       let one = counted_one (HasLinked rows.0 classes.0 classes.1) n classes.1 w.each (let e = sound.counted n in omega (arith, used, e)) in
       subst (IsLinked rows.0 classes.0) (some_is (node_at classes.0 n) one.1.class c one.1.is is) one.1.linked
 
-  module _ (new : ClassKinds) (changed : List ℕ) (a : Awaits rows.0 classes.0 new [] changed) where
-    node_still : (n : ℕ) → IsNode classes.0 n → IsNode new n
-    node_still n x = let d = shape_of classes.0 new (λ m. sym (a.shapes m)) n x.0 x.1 in (d.0, d.1.0)
-
-    used_still : (es : Numbers) → AreUsed classes.0 es → AreUsed new es
-    used_still [] h = tt
-    used_still (e ∷ es) h = (node_still e.1 h.0, used_still es h.1)
-
-    pub renewed_sound : AreSound new classes.1
-    renewed_sound = record { order = sound.order; used = used_still classes.1 sound.used; counted = λ n. a.counts n ∙ sound.counted n }
-
-    same_tags : (n : ℕ) → tags_at tags_of_class new n ≡ tags_at tags_of_class classes.0 n
-    same_tags n =
-        tags_by_shape (nat_lt 0 (count_at new n)) (node_at new n)
-        ∙ (λ i. option_map_or tags_of_shape (if nat_lt 0 (a.counts n i) then a.shapes n i else None) [])
-        ∙ sym (tags_by_shape (nat_lt 0 (count_at classes.0 n)) (node_at classes.0 n))
-
-    pub tags_still : (last : Kept PathClass) → last ≡ (new, classes.1) → (n : ℕ) → tags_at tags_of_class last.0 n ≡ tags_at tags_of_class classes.0 n
-    tags_still last is n = ap (λ (l : Kept PathClass). tags_at tags_of_class l.0 n) is ∙ same_tags n
-
+  module _ (new : ClassKinds) (a : AreRenewed rows.0 classes.0 new) where
     kinds_still : (es : Numbers) → map {B = PathOf × ℕ} (λ e. (e.0, kind_at new e.1)) es ≡ map {B = PathOf × ℕ} (λ e. (e.0, kind_at classes.0 e.1)) es
     kinds_still [] = refl
     kinds_still (e ∷ es) = λ i. (e.0, same i) ∷ kinds_still es i
@@ -85,7 +91,7 @@ module _ (rows : Kept LabelRow) (classes : Kept PathClass) (sound : AreSound cla
           has_row = l.has_row;
           above = l.above;
           depth = l.depth;
-          search = by c.search (a.fresh n c used is refl) l.row l.has_row;
+          search = by c.search (a.fresh n c used is) l.row l.has_row;
         }
       where
         by : (o : Option (List Bool)) → IfSome o (IsSearch rows.0 new c) → (row : LabelRow) → node_at rows.0 c.kind ≡ Some row → IfSome o (λ s. s ≡ searchers (search_above new c.above) row.row)

@@ -1,6 +1,6 @@
 -- Files of two classes that have the same answers, and how many files have others.
 use Rattle.std.proofs.Common.{◌≡◌, ℕ, zero, suc, ◌+◌, ◌<◌, ◌≤◌, Bool, true, false, cond, List, [], ◌∷◌, ◌++◌, map, take, length, get_or, Option, Some, refl, sym, ap, subst, ◌∙◌, arith}
-use Rattle.std.specs.Prelude.{count_by, option_map, slice_get, IfSome, if◌then◌else◌}
+use Rattle.std.specs.Prelude.{count_by, option_map, slice_get, if◌then◌else◌}
 use Rattle.std.specs.Borrow.{Bor}
 use Rattle.std.specs.FinMap.{find}
 use Rattle.std.proofs.lemmas.List.Sums.{sum_by-cons, sum_by-append}
@@ -12,7 +12,6 @@ use Rattle.kinds.specs.Inner.{AreAmong}
 use Rattle.kinds.proofs.EntriesBy.{items_more}
 use Rattle.path_classes.specs.declared.label_row.LabelRow.{LabelRow}
 use Rattle.path_classes.specs.declared.path_class.PathClass.{PathClass}
-use Rattle.path_classes.specs.declared.changed_answers.Comparison.{Comparison}
 use Rattle.path_classes.specs.Searching.{gets_through}
 use Rattle.path_classes.specs.PathClasses.{ClassKinds, AreClasses}
 use Rattle.path_classes.specs.ChangedAnswers.{SameReach, HadSameReach}
@@ -74,17 +73,6 @@ module _ (old new : Kept LabelRow) (before after : Kept PathClass) (used_old : A
             at_most false = omega arith
 
 -- ---- what was compared
-
-pub kept_all : (P : Comparison → Type 0) (f g : ℕ → Option Comparison) (is : ℕ → Bool) (c : Comparison) → ((q : ℕ) → g q ≡ cond (is q) (Some c) (f q)) → ((q : ℕ) → IfSome (f q) P) → P c
-    → (q : ℕ) → IfSome (g q) P
-kept_all P f g is c puts all h q = subst (λ o. IfSome o P) (sym (puts q)) (by (is q))
-  where
-    by : (b : Bool) → IfSome (cond b (Some c) (f q)) P
-    by true = h
-    by false = all q
-
-pub true_for : (P : ℕ → ℕ → Type 0) (c : Comparison) (m n : ℕ) → (c.was ≡ m) × (c.is ≡ n) → (c.is_same ≡ true → P c.was c.is) → c.is_same ≡ true → P m n
-true_for P c m n is h same = subst (λ k. P k n) is.0 (subst (λ k. P c.was k) is.1 (h same))
 
 -- ---- what was compared by other names
 

@@ -1,22 +1,18 @@
--- Numbers of labels and of classes that are found in turn.
-use Rattle.std.proofs.Common.{◌≡◌, ◌<◌, ◌≤◌, ◌+◌, ℕ, Bool, true, false, ◌||◌, List, [], ◌∷◌, ◌++◌, length, take, get_or, is_some, nat_lt, Some, None, refl, sym}
-use Rattle.std.proofs.Common.{ap, subst, ◌∙◌, arith, ltb-true, ltb-false}
-use Rattle.std.proofs.Math.Dec.{eqb→eq, eqb_refl}
+-- Numbers of classes that are found in turn.
+use Rattle.std.proofs.Common.{◌≡◌, ◌<◌, ◌+◌, ℕ, Bool, true, false, ◌||◌, List, [], ◌∷◌, ◌++◌, is_some, nat_lt, Some, None, refl, ap, ◌∙◌, arith, ltb-true, ltb-false}
+use Rattle.std.proofs.Math.Dec.{eqb_refl}
 use Rattle.std.specs.Prelude.{◌==◌, if◌then◌else◌}
 use Rattle.std.specs.List.{AllByRecursion}
-use Rattle.std.proofs.lemmas.List.{take_more}
 use Rattle.std.proofs.lemmas.List.Folds.{list_any-append}
-use Rattle.acl_names.proofs.Basics.{to_T, from_T, all_end}
+use Rattle.acl_names.proofs.Basics.{from_T, all_end}
 use Rattle.kinds.specs.Given.{used_at}
-use Rattle.kinds.specs.Kinds.{KindsOf, node_at, count_at}
-use Rattle.path_classes.specs.declared.label_row.LabelRow.{LabelRow}
+use Rattle.kinds.specs.Kinds.{node_at, count_at}
 use Rattle.path_classes.specs.declared.path_class.PathClass.{PathClass}
 use Rattle.path_classes.specs.FoundClasses.{is_searched}
 use Rattle.path_classes.specs.PathClasses.{ClassKinds}
-use Rattle.path_classes.specs.ClassedRows.{verdicts_at}
-use Rattle.path_classes.specs.Renewing.{is_one, AreSearched}
-use Rattle.path_classes.proofs.ClassTags.{used_is, within}
-use Rattle.path_classes.proofs.Inside.{one_at}
+use Rattle.path_classes.specs.Renewing.{is_one}
+use Rattle.path_classes.proofs.ClassTags.{used_is}
+use Rattle.path_classes.proofs.Renewals.{not_both}
 
 -- ---- one number more
 
@@ -38,44 +34,6 @@ last_one n ns = one_or_last n n ns ∙ ap (λ b. is_one n ns || b) (from_T (n ==
 one_more : (n m : ℕ) (ns : List ℕ) → is_one n ns ≡ true → is_one n (ns ++ m ∷ []) ≡ true
 one_more n m ns h = one_or_last n m ns ∙ ap (λ b. b || (m == n)) h
 
-either : (P : Type 0) (a b : Bool) → (a || b) ≡ true → (a ≡ true → P) → (b ≡ true → P) → P
-either P true b h f g = f refl
-either P false b h f g = g h
-
-neither : (a b : Bool) → (a || b) ≡ false → (a ≡ false) × (b ≡ false)
-neither true b h = cc
-neither false b h = (refl, h)
-
-not_both : (b : Bool) → b ≡ true → b ≡ false → ⊥
-not_both b h k = cc
-
-same_number : (m n : ℕ) → (m == n) ≡ true → m ≡ n
-same_number m n h = eqb→eq m n (to_T (m == n) h)
-
--- ---- labels whose verdicts are others
-
-module _ (old new : KindsOf LabelRow) (labels changed : List ℕ) (i x : ℕ) (lt : i < length labels) (is : x ≡ get_or labels i x) where
-  abbrev Same : List ℕ → List ℕ → Type 0
-  Same seen kept = (n : ℕ) → is_one n seen ≡ true → is_one n kept ≡ false → verdicts_at new n ≡ verdicts_at old n
-
-  seen_more : (n : ℕ) → is_one n (take (i + 1) labels) ≡ (is_one n (take i labels) || (x == n))
-  seen_more n = ap (is_one n) (take_more labels i x lt) ∙ one_or_last n (get_or labels i x) (take i labels) ∙ ap (λ m. is_one n (take i labels) || (m == n)) (sym is)
-
-  pub among_more : ((n : ℕ) → is_one n changed ≡ true → is_one n labels ≡ true) → (n : ℕ) → is_one n (changed ++ x ∷ []) ≡ true → is_one n labels ≡ true
-  among_more among n h =
-      either (is_one n labels ≡ true) (is_one n changed) (x == n) (sym (one_or_last n x changed) ∙ h) (among n)
-      (λ same. ap (λ m. is_one m labels) (sym (same_number x n same) ∙ is) ∙ one_at labels i x lt)
-
-  pub same_pushed : Same (take i labels) changed → Same (take (i + 1) labels) (changed ++ x ∷ [])
-  same_pushed same n seen out =
-      let outs = neither (is_one n changed) (x == n) (sym (one_or_last n x changed) ∙ out) in
-      either (verdicts_at new n ≡ verdicts_at old n) (is_one n (take i labels)) (x == n) (sym (seen_more n) ∙ seen) (λ one. same n one outs.0) (λ one. absurd (not_both (x == n) one outs.1))
-
-  pub same_kept : verdicts_at new x ≡ verdicts_at old x → Same (take i labels) changed → Same (take (i + 1) labels) changed
-  same_kept verdicts same n seen out =
-      either (verdicts_at new n ≡ verdicts_at old n) (is_one n (take i labels)) (x == n) (sym (seen_more n) ∙ seen) (λ one. same n one out)
-      (λ one. subst (λ m. verdicts_at new m ≡ verdicts_at old m) (same_number x n one) verdicts)
-
 -- ---- classes that keep who can search
 
 module _ (k : ClassKinds) where
@@ -95,9 +53,6 @@ module _ (k : ClassKinds) where
       by true less = f (ltb-true n end less)
       by false apart = let le = ltb-false n end apart in g (omega (arith, lt, le))
 
-  pub before_first : AllBefore 0 []
-  before_first n c lt used is some = absurd (omega (arith, lt))
-
   pub before_skipped : (end : ℕ) (ns : List ℕ) → is_searched (used_at k end) ≡ false → AllBefore end ns → AllBefore (end + 1) ns
   before_skipped end ns out all n c lt used is some =
       before_more (is_one n ns ≡ true) n end lt (λ less. all n c less used is some)
@@ -114,9 +69,3 @@ module _ (k : ClassKinds) where
       by : (b : Bool) → nat_lt 0 (count_at k end) ≡ b → is_searched (if b then node_at k end else None) ≡ true → 0 < count_at k end
       by true lt h = ltb-true 0 (count_at k end) lt
       by false lt h = cc
-
-  pub all_searched : (end : ℕ) (ns : List ℕ) → length k.0 ≤ end → AllBefore end ns → Used ns → AreSearched k ns
-  all_searched end ns le all used = record {
-    all = λ n c counted is some. all n c (let lt = within k k.0 n c is in omega (arith, lt, le)) counted is some;
-    used = used;
-  }

@@ -119,10 +119,6 @@ in_last xs before x p is =
     sym (ap (λ o. option_map_or (λ t. encloses t p) o false)
     (ap (λ (l : List (Bor PathOf)). last_path (paths_seen l)) is ∙ ap last_path (map-append (λ (p : Bor PathOf). p.now) before (x ∷ [])) ∙ last_end (paths_seen before) x.now))
 
-pub in_none : (xs : List (Bor PathOf)) (p : PathOf) → length xs ≡ 0 → false ≡ is_in_last (paths_seen xs) p
-in_none [] p h = refl
-in_none (x ∷ xs) p h = cc
-
 last_inside : (ts : List PathOf) (p : PathOf) → is_in_last ts p ≡ true → is_inside ts p ≡ true
 last_inside [] p h = cc
 last_inside (t ∷ []) p h = ap (λ b. b || false) h
@@ -222,9 +218,6 @@ module _ {V W : Type 0} (changed : List (Bor PathOf × V)) (gone : List (Bor Pat
 -- ---- the loop
 
 module _ {V W : Type 0} (all es : List (PathOf × V)) (others fs : List (PathOf × W)) (tops : List PathOf) (w : AreTaken all others es fs tops) where
-  pub taken_all : es ≡ [] → fs ≡ [] → (q : PathOf) → is_inside tops q ≡ is_in_two all others q
-  taken_all none no_more q = sym (ap (λ b. is_inside tops q || b) (λ i. is_in_two (none i) (no_more i) q) ∙ or_false (is_inside tops q)) ∙ w.covers q
-
   module _ (p : PathOf) (left : List (PathOf × V)) (rest : List (PathOf × W)) (n : IsNext es fs p left rest) where
     pub taken_before : AreBefore tops p
     taken_before = all_mapped (λ s. NotAfter s es × NotAfter s fs) (λ s. is_gt (path_cmp s p) ≡ false) (λ s h. n.here s h.0 h.1) tops w.ahead
@@ -247,7 +240,3 @@ module _ {V W : Type 0} (all es : List (PathOf × V)) (others fs : List (PathOf 
         by : (b : Bool) → AreNotAfter left rest (if b then tops ++ p ∷ [] else tops)
         by false = still
         by true = all_end (λ s. NotAfter s left × NotAfter s rest) tops p still (n.ahead w.order.0 w.order.1)
-
-pub taken_none : {V W : Type 0} (all : List (PathOf × V)) (others : List (PathOf × W)) (tops : List PathOf) → IsInOrder all → IsInOrder others → tops ≡ [] → AreTaken all others all others tops
-taken_none all others tops order order_others none =
-    subst (AreTaken all others all others) (sym none) (record { are_tops = tt; covers = λ q. refl; order = (order, order_others); ahead = tt })

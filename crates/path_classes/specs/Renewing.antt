@@ -1,5 +1,5 @@
 -- For inner functions: who can search down to classes, made again where the rows of their labels or the classes above changed.
-use Rattle.std.specs.Prelude.{◌≡◌, ◌<◌, ◌≤◌, ◌==◌, ◌++◌, ◌∷◌, [], ℕ, Bool, false, true, List, map, is_some, length, Option, None, Some, option_map, IfSome, if◌then◌else◌}
+use Rattle.std.specs.Prelude.{◌≡◌, ◌<◌, ◌≤◌, ◌==◌, ◌&&◌, ◌++◌, ◌∷◌, [], ℕ, Bool, false, true, not, List, map, is_some, length, get_or, Option, None, Some, option_map, IfSome, if◌then◌else◌}
 use Rattle.std.specs.List.{AllByRecursion}
 use Rattle.std.specs.Option.{option_map_or}
 use Rattle.std.specs.FinMap.{find}
@@ -118,6 +118,41 @@ pub record AreClassesOf (k : ClassKinds) (labels waiting : List ℕ) : Type 0 wh
 pub record AreSearched (k : ClassKinds) (waiting : List ℕ) : Type 0 where
   pub all : (n : ℕ) (c : PathClass) → 0 < count_at k n → node_at k n ≡ Some c → is_some c.search ≡ true → is_one n waiting ≡ true
   pub used : AllByRecursion (λ n. 0 < count_at k n) waiting
+
+-- the classes that paths have are fresh, and all else of them is as before
+pub record AreRenewed (rows : KindsOf LabelRow) (before k : ClassKinds) : Type 0 where
+  pub counts : (n : ℕ) → count_at k n ≡ count_at before n
+  pub shapes : (n : ℕ) → shape_at k n ≡ shape_at before n
+  pub fresh : (n : ℕ) (c : PathClass) → 0 < count_at k n → node_at k n ≡ Some c → IsFresh rows k c
+
+-- one number more is marked
+abbrev pub Marks : List Bool → ℕ → List Bool → Type 0
+Marks old n new = (m : ℕ) → get_or new m false ≡ (if m == n then true else get_or old m false)
+
+-- whether the class above is marked, if there is one
+abbrev pub is_marked_above : List Bool → Option ℕ → Bool
+is_marked_above marks None = true
+is_marked_above marks (Some n) = get_or marks n false
+
+-- whether a class is not marked, and the one above it is
+abbrev pub is_next : List Bool → ℕ → Option PathClass → Bool
+is_next marks n None = false
+is_next marks n (Some c) = not (get_or marks n false) && is_marked_above marks c.above
+
+-- a class that is marked is fresh, and the one above it is marked; the other classes of paths that keep who can search wait
+pub record IsOnce (rows : KindsOf LabelRow) (before k : ClassKinds) (marks : List Bool) (waiting : List ℕ) : Type 0 where
+  pub counts : (n : ℕ) → count_at k n ≡ count_at before n
+  pub shapes : (n : ℕ) → shape_at k n ≡ shape_at before n
+  pub fresh : (n : ℕ) (c : PathClass) → node_at k n ≡ Some c → get_or marks n false ≡ true → IsFresh rows k c
+  pub above : (n : ℕ) (c : PathClass) → node_at k n ≡ Some c → get_or marks n false ≡ true → is_marked_above marks c.above ≡ true
+  pub all : (n : ℕ) (c : PathClass) → 0 < count_at before n → node_at before n ≡ Some c → is_some c.search ≡ true → get_or marks n false ≡ false → is_one n waiting ≡ true
+  pub used : AllByRecursion (λ n. 0 < count_at before n) waiting
+
+-- the first class that waits is searched again and marked after the one above it, or waits after the others
+pub record SearchesOne (rows : KindsOf LabelRow) (old : ClassKinds) (n : ℕ) (marks : List Bool) (waiting : List ℕ) (more : List Bool) (more_waiting : List ℕ) (new : ClassKinds) : Type 0 where
+  pub later : List ℕ
+  pub pushed : more_waiting ≡ waiting ++ later
+  pub once : (before : ClassKinds) (rest : List ℕ) → IsOnce rows before old marks (n ∷ rest) → IsOnce rows before new more (rest ++ later)
 
 -- a path has a class, which no other path has
 pub record IsOwnClass (classes : Kept PathClass) (p : PathOf) (n : ℕ) : Type 0 where

@@ -1,5 +1,5 @@
 -- Who can search all directories down to a place.
-use Rattle.std.specs.Prelude.{ℕ, suc, ◌&&◌, Bool, true, false, List, [], ◌∷◌, get_or, Option, None, Some}
+use Rattle.std.specs.Prelude.{ℕ, zero, suc, ◌&&◌, Bool, true, false, List, [], ◌∷◌, get_or, Option, None, Some}
 use Rattle.acl_entry.specs.Check.{has}
 use Rattle.path_classes.specs.ReachedRows.{execute}
 
@@ -16,8 +16,13 @@ searchers_from above n (c ∷ cells) = (gets_through above n && has c execute) �
 abbrev pub searchers : Option (List Bool) → List ℕ → List Bool
 searchers above cells = searchers_from above 0 cells
 
--- whether each verdict grants search, written over a list that may be longer or shorter
-abbrev pub searches_written : List ℕ → List Bool → List Bool
-searches_written cells [] = []
-searches_written [] (b ∷ users) = b ∷ users
-searches_written (c ∷ cells) (b ∷ users) = has c execute ∷ searches_written cells users
+-- which of some users get through from above, the first being n
+abbrev pub through_from : Option (List Bool) → ℕ → ℕ → List Bool
+through_from above n zero = []
+through_from above n (suc count) = gets_through above n ∷ through_from above (suc n) count
+
+-- those of some users to whom a row grants search; users without a verdict stay
+abbrev pub searches_kept : List ℕ → List Bool → List Bool
+searches_kept cells [] = []
+searches_kept [] (b ∷ users) = b ∷ users
+searches_kept (c ∷ cells) (b ∷ users) = (b && has c execute) ∷ searches_kept cells users

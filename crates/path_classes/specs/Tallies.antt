@@ -28,7 +28,7 @@ count_where test (t ∷ ts) = (if test t.key then t.count else 0) + count_where 
 abbrev pub first_where : {K : Type 0} → (K → Bool) → List (Tallied K) → Option PathOf
 first_where test ts = option_map (λ t. t.first) (find (λ t. test t.key) ts)
 
--- some counts say the same as others, whichever keys are asked for
+-- some counts say the same as others, whichever keys a test passes
 pub record SaysAs {K : Type 0} (some others : List (Tallied K)) : Type 0 where
   pub counts : (test : K → Bool) → count_where test some ≡ count_where test others
   pub firsts : (test : K → Bool) → first_where test some ≡ first_where test others

@@ -1,7 +1,7 @@
 //! Files by classes, one after another: all files of a class have the same row of verdicts, alone, or along paths where each
 //! directory above has to grant search.
 
-ghost use Rattle.std.specs.Prelude.{◌≡◌, [], true, slice_get, option_map, IfOk, OnErr};
+ghost use Rattle.std.specs.Prelude.{◌≡◌, [], true, slice_get, option_map, option_and_then, IfOk, OnErr};
 ghost use Rattle.path_map.specs.Below.{from};
 ghost use Rattle.path_map.specs.Entries.{first, seen};
 ghost use Rattle.kinds.specs.Numbered.{entries_in};
@@ -13,6 +13,7 @@ use crate::cells::Cells;
 use crate::classed_rows::ClassedRows;
 use crate::met_rows::MetRows;
 use crate::numbered_files::NumberedFiles;
+use acl_entry::Requests;
 use acl_names::Path;
 use std::alloc::{AllocError, Global};
 use std::marker::Model;
@@ -70,6 +71,16 @@ impl<'a> FileClasses<'a> {
         match others.met.number(other) {
             Some(other) => self.files.has_row_of(number, &others.files, other),
             None => false,
+        }
+    }
+
+    /// What the user at a place may do with the files of a class, if both are there. Makes no row. Allocates nothing.
+    pub fn cell(&self, class: usize, user: usize) -> Option<Requests>
+        ensures { result ≡ option_and_then (λ row. slice_get row user) (slice_get self.now.0 class) }
+    {
+        match self.met.number(class) {
+            Some(number) => self.files.cell(number, user),
+            None => None,
         }
     }
 

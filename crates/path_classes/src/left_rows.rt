@@ -1,9 +1,11 @@
-//! What is left of a row for those who can search all directories above.
+//! What is left of a row for those who can search all directories above, and of the verdict on one user.
 
-ghost use Rattle.std.specs.Prelude.{◌≡◌, Some, IfOk, if◌then◌else◌};
+ghost use Rattle.std.specs.Prelude.{◌≡◌, Some, IfOk, if◌then◌else◌, slice_get};
 ghost use Rattle.std.specs.Option.{option_copied};
 ghost use Rattle.path_classes.specs.ClassBuilding.{IsRightAt};
-ghost use Rattle.path_classes.specs.NumberedRows.{left_from, left_to, class_row};
+ghost use Rattle.path_classes.specs.NumberedRows.{left_from, left_to, label_row, class_row};
+ghost use Rattle.path_classes.specs.PathClasses.{search_above};
+ghost use Rattle.path_classes.specs.Searching.{gets_through};
 
 use crate::class_builder::search_of;
 use crate::label_row::LabelRow;
@@ -48,7 +50,7 @@ fn left_row_below(
 }
 
 /// The verdicts of those who get through from above, and nothing for others.
-pub(crate) fn left_row(
+fn left_row(
     alloc: Global,
     above: Option<&Searchers>,
     cells: &[Requests],
@@ -77,4 +79,45 @@ pub(crate) fn class_row(
     let row = &labels.node(class.kind).row;
     let above = search_of(classes, class.above);
     left_row(alloc, above, row.as_slice())
+}
+
+/// Whether a user gets through the class above, if there is one: nobody does where it does not keep who can search.
+pub(crate) fn passes_above(classes: &Kinds<PathClass>, above: Option<usize>, user: usize) -> bool
+    ensures { result ≡ gets_through (search_above classes.now above) user }
+{
+    let Some(number) = above else {
+        return true;
+    };
+    match classes.get(number) {
+        Some(class) => match &class.search {
+            Some(search) => search.has(user),
+            None => false,
+        },
+        None => false,
+    }
+}
+
+/// The verdict on a user in the row of a label, if both are there.
+pub(crate) fn label_cell(labels: &Kinds<LabelRow>, number: usize, user: usize) -> Option<Requests>
+    ensures { result ≡ slice_get (label_row labels.now number) user }
+{
+    match labels.get(number) {
+        Some(label) => label.row.get(user),
+        None => None,
+    }
+}
+
+/// What a path class leaves of the verdict on a user in the row of its label, if both are there. Makes no row.
+pub(crate) fn class_cell(
+    labels: &Kinds<LabelRow>,
+    classes: &Kinds<PathClass>,
+    number: usize,
+    user: usize,
+) -> Option<Requests>
+    ensures { result ≡ slice_get (class_row labels.now classes.now number) user }
+{
+    let class = classes.get(number)?;
+    let cell = label_cell(labels, class.kind, user)?;
+    let through = passes_above(classes, class.above, user);
+    Some(where_through(through, cell))
 }

@@ -19,8 +19,9 @@
 //!
 //! - A directory that alone has its class gets another label in place: nothing below it moves. Below one that shares its class
 //!   each file gets the class of its label below the class above, which may be one that files elsewhere have.
-//! - Where rows change, the classes of their labels are renewed: who can search is found anew for each, and for those right
-//!   below one that changes. Classes are found by tags: their label, the class above, and a hash of both.
+//! - Where rows change, the classes of their labels are renewed: who can search is found again for each, and for those right
+//!   below one that changes. Classes are found by tags: their label, the class above, and a hash of both. Where all rows change,
+//!   each class is searched again once, after the one above it.
 //! - How many files' answers were found again is counted by the counts of classes.
 //!
 //! Rows of verdicts; labels with their rows; who can search down to a place; classes, and how lines on files, memberships and
@@ -39,7 +40,6 @@ mod class_walk;
 mod classed_rows;
 mod classes_within;
 mod file_classes;
-mod file_rows;
 mod hash;
 mod kept_classes;
 mod label_row;
@@ -56,6 +56,7 @@ mod renewed_searches;
 mod rerowed_classes;
 mod row_hints;
 mod same_rows;
+mod searched_once;
 mod searchers;
 mod stack;
 mod tagged_classes;
@@ -66,7 +67,6 @@ pub use cells::{Cells, same_row};
 pub use class_counts::ClassFiles;
 pub use classed_rows::ClassedRows;
 pub use file_classes::FileClasses;
-pub use file_rows::{FileRow, FileRows};
 pub use hash::mixed;
 pub use label_row::{LabelRow, push_groups};
 pub use path_class::PathClass;

@@ -70,7 +70,12 @@ impl MetRows {
     }
 
     /// The place of a row that a number has, if a hint leads there.
-    fn same_place(&self, files: &NumberedFiles<'_>, hash: u64, number: usize) -> Option<usize>
+    fn same_place(
+        &self,
+        files: &NumberedFiles<'_>,
+        hash: Option<u64>,
+        number: usize,
+    ) -> Option<usize>
         ensures { IfSome result (λ place. slice_get (rows_met files.now self.now.numbers.items) place ≡ Some (row_at files.now number)) }
     {
         let place = self.hints.place(hash)?;

@@ -1,7 +1,7 @@
 //! Files with the numbers by which their rows are found, one after another: those of labels, or along paths those of path
 //! classes.
 
-ghost use Rattle.std.specs.Prelude.{◌≡◌, ◌<◌, true, drop, option_map, IfOk, IfSome};
+ghost use Rattle.std.specs.Prelude.{◌≡◌, ◌<◌, true, drop, option_map, slice_get, IfOk, IfSome};
 ghost use Rattle.std.specs.List.{AllByRecursion};
 ghost use Rattle.path_map.specs.Below.{from};
 ghost use Rattle.path_map.specs.Entries.{first, seen};
@@ -16,9 +16,10 @@ ghost use Rattle.path_classes.specs.NumberedRows.{label_row, class_row, files_wi
 use crate::cells::Cells;
 use crate::classed_rows::ClassedRows;
 use crate::label_row::LabelRow;
-use crate::left_rows::class_row;
+use crate::left_rows::{class_cell, class_row, label_cell};
 use crate::path_class::PathClass;
 use crate::same_rows::{has_same_cells, is_same_row, kept_search, leaves_same_row};
+use acl_entry::Requests;
 use acl_names::Path;
 use kinds::Kinds;
 use path_map::{Entries, PathMap};
@@ -134,6 +135,11 @@ impl<'a> NumberedFiles<'a> {
         self.classes?.get(number)?.above
     }
 
+    /// Whether the numbers are those of path classes.
+    pub fn are_classes(&self) -> bool {
+        self.classes.is_some()
+    }
+
     /// A hash of who gets through a path class.
     pub fn searchers_hash(&self, above: usize) -> u64 {
         let Some(classes) = self.classes else {
@@ -186,6 +192,16 @@ impl<'a> NumberedFiles<'a> {
         match self.classes {
             Some(classes) => classes.count(number),
             None => self.labels.count(number),
+        }
+    }
+
+    /// The verdict on a user in the row of a number, if both are there. Makes no row. Allocates nothing.
+    pub fn cell(&self, number: usize, user: usize) -> Option<Requests>
+        ensures { result ≡ slice_get (row_at self.now number) user }
+    {
+        match self.classes {
+            Some(classes) => class_cell(self.labels, classes, number, user),
+            None => label_cell(self.labels, number, user),
         }
     }
 

@@ -5,34 +5,17 @@ ghost use Rattle.kinds.specs.Numbered.{entries_in};
 ghost use Rattle.path_classes.specs.KindRows.{rows_at};
 ghost use Rattle.path_classes.specs.Rows.{grants, may_in};
 ghost use Rattle.path_classes.specs.ReachedRows.{reached_rows};
-ghost use Rattle.path_classes.specs.Searching.{gets_through};
-ghost use Rattle.path_classes.specs.PathClasses.{search_above};
 ghost use Rattle.path_classes.specs.NumberedRows.{row_below};
 
 use crate::answers::row_grants;
 use crate::classed_rows::ClassedRows;
 use crate::label_row::LabelRow;
+use crate::left_rows::passes_above;
 use crate::path_class::PathClass;
 use acl_entry::Perm;
 use acl_names::Path;
 use kinds::{KindTest, Kinds};
 use std::alloc::{AllocError, Global};
-
-/// Whether a user gets through the class above, if there is one: nobody does where it does not keep who can search.
-fn passes_above(classes: &Kinds<PathClass>, above: Option<usize>, user: usize) -> bool
-    ensures { result ≡ gets_through (search_above classes.now above) user }
-{
-    let Some(number) = above else {
-        return true;
-    };
-    match classes.get(number) {
-        Some(class) => match &class.search {
-            Some(search) => search.has(user),
-            None => false,
-        },
-        None => false,
-    }
-}
 
 /// Path classes whose files grant a user a request, where each directory above has to grant search.
 #[derive(Drop)]

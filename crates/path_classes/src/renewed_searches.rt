@@ -3,10 +3,10 @@
 
 ghost use Rattle.std.specs.Prelude.{◌≡◌, [], ◌∷◌, ℕ, List, false, IfOk, MatchOption};
 ghost use Rattle.acl_names.specs.Paths.{PathOf};
-ghost use Rattle.kinds.specs.Kinds.{node_at, IsNode};
+ghost use Rattle.kinds.specs.Kinds.{node_at, count_at, IsNode};
 ghost use Rattle.path_classes.specs.PathClasses.{AreClasses, search_at};
 ghost use Rattle.path_classes.specs.ClassedRows.{AllInside};
-ghost use Rattle.path_classes.specs.Renewing.{IsSearch, AreLinked, HaveLinked, Awaits, RenewsOne, IsAgain, IsFreshAt, IsLinked, IsLinkedAt, FitBut, HasKind, AreRelabelled, is_one};
+ghost use Rattle.path_classes.specs.Renewing.{IsSearch, AreLinked, HaveLinked, Awaits, RenewsOne, IsAgain, IsFreshAt, IsLinked, IsLinkedAt, FitBut, HasKind, AreRelabelled, is_one, shape_at};
 
 use crate::class_builder::search_of;
 use crate::label_row::LabelRow;
@@ -17,7 +17,7 @@ use kinds::{KindMap, Kinds, TaggedMap};
 use std::alloc::{AllocError, Global};
 use std::rc::Rc;
 
-/// Classes where who can search was found anew, and the numbers of those that changed.
+/// Classes where who can search was found again, and the numbers of those that changed.
 #[derive(Drop)]
 pub(crate) struct RenewedSearches {
     pub(crate) classes: Kinds<PathClass>,
@@ -47,8 +47,8 @@ fn searchers_of(
     Ok(search)
 }
 
-/// A class with who can search down to it found anew, if that is kept and others can.
-fn searched_again(
+/// A class with who can search down to it found again, if that is kept and others can.
+pub(crate) fn searched_again(
     alloc: Global,
     rows: &Kinds<LabelRow>,
     classes: &Kinds<PathClass>,
@@ -128,8 +128,24 @@ pub(crate) fn renewed_searches(
     Ok(RenewedSearches { classes, changed })
 }
 
+/// The classes of the same paths, where other users can search down to some. Fails only if memory runs out.
+pub(crate) fn with_searches(
+    alloc: Global,
+    before: &TaggedMap<PathClass>,
+    classes: Kinds<PathClass>,
+) -> Result<TaggedMap<PathClass>, AllocError>
+    requires counts { (n : ℕ) → count_at classes n ≡ count_at before.now.0 n }
+    requires shapes { (n : ℕ) → shape_at classes n ≡ shape_at before.now.0 n }
+    ensures { IfOk result (λ new. new ≡ (classes, before.now.1)) }
+{
+    let numbers = before.numbers();
+    let map = KindMap::of(alloc, classes, numbers.share()?)?;
+    let new = before.with_same_tags(map)?;
+    Ok(new)
+}
+
 /// The classes of the same paths for rows of which some are others, and the numbers of the classes that changed: who can search
-/// is found anew for the classes that wait, which are all those of the labels whose rows changed. Fails only if memory runs out.
+/// is found again for the classes that wait, which are all those of the labels whose rows changed. Fails only if memory runs out.
 pub(crate) fn renewed_classes(
     alloc: Global,
     rows: &KindMap<LabelRow>,
@@ -142,12 +158,11 @@ pub(crate) fn renewed_classes(
     ensures same { IfOk result (λ new. (n : ℕ) → is_one n new.1.items ≡ false → node_at new.0.0 n ≡ node_at before.now.0 n) }
     ensures inside { IfOk result (λ new. (tops : List PathOf) → AllInside waiting.items tops before.now.1 → AllInside new.1.items tops before.now.1) }
 {
-    let numbers = before.numbers();
+    let _classes = before.kinds();
     let labels = rows.kinds();
     let renewed = renewed_searches(alloc, labels, before, waiting)?;
     let RenewedSearches { classes, changed } = renewed;
-    let map = KindMap::of(alloc, classes, numbers.share()?)?;
-    let new = before.with_same_tags(map)?;
+    let new = with_searches(alloc, before, classes)?;
     Ok((new, changed))
 }
 

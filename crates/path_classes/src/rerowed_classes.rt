@@ -15,7 +15,8 @@ use crate::cells::same_row;
 use crate::class_tags::{below_tag, label_tags};
 use crate::label_row::LabelRow;
 use crate::path_class::PathClass;
-use crate::renewed_searches::renewed_classes;
+use crate::renewed_searches::{renewed_classes, with_searches};
+use crate::searched_once::searched_once;
 use crate::tagged_classes::classes_of_labels;
 use kinds::{KindMap, Kinds, TaggedMap, rising_numbers};
 use std::alloc::{AllocError, Global};
@@ -132,8 +133,9 @@ pub(crate) fn rerowed_classes(
 fn keeps_search(classes: &KindMap<PathClass>, number: usize) -> bool
     ensures { result ≡ is_searched (used_at classes.now.0 number) }
 {
-    match classes.used(number) {
-        Some(class) => class.search.is_some(),
+    let kinds = classes.kinds();
+    match kinds.get(number) {
+        Some(class) => class.search.is_some() && kinds.count(number) > 0,
         None => false,
     }
 }
@@ -162,9 +164,14 @@ pub(crate) fn all_rerowed_classes(
     requires paths { rows.now.1 ≡ old.now.1 }
     ensures { IfOk result (λ new. AreClasses rows.now new) }
 {
-    let _labels = rows.kinds();
+    let labels = rows.kinds();
     let _classes = before.kinds();
-    let waiting = searched_classes(alloc, before.map())?;
-    let (classes, _changed) = renewed_classes(alloc, rows, before, waiting)?;
-    Ok(classes)
+    let searched = searched_classes(alloc, before.map())?;
+    let found = searched_once(alloc, labels, before, &searched)?;
+    if let Some(classes) = found {
+        let new = with_searches(alloc, before, classes)?;
+        return Ok(new);
+    }
+    let (new, _changed) = renewed_classes(alloc, rows, before, searched)?;
+    Ok(new)
 }

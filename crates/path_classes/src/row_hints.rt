@@ -42,26 +42,37 @@ impl RowHints {
         Ok(hash)
     }
 
-    /// The hash of a number's row: of its label and of who gets through from above. Fails only if memory runs out.
-    pub fn hash(&mut self, files: &NumberedFiles<'_>, number: usize) -> Result<u64, AllocError> {
+    /// The hash of a number's row: of its label and of who gets through from above. None where the numbers are those of labels, of
+    /// which no two are compared. Fails only if memory runs out.
+    pub fn hash(
+        &mut self,
+        files: &NumberedFiles<'_>,
+        number: usize,
+    ) -> Result<Option<u64>, AllocError> {
+        if !files.are_classes() {
+            return Ok(None);
+        }
         let label = files.label(number) as u64;
         match files.above(number) {
-            Some(above) => Ok(mixed(self.searchers_hash(files, above)?, label)),
-            None => Ok(mixed(0, label)),
+            Some(above) => Ok(Some(mixed(self.searchers_hash(files, above)?, label))),
+            None => Ok(Some(mixed(0, label))),
         }
     }
 
     /// The place of a row of a hash, if one is kept.
-    pub fn place(&self, hash: u64) -> Option<usize> {
-        let slot = (hash as usize).checked_rem(self.places.len())?;
+    pub fn place(&self, hash: Option<u64>) -> Option<usize> {
+        let slot = (hash? as usize).checked_rem(self.places.len())?;
         match self.places.get(slot) {
             Some(place) => place.checked_sub(1),
             None => None,
         }
     }
 
-    /// Keeps the place of a row of a hash, in place of what its slot had. Fails only if memory runs out.
-    pub fn put(&mut self, hash: u64, place: usize) -> Result<(), AllocError> {
+    /// Keeps the place of a row of a hash, if it has one, in place of what its slot had. Fails only if memory runs out.
+    pub fn put(&mut self, hash: Option<u64>, place: usize) -> Result<(), AllocError> {
+        let Some(hash) = hash else {
+            return Ok(());
+        };
         if place >= self.places.len() {
             let len = place.saturating_add(1).saturating_mul(4).max(64);
             self.places.resize(len, 0)?;

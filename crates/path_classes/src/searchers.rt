@@ -4,11 +4,10 @@ ghost use Rattle.std.specs.Prelude.{◌≡◌, ◌&&◌, IfOk, List, Bool, true,
 ghost use Rattle.std.specs.Option.{option_copied};
 ghost use Rattle.acl_entry.specs.Check.{has};
 ghost use Rattle.path_classes.specs.ReachedRows.{execute};
-ghost use Rattle.path_classes.specs.Searching.{searches_written, gets_through, searchers};
+ghost use Rattle.path_classes.specs.Searching.{searches_kept, through_from, searchers};
 
 use crate::cells::search;
 use crate::hash::mixed;
-use crate::left_rows::left_row;
 use acl_entry::Requests;
 use std::alloc::{AllocError, Global};
 use std::marker::Model;
@@ -100,16 +99,6 @@ fn is_same(some: &[bool], others: &[bool]) -> bool
     is_same
 }
 
-/// Whether a user gets through from above, where all do if nothing is above. Allocates nothing.
-pub(crate) fn gets_through(above: Option<&Searchers>, user: usize) -> bool
-    ensures { result ≡ gets_through (option_copied above.entry) user }
-{
-    match above {
-        Some(above) => above.has(user),
-        None => true,
-    }
-}
-
 /// Whether a verdict grants search.
 fn grants_search(cell: Requests) -> bool
     ensures { result ≡ has cell execute }
@@ -117,14 +106,32 @@ fn grants_search(cell: Requests) -> bool
     cell.has(search())
 }
 
-/// Writes for each verdict whether it grants search. The loop does not branch, so that it writes many at a time.
-fn write_searches(cells: &[Requests], users: &mut [bool])
-    ensures { users.new ≡ searches_written cells.now users.old }
+/// Leaves out users to whom a row does not grant search. The loop does not branch, so that it writes many at a time.
+fn keep_searches(cells: &[Requests], users: &mut [bool])
+    ensures { users.new ≡ searches_kept cells.now users.old }
 {
     let count = cells.len().min(users.len());
     for at in 0..count {
-        users[at] = grants_search(cells[at]);
+        users[at] &= grants_search(cells[at]);
     }
+}
+
+/// Which of the first `count` users get through from above: all, if nothing is above.
+fn through_from(
+    alloc: Global,
+    above: Option<&Searchers>,
+    count: usize,
+) -> Result<Vec<bool>, AllocError>
+    ensures { IfOk result (λ users. users.items ≡ through_from (option_copied above.entry) 0 count) }
+{
+    let mut users = Vec::new(alloc);
+    if let Some(above) = above {
+        users.extend_from_slice(above.as_slice())?;
+        users.resize(count, false)?;
+        return Ok(users);
+    }
+    users.resize(count, true)?;
+    Ok(users)
 }
 
 /// Which users get through from above and can search by a row: shared with those from above, where they are the same. Fails
@@ -136,9 +143,7 @@ pub(crate) fn searchers_below(
 ) -> Result<Searchers, AllocError>
     ensures { IfOk result (λ new. new ≡ searchers (option_copied above.entry) cells.now) }
 {
-    let left = left_row(alloc, above, cells)?;
-    let mut users = Vec::new(alloc);
-    users.resize(left.len(), false)?;
-    write_searches(&left, users.as_mut_slice());
+    let mut users = through_from(alloc, above, cells.len())?;
+    keep_searches(cells, users.as_mut_slice());
     Searchers::new_or_shared(alloc, users, above)
 }

@@ -1,6 +1,4 @@
-use Rattle.std.proofs.Common.{◌≡◌, ◌||◌, [], ◌∷◌, map, ap, subst, sym, ◌∙◌}
-use Rattle.std.specs.Prelude.{IfOk}
-use Rattle.acl_names.specs.Below.{encloses}
+use Rattle.std.proofs.Common.{[], ◌∷◌, map, ap, subst, sym, ◌∙◌}
 use Rattle.acl_names.specs.Paths.{PathOf}
 use Rattle.path_classes.specs.ClassesWithin.{AreTops, is_inside, paths_seen}
 use Rattle.std.proofs.lemmas.List.{take_all}

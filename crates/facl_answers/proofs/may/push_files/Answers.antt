@@ -1,36 +1,46 @@
-use Rattle.std.proofs.Common.{◌≡◌, true, false, map, refl, sym, ap, ◌∙◌, arith}
-use Rattle.facl_output.proofs.Parts.{begins_later}
+use Rattle.std.proofs.Common.{subst, arith}
 use Rattle.std.proofs.lemmas.Grind.{common_steps}
-use Rattle.acl_tree.specs.Inner.{next_file_below}
-use Rattle.acl_edit.specs.declared.node.Node.{Node}
-use Rattle.acl_names.specs.Paths.{PathOf}
-use Rattle.acl_tree.specs.Found.{found_file}
-use Rattle.facl_answers.specs.Inner.{is_first}
-use Rattle.facl_answers.proofs.FileLines.{rest_is, map_drop, step_taken, step_left, step_ends}
+use Rattle.std.proofs.lemmas.Option.{slice_get_within}
+use Rattle.facl_output.proofs.Parts.{begins_later}
+use Rattle.facl_answers.specs.Inner.{TakesStep, granted_text, walked}
+use Rattle.facl_answers.proofs.GrantedClasses.{granted_later, line_added, none_granted}
+use Rattle.facl_answers.proofs.WalkedTexts.{adding_ends, adding_starts}
 use Rattle.facl_answers.proofs.may.push_files.Goals as goal
 
-pub returns-in_err-push_before : goal.returns-in_err-push_before
-returns-in_err-push_before c =
-    let begins = begins_later c.args.text.now.items c.loop-file.text.items c.push_before.new.text.items c.loop-file.invariant.begins c.in_err-push_before.ensures in
+pub loop-table-init : goal.loop-table-init
+loop-table-init c = record {
+  adding = adding_starts (granted_text c.args.request c.args.user) (walked c.args.rest.now) c.args.text.now.items;
+  known = none_granted c.args.request c.args.user c.args.rest.now.classes.0 c.new-table.result.items c.new-table.ensures.items;
+}
+
+pub is_granted-requires : goal.is_granted-requires
+is_granted-requires c =
+    let step = subst (λ o. TakesStep (walked c.loop-table.rest) o (walked c.next.new.self)) c.in-Some.is c.in_ok-file.ensures in
+    record {
+      there = slice_get_within c.next.new.self.classes.0 c.in-Some.file.class step.row step.has;
+      known = granted_later c.args.request c.args.user c.loop-table.rest.classes.0 c.next.new.self.classes.0 c.loop-table.table.items step.keep c.loop-table.invariant.known;
+    }
+
+pub returns-in_err-push_granted : goal.returns-in_err-push_granted
+returns-in_err-push_granted c =
+    let begins = begins_later c.args.text.now.items c.loop-table.text.items c.push_granted.new.text.items c.loop-table.invariant.adding.begins c.in_err-push_granted.ensures in
     grind (arith, common_steps, begins)
 
-pub loop-file-preserved-then-is_first : goal.loop-file-preserved-then-is_first
-loop-file-preserved-then-is_first c =
-    let left = map (λ p. p.now) c.loop-file.rest.now in
-    let e : PathOf × Node = (c.in-Some.file.0.now, c.in-Some.file.1.now) in
-    let first : is_first e.0 left ≡ true = sym c.is_first.ensures ∙ c.if-is_first.true in
-    step_taken c.args.tree.now.files c.loop-file.files c.next.new.self (map (λ p. p.now) c.args.paths.now) left c.args.text.now.items c.loop-file.text.items e
-    c.soundness_law.ensures.order c.in-Some.ensures.steps c.loop-file.invariant _ _ (found_file (next_file_below e.0 c.next.new.self) e) first
-    (ap (map (λ p. p.now)) (rest_is c.loop-file.rest.now) ∙ map_drop (λ p. p.now) c.loop-file.rest.now) refl c.in_ok-push_before.ensures
-
-pub loop-file-preserved : goal.loop-file-preserved
-loop-file-preserved c =
-    let left = map (λ p. p.now) c.loop-file.rest.now in
-    let e : PathOf × Node = (c.in-Some.file.0.now, c.in-Some.file.1.now) in
-    let other : is_first e.0 left ≡ false = sym c.is_first.ensures ∙ c.if-is_first.false in
-    step_left c.args.tree.now.files c.loop-file.files c.next.new.self (map (λ p. p.now) c.args.paths.now) left c.args.text.now.items c.loop-file.text.items e
-    c.soundness_law.ensures.order c.in-Some.ensures.steps c.loop-file.invariant other
+pub loop-table-preserved : goal.loop-table-preserved
+loop-table-preserved c =
+    let old = walked c.loop-table.rest in
+    let new = walked c.next.new.self in
+    let step = subst (λ o. TakesStep old o new) c.in-Some.is c.in_ok-file.ensures in
+    record {
+      adding =
+          line_added c.args.request c.args.user (walked c.args.rest.now) c.args.text.now.items old new c.in-Some.file c.loop-table.text.items c.push_granted.new.text.items c.in_ok-granted.granted
+          step c.in_ok-granted.ensures.granted c.in_ok-push_granted.ensures c.loop-table.invariant.adding;
+      known = c.in_ok-granted.ensures.known;
+    }
 
 pub returns : goal.returns
-returns c = step_ends c.args.tree.now.files c.loop-file.files (map (λ p. p.now) c.args.paths.now)
-    (map (λ p. p.now) c.loop-file.rest.now) c.args.text.now.items c.loop-file.text.items c.in_default.ensures.steps.0 c.loop-file.invariant
+returns c =
+    let old = walked c.loop-table.rest in
+    let new = walked c.next.new.self in
+    let over = subst (λ o. TakesStep old o new) c.in_default.is c.in_ok-file.ensures in
+    adding_ends (granted_text c.args.request c.args.user) (walked c.args.rest.now) c.args.text.now.items old c.loop-table.text.items over c.loop-table.invariant.adding

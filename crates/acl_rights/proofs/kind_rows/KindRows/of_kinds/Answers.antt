@@ -13,19 +13,18 @@ rows_of_numbers-requires-clause-known g c =
     c.in_ok-known.ensures)
     c.requires.known
 
-pub with_nodes-requires-clause-long : goal.with_nodes-requires-clause-long
-with_nodes-requires-clause-long g c =
+pub with_rows_of-requires-clause-long : goal.with_rows_of-requires-clause-long
+with_rows_of-requires-clause-long g c =
     rows_long g.J.Judge.verdict_of c.args.users.now c.args.files.now.0 c.args.files.now.1 c.deref.result.now c.kinds-kinds.ensures.sound
     (ap (λ l. shared_nodes l) c.deref.ensures.value ∙ c.in_ok-nodes.ensures.rows)
 
-pub with_nodes-requires-clause-used : goal.with_nodes-requires-clause-used
-with_nodes-requires-clause-used g c =
+pub with_rows_of-requires-clause-used : goal.with_rows_of-requires-clause-used
+with_rows_of-requires-clause-used g c =
     rows_have g.J.Judge.verdict_of c.args.users.now c.args.files.now.0 c.args.files.now.1 c.deref.result.now c.kinds-kinds.ensures.sound
     (ap (λ l. shared_nodes l) c.deref.ensures.value ∙ c.in_ok-nodes.ensures.rows)
 
 pub returns-clause-rows : goal.returns-clause-rows
 returns-clause-rows g c =
-    ap (λ (kept : Kept LabelRow). entries_in kept) (c.in_ok-rows.ensures ∙ c.in_ok-tagged.ensures)
-    ∙ c.in_ok-map.ensures
+    c.in_ok-new.ensures
     ∙ rows_rowed g.J.Judge.verdict_of c.args.users.now c.args.files.now.0 c.args.files.now.1 c.deref.result.now c.kinds-kinds.ensures.sound
     (ap (λ l. shared_nodes l) c.deref.ensures.value ∙ c.in_ok-nodes.ensures.rows)

@@ -17,8 +17,8 @@ of-requires g c =
     subst (λ (ns : Numbers). AreSound c.in_ok-kinds.kinds ns) (sym numbers)
     (renewed_sound (λ x. x) (nodes, kept.0.1) c.in_ok-kinds.kinds kept.1 (given_sound kept.0 nodes kept.1 c.kinds.ensures.sound c.requires.used) renews)
 
-pub returns : goal.returns
-returns g c =
+pub returns-clause-entries : goal.returns-clause-entries
+returns-clause-entries g c =
     let kept : Kept g.row.N.Denot = c.args.self.now in
     let nodes : List (Option g.row.M.Denot) = shared_nodes c.args.nodes.now in
     let renews : Renews (λ x. x) (nodes, kept.0.1) c.in_ok-kinds.kinds =
@@ -28,3 +28,6 @@ returns g c =
     ∙ ap (entries_by c.in_ok-kinds.kinds) numbers
     ∙ renewed_entries (λ x. x) (nodes, kept.0.1) c.in_ok-kinds.kinds kept.1 (given_sound kept.0 nodes kept.1 c.kinds.ensures.sound c.requires.used) renews
     ∙ entries_given nodes kept.0.1 kept.1
+
+pub returns-clause-paths : goal.returns-clause-paths
+returns-clause-paths g c = ap (λ (m : Kept g.row.M.Denot). m.1) c.in_ok-map.ensures ∙ c.in_ok-numbers.ensures ∙ c.numbers.ensures.all
