@@ -1,6 +1,6 @@
 #!/bin/sh
-# Tests of the commands: what needs only the program, over stored snapshots, in a folder of its own. It takes
-# three to six minutes, and ends with the line `N passed, M failed`; the exit status is 0 where none failed.
+# Tests of the commands: what needs only the program, over stored snapshots, in a folder of its own, in up to four
+# processes. It takes some six minutes beside other work, and ends with the line `N passed, M failed`; the exit status is 0 where none failed.
 #
 # usage: tools/check_commands.sh [--all | --no-lint] [PROGRAM]      PROGRAM: one that is built (crates/facl_cli/out/facl_cli)
 #        tools/check_commands.sh --lint
