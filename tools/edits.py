@@ -8,6 +8,9 @@ The first form tries them over the libraries that tools/prove.py proved. The sec
 `rt ci`, the process PID, whose output goes to FILE. A library is taken once FILE says that its crate is proved, and a check
 starts only on a lane that no check below PID uses, N in all, with memory for it.
 
+The second form keeps which edits were refused, where `rt ci` keeps what passed: by sums of all that the check of each read,
+of the edit and of these scripts. It tries an edit again where one of them changed. The first form tries all.
+
 For each crate the functions of its edits are checked unchanged first, the control, over an empty folder of kept work. Then
 each edit is made in a copy of the crate and its function is checked over that folder. At most one check of a crate runs at a
 time. An edit fails where it does not apply, where the control does not prove its function or does not find it, where the
@@ -20,14 +23,16 @@ Prints a line for each edit; the last one is `N passed, M failed`. What each che
 from __future__ import annotations
 
 import argparse
+import hashlib
 import os
 import shutil
 import signal
+import stat
 import sys
 import tempfile
 import time
 from pathlib import Path
-from typing import Callable, Iterator, List, Optional, Set, Tuple, Union
+from typing import Callable, Dict, Iterator, List, Optional, Set, Tuple, Union
 
 sys.dont_write_bytecode = True
 sys.path.insert(0, os.path.join(os.path.dirname(os.path.realpath(__file__)), "lib"))
@@ -36,7 +41,7 @@ import script  # noqa: E402
 import wrong_bodies  # noqa: E402
 from kit import Kit, proved  # noqa: E402
 from processes import is_running, programs_below  # noqa: E402
-from prove import KEPT, Kept  # noqa: E402
+from prove import KEPT, Kept, sums_of  # noqa: E402
 from side_by_side import LOGS, Run, folder_of, log_of  # noqa: E402
 from ways import Crates  # noqa: E402
 from wrong_bodies import Fault, WrongBody  # noqa: E402
@@ -94,6 +99,53 @@ def link_or_copy(path: str, to: str) -> None:
         shutil.copy2(path, to)
 
 
+def file_sum(path: str) -> str:
+    return hashlib.sha256(Path(path).read_bytes()).hexdigest()
+
+
+class Refusals:
+    """Which edits were refused on this machine: for each a file, named by a sum, in a folder of that in which `rt ci` keeps what
+    passed. Nothing is kept or believed where that is not there, is another user's, or lets others write."""
+
+    def __init__(self, crates: Crates, kit: Kit) -> None:
+        self.crates, self.kit = crates, kit
+        self.store = os.path.join(os.path.dirname(kit.folder), "rattle-kept")
+        self.folder = os.path.join(self.store, "facl-refused")
+
+    def sums(self, bodies: List[WrongBody]) -> Dict[str, WrongBody]:
+        """The edits by their sums as all files are now."""
+        scripts = [file_sum(module) for module in (__file__, wrong_bodies.__file__)]
+        of_crates = sums_of(self.crates, self.kit, {body.crate for body in bodies})
+        found = {}
+        for body in bodies:
+            read = (of_crates[body.crate], body.function, sorted(body.texts.items()), scripts)
+            found[hashlib.sha256(repr(read).encode()).hexdigest()] = body
+        return found
+
+    def is_ours(self) -> bool:
+        """Whether nobody else can have written what is kept."""
+        for folder in (self.store, self.folder):
+            try:
+                found = os.lstat(folder)
+            except FileNotFoundError:
+                return False
+            if not stat.S_ISDIR(found.st_mode) or found.st_uid != os.geteuid() or found.st_mode & 0o022:
+                return False
+        return True
+
+    def has(self, each: str) -> bool:
+        """Whether the edit of a sum was refused."""
+        return self.is_ours() and os.path.isfile(os.path.join(self.folder, each))
+
+    def keep(self, before: Dict[str, WrongBody], refused: List[WrongBody]) -> None:
+        """Keeps edits that were refused, but for those of which a file that their check read is no more what it was."""
+        if os.path.isdir(self.store):
+            os.makedirs(self.folder, mode=0o700, exist_ok=True)
+        for each, body in self.sums(refused).items() if self.is_ours() else ():
+            if each in before:
+                Path(self.folder, each).write_text(body.label + "\n", encoding="utf-8")
+
+
 class Check(Run):
     """A check of some functions of a crate, with the texts of an edit in place of its own."""
 
@@ -124,12 +176,16 @@ class Trial:
     """The edits of one crate, and how far they are: the check that runs, and those still to be made."""
 
     def __init__(self, crate: str, needs: Set[str], bodies: List[WrongBody]) -> None:
-        self.crate, self.needs, self.bodies = crate, needs, bodies
-        self.functions = sorted({body.function for body in bodies})
+        self.crate, self.needs = crate, needs
         self.check: Optional[Check] = None
-        self.todo: List[Optional[WrongBody]] = [None, *bodies]
         self.again = False
         self.work, self.words = "", [""]
+        self.hold(bodies)
+
+    def hold(self, bodies: List[WrongBody]) -> None:
+        """These edits are all that are to be tried."""
+        self.bodies, self.functions = bodies, sorted({body.function for body in bodies})
+        self.todo: List[Optional[WrongBody]] = [None, *bodies] if bodies else []
 
     def prepare(self, work: str, words: List[str]) -> None:
         kept = os.path.join(work, "kept", self.crate)
@@ -173,6 +229,7 @@ class Gate:
     def __init__(self, crates: Crates) -> None:
         self.crates = crates
         self.trials: List[Trial] = []
+        self.refused: List[WrongBody] = []
         self.passed = self.failed = 0
 
     def say(self, label: str, is_refused: bool, text: str) -> None:
@@ -192,11 +249,24 @@ class Gate:
             if bodies:
                 self.trials.append(Trial(crate, self.crates.needed(crate) - {crate}, bodies))
 
+    def leave_out(self, refusals: Refusals) -> Dict[str, WrongBody]:
+        """Leaves out the edits that an earlier run had refused. Returns all others by their sums."""
+        left = {}
+        for each, body in refusals.sums([body for trial in self.trials for body in trial.bodies]).items():
+            if refusals.has(each):
+                self.say(body.label, True, "refused by an earlier run, of the same files, on this machine")
+            else:
+                left[each] = body
+        for trial in self.trials:
+            trial.hold([body for body in trial.bodies if body in left.values()])
+        return left
+
     def take_ended(self) -> None:
         for trial in self.trials:
             if trial.check and trial.check.program.poll() is not None:
                 for body, is_refused, text in trial.take():
                     self.say(body.label, is_refused, text)
+                    self.refused += [body] if is_refused else []
 
     def step(self, libraries: Libraries, jobs: int, prepare: Callable[[Trial], None]) -> bool:
         """Takes what ended, and starts what there is room for. Returns whether something is left."""
@@ -215,8 +285,7 @@ class Gate:
                     self.say(body.label, is_refused, text)
         return any(trial.todo for trial in self.trials)
 
-    def run(self, libraries: Libraries, jobs: int, work: str) -> int:
-        kit = Kit()
+    def run(self, libraries: Libraries, kit: Kit, jobs: int, work: str) -> int:
         os.makedirs(LOGS, exist_ok=True)
         try:
             while self.step(libraries, jobs, lambda trial: trial.prepare(
@@ -243,16 +312,17 @@ def main() -> int:
     given = options.parse_args()
     if given.jobs < 1 or bool(given.beside) != bool(given.log):
         options.error("--jobs takes a number from 1 on, and --beside needs --log")
-    crates = Crates()
+    crates, kit = Crates(), Kit()
     gate = Gate(crates)
     gate.read(chosen(given.names))
     with tempfile.TemporaryDirectory(prefix="facl-edits.") as work:
-        libraries: Libraries
-        if given.beside:
-            libraries = Beside(work, given.beside, given.log, given.jobs)
-        else:
-            libraries = Proved(crates, Kit())
-        return gate.run(libraries, given.jobs, work)
+        if not given.beside:
+            return gate.run(Proved(crates, kit), kit, given.jobs, work)
+        refusals = Refusals(crates, kit)
+        left = gate.leave_out(refusals)
+        status = gate.run(Beside(work, given.beside, given.log, given.jobs), kit, given.jobs, work)
+        refusals.keep(left, gate.refused)
+        return status
 
 
 if __name__ == "__main__":

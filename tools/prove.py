@@ -32,7 +32,7 @@ import shutil
 import subprocess
 import sys
 import tempfile
-from typing import Dict, List, Set
+from typing import Dict, Iterable, List, Set
 
 sys.dont_write_bytecode = True
 sys.path.insert(0, os.path.join(os.path.dirname(os.path.realpath(__file__)), "lib"))
@@ -51,6 +51,22 @@ KEPT = os.path.join(OUT, "proved")
 # --- the program
 
 
+def sums_of(crates: Crates, kit: Kit, wanted: Iterable[str]) -> Dict[str, str]:
+    """For each of some crates a sum of the kit, of its files as they are now, and of those of all crates below it."""
+
+    @functools.cache
+    def sum_of(crate: str) -> str:
+        found = hashlib.sha256(kit.version + crates.rows[crate].encode())
+        for path in files_of(crate):
+            with open(path, "rb") as file:
+                found.update(repr((os.path.relpath(path, TOP), file.read())).encode())
+        for used in crates.uses[crate]:
+            found.update(sum_of(used).encode())
+        return found.hexdigest()
+
+    return {crate: sum_of(crate) for crate in wanted}
+
+
 class Kept:
     """What was proved, each crate beside a sum of all that its check read."""
 
@@ -59,19 +75,7 @@ class Kept:
         self.sums = self.sums_now()
 
     def sums_now(self) -> Dict[str, str]:
-        """For each crate a sum of the kit, of its files as they are now, and of those of all crates below it."""
-
-        @functools.cache
-        def sum_of(crate: str) -> str:
-            found = hashlib.sha256(self.kit.version + self.crates.rows[crate].encode())
-            for path in files_of(crate):
-                with open(path, "rb") as file:
-                    found.update(repr((os.path.relpath(path, TOP), file.read())).encode())
-            for used in self.crates.uses[crate]:
-                found.update(sum_of(used).encode())
-            return found.hexdigest()
-
-        return {crate: sum_of(crate) for crate in self.crates.needed(PROGRAM)}
+        return sums_of(self.crates, self.kit, self.crates.needed(PROGRAM))
 
     def library(self, crate: str) -> str:
         return os.path.join(KEPT, crate + ".rlib")

@@ -311,6 +311,38 @@ class Edits(Case):
     def test_no_edits(self) -> None:
         self.assertEqual(self.run_edits(), (1, ["0 passed, 0 failed"]))
 
+    def kept(self) -> str:
+        """The folder where rt keeps what passed."""
+        folder = os.path.join(os.path.dirname(self.top), "rattle-kept")
+        os.mkdir(folder, 0o700)
+        self.addCleanup(shutil.rmtree, folder)
+        return folder
+
+    def tried(self) -> List[bool]:
+        """Whether each edit is tried by a run, in which all are refused."""
+        status, lines = self.run_edits()
+        self.assertEqual((status, lines[-1]), (0, f"{len(lines) - 1} passed, 0 failed"))
+        return ["earlier run" not in line for line in sorted(lines[:-1])]
+
+    def test_kept(self) -> None:
+        """An edit that was refused is not tried again until a file that its check reads is another one, or itself."""
+        folder = self.kept()
+        self.edits(a=EDIT.format("one", "bad"), b=EDIT.format("two", "open"))
+        self.assertEqual(self.tried(), [True, True])
+        self.assertEqual(self.tried(), [False, False])
+        self.edits(b=EDIT.format("two", "bad"))
+        self.assertEqual(self.tried(), [False, True])
+        self.write({"crates/low/specs/More.antt": "-- more\n"})
+        self.assertEqual(self.tried(), [True, True])
+        os.chmod(os.path.join(folder, "facl-refused"), 0o777)
+        self.assertEqual(self.tried(), [True, True])
+
+    def test_not_refused_is_not_kept(self) -> None:
+        self.kept()
+        self.edits(it=EDIT.format("one", "same"))
+        self.assertEqual(self.run_edits()[0], 1)
+        self.assertEqual(self.run_edits()[0], 1)
+
 
 LINT = "#!/bin/sh\necho \"linted $*\"\nexit ${LINT:-0}\n"
 TEST = "[ -e ended ] && echo after >tested || echo beside >tested\n"
