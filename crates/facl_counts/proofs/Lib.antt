@@ -12,4 +12,5 @@ pub mod StateGains
 pub mod Summing
 pub mod SumsApart
 pub mod Tallying
+pub mod TwoParts
 pub mod UserChanges

@@ -1,5 +1,5 @@
 -- The sums of users, whose counts and first files are in lists of their own.
-use Rattle.std.proofs.Common.{◌≡◌, ℕ, zero, suc, ◌+◌, ◌^◌, ◌<◌, ◌≤◌, Bool, true, false, cond, not, List, [], ◌∷◌, ◌++◌, append-nil, map, length, take, drop, replicate, Option}
+use Rattle.std.proofs.Common.{◌≡◌, ℕ, zero, suc, ◌+◌, ◌<◌, ◌≤◌, Bool, true, false, cond, not, List, [], ◌∷◌, ◌++◌, append-nil, map, length, take, drop, replicate, Option}
 use Rattle.std.proofs.Common.{Some, None, is_some, Bor, refl, sym, ap, ◌∙◌, arith}
 use Rattle.std.specs.Prelude.{◌&&◌, option_map, slice_get}
 use Rattle.std.specs.Option.{option_or}
@@ -59,7 +59,7 @@ module _ (q : Perms) where
     firsts_past zero (c ∷ row) (first ∷ firsts) past = absurd (past (omega arith) (omega arith))
     firsts_past (suc i) (c ∷ row) (first ∷ firsts) past = firsts_past i row firsts (later i c row first firsts past)
 
-ended : {A : Type 0} (i : ℕ) (xs start after all : List A) → drop i xs ≡ drop i start → after ≡ drop i start → take i xs ++ after ≡ all → xs ≡ all
+pub ended : {A : Type 0} (i : ℕ) (xs start after all : List A) → drop i xs ≡ drop i start → after ≡ drop i start → take i xs ++ after ≡ all → xs ≡ all
 ended i xs start after all rest none done = sym (take-append-drop i xs) ∙ ap (λ l. take i xs ++ l) (rest ∙ sym none) ∙ done
 
 pub counts_end : (q : Perms) (more i : ℕ) (row counts start all : List ℕ) → IsPast i row start → drop i counts ≡ drop i start → take i counts ++ counts_after q more (drop i row) (drop i start)
@@ -72,9 +72,9 @@ firsts_end q p i row firsts start all past rest done = ended i firsts start (fir
 
 -- ---- counts
 
-pub small : (all more : ℕ) (counts : List ℕ) → all + more < 2 ^ 64 → AreWithin all counts → AreSmall more counts
-small all more [] fits h = tt
-small all more (n ∷ counts) fits h = (omega (arith, h.0), small all more counts fits h.1)
+pub small : (bound all more : ℕ) (counts : List ℕ) → all + more < bound → AreWithin all counts → AreSmall bound more counts
+small bound all more [] fits h = tt
+small bound all more (n ∷ counts) fits h = (omega (arith, h.0), small bound all more counts fits h.1)
 
 pub within_after : (q : Perms) (all more : ℕ) (row counts : List ℕ) → AreWithin all counts → AreWithin (all + more) (counts_after q more row counts)
 within_after q all more row [] h = tt

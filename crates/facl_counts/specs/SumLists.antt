@@ -1,5 +1,5 @@
 -- For inner functions of `below`: the counts and the first files of the sums of users, each in a list of its own.
-use Rattle.std.specs.Prelude.{◌≤◌, ◌<◌, ◌^◌, ℕ, ◌+◌, ◌&&◌, ◌||◌, not, Bool, false, if◌then◌else◌, List, [], ◌∷◌, map, zip, Option, Some, is_some, option_map}
+use Rattle.std.specs.Prelude.{◌≡◌, ◌≤◌, ◌<◌, ◌^◌, ℕ, ◌+◌, ◌&&◌, ◌||◌, not, Bool, false, if◌then◌else◌, List, [], ◌∷◌, length, map, zip, Option, Some, is_some, option_map}
 use Rattle.std.specs.Borrow.{Bor}
 use Rattle.std.specs.Option.{option_or}
 use Rattle.std.specs.List.{AllByRecursion}
@@ -30,9 +30,22 @@ grants_one q (c ∷ row) (w ∷ waits) = (w && has c q) || grants_one q row wait
 abbrev pub AreWithin : ℕ → List ℕ → Type 0
 AreWithin most counts = AllByRecursion (λ n. n ≤ most) counts
 
--- with `more` added, each fits a number of 64 bits
-abbrev pub AreSmall : ℕ → List ℕ → Type 0
-AreSmall more counts = AllByRecursion (λ n. n + more < 2 ^ 64) counts
+-- with `more` added, each is below a bound
+abbrev pub AreSmall : (bound more : ℕ) → List ℕ → Type 0
+AreSmall bound more counts = AllByRecursion (λ n. n + more < bound) counts
+
+-- the counts whose wide and narrow parts these are
+abbrev pub totals : (wide narrow : List ℕ) → List ℕ
+totals [] narrow = []
+totals (n ∷ wide) [] = []
+totals (n ∷ wide) (m ∷ narrow) = (n + m) ∷ totals wide narrow
+
+-- these are parts of the counts of the same users: no count is above `all`, which fits, and no narrow part above `most`
+pub record AreKept (all most : ℕ) (wide narrow : List ℕ) : Type 0 where
+  pub fits : all < 2 ^ 64
+  pub long : length wide ≡ length narrow
+  pub within : AreWithin all (totals wide narrow)
+  pub few : AreWithin most narrow
 
 -- the sums
 abbrev pub sums_kept : List ℕ → List (Option (Bor PathOf)) → List Sum

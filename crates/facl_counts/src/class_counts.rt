@@ -16,58 +16,15 @@ use acl_rights::{Cells, ClassFiles, FileClasses};
 use facl_answers::Sides;
 use std::alloc::{AllocError, Global};
 
-/// Counts of files by their classes, and for each class a hint at the place of its count.
-#[derive(Drop)]
-struct Counter<'a> {
-    tallies: Tallies<'a>,
-    hints: Vec<usize>,
-}
-
-impl<'a> Counter<'a> {
-    /// None. Allocates nothing.
-    fn new(alloc: Global) -> Counter<'a>
-        ensures { result.tallies ≡ [] }
-    {
-        Counter {
-            tallies: Tallies::new(alloc),
-            hints: Vec::new(alloc),
-        }
-    }
-
-    /// The place where the count of a class is expected.
-    fn hint(&self, class: usize) -> usize {
-        match self.hints.get(class) {
-            Some(at) => *at,
-            None => 0,
-        }
-    }
-
-    /// The count of a class is expected at a place from now on.
-    fn expect(&mut self, class: usize, at: usize) -> Result<(), AllocError>
-        ensures { self.new.tallies ≡ self.old.tallies }
-    {
-        if class >= self.hints.len() {
-            self.hints.resize(class.saturating_add(1), 0)?;
-        }
-        if let Some(hint) = self.hints.get_mut(class) {
-            *hint = at;
-        }
-        Ok(())
-    }
-
-    /// Files more have a class. Fails only if memory, or the numbers, run out.
-    fn count(&mut self, files: ClassFiles<'a>) -> Result<(), AllocError>
-        ensures { OnOk result ((others : List (Tallied Sides)) → SaysAs self.old.tallies others
-            → SaysAs self.new.tallies (others ++ of_class (class_tally files.entry) ∷ [])) }
-    {
-        let class = files.class;
-        let hint = self.hint(class);
-        let key = (None, Some(class));
-        let at = self
-            .tallies
-            .add(hint, key, files.count as u64, files.first)?;
-        self.expect(class, at)
-    }
+/// Counts files of a class more. Classes have numbers in the order in which their files come first, so the count of a class is
+/// expected at its number. Fails only if memory, or the numbers, run out.
+fn count<'a>(tallies: &mut Tallies<'a>, files: ClassFiles<'a>) -> Result<(), AllocError>
+    ensures { OnOk result ((others : List (Tallied Sides)) → SaysAs tallies.old others
+        → SaysAs tallies.new (others ++ of_class (class_tally files.entry) ∷ [])) }
+{
+    let key = (None, Some(files.class));
+    tallies.add(files.class, key, files.count as u64, files.first)?;
+    Ok(())
 }
 
 /// The next file with its class, if it is at a path or below it.
@@ -92,16 +49,16 @@ pub(crate) fn count_files<'a>(
 ) -> Result<Tallies<'a>, AllocError>
     ensures { IfOk result (λ tallies. AreCounted classes.new.0 (front top.now classes.old.1) tallies) }
 {
-    let mut counter = Counter::new(alloc);
+    let mut tallies = Tallies::new(alloc);
     while let Some((first, class)) = next_within(alloc, classes, top)? {
-        let count = 1;
-        counter.count(ClassFiles {
+        let file = ClassFiles {
             class,
-            count,
+            count: 1,
             first,
-        })?;
+        };
+        count(&mut tallies, file)?;
     }
-    Ok(counter.tallies)
+    Ok(tallies)
 }
 
 /// Counts files that are counted by classes already, where a class may come more than once.
@@ -111,11 +68,11 @@ pub(crate) fn count_found<'a>(
 ) -> Result<Tallies<'a>, AllocError>
     ensures { IfOk result (λ tallies. SaysAs tallies (map (λ files. of_class (class_tally files)) found.now)) }
 {
-    let mut counter = Counter::new(alloc);
+    let mut tallies = Tallies::new(alloc);
     for files in found {
-        counter.count(*files)?;
+        count(&mut tallies, *files)?;
     }
-    Ok(counter.tallies)
+    Ok(tallies)
 }
 
 /// The row of the class of a key, if there is one. Fails only if memory runs out.

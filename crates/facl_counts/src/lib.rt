@@ -12,6 +12,7 @@ mod gains;
 mod laws;
 mod sums;
 mod tallies;
+mod user_counts;
 mod user_gains;
 
 pub use below::write_below;

@@ -1,13 +1,14 @@
 //! For each user on how many files a request is granted, and the first of these files.
 
-ghost use Rattle.std.specs.Prelude.{◌≡◌, ◌+◌, ◌<◌, ◌^◌, map, length, replicate, slice_get, option_map, Some, if◌then◌else◌, IfOk, OnOk};
+ghost use Rattle.std.specs.Prelude.{◌≡◌, map, length, slice_get, option_map, Some, if◌then◌else◌, IfOk, OnOk};
 ghost use Rattle.std.specs.Option.{option_or};
 ghost use Rattle.acl_entry.specs.Check.{has};
 ghost use Rattle.facl_counts.specs.Counting.{tallied};
-ghost use Rattle.facl_counts.specs.SumLists.{counts_after, firsts_after, grants_one, waits_of, AreSmall};
+ghost use Rattle.facl_counts.specs.SumLists.{firsts_after, grants_one, waits_of};
 ghost use Rattle.facl_counts.specs.Sums.{sum_of, no_sum, after_row};
 
-use crate::tallies::{Tally, together};
+use crate::tallies::Tally;
+use crate::user_counts::{UserCounts, item_at, repeated};
 use acl_entry::{Perm, Requests};
 use acl_names::Path;
 use std::alloc::{AllocError, Global};
@@ -18,25 +19,6 @@ use std::marker::Model;
 pub(crate) struct UserSum<'a> {
     pub count: u64,
     pub first: Option<&'a Path>,
-}
-
-/// A number, where a file's verdict grants the request.
-fn where_granted(granted: Requests, request: Perm, more: u64) -> u64
-    ensures { result ≡ (if has granted request then more else 0) }
-{
-    if granted.has(request) { more } else { 0 }
-}
-
-/// Adds a number to the counts of the users to whom a row grants a request. The loop always writes, so that it adds many
-/// at a time.
-fn add_counts(counts: &mut [u64], row: &[Requests], request: Perm, more: u64)
-    requires { AreSmall more counts.old }
-    ensures { counts.new ≡ counts_after request more row.now counts.old }
-{
-    let users = counts.len().min(row.len());
-    for at in 0..users {
-        counts[at] += where_granted(row[at], request, more);
-    }
 }
 
 /// Whether a row grants a request to one of the users who wait. The loop does not end early, so that it looks at many at a
@@ -88,45 +70,24 @@ fn look_again(waits: &mut [bool], firsts: &[Option<&Path>])
     }
 }
 
-/// So many of a value.
-fn so_many<T: Copy>(alloc: Global, count: usize, value: T) -> Result<Vec<T>, AllocError>
-    ensures { IfOk result (λ list. list.items ≡ replicate count value) }
-{
-    let mut list = Vec::new(alloc);
-    list.resize(count, value)?;
-    Ok(list)
-}
-
-/// The item at a place, if there is one.
-fn item_at<T: Copy>(items: &[T], at: usize) -> Option<T>
-    ensures { result ≡ slice_get items.now at }
-{
-    match items.get(at) {
-        Some(item) => Some(*item),
-        None => None,
-    }
-}
-
-/// The sums of users, who are all that there are: the counts and the first files apart, and who has no file yet. No count
-/// is above that of all files.
+/// The sums of users, who are all that there are: the counts and the first files apart, and who has no file yet.
 #[derive(Drop)]
 pub(crate) struct UserSums<'a> {
-    counts: Vec<u64>,
+    counts: UserCounts,
     firsts: Vec<Option<&'a Path>>,
     waits: Vec<bool>,
-    all: u64,
 }
 
 impl<'a> Model for UserSums<'a> {
     ghost use Rattle.std.specs.Prelude.{◌≡◌, List, map, not, is_some};
     ghost use Rattle.facl_counts.specs.Sums.{Sum};
-    ghost use Rattle.facl_counts.specs.SumLists.{AreWithin, sums_kept, waits_of};
+    ghost use Rattle.facl_counts.specs.SumLists.{sums_kept, waits_of};
 
     ghost Value = { List Sum };
 
-    ghost view = { λ s. sums_kept s.counts.items s.firsts.items };
+    ghost view = { λ s. sums_kept s.counts s.firsts.items };
 
-    ghost invariant = { λ s. AreWithin s.all s.counts.items × (s.waits.items ≡ waits_of s.firsts.items) };
+    ghost invariant = { λ s. s.waits.items ≡ waits_of s.firsts.items };
 }
 
 impl<'a> UserSums<'a> {
@@ -134,14 +95,13 @@ impl<'a> UserSums<'a> {
     pub fn new(alloc: Global, names: &[Vec<u8>]) -> Result<UserSums<'a>, AllocError>
         ensures { IfOk result (λ sums. sums ≡ map no_sum names.now) }
     {
-        let counts = so_many(alloc, names.len(), 0)?;
-        let firsts = so_many(alloc, names.len(), None)?;
-        let waits = so_many(alloc, names.len(), true)?;
+        let counts = UserCounts::new(alloc, names.len())?;
+        let firsts = repeated(alloc, names.len(), None)?;
+        let waits = repeated(alloc, names.len(), true)?;
         Ok(UserSums {
             counts,
             firsts,
             waits,
-            all: 0,
         })
     }
 
@@ -155,9 +115,7 @@ impl<'a> UserSums<'a> {
     ) -> Result<(), AllocError>
         ensures { OnOk result (self.new ≡ after_row request (tallied tally.now) row.now self.old) }
     {
-        let all = together(self.all, tally.count)?;
-        add_counts(&mut self.counts, row, request, tally.count);
-        self.all = all;
+        self.counts.add(row, request, tally.count)?;
         if grants_one(&self.waits, row, request) {
             add_firsts(&mut self.firsts, row, request, tally.first);
             look_again(&mut self.waits, &self.firsts);
@@ -169,7 +127,7 @@ impl<'a> UserSums<'a> {
     pub fn get(&self, at: usize) -> Option<UserSum<'a>>
         ensures { option_map sum_of result ≡ slice_get self.now at }
     {
-        let Some(count) = item_at(&self.counts, at) else {
+        let Some(count) = self.counts.get(at) else {
             return None;
         };
         let Some(first) = item_at(&self.firsts, at) else {

@@ -6,9 +6,9 @@ use Rattle.facl_counts.specs.Sums.{TakesWithin}
 use Rattle.facl_counts.proofs.ClassFiles.{file_counted}
 use Rattle.facl_counts.proofs.class_counts.count_files.Goals as goal
 
-pub loop-counter-preserved : goal.loop-counter-preserved
-loop-counter-preserved c =
-    let taken : TakesWithin c.args.top.now c.loop-counter.classes (Some (c.in-Some.first.now, c.in-Some.class)) c.next_within.new.classes =
-    subst (λ o. TakesWithin c.args.top.now c.loop-counter.classes (option_map seen o) c.next_within.new.classes) c.in-Some.is c.in_ok-first.ensures in
-    file_counted c.args.top.now (front c.args.top.now c.args.classes.now.1) c.loop-counter.classes c.next_within.new.classes c.loop-counter.counter.tallies
-    c.count.new.self.tallies c.in-Some.first.now c.in-Some.class taken c.loop-counter.invariant c.in_ok-count.ensures
+pub loop-tallies-preserved : goal.loop-tallies-preserved
+loop-tallies-preserved c =
+    let taken : TakesWithin c.args.top.now c.loop-tallies.classes (Some (c.in-Some.first.now, c.in-Some.class)) c.next_within.new.classes =
+    subst (λ o. TakesWithin c.args.top.now c.loop-tallies.classes (option_map seen o) c.next_within.new.classes) c.in-Some.is c.in_ok-first.ensures in
+    file_counted c.args.top.now (front c.args.top.now c.args.classes.now.1) c.loop-tallies.classes c.next_within.new.classes c.loop-tallies.tallies
+    c.count.new.tallies c.in-Some.first.now c.in-Some.class taken c.loop-tallies.invariant c.in_ok-count.ensures

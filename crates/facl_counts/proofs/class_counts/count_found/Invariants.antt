@@ -4,4 +4,4 @@ use Rattle.facl_counts.specs.Sums.{of_class}
 use Rattle.facl_counts.proofs.class_counts.count_found.Given as goal
 
 abbrev pub invariant-loop-files : goal.invariant-loop-files
-invariant-loop-files l = SaysAs l.counter.tallies (map (λ files. of_class (class_tally files)) (take l.files-index l.found))
+invariant-loop-files l = SaysAs l.tallies (map (λ files. of_class (class_tally files)) (take l.files-index l.found))

@@ -1,6 +1,6 @@
 use Rattle.std.proofs.Common.{◌≡◌, ◌++◌, take, drop, length}
 use Rattle.facl_counts.specs.SumLists.{counts_after}
-use Rattle.facl_counts.proofs.sums.add_counts.Given as goal
+use Rattle.facl_counts.proofs.user_counts.add_few.Given as goal
 
 abbrev pub invariant-loop-at : goal.invariant-loop-at
 invariant-loop-at l = record {

@@ -1,7 +1,7 @@
 use Rattle.std.proofs.Common.{arith}
 use Rattle.facl_counts.specs.SumLists.{counts_after}
 use Rattle.facl_counts.proofs.SumsApart.{counts_end}
-use Rattle.facl_counts.proofs.sums.add_counts.Goals as goal
+use Rattle.facl_counts.proofs.user_counts.add_counts.Goals as goal
 
 pub returns : goal.returns
 returns c =
