@@ -17,7 +17,7 @@ tools/lib/answers.py:
 - fetched: as a user joins or leaves groups, at least each label that mentions one of them, at most each file that does,
   and those that mention several as often; else none.
 - found again, where files change: all users on each file that is new, whose row differs, or above which others are let
-  through. One directory alone that gets another label may count too, and a line on all files counts each. The root, where
+  through. One directory alone that gets another label may count too, and a line on all files may count each. The root, where
   it was there and no file went, comes after the others that change: the counts of both steps are added, up to that of all
   files. At most all users on the files at or below those that changed.
 - found again, as a user joins or leaves groups: the user on as many files as above; at most on those with another row,

@@ -20,4 +20,5 @@ pub mod Unlike
 pub mod MovedRows
 pub mod PutRows
 pub mod KeptLabels
+pub mod SameFiles
 pub mod RootLast

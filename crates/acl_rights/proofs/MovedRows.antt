@@ -28,15 +28,15 @@ groups_of r = mentions r.label
 abbrev pub mentioning : List ℕ → RowedPaths → RowedPaths
 mentioning groups es = filter (λ d. mentions_any groups d.1) es
 
--- ---- the numbers found by their tags are those of the labels that changed
+-- ---- the labels that changed
 
-module _ (f : LabelRow → LabelRow) (groups labels : List ℕ) (old new : Kept LabelRow) (exact : (n : ℕ) → is_one n labels ≡ meets (tags_at groups_of old.0 n) groups)
-    (changed : ChangesTagged f groups_of groups old.0 new.0) (same_paths : new.1 ≡ old.1) where
+module _ (f : LabelRow → LabelRow) (groups labels : List ℕ) (old new : Kept LabelRow) (changed : ChangesTagged f groups_of groups old.0 new.0) (same_paths : new.1 ≡ old.1)
+    (same : (n : ℕ) → is_one n labels ≡ false → node_at new.0 n ≡ node_at old.0 n) where
   pub changes_rows : ChangesRows old labels new
   changes_rows = record {
     numbers = same_paths;
     there = λ n is. by n is.0 is.1 (meets (tags_at groups_of old.0 n) groups) refl;
-    same = λ n out. ap (option_map (λ (x : LabelRow). x.row)) (changed.nodes n ∙ ap (λ b. if b then option_map f (node_at old.0 n) else node_at old.0 n) (sym (exact n) ∙ out));
+    same = λ n out. ap (option_map (λ (x : LabelRow). x.row)) (same n out);
   }
     where
       by : (n : ℕ) (x : LabelRow) → node_at old.0 n ≡ Some x → (b : Bool) → meets (tags_at groups_of old.0 n) groups ≡ b → IsNode new.0 n
@@ -45,16 +45,16 @@ module _ (f : LabelRow → LabelRow) (groups labels : List ℕ) (old new : Kept 
 
 -- ---- where they are
 
-module _ (groups labels : List ℕ) (k : KindsOf LabelRow) (exact : (n : ℕ) → is_one n labels ≡ meets (tags_at groups_of k n) groups) where
-  -- a label that is found mentions one of the groups
+module _ (groups labels : List ℕ) (k : KindsOf LabelRow) (among : (n : ℕ) → is_one n labels ≡ true → meets (tags_at groups_of k n) groups ≡ true) where
+  -- a label that changed mentions one of the groups
   met : (n : ℕ) (x : LabelRow) → node_at k n ≡ Some x → is_one n labels ≡ true → mentions_any groups x ≡ true
   met n x is found = by (nat_lt 0 (count_at k n)) refl
     where
       by : (b : Bool) → nat_lt 0 (count_at k n) ≡ b → mentions_any groups x ≡ true
       by true some =
-          sym (ap (λ o. meets (option_map_or groups_of o []) groups) (ap (λ b. if b then node_at k n else None) some ∙ is)) ∙ sym (exact n) ∙ found
+          sym (ap (λ o. meets (option_map_or groups_of o []) groups) (ap (λ b. if b then node_at k n else None) some ∙ is)) ∙ among n found
       by false none =
-          absurd (true≢false (sym found ∙ exact n ∙ ap (λ o. meets (option_map_or groups_of o []) groups) (ap (λ b. if b then node_at k n else None) none)))
+          absurd (true≢false (sym (among n found) ∙ ap (λ o. meets (option_map_or groups_of o []) groups) (ap (λ b. if b then node_at k n else None) none)))
 
   is_here : (e : PathOf × LabelRow) (es : RowedPaths) → mentions_any groups e.1 ≡ true → is_inside (paths (mentioning groups (e ∷ es))) e.0 ≡ true
   is_here e es m = ap (λ b. is_inside (paths (cond b (e ∷ mentioning groups es) (mentioning groups es))) e.0) m ∙ ap (λ b. b || is_inside (paths (mentioning groups es)) e.0) (within_itself e.0)

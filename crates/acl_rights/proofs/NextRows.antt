@@ -20,9 +20,9 @@ use Rattle.path_map.specs.Merged.{merged}
 use Rattle.path_map.specs.Below.{lies_in}
 use Rattle.path_classes.specs.declared.label_row.LabelRow.{LabelRow}
 use Rattle.path_classes.specs.KindRows.{RowedPaths, rows_at}
-use Rattle.acl_rights.specs.KindRows.{AreRowsOf, with_label, rowed, rowed_labels, each_row, with_last, without_at, with_again, mentions_any}
+use Rattle.acl_rights.specs.KindRows.{AreRowsOf, AsManyAreSame, with_label, rowed, rowed_labels, each_row, with_last, without_at, with_again, mentions_any}
 use Rattle.acl_rights.proofs.RowsOfKinds.{rowed_rows}
-use Rattle.path_classes.proofs.Maps.{map_filter, map_twice, times_le}
+use Rattle.path_classes.proofs.Maps.{map_filter, map_twice}
 use Rattle.acl_rights.proofs.Orders.{same_order}
 use Rattle.acl_rights.specs.Rows.{Verdict}
 use Rattle.acl_rights.specs.Groups.{mentions_one}
@@ -35,6 +35,7 @@ use Rattle.acl_rights.proofs.RowCounts.{person_same}
 use Rattle.acl_rights.proofs.Goes.{moves, joins, leaves}
 use Rattle.path_classes.specs.ClassesWithin.{is_inside, inside}
 use Rattle.acl_rights.proofs.Inside.{inside_changed}
+use Rattle.acl_rights.proofs.SameFiles.{same_paths}
 use Rattle.acl_rights.proofs.Refreshing.{count_paths, count_lying, users_refreshed}
 use Rattle.acl_rights.proofs.Rowed.{rowed_paths, rowed_long, rows_changed, rows_moved, rows_joined, rows_left, rows_mentioning, paths_mentioning}
 
@@ -67,17 +68,9 @@ files_cost t labels users are same =
     subst (λ n. n ≤ most_asked t) (λ i. sym files i * sym people i) (within t)
 
 -- as many as a count are no more than it
-pub all_most : {A E : Type 0} (result : Result (A × ℕ) E) (files count : ℕ) → IfOk result (λ new. new.1 ≡ files) → files ≡ count → IfOk result (λ new. new.1 ≤ count)
+pub all_most : {A E : Type 0} (result : Result (A × ℕ) E) (files count : ℕ) → IfOk result (λ new. new.1 ≤ files) → files ≡ count → IfOk result (λ new. new.1 ≤ count)
 all_most (Ok new) files count is same = omega (arith, is, same)
 all_most (Err fault) files count is same = tt
-
--- what the kinds of a tree cost, where as many files changed
-pub kinds_cost : (t : StagedState) (many : ℕ) (users : List Person) → many ≤ length t.changed → users ≡ persons t.state.people → many * length users ≤ most_asked t
-kinds_cost t many users few same =
-    let people : length users ≡ length t.state.people.users = ap length same ∙ all_users t.state.people in
-    let cost = times_le many (length t.changed) (length t.state.people.users) few in
-    let whole = within t in
-    omega (arith, cost, whole, ap (λ n. many * n) people)
 
 module _ (V : Verdict) (es : RowedPaths) (t : StagedState) (b : AreBefore V es t) (ordered : IsInOrder es) (n : IsInOrder t.state.tree.files) where
   abbrev us : List Person
@@ -99,6 +92,11 @@ module _ (V : Verdict) (es : RowedPaths) (t : StagedState) (b : AreBefore V es t
   same_files same = b.are ∙ ap (λ (r : Recorded). rowed V before r.files) (sym same)
 
   -- ---- files change
+
+  -- where none is gone, and they are as many as before, they are the same files
+  pub as_many_same : t.gone ≡ [] → AsManyAreSame es gs
+  as_many_same none long =
+      rowed_paths V before es fs b.are ∙ same_paths fs gs old_order n (sym b.goes.reports.gone ∙ none) (sym (rowed_long V before es fs b.are) ∙ long)
 
   module _ (is : t.user_change ≡ Unchanged) where
     same_users : us ≡ before

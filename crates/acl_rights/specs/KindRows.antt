@@ -15,6 +15,7 @@ use Rattle.acl_edit.specs.declared.node.Node.{Node}
 use Rattle.acl_tree.specs.Files.{Files}
 use Rattle.path_classes.specs.declared.label_row.LabelRow.{LabelRow}
 use Rattle.path_classes.specs.KindRows.{RowedPaths}
+use Rattle.path_classes.specs.ClassedRows.{paths_of}
 use Rattle.acl_rights.specs.Rows.{Verdict, row_of}
 
 -- a label with what each user may do
@@ -107,6 +108,10 @@ pub record BeginWithRoot {W : Type 0} (es : RowedPaths) (labels : List (PathOf �
   pub first : labels ≡ ([], label) ∷ others
   pub there : has [] es ≡ true
   pub none : gone ≡ []
+
+-- rows and files that are as many have the same paths
+abbrev pub AsManyAreSame : RowedPaths → Files → Type 0
+AsManyAreSame es fs = length es ≡ length fs → paths_of es ≡ paths_of fs
 
 -- ---- rows that are known; for inner functions
 

@@ -1,28 +1,20 @@
 //! Rows of labels where all files changed: as long as files that had one label have one label again, labels keep their numbers,
 //! and so do path classes.
 
-ghost use Rattle.std.specs.Prelude.{◌≡◌, true, None, Some, get_or, slice_get, length, map, option_map, IfOk, IfSome};
+ghost use Rattle.std.specs.Prelude.{◌≡◌, ◌<◌, true, None, Some, get_or, slice_set, length, option_map, IfOk, IfSome};
 ghost use Rattle.std.specs.Option.{option_copied};
 ghost use Rattle.kinds.specs.Numbered.{entries_in};
 ghost use Rattle.kinds.specs.Placed.{placed};
-ghost use Rattle.kinds.specs.Given.{shared_nodes, HaveNodes};
-ghost use Rattle.acl_rights.specs.KeptLabels.{row_by, rows_by, IsRowAt};
+ghost use Rattle.kinds.specs.Given.{shared_nodes};
+ghost use Rattle.acl_rights.specs.KindRows.{AsManyAreSame};
+ghost use Rattle.acl_rights.specs.KeptLabels.{row_by, rows_by, IsSameRow, IsRowAt, HaveRows, Keeps};
 
 use crate::changed_rows::is_same_label;
 use acl_edit::Node;
-use acl_names::Path;
 use kinds::KindMap;
 use path_classes::{LabelRow, same_row};
 use std::alloc::{AllocError, Global};
-use std::cmp::Ordering;
 use std::rc::Rc;
-
-/// Whether two paths are the same.
-fn is_same_path(one: &Path, other: &Path) -> bool
-    ensures { result ≡ true → one.now ≡ other.now }
-{
-    one.order(other) == Ordering::Equal
-}
 
 /// Whether two rows are the same, and their labels.
 fn is_same(one: &LabelRow, other: &LabelRow) -> bool
@@ -51,74 +43,80 @@ fn number_at(numbers: &[Option<usize>], at: usize) -> Option<usize>
     }
 }
 
-/// For each number of a label the number that one of its files has in a tree: the last of these files.
-fn numbers_of_labels(
+/// Writes a number at a place.
+fn set_number(numbers: &mut Vec<Option<usize>>, at: usize, number: usize)
+    requires { at < length numbers.old.items }
+    ensures { numbers.new.items ≡ slice_set numbers.old.items at (Some number) }
+{
+    numbers[at] = Some(number);
+}
+
+/// Whether two numbers of a tree have the same row.
+fn has_same_row(rows: &[Option<Rc<LabelRow>>], number: usize, other: usize) -> bool
+    ensures { result ≡ true → IsSameRow (shared_nodes rows.now) number other }
+{
+    let Some(row) = row_at(rows, number) else {
+        return false;
+    };
+    if number == other {
+        return true;
+    }
+    match row_at(rows, other) {
+        Some(same) => is_same(row, same),
+        None => false,
+    }
+}
+
+/// Keeps the number of a label's first file. Whether a file of the label has the same row as that one.
+fn gets_row(
+    numbers: &mut Vec<Option<usize>>,
+    rows: &[Option<Rc<LabelRow>>],
+    label: usize,
+    number: usize,
+) -> bool
+    ensures long { length numbers.new.items ≡ length numbers.old.items }
+    ensures kept { Keeps numbers.old.items numbers.new.items }
+    ensures row { result ≡ true → IsRowAt (shared_nodes rows.now) numbers.new.items label number }
+{
+    if label >= numbers.len() {
+        return false;
+    }
+    match number_at(numbers, label) {
+        Some(first) => has_same_row(rows, first, number),
+        None => {
+            set_number(numbers, label, number);
+            has_same_row(rows, number, number)
+        }
+    }
+}
+
+/// For each number of a label the number that its first file has in a tree, which has as many files in the same order: `rows` has
+/// a row for each number of the tree. `None` where two files of a label have different rows, or the files are not as many. No path
+/// is read.
+fn kept_numbers(
     alloc: Global,
     labels: &KindMap<LabelRow>,
     files: &KindMap<Node>,
-) -> Result<Vec<Option<usize>>, AllocError>
-    ensures { IfOk result (λ numbers. length numbers.items ≡ length labels.now.0.0) }
+    rows: &[Option<Rc<LabelRow>>],
+) -> Result<Option<Vec<Option<usize>>>, AllocError>
+    ensures long { IfOk result (λ some. IfSome some (λ numbers. length numbers.items ≡ length labels.now.0.0)) }
+    ensures rows { IfOk result (λ some. IfSome some (λ numbers. HaveRows (shared_nodes rows.now) numbers.items labels.now.1 files.now.1)) }
 {
     let mut numbers = vec![in alloc; None; labels.numbers_len()]?;
     let mut labelled = labels.numbers().iter();
     let mut rest = files.numbers().iter();
     while let Some(path) = labelled.next() {
         let Some(file) = rest.next() else {
-            return Ok(numbers);
+            return Ok(None);
         };
-        if path.1 < numbers.len() {
-            numbers[path.1] = Some(file.1);
+        if !gets_row(&mut numbers, rows, path.1, file.1) {
+            return Ok(None);
         }
     }
-    Ok(numbers)
-}
-
-/// Whether the row of a number of a tree is the one that a label gets by its number.
-fn is_row_of(
-    rows: &[Option<Rc<LabelRow>>],
-    numbers: &[Option<usize>],
-    label: usize,
-    number: usize,
-) -> bool
-    ensures { result ≡ true → IsRowAt (shared_nodes rows.now) numbers.now label number }
-{
-    let Some(first) = number_at(numbers, label) else {
-        return false;
-    };
-    let Some(row) = row_at(rows, first) else {
-        return false;
-    };
-    if first == number {
-        return true;
+    match rest.next() {
+        Some(_file) => Ok(None),
+        None => Ok(Some(numbers)),
     }
-    match row_at(rows, number) {
-        Some(other) => is_same(row, other),
-        None => false,
-    }
-}
-
-/// Whether all files have the row that their label gets by its number: `rows` has a row for each number of the tree, and
-/// `numbers` one of these for each number of a label.
-fn have_rows_of(
-    labels: &KindMap<LabelRow>,
-    numbers: &[Option<usize>],
-    files: &KindMap<Node>,
-    rows: &[Option<Rc<LabelRow>>],
-) -> bool
-    ensures same { result ≡ true → placed (rows_by (shared_nodes rows.now) numbers.now) labels.now.1 ≡ placed (shared_nodes rows.now) files.now.1 }
-    ensures there { result ≡ true → HaveNodes (rows_by (shared_nodes rows.now) numbers.now) labels.now.1 }
-{
-    let mut labelled = labels.numbers().iter();
-    let mut rest = files.numbers().iter();
-    while let Some(path) = labelled.next() {
-        let Some(file) = rest.next() else {
-            return false;
-        };
-        if !is_same_path(path.0, file.0) || !is_row_of(rows, numbers, path.1, file.1) {
-            return false;
-        }
-    }
-    rest.next().is_none()
 }
 
 /// The row of a number, shared, if there is a number and it has one.
@@ -154,20 +152,28 @@ fn rows_of_labels(
 }
 
 /// The labels of files with other rows, by the numbers that they have: `rows` has a row for each number of the tree of these
-/// files. `None` where two files that had one label have different ones now. Fails only if memory runs out.
+/// files, and as `same` says, they are the same files if they are as many. `None` where it does not, and where two files that had
+/// one label have different ones now. Fails only if memory runs out.
 pub(crate) fn kept_labels(
     alloc: Global,
     labels: &KindMap<LabelRow>,
     files: &KindMap<Node>,
     rows: &[Option<Rc<LabelRow>>],
+    same: bool,
 ) -> Result<Option<KindMap<LabelRow>>, AllocError>
+    requires { same ≡ true → AsManyAreSame (entries_in labels.now) (entries_in files.now) }
     ensures rows { IfOk result (λ new. IfSome new (λ new. entries_in new ≡ placed (shared_nodes rows.now) files.now.1)) }
     ensures paths { IfOk result (λ new. IfSome new (λ new. new.1 ≡ labels.now.1)) }
 {
-    let numbers = numbers_of_labels(alloc, labels, files)?;
-    if !have_rows_of(labels, &numbers, files, rows) {
+    if !same {
         return Ok(None);
     }
+    let _labels = labels.kinds();
+    let _files = files.kinds();
+    let some = kept_numbers(alloc, labels, files, rows)?;
+    let Some(numbers) = some else {
+        return Ok(None);
+    };
     let own = rows_of_labels(alloc, &numbers, rows)?;
     let new = labels.with_nodes(alloc, &own)?;
     Ok(Some(new))

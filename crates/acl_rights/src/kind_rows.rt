@@ -313,8 +313,7 @@ impl KindRows {
         let moved = MovedUser { at, user };
         let before = self.rows.rows();
         let _kinds = before.map().kinds();
-        let labels = before.numbers_tagged(alloc, &tags)?;
-        let (updated, looked) = before.with_tagged(alloc, judge, &tags, &moved)?;
+        let (updated, looked, labels) = before.with_tagged(alloc, judge, &tags, &moved)?;
         let (rows, refreshed) = self.rows.with_rows(alloc, updated, &labels)?;
         Ok(UpdatedRows {
             rows: KindRows { rows, hints },

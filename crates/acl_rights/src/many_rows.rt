@@ -1,12 +1,13 @@
 //! Rows of verdicts by kinds after many files changed: one for each number of the files' map. Of labels that differ each is
 //! judged at most once.
 
-ghost use Rattle.std.specs.Prelude.{◌≡◌, ◌+◌, ◌*◌, ◌++◌, ◌∷◌, ◌<◌, ◌≤◌, ◌^◌, [], length, option_map, IfOk, IfSome};
+ghost use Rattle.std.specs.Prelude.{◌≡◌, ◌+◌, ◌*◌, ◌++◌, ◌∷◌, ◌<◌, ◌≤◌, ◌^◌, [], true, length, option_map, IfOk, IfSome};
 ghost use Rattle.kinds.specs.Numbered.{entries_in};
 ghost use Rattle.kinds.specs.Given.{used_at, shared_nodes, HaveNodes};
 ghost use Rattle.kinds.specs.Placed.{placed};
 ghost use Rattle.kinds.specs.Renewed.{renewed_before};
-ghost use Rattle.acl_rights.specs.KindRows.{label_row, node_row, rowed, shared_rows, AreRowsOf, AreRows, AreOfEntries, IsAmongRows};
+ghost use Rattle.path_classes.specs.ClassedRows.{AreCounted};
+ghost use Rattle.acl_rights.specs.KindRows.{label_row, node_row, rowed, shared_rows, AreRowsOf, AreRows, AreOfEntries, AsManyAreSame, IsAmongRows};
 
 use crate::changed_rows::{is_same_label, judged_row};
 use crate::hash::hash_of;
@@ -161,62 +162,85 @@ fn rows_of_numbers<J: Judge>(
 }
 
 impl KindRows {
-    /// Other rows for the same labels, by their numbers.
-    fn with_own_rows(&self, alloc: Global, map: KindMap<LabelRow>) -> Result<KindRows, AllocError>
+    /// Other rows for the same labels, by their numbers, and of how many files the answers along their paths may be others.
+    fn with_own_rows(
+        &self,
+        alloc: Global,
+        map: KindMap<LabelRow>,
+    ) -> Result<(KindRows, usize), AllocError>
         requires { map.1 ≡ self.now.rows.1 }
-        ensures { IfOk result (λ new. entries_in new.rows ≡ entries_in map) }
+        ensures rows { IfOk result (λ new. entries_in new.0.rows ≡ entries_in map) }
+        ensures least { IfOk result (λ new. AreCounted self.now.rows new.0.rows new.1) }
+        ensures most { IfOk result (λ new. new.1 ≤ length map.1) }
     {
         let hints = hints_of(alloc, &map)?;
         let before = self.rows.rows();
         let tagged = before.replaced(alloc, map)?;
-        let rows = self.rows.with_all_rows(alloc, tagged)?;
-        Ok(KindRows { rows, hints })
+        let new = self.rows.with_counted_rows(alloc, tagged)?;
+        let (rows, count) = new;
+        Ok((KindRows { rows, hints }, count))
     }
 
     /// The rows of a tree's files, given one for each number of the tree: the labels' own numbers stay where files that had
-    /// one label have one again, and else they are those of the tree.
+    /// one label have one again, and else they are those of the tree. They stay only if `same` says that the files are the same
+    /// as before if they are as many. The number is that of the files whose answers along their paths may be others, and of
+    /// all files where labels get other numbers.
     fn with_rows_of(
         &self,
         alloc: Global,
         files: &KindMap<Node>,
         nodes: &[Option<Rc<LabelRow>>],
-    ) -> Result<KindRows, AllocError>
+        same: bool,
+    ) -> Result<(KindRows, usize), AllocError>
         requires long { length nodes.now ≡ length files.now.0.0 }
         requires used { HaveNodes (shared_nodes nodes.now) files.now.1 }
-        ensures { IfOk result (λ new. entries_in new.rows ≡ placed (shared_nodes nodes.now) files.now.1) }
+        requires same { same ≡ true → AsManyAreSame (entries_in self.now.rows) (entries_in files.now) }
+        requires few { length (entries_in files.now) < 2 ^ 64 }
+        ensures rows { IfOk result (λ new. entries_in new.0.rows ≡ placed (shared_nodes nodes.now) files.now.1) }
+        ensures least { IfOk result (λ new. AreCounted self.now.rows new.0.rows new.1) }
+        ensures most { IfOk result (λ new. new.1 ≤ length (entries_in files.now)) }
     {
+        let _files = files.kinds();
         let before = self.rows.rows();
-        let kept = kept_labels(alloc, before.map(), files, nodes)?;
+        let kept = kept_labels(alloc, before.map(), files, nodes, same)?;
         if let Some(map) = kept {
+            let _labels = map.kinds();
             return self.with_own_rows(alloc, map);
         }
         let map = files.with_nodes(alloc, nodes)?;
         let hints = hints_of(alloc, &map)?;
         let tagged = before.replaced(alloc, map)?;
         let rows = ClassedRows::of(alloc, tagged)?;
-        Ok(KindRows { rows, hints })
+        Ok((KindRows { rows, hints }, files.len()))
     }
 
     /// The rows of the files of a map by kinds. Labels and path classes keep their numbers where files that had one label have
-    /// one again; else rows share the map's paths, and path classes are found anew for all files. Each number of the map is
-    /// judged at most once, and not where a file of these rows has its label. Fails only if memory, or the numbers, run out.
+    /// one again, if the files are as many as before and `same` says that they are the same then; else rows share the map's
+    /// paths, and path classes are found again for all files. Each number of the map is judged at most once, and not where a file
+    /// of these rows has its label. The number is that of the files whose answers along their paths were found again. Fails only
+    /// if memory, or the numbers, run out.
     pub fn of_kinds<J: Judge>(
         &self,
         alloc: Global,
         judge: &mut J,
         files: &KindMap<Node>,
         users: &Subjects,
-    ) -> Result<KindRows, AllocError>
+        same: bool,
+    ) -> Result<(KindRows, usize), AllocError>
         requires room { J.asked_of judge.old + length files.now.0.0 * length users.now < 2 ^ 64 }
         requires known { AreRowsOf J.verdict_of users.now (entries_in self.now.rows) }
-        ensures rows { IfOk result (λ new. entries_in new.rows ≡ rowed J.verdict_of users.now (entries_in files.now)) }
+        requires same { same ≡ true → AsManyAreSame (entries_in self.now.rows) (entries_in files.now) }
+        requires few { length (entries_in files.now) < 2 ^ 64 }
+        ensures rows { IfOk result (λ new. entries_in new.0.rows ≡ rowed J.verdict_of users.now (entries_in files.now)) }
+        ensures least { IfOk result (λ new. AreCounted self.now.rows new.0.rows new.1) }
+        ensures most { IfOk result (λ new. new.1 ≤ length (entries_in files.now)) }
         ensures at_most { J.asked_of judge.new ≤ J.asked_of judge.old + length files.now.0.0 * length users.now }
     {
         let _kinds = files.kinds();
         let before = self.rows.rows();
         let known = known_rows(alloc, before.map())?;
         let nodes = rows_of_numbers(alloc, judge, users, known, files)?;
-        let new = self.with_rows_of(alloc, files, &nodes)?;
+        let new = self.with_rows_of(alloc, files, &nodes, same)?;
         Ok(new)
     }
 }

@@ -101,36 +101,19 @@ fn with_changed<J: Judge>(
     Ok(new)
 }
 
-/// The rows of all files of a tree, and how many these are.
-fn all_rows<J: Judge>(
-    alloc: Global,
-    judge: &mut J,
-    rows: &KindRows,
-    files: &KindMap<Node>,
-    users: &Subjects,
-) -> Result<(KindRows, usize), AllocError>
-    requires room { J.asked_of judge.old + length files.now.0.0 * length users.now < 2 ^ 64 }
-    requires known { AreRowsOf J.verdict_of users.now (entries_in rows.now.rows) }
-    requires few { length (entries_in files.now) < 2 ^ 64 }
-    ensures rows { IfOk result (λ new. entries_in new.0.rows ≡ rowed J.verdict_of users.now (entries_in files.now)) }
-    ensures least { IfOk result (λ new. AreCounted rows.now.rows new.0.rows new.1) }
-    ensures count { IfOk result (λ new. new.1 ≡ length (entries_in files.now)) }
-    ensures at_most { J.asked_of judge.new ≤ J.asked_of judge.old + length files.now.0.0 * length users.now }
-{
-    let new = rows.of_kinds(alloc, judge, files, users)?;
-    let _kinds = new.rows.rows().map().kinds();
-    let count = files.len();
-    Ok((new, count))
-}
-
 /// From how many changed files on the rows of all files are found again: as many as the tree has numbers of kinds, so that
-/// no more is judged; and an eighth of all files, since putting a changed file takes some three times as long as passing
-/// over one.
-fn many_of(files: &KindMap<Node>) -> usize
+/// no more is judged; and an eighth of all files, which are not counted one by one where it is likely that as many changed.
+fn many_of(staged: &Staged, files: &KindMap<Node>) -> usize
     requires { length (entries_in files.now) < 2 ^ 64 }
     ensures { length files.now.0.0 ≤ result }
 {
-    files.numbers_len().max(files.len() / 8)
+    let numbers = files.numbers_len();
+    let most = files.len() / 8;
+    if numbers >= most || staged.likely_changed() >= most {
+        numbers
+    } else {
+        most
+    }
 }
 
 /// The rows after a line by which files change and no user does. Where the root changed, and many files did, no list of them is
@@ -157,9 +140,9 @@ fn changed_rows<J: Judge>(
     }
     let users = staged.people().all_subjects();
     let files = staged.tree().files_whole().files_by_path();
-    match fewer_labels(alloc, staged.changed(), many_of(files))? {
+    match fewer_labels(alloc, staged.changed(), many_of(staged, files))? {
         Some(changed) => with_changed(alloc, judge, rows, staged, &changed),
-        None => all_rows(alloc, judge, rows, files, users),
+        None => rows.of_kinds(alloc, judge, files, users, staged.keeps_files()),
     }
 }
 

@@ -1,5 +1,5 @@
 -- Edits of nodes by their numbers, as edits of files.
-use Rattle.std.proofs.Common.{◌≡◌, ◌≢◌, Bool, List, [], ◌∷◌, Some, Result, Ok, Err, refl, sym, ap, subst, ◌∙◌}
+use Rattle.std.proofs.Common.{◌≡◌, ◌≢◌, Bool, true, cond, List, [], ◌∷◌, Some, Result, Ok, Err, refl, sym, ap, subst, ◌∙◌}
 use Rattle.acl_edit.specs.declared.edit.EditFault.{EditFault}
 use Rattle.acl_edit.specs.declared.node.Node.{Node}
 use Rattle.acl_names.specs.Paths.{PathOf, path_cmp}
@@ -87,3 +87,11 @@ module _ (edit : OneEdit) (recursive : Bool) (paths : List PathOf) (k0 : KindsOf
 
     pub sound_edited : KeepsPlaces (of_each edit) → IsSoundTree t → IsSoundTree (record { files = entries_in new; loaded = t.loaded })
     sound_edited keeps sound = subst (λ (es : Files). IsSoundTree (record { files = es; loaded = t.loaded })) (sym edited_are) (edited_sound test after (keeps_after (of_each edit) keeps) t sound)
+
+-- ---- all files
+
+-- a region that means each path means them all
+pub all_meant : {V : Type 0} (recursive : Bool) (paths : List PathOf) → ((q : PathOf) → is_file recursive paths q ≡ true) → (es : List (PathOf × V)) → es ≡ files_meant recursive paths es
+all_meant recursive paths each [] = refl
+all_meant recursive paths each (e ∷ es) =
+    ap (λ l. e ∷ l) (all_meant recursive paths each es) ∙ sym (ap (λ b. cond b (e ∷ files_meant recursive paths es) (files_meant recursive paths es)) (each e.0))

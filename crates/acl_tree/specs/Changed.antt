@@ -62,3 +62,7 @@ pub record IsTop (top : PathOf × Node) (old new : Files) : Type 0 where
 -- two states have the same files, but where a test passes
 abbrev pub SameBut : (PathOf → Bool) → Files → Files → Type 0
 SameBut test old new = (p : PathOf) → test p ≡ false → find path_cmp p new ≡ find path_cmp p old
+
+-- where that is known, no file of a state is gone in another one
+abbrev pub NoneGoneIf : Bool → Files → Files → Type 0
+NoneGoneIf known old new = known ≡ true → gone_between old new ≡ []

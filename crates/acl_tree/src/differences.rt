@@ -14,7 +14,7 @@ use crate::region::Region;
 use crate::walk::Walk;
 use acl_edit::Node;
 use acl_names::Path;
-use kinds::Kinds;
+use kinds::{KindMap, Kinds};
 use std::marker::Model;
 
 /// Whether both nodes have the same owner, group and access list.
@@ -22,6 +22,14 @@ fn is_same_label(old: &Node, new: &Node) -> bool
     ensures { result ≡ same_label old.now.label new.now.label }
 {
     old.same_label(new)
+}
+
+/// Whether a number has nodes in two states, with the same owner, group and access list.
+fn is_same_number(before: &KindMap<Node>, files: &KindMap<Node>, number: usize) -> bool {
+    match (before.used(number), files.used(number)) {
+        (Some(old), Some(new)) => is_same_label(old, new),
+        _ => false,
+    }
 }
 
 /// Whether a file is another one than what the other state has at its path.
@@ -136,6 +144,32 @@ impl Files {
         ensures { result ≡ changed_between before.now.files self.now.files }
     {
         self.differing(before, region, true)
+    }
+
+    /// No files of the two states. Allocates nothing.
+    pub(crate) fn none_beside<'a>(&'a self, other: &'a Files) -> Differences<'a>
+        ensures { result ≡ [] }
+    {
+        let files = self.files_by_path();
+        Differences {
+            walk: Walk::new(files.numbers(), false, &[]),
+            kinds: files.kinds(),
+            other: other.finder(),
+            by_label: false,
+        }
+    }
+
+    /// About how many files are new, or have another owner, group or access list than before: those of each number whose node is
+    /// another one. No file is looked at, and nothing rests on it. Allocates nothing.
+    pub(crate) fn likely_changed_from(&self, before: &Files) -> usize {
+        let files = self.files_by_path();
+        let mut count = 0usize;
+        for number in 0..files.numbers_len() {
+            if !is_same_number(before.files_by_path(), files, number) {
+                count = count.saturating_add(files.kinds().count(number));
+            }
+        }
+        count
     }
 
     /// The files that are recorded no more in a later state, where no other files than those of a region changed.

@@ -1,8 +1,10 @@
 //! Edits of the files of a command: each file of it is edited, or none.
 
-ghost use Rattle.std.specs.Prelude.{◌≡◌};
+ghost use Rattle.std.specs.Prelude.{◌≡◌, true, Ok, IfOk};
 ghost use Rattle.acl_text.specs.InTurn.{GivesUnless};
 ghost use Rattle.acl_edit.specs.Edits.{Gives};
+ghost use Rattle.acl_names.specs.Paths.{PathOf};
+ghost use Rattle.acl_tree.specs.Operands.{in_region};
 ghost use Rattle.acl_tree.specs.Edits.{OneEdit, KeepsPlaces, of_each, edit_all, file_fault};
 ghost use Rattle.acl_tree.specs.Inner.{EditsOne, fault_of};
 ghost use Rattle.acl_tree.specs.declared.edit.FileFault.{FileFault};
@@ -114,8 +116,26 @@ impl<E: NodeEdit> KindEdit<Node> for ByKind<'_, E> {
     }
 }
 
-/// The tree with the files that a region means edited.
-pub fn edit_files<E: NodeEdit>(
+/// The tree with all its files edited, which a region means, or a fault of one of them. Each number is edited once, and no path is
+/// read.
+fn edit_whole<E: NodeEdit>(
+    alloc: Global,
+    tree: &Files,
+    region: &Region,
+    edit: &E,
+) -> Result<Files, Stop<EditFault>>
+    requires { (q : PathOf) → in_region region.now q ≡ true }
+    ensures { IfOk result (λ new. edit_all (of_each (E.edited edit.now)) region.now.0 region.now.1 tree.now ≡ Ok new) }
+{
+    edit.keeps_place();
+    let files = tree.files_by_path();
+    let _sound = files.kinds();
+    let map = files.edited_all(alloc, &ByKind { edit })?;
+    Ok(Files::of(map, tree.is_loaded()))
+}
+
+/// The tree with the files that a region means edited, one after another.
+fn edit_some<E: NodeEdit>(
     alloc: Global,
     tree: &Files,
     region: &Region,
@@ -128,4 +148,23 @@ pub fn edit_files<E: NodeEdit>(
     let entries = numbers_in(alloc, files.numbers(), region)?;
     let edited = files.edited(alloc, &entries, &ByKind { edit })?;
     Ok(Files::of(edited.map, tree.is_loaded()))
+}
+
+/// The tree with the files that a region means edited. Where the edit of one of all files fails, the first such one is found.
+pub fn edit_files<E: NodeEdit>(
+    alloc: Global,
+    tree: &Files,
+    region: &Region,
+    edit: &E,
+) -> Result<Files, FileFault>
+    ensures { GivesUnless FileFault.NoMemory (λ t. t) result (edit_all (of_each (E.edited edit.now)) region.now.0 region.now.1 tree.now) }
+{
+    if region.is_everything() {
+        match edit_whole(alloc, tree, region, edit) {
+            Ok(edited) => return Ok(edited),
+            Err(Stop::NoMemory) => return Err(FileFault::NoMemory),
+            Err(Stop::Fault(fault)) => drop(fault),
+        }
+    }
+    edit_some(alloc, tree, region, edit)
 }

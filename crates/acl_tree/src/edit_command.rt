@@ -55,7 +55,7 @@ pub(crate) fn stage_edits<E: NodeEdit>(
     let touched = Region::of(alloc, selection)?;
     let edited = edit_files(alloc, state.tree, &touched, edit)?;
     let staged = Staged::with_files(state, edited, touched)?;
-    Ok(staged)
+    Ok(staged.keeping_files())
 }
 
 /// Edits the files of a command.
@@ -125,5 +125,5 @@ pub(crate) fn prepare_restore(
     state.tree.soundness_law();
     let restored = restore_files(alloc, state.tree, records)?;
     let staged = Staged::with_files(state, restored, records.region(alloc)?)?;
-    Ok(staged)
+    Ok(staged.keeping_files())
 }

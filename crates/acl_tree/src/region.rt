@@ -96,6 +96,17 @@ impl Region {
         Ok(Region::new(paths, true))
     }
 
+    /// Whether it is known that the region means every file: its first path is the root, and it means the files below. Allocates
+    /// nothing.
+    pub(crate) fn is_everything(&self) -> bool
+        ensures { result ≡ true → (q : PathOf) → in_region self.now q ≡ true }
+    {
+        match self.paths.first() {
+            Some(first) => self.recursive && first.borrowed().is_root(),
+            None => false,
+        }
+    }
+
     /// A walk over the entries of a map that the region means.
     pub(crate) fn walk<'a, 'p>(&'p self, numbers: &'a PathMap<usize>) -> Walk<'a, 'p>
         ensures { result ≡ (files_meant self.now.0 self.now.1 numbers.now, numbers.now) }

@@ -1,6 +1,6 @@
 //! Commands on the whole state: each is prepared whole, or refused; and a prepared command, before it is put in place.
 
-ghost use Rattle.std.specs.Prelude.{◌≡◌, length, option_map, IfOk};
+ghost use Rattle.std.specs.Prelude.{◌≡◌, [], true, length, option_map, IfOk};
 ghost use Rattle.acl_tree.specs.Changed.{SameBut};
 ghost use Rattle.acl_tree.specs.Operands.{in_region};
 ghost use Rattle.acl_tree.specs.InnerCommands.{whole};
@@ -87,10 +87,12 @@ pub struct Staged {
     before: Files,
     touched: Region,
     user_change: UserChange,
+    /// Whether it is known that no file is gone.
+    keeps_files: bool,
 }
 
 impl Model for Staged {
-    ghost use Rattle.acl_tree.specs.Changed.{SameBut};
+    ghost use Rattle.acl_tree.specs.Changed.{SameBut, NoneGoneIf};
     ghost use Rattle.acl_tree.specs.Operands.{in_region};
     ghost use Rattle.acl_tree.specs.State.{state_from};
     ghost use Rattle.acl_tree.specs.Reports.{StagedState, coded_staged, staged_from};
@@ -101,7 +103,7 @@ impl Model for Staged {
 
     ghost view = { λ s. staged_from s.before.files (state_from s.tree s.people) s.user_change };
 
-    ghost invariant = { λ s. SameBut (in_region s.touched) s.before.files s.tree.files };
+    ghost invariant = { λ s. SameBut (in_region s.touched) s.before.files s.tree.files × NoneGoneIf s.keeps_files s.before.files s.tree.files };
 }
 
 impl Staged {
@@ -124,6 +126,30 @@ impl Staged {
             before,
             touched,
             user_change,
+            keeps_files: false,
+        }
+    }
+
+    /// The same, where no file is gone.
+    pub(crate) fn keeping_files(self) -> Staged
+        requires { self.gone ≡ [] }
+        ensures { result ≡ self }
+    {
+        let Staged {
+            tree,
+            people,
+            before,
+            touched,
+            user_change,
+            keeps_files: _known,
+        } = self;
+        Staged {
+            tree,
+            people,
+            before,
+            touched,
+            user_change,
+            keeps_files: true,
         }
     }
 
@@ -167,11 +193,28 @@ impl Staged {
             .changed_from(&self.before, &self.touched)
     }
 
-    /// The files before the command that are recorded no more, in path order. Allocates nothing.
+    /// The files before the command that are recorded no more, in path order. No file is looked at where it is known that there
+    /// is none. Allocates nothing.
     pub fn gone(&self) -> Differences<'_>
         ensures { result ≡ self.now.gone }
     {
-        self.before.gone_in(self.tree.files_whole(), &self.touched)
+        let files = self.tree.files_whole();
+        if self.keeps_files {
+            return self.before.none_beside(files);
+        }
+        self.before.gone_in(files, &self.touched)
+    }
+
+    /// About how many files the command changed, by a look at the numbers of nodes alone. Nothing rests on it. Allocates nothing.
+    pub fn likely_changed(&self) -> usize {
+        self.tree.files_whole().likely_changed_from(&self.before)
+    }
+
+    /// Whether it is known, with no look at any file, that none is gone: so after an edit. Allocates nothing.
+    pub fn keeps_files(&self) -> bool
+        ensures { result ≡ true → self.now.gone ≡ [] }
+    {
+        self.keeps_files
     }
 
     /// The user who joined or left groups, and the ids of these groups, rising; `None` where nobody did. It allocates
@@ -224,6 +267,7 @@ impl Staged {
             before: _before,
             touched: _touched,
             user_change: _user_change,
+            keeps_files: _keeps_files,
         } = self;
     }
 
@@ -238,6 +282,7 @@ impl Staged {
             before: _before,
             touched: _touched,
             user_change: _user_change,
+            keeps_files: _keeps_files,
         } = self;
         (tree, people)
     }

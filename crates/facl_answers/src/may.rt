@@ -104,6 +104,7 @@ pub fn write_may<J: Judge>(
     };
     let mut text = Vec::new(alloc);
     let mut files = Walk::of_verdicts(alloc, verdicts);
+    files.classes.keep_apart();
     push_files(alloc, &mut text, &mut files, user, request)?;
     Ok(Some(text))
 }

@@ -1,12 +1,12 @@
 -- Nodes of some numbers that become others.
-use Rattle.std.proofs.Common.{◌≡◌, ℕ, ◌<◌, ◌||◌, Bool, true, false, cond, List, [], ◌∷◌, ◌++◌, length, map, set, get_or, Option, Some, None, refl, sym, ap, subst, ◌∙◌, arith}
+use Rattle.std.proofs.Common.{◌≡◌, ℕ, ◌<◌, ◌||◌, Bool, true, false, cond, List, [], ◌∷◌, ◌++◌, length, map, set, get_or, get_or-set_other, Option, Some, None, refl, sym, ap, subst, ◌∙◌, arith}
 use Rattle.std.specs.Prelude.{◌==◌, option_map}
 use Rattle.std.proofs.lemmas.List.{map-set, length-map}
 use Rattle.std.proofs.lemmas.List.Folds.{list_any-append}
 use Rattle.kinds.specs.Kinds.{KindsOf, kinds_of, node_at, count_at, IsNode}
 use Rattle.kinds.specs.Numbered.{Numbers, AreSound}
-use Rattle.kinds.specs.Tagged.{is_one, ChangesEach}
-use Rattle.kinds.proofs.Numbers.{eq_true, set_read, node_within}
+use Rattle.kinds.specs.Tagged.{is_one, ChangesEach, AreNoted}
+use Rattle.kinds.proofs.Numbers.{eq_true, eq_false, eq_swap, set_read, node_within}
 use Rattle.kinds.proofs.EntriesBy.{all_weaker}
 
 or_one : (a b : Bool) {A : Type 0} (x y : A) → (b ≡ true → y ≡ x) → cond (a || (b || false)) x y ≡ cond a x y
@@ -86,3 +86,48 @@ module _ {N : Type 0} (f : N → N) (old : KindsOf N) where
     used = all_weaker (λ e. IsNode old e.1) (λ e. IsNode new e.1) (λ e. node_kept new numbers h e.1) ns sound.used;
     counted = λ n. h.counts n ∙ sound.counted n;
   }
+
+-- ---- the numbers of the nodes that became others
+
+one_more : (n m : ℕ) (ns : List ℕ) → is_one n (ns ++ m ∷ []) ≡ (is_one n ns || ((m == n) || false))
+one_more n m ns = list_any-append (λ i. i == n) ns (m ∷ [])
+
+module _ {N : Type 0} (old : KindsOf N) where
+  -- none so far
+  pub none_noted : (new : KindsOf N) (done noted : List ℕ) → noted ≡ [] → new ≡ old → AreNoted done old new noted
+  none_noted new done noted none same = record {
+    among = λ n one. let no : false ≡ true = sym (ap (is_one n) none) ∙ one in cc;
+    same = λ n out. ap (λ (k : KindsOf N). node_at k n) same;
+  }
+
+  -- a number more, whose node stays
+  pub noted_same : (new : KindsOf N) (done noted : List ℕ) (m : ℕ) → AreNoted done old new noted → AreNoted (done ++ m ∷ []) old new noted
+  noted_same new done noted m h = record {
+    among = λ n one. one_more n m done ∙ ap (λ b. b || ((m == n) || false)) (h.among n one);
+    same = h.same;
+  }
+
+  -- a number more, whose node becomes another one
+  pub noted_next : (slots new : List (Option N × ℕ)) (done noted more : List ℕ) (m : ℕ) (s : Option N × ℕ) → new ≡ set slots m s → more ≡ noted ++ m ∷ []
+      → AreNoted done old (kinds_of slots) noted → AreNoted (done ++ m ∷ []) old (kinds_of new) more
+  noted_next slots new done noted more m s made is h = record {
+    among = λ n one. one_more n m done ∙ grown (is_one n noted) (is_one n done) ((m == n) || false) (h.among n) (sym (one_more n m noted) ∙ sym (ap (is_one n) is) ∙ one);
+    same = λ n out. node n (neither (is_one n noted) (m == n) (sym (one_more n m noted) ∙ sym (ap (is_one n) is) ∙ out));
+  }
+    where
+      grown : (a b c : Bool) → (a ≡ true → b ≡ true) → (a || c) ≡ true → (b || c) ≡ true
+      grown a true c among one = refl
+      grown true false c among one = let no : false ≡ true = among refl in cc
+      grown false false c among one = one
+
+      neither : (a b : Bool) → (a || (b || false)) ≡ false → (a ≡ false) × (b ≡ false)
+      neither true b h = cc
+      neither false true h = cc
+      neither false false h = (refl, refl)
+
+      node : (n : ℕ) → (is_one n noted ≡ false) × ((m == n) ≡ false) → node_at (kinds_of new) n ≡ node_at old n
+      node n outs =
+          ap (λ (l : List (Option N × ℕ)). node_at (kinds_of l) n) made
+          ∙ ap (λ l. get_or l n None) (map-set (λ (t : Option N × ℕ). t.0) slots m s)
+          ∙ get_or-set_other (map (λ t. t.0) slots) m n s.0 None (eq_false n m (eq_swap n m ∙ outs.1))
+          ∙ h.same n outs.0

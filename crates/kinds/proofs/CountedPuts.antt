@@ -79,23 +79,28 @@ none_with n (e ∷ es) h =
     let more = none_with n es both.1 in
     omega (arith, one, more)
 
--- numbers of paths that are put, and those that paths had
-pub none_of_all : (n : ℕ) (es : List (Bor PathOf × ℕ)) (left rest : List (Option ℕ)) (first second all : List ℕ)
-    → first ≡ map (λ e. e.1) es → second ≡ first ++ numbers_found left → all ≡ second ++ numbers_found rest → is_one n all ≡ false
-    → (paths_with n (map seen es) ≡ 0) × ((is_one n (numbers_found left) ≡ false) × (is_one n (numbers_found rest) ≡ false))
-none_of_all n es left rest first second all is_first is_second is_all h =
-    let last = neither (is_one n second) (is_one n (numbers_found rest)) (sym (list_any-append (λ m. m == n) second (numbers_found rest)) ∙ ap (is_one n) (sym is_all) ∙ h) in
-    let before = neither (is_one n first) (is_one n (numbers_found left)) (sym (list_any-append (λ m. m == n) first (numbers_found left)) ∙ ap (is_one n) (sym is_second) ∙ last.0) in
-    (none_with n es (ap (is_one n) (sym is_first) ∙ before.0), (before.1, last.1))
+-- a number is none of some numbers, nor of others after them
+none_of_two : (n : ℕ) (first rest all : List ℕ) → all ≡ first ++ rest → is_one n all ≡ false → (is_one n first ≡ false) × (is_one n rest ≡ false)
+none_of_two n first rest all is h = neither (is_one n first) (is_one n rest) (sym (list_any-append (λ m. m == n) first rest) ∙ ap (is_one n) (sym is) ∙ h)
 
-pub there_kept : {N : Type 0} (tags_of : N → List ℕ) (k0 k : KindsOf N) → KeepsTags tags_of k0 k → (n : ℕ) → IsNode k0 n → IsNode k n
-there_kept tags_of k0 k keeps n is = let y = keeps n is.0 is.1 in (y.0, y.1.0)
+-- numbers of paths that are put, others, and those that paths had
+pub none_of_all : (n : ℕ) (es : List (Bor PathOf × ℕ)) (others : List ℕ) (left rest : List (Option ℕ)) (first wide second all : List ℕ)
+    → first ≡ map (λ e. e.1) es → wide ≡ first ++ others → second ≡ wide ++ numbers_found left → all ≡ second ++ numbers_found rest → is_one n all ≡ false
+    → (paths_with n (map seen es) ≡ 0) × ((is_one n others ≡ false) × ((is_one n (numbers_found left) ≡ false) × (is_one n (numbers_found rest) ≡ false)))
+none_of_all n es others left rest first wide second all is_first is_wide is_second is_all h =
+    let last = none_of_two n second (numbers_found rest) all is_all h in
+    let before = none_of_two n wide (numbers_found left) second is_second last.0 in
+    let own = none_of_two n first others wide is_wide before.0 in
+    (none_with n es (ap (is_one n) (sym is_first) ∙ own.0), (own.1, (before.1, last.1)))
 
-module _ {N : Type 0} (tags_of : N → List ℕ) (k0 k k3 : KindsOf N) (ns : Numbers) (sound : AreSound k0 ns) (keeps : KeepsTags tags_of k0 k)
+pub there_kept : {N : Type 0} (tags_of : N → List ℕ) (others : List ℕ) (k0 k : KindsOf N) → KeepsTags tags_of others k0 k → (n : ℕ) → IsNode k0 n → IsNode k n
+there_kept tags_of others k0 k keeps n is = let y = keeps n is.0 is.1 in (y.0, y.1.0)
+
+module _ {N : Type 0} (tags_of : N → List ℕ) (others : List ℕ) (k0 k k3 : KindsOf N) (ns : Numbers) (sound : AreSound k0 ns) (keeps : KeepsTags tags_of others k0 k)
     (nodes : (n : ℕ) → 0 < count_at k3 n → node_at k3 n ≡ node_at k n) where
-  -- where the number of paths with a number is the same as before, its node has the same tags
-  pub tags_kept : (n : ℕ) → count_at k3 n ≡ count_at k0 n → tags_at tags_of k3 n ≡ tags_at tags_of k0 n
-  tags_kept n same = by (nat_lt 0 (count_at k0 n)) refl
+  -- where the number of paths with a number is the same as before, its node has the same tags unless the number is one of `others`
+  pub tags_kept : (n : ℕ) → is_one n others ≡ false → count_at k3 n ≡ count_at k0 n → tags_at tags_of k3 n ≡ tags_at tags_of k0 n
+  tags_kept n out same = by (nat_lt 0 (count_at k0 n)) refl
     where
       by : (b : Bool) → nat_lt 0 (count_at k0 n) ≡ b → tags_at tags_of k3 n ≡ tags_at tags_of k0 n
       by true is =
@@ -105,7 +110,7 @@ module _ {N : Type 0} (tags_of : N → List ℕ) (k0 k k3 : KindsOf N) (ns : Num
           let x = used_number k0 ns n sound.used (omega (arith, some, counts)) in
           let y = keeps n x.0 x.1 in
           ap (λ o. option_map_or tags_of o []) (used_some k3 n some3 ∙ nodes n some3 ∙ y.1.0)
-          ∙ y.1.1
+          ∙ y.1.1 out
           ∙ sym (ap (λ o. option_map_or tags_of o []) (used_some k0 n some ∙ x.1))
       by false is =
           let ge = ltb-false _ _ is in

@@ -14,6 +14,7 @@ pub mod Replaced
 pub mod Renewals
 pub mod PlacedNodes
 pub mod PassingPaths
+pub mod PassedCounts
 pub mod ByNumber
 pub mod GivenNodes
 pub mod PairOrder

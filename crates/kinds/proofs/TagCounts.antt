@@ -62,6 +62,10 @@ counted numbers rises (e ∷ ns) =
     let first = sum_by-cons (λ (e : PathOf × ℕ). cond (is_one e.1 numbers) 1 0) e ns in
     omega (arith, more, both, one, first)
 
+pub counted_numbers : {N : Type 0} (k : KindsOf N) (numbers : List ℕ) (ns : Numbers) → IsStrictlyIncreasing numbers → AreSound k ns
+    → sum_by (count_at k) numbers ≡ count_by (λ (e : PathOf × ℕ). is_one e.1 numbers) ns
+counted_numbers k numbers ns rises sound = (λ i. sum_by (λ n. sound.counted n i) numbers) ∙ counted numbers (sorted_from_strictly_increasing numbers rises) ns
+
 module _ {N : Type 0} (tags_of : N → List ℕ) (wanted : List ℕ) (k : KindsOf N) (numbers : List ℕ) (exact : (n : ℕ) → is_one n numbers ≡ meets (tags_at tags_of k n) wanted) where
   by_entries : (es : Numbers) → AreUsed k es → ((n : ℕ) → paths_with n es ≤ count_at k n)
       → count_by (λ (e : PathOf × ℕ). is_one e.1 numbers) es ≡ count_by (λ (e : PathOf × N). meets (tags_of e.1) wanted) (entries_by k es)
@@ -79,6 +83,4 @@ module _ {N : Type 0} (tags_of : N → List ℕ) (wanted : List ℕ) (k : KindsO
 
   pub counted_tagged : (ns : Numbers) → IsStrictlyIncreasing numbers → AreSound k ns → sum_by (count_at k) numbers ≡ count_by (λ (e : PathOf × N). meets (tags_of e.1) wanted) (entries_by k ns)
   counted_tagged ns rises sound =
-      (λ i. sum_by (λ n. sound.counted n i) numbers)
-      ∙ counted numbers (sorted_from_strictly_increasing numbers rises) ns
-      ∙ by_entries ns sound.used (λ n. let e = sound.counted n in omega (arith, e))
+      counted_numbers k numbers ns rises sound ∙ by_entries ns sound.used (λ n. let e = sound.counted n in omega (arith, e))

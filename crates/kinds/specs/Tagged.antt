@@ -31,9 +31,9 @@ SameBut ns old new = (n : ℕ) → is_one n ns ≡ false → used_at new n ≡ u
 abbrev pub SameTagsBut : {N : Type 0} → (N → List ℕ) → List ℕ → KindsOf N → KindsOf N → Type 0
 SameTagsBut tags ns old new = (n : ℕ) → is_one n ns ≡ false → tags_at tags new n ≡ tags_at tags old n
 
--- a number that had a node has one with the same tags
-abbrev pub KeepsTags : {N : Type 0} → (N → List ℕ) → KindsOf N → KindsOf N → Type 0
-KeepsTags {N} tags old new = (n : ℕ) (x : N) → node_at old n ≡ Some x → (y : N) × ((node_at new n ≡ Some y) × (tags y ≡ tags x))
+-- a number that had a node has one, with the same tags unless it is one of some numbers
+abbrev pub KeepsTags : {N : Type 0} → (N → List ℕ) → List ℕ → KindsOf N → KindsOf N → Type 0
+KeepsTags {N} tags ns old new = (n : ℕ) (x : N) → node_at old n ≡ Some x → (y : N) × ((node_at new n ≡ Some y) × (is_one n ns ≡ false → tags y ≡ tags x))
 
 -- nodes that paths have and that have one of some tags became others; counts are the same
 pub record ChangesTagged {N : Type 0} (f : N → N) (tags : N → List ℕ) (wanted : List ℕ) (old new : KindsOf N) : Type 0 where
@@ -62,3 +62,8 @@ AreSettled tags old k done gone new = (p : Pair) → IsSettled (is_one p.second 
 pub record ChangesEach {N : Type 0} (f : N → N) (done : List ℕ) (old new : KindsOf N) : Type 0 where
   pub nodes : (n : ℕ) → node_at new n ≡ (if is_one n done then option_map f (node_at old n) else node_at old n)
   pub counts : (n : ℕ) → count_at new n ≡ count_at old n
+
+-- the numbers of the nodes that became others, each one of some numbers
+pub record AreNoted {N : Type 0} (done : List ℕ) (old new : KindsOf N) (noted : List ℕ) : Type 0 where
+  pub among : (n : ℕ) → is_one n noted ≡ true → is_one n done ≡ true
+  pub same : (n : ℕ) → is_one n noted ≡ false → node_at new n ≡ node_at old n

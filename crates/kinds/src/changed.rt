@@ -3,7 +3,7 @@
 ghost use Rattle.std.specs.Prelude.{◌≡◌, ◌+◌, ◌++◌, ◌∷◌, ◌<◌, ◌≤◌, ◌^◌, [], ℕ, List, length, option_map, IfOk, MatchOption};
 ghost use Rattle.std.specs.Option.{option_map_or};
 ghost use Rattle.kinds.specs.Kinds.{kinds_of, node_at, count_at, IsNode};
-ghost use Rattle.kinds.specs.Tagged.{ChangesEach};
+ghost use Rattle.kinds.specs.Tagged.{ChangesEach, AreNoted};
 
 use crate::kinds::{Kinds, NONE, Slot};
 use crate::list::SharedList;
@@ -55,7 +55,8 @@ impl<N: Drop> Kinds<N> {
         }))
     }
 
-    /// Slots with that of a number changed, if its node becomes another one; all others are shared.
+    /// Slots with that of a number changed, if its node becomes another one: then the number is added to `changed`. All other
+    /// slots are shared.
     fn slots_changed<S, C: NodeChange<N, S>>(
         &self,
         alloc: Global,
@@ -63,23 +64,25 @@ impl<N: Drop> Kinds<N> {
         change: &C,
         slots: SharedList<Slot<N>>,
         number: usize,
+        changed: &mut Vec<usize>,
     ) -> Result<SharedList<Slot<N>>, AllocError>
         requires room { C.counted state.old + 1 < 2 ^ 64 }
         ensures slots { IfOk result (λ new. (done : List ℕ) → ChangesEach (C.changed change.now) done self.now (kinds_of slots)
             → ChangesEach (C.changed change.now) (done ++ number ∷ []) self.now (kinds_of new)) }
+        ensures noted { IfOk result (λ new. (done : List ℕ) → AreNoted done self.now (kinds_of slots) changed.old.items
+            → AreNoted (done ++ number ∷ []) self.now (kinds_of new) changed.new.items) }
         ensures at_most { C.counted state.new ≤ C.counted state.old + 1 }
     {
         let some = self.changed_slot(alloc, state, change, number)?;
-        match some {
-            Some(slot) => {
-                let slots = slots.with(number, slot)?;
-                Ok(slots)
-            }
-            None => Ok(slots),
-        }
+        let Some(slot) = some else {
+            return Ok(slots);
+        };
+        let slots = slots.with(number, slot)?;
+        changed.push(number)?;
+        Ok(slots)
     }
 
-    /// For some numbers what their nodes become, and how many nodes were fetched for that; the slots of other numbers are
+    /// For some numbers what their nodes become, and the numbers of the nodes that became others; the slots of all others are
     /// shared. Fails only if memory runs out.
     pub(crate) fn changed_at<S, C: NodeChange<N, S>>(
         &self,
@@ -87,42 +90,41 @@ impl<N: Drop> Kinds<N> {
         state: &mut S,
         change: &C,
         numbers: &[usize],
-    ) -> Result<(Kinds<N>, usize), AllocError>
+    ) -> Result<(Kinds<N>, Vec<usize>), AllocError>
         requires room { C.counted state.old + length numbers.now < 2 ^ 64 }
         ensures kinds { IfOk result (λ new. ChangesEach (C.changed change.now) numbers.now self.now new.0) }
-        ensures fetched { IfOk result (λ new. new.1 ≡ length numbers.now) }
+        ensures noted { IfOk result (λ new. AreNoted numbers.now self.now new.0 new.1.items) }
         ensures at_most { C.counted state.new ≤ C.counted state.old + length numbers.now }
     {
         let mut slots = self.slots.share()?;
-        let mut fetched = 0;
+        let mut changed = Vec::new(alloc);
         for number in numbers {
-            slots = self.slots_changed(alloc, state, change, slots, *number)?;
-            fetched += 1;
+            slots = self.slots_changed(alloc, state, change, slots, *number, &mut changed)?;
         }
         let free = self.free;
-        Ok((Kinds { slots, free }, fetched))
+        Ok((Kinds { slots, free }, changed))
     }
 }
 
 impl<N: Drop> KindMap<N> {
-    /// The map of the same paths with what the nodes of some numbers become, and how many nodes were fetched for that. Both
-    /// maps share the paths, their numbers and all other nodes. Fails only if memory runs out.
+    /// The map of the same paths with what the nodes of some numbers become, and the numbers of the nodes that became others.
+    /// Both maps share the paths, their numbers and all other nodes. Fails only if memory runs out.
     pub(crate) fn changed_at<S, C: NodeChange<N, S>>(
         &self,
         alloc: Global,
         state: &mut S,
         change: &C,
         numbers: &[usize],
-    ) -> Result<(KindMap<N>, usize), AllocError>
+    ) -> Result<(KindMap<N>, Vec<usize>), AllocError>
         requires room { C.counted state.old + length numbers.now < 2 ^ 64 }
         ensures kinds { IfOk result (λ new. ChangesEach (C.changed change.now) numbers.now self.now.0 new.0.0) }
         ensures paths { IfOk result (λ new. new.0.1 ≡ self.now.1) }
-        ensures fetched { IfOk result (λ new. new.1 ≡ length numbers.now) }
+        ensures noted { IfOk result (λ new. AreNoted numbers.now self.now.0 new.0.0 new.1.items) }
         ensures at_most { C.counted state.new ≤ C.counted state.old + length numbers.now }
     {
-        let (kinds, fetched) = self.kinds().changed_at(alloc, state, change, numbers)?;
+        let (kinds, changed) = self.kinds().changed_at(alloc, state, change, numbers)?;
         let paths = self.numbers().share()?;
         let map = KindMap::of(alloc, kinds, paths)?;
-        Ok((map, fetched))
+        Ok((map, changed))
     }
 }

@@ -1,6 +1,6 @@
 //! Edits of entries by their numbers: what an edit makes of a number is computed once.
 
-ghost use Rattle.std.specs.Prelude.{◌≡◌, ◌<◌, ◌++◌, ◌∷◌, [], ℕ, true, None, Ok, map, get_or, option_map, IfOk, IfSome, OnOk, length};
+ghost use Rattle.std.specs.Prelude.{◌≡◌, ◌<◌, ◌++◌, ◌∷◌, [], ℕ, None, Ok, map, get_or, option_map, IfOk, IfSome, OnOk, length};
 ghost use Rattle.std.specs.List.{AllByRecursion};
 ghost use Rattle.path_map.specs.Entries.{IsInOrder, seen};
 ghost use Rattle.kinds.specs.Kinds.{IsNode};
@@ -204,62 +204,27 @@ fn edit_nodes<N: Drop, E: KindEdit<N>>(
 }
 
 impl<N: Drop> KindMap<N> {
-    /// Whether the map has this many entries. No more of them are passed.
-    fn has_len(&self, len: usize) -> bool
-        ensures { result ≡ true → length self.now.1 ≡ len }
-    {
-        let mut left = len;
-        let mut rest = self.numbers().iter();
-        while let Some(_entry) = rest.next() {
-            if left == 0 {
-                return false;
-            }
-            left -= 1;
-        }
-        left == 0
-    }
-
-    /// The map with each of its entries edited, or a fault of one of them: paths keep their numbers, which get other nodes.
-    fn edited_in_place<E: KindEdit<N>>(
+    /// The map with each of its entries edited, or a fault of one of them: paths keep their numbers, which get other nodes. Each
+    /// number is edited once, and no path is read. This map stays as it is.
+    pub fn edited_all<E: KindEdit<N>>(
         &self,
         alloc: Global,
         edit: &E,
     ) -> Result<KindMap<N>, Stop<E::Fault>>
-        ensures made { IfOk result (λ new. edit_each (E.edited edit.now) (entries_in self.now) ≡ Ok (entries_in new)) }
-        ensures paths { IfOk result (λ new. new.1 ≡ self.now.1) }
+        ensures made { IfOk result (λ new. edit_each (E.edited edit.now) (entries_in self.now) ≡ Ok (entries_by new.0 self.now.1)) }
+        ensures put { IfOk result (λ new. ArePut self.now new self.now.1) }
     {
         let _sound = self.kinds();
         let nodes = edit_nodes(alloc, self, edit)?;
         let map = self.with_nodes(alloc, &nodes)?;
-        Ok(map)
-    }
-
-    /// What `edited` returns where `entries` are all of the map, or a fault of one of them.
-    fn edited_whole<'a, E: KindEdit<N>>(
-        &self,
-        alloc: Global,
-        entries: &[(&'a Path, usize)],
-        edit: &E,
-    ) -> Result<EditedMap<'a, N>, Stop<E::Fault>>
-        requires order { IsInOrder (map seen entries.now) }
-        requires among { AreAmong self.now.1 (map seen entries.now) }
-        requires all { length entries.now ≡ length self.now.1 }
-        ensures made { IfOk result (λ new. edit_each (E.edited edit.now) (entries_by self.now.0 (map seen entries.now))
-            ≡ Ok (entries_by new.map.0 (map seen new.entries.items))) }
-        ensures put { IfOk result (λ new. ArePut self.now new.map (map seen new.entries.items)) }
-    {
-        let _sound = self.kinds();
-        let map = self.edited_in_place(alloc, edit)?;
         let _sound_after = map.kinds();
-        let entries = Vec::from_slice(alloc, entries)?;
-        Ok(EditedMap { map, entries })
+        Ok(map)
     }
 }
 
 impl<N: Drop> KindMap<N> {
     /// The map with some of its entries edited, and these; or the fault of the first for which the edit fails, with its
-    /// path. This map stays as it is, and both share all paths. Each number is edited once; where all entries are edited,
-    /// paths keep their numbers.
+    /// path. This map stays as it is, and both share all paths. Each number is edited once.
     pub fn edited<'a, E: KindEdit<N>>(
         &self,
         alloc: Global,
@@ -271,14 +236,6 @@ impl<N: Drop> KindMap<N> {
         ensures made { GivesOr (λ new. entries_by new.map.0 (map seen new.entries.items)) result (edit_each (E.edited edit.now) (entries_by self.now.0 (map seen entries.now))) }
         ensures put { IfOk result (λ new. ArePut self.now new.map (map seen new.entries.items)) }
     {
-        if self.has_len(entries.len()) {
-            match self.edited_whole(alloc, entries, edit) {
-                Ok(edited) => return Ok(edited),
-                Err(Stop::NoMemory) => return Err(Stop::NoMemory),
-                // Finds below which of the entries is the first that fails.
-                Err(Stop::Fault(fault)) => drop(fault),
-            }
-        }
         let edited = edit_entries(alloc, self.kinds().share()?, entries, edit)?;
         let EditedNumbers { kinds, memo, puts } = edited;
         let kinds = settle(kinds, &memo.met)?;

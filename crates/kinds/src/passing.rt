@@ -1,9 +1,9 @@
-//! The paths of a map whose nodes pass a test, by a table of the numbers: each kind is tested once.
+//! The paths of a map whose nodes pass a test: each kind is tested once.
 
-ghost use Rattle.std.specs.Prelude.{◌≡◌, false, map, filter, get_or, IfOk};
+ghost use Rattle.std.specs.Prelude.{◌≡◌, false, map, filter, get_or, count_by, IfOk};
 ghost use Rattle.kinds.specs.Numbered.{entries_in};
 ghost use Rattle.kinds.specs.Kinds.{node_at};
-ghost use Rattle.kinds.specs.Passing.{passed};
+ghost use Rattle.kinds.specs.Passing.{passed, count_passed};
 
 use crate::kinds::Kinds;
 use crate::map::KindMap;
@@ -19,6 +19,17 @@ fn passes<N, T: KindTest<N>>(kinds: &Kinds<N>, test: &T, number: usize) -> bool
     match kinds.get(number) {
         Some(node) => test.passes(node),
         None => false,
+    }
+}
+
+/// How many paths have a number, if its node passes a test.
+fn count_passing<N, T: KindTest<N>>(kinds: &Kinds<N>, test: &T, number: usize) -> usize
+    ensures { result ≡ count_passed (T.passes test.now) kinds.now number }
+{
+    if passes(kinds, test, number) {
+        kinds.count(number)
+    } else {
+        0
     }
 }
 
@@ -73,5 +84,20 @@ impl<N> KindMap<N> {
     {
         let table = table_of(alloc, self.kinds(), test)?;
         paths_of(alloc, self.numbers(), &table)
+    }
+    /// How many paths have nodes that pass a test: each kind is tested once, and no path is passed. Fails, as if memory ran
+    /// out, if they are more than can be counted.
+    pub fn count_where<T: KindTest<N>>(&self, test: &T) -> Result<usize, AllocError>
+        ensures { IfOk result (λ count. count ≡ count_by (λ e. T.passes test.now e.1) (entries_in self.now)) }
+    {
+        let kinds = self.kinds();
+        let mut count = 0usize;
+        for number in 0..kinds.len() {
+            let Some(sum) = count.checked_add(count_passing(kinds, test, number)) else {
+                return Err(AllocError);
+            };
+            count = sum;
+        }
+        Ok(count)
     }
 }

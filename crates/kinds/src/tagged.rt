@@ -1,8 +1,8 @@
 //! A map by kinds that keeps for each tag the numbers of the nodes that have it.
 
-ghost use Rattle.std.specs.Prelude.{◌≡◌, ◌+◌, ◌++◌, ◌∷◌, ◌<◌, ◌≤◌, ◌^◌, [], ℕ, List, map, length, count_by, true, IfOk, OnOk};
+ghost use Rattle.std.specs.Prelude.{◌≡◌, ◌+◌, ◌++◌, ◌∷◌, ◌<◌, ◌≤◌, ◌^◌, [], ℕ, List, map, length, count_by, true, false, IfOk, OnOk};
 ghost use Rattle.std.specs.List.{sum_by};
-ghost use Rattle.kinds.specs.Kinds.{count_at};
+ghost use Rattle.kinds.specs.Kinds.{node_at, count_at};
 ghost use Rattle.std.specs.List.Sorted.{IsStrictlyIncreasing};
 ghost use Rattle.kinds.specs.declared.pairs.pair.Pair.{Pair};
 ghost use Rattle.kinds.specs.PairSets.{tagged_pairs};
@@ -207,6 +207,18 @@ impl<N: Tagged> TaggedMap<N> {
     }
 }
 
+impl<N> KindMap<N> {
+    /// How many paths have one of some numbers, which rise. Fails, as if memory ran out, if they are more than can be counted.
+    pub fn paths_numbered(&self, numbers: &[usize]) -> Result<usize, AllocError>
+        requires { IsStrictlyIncreasing numbers.now }
+        ensures { IfOk result (λ count. count ≡ count_by (λ e. is_one e.1 numbers.now) self.now.1) }
+    {
+        let kinds = self.kinds();
+        let count = paths_of(kinds, numbers)?;
+        Ok(count)
+    }
+}
+
 impl<N: Tagged + Drop> TaggedMap<N> {
     /// No entries. Fails only if memory runs out.
     pub fn new(alloc: Global) -> Result<TaggedMap<N>, AllocError>
@@ -308,22 +320,25 @@ impl<N: Tagged + Drop> TaggedMap<N> {
         Ok(TaggedMap { map, pairs })
     }
 
-    /// The map of the same paths with what the nodes that have one of some tags become, which have the same tags; and how many
-    /// nodes were fetched for that. All other nodes are shared, and none of them is looked at. Fails only if memory, or the
-    /// numbers, run out.
+    /// The map of the same paths with what the nodes that have one of some tags become, which have the same tags; how many
+    /// nodes were fetched for that; and the numbers of those that became others, rising. All other nodes are shared, and none
+    /// without one of the tags is looked at. Fails only if memory, or the numbers, run out.
     pub fn with_tagged<S, C: NodeChange<N, S>>(
         &self,
         alloc: Global,
         state: &mut S,
         tags: &[usize],
         change: &C,
-    ) -> Result<(TaggedMap<N>, usize), AllocError>
+    ) -> Result<(TaggedMap<N>, usize, Vec<usize>), AllocError>
         requires room { C.counted state.old + count_by (λ e. meets (N.tags_of e.1) tags.now) (entries_in self.now) < 2 ^ 64 }
         requires tags { (x : N) → N.tags_of (C.changed change.now x) ≡ N.tags_of x }
         ensures entries { IfOk result (λ new. entries_in new.0 ≡ renewed (changed_where (λ x. meets (N.tags_of x) tags.now) (C.changed change.now)) (entries_in self.now)) }
         ensures kinds { IfOk result (λ new. ChangesTagged (C.changed change.now) N.tags_of tags.now self.now.0 new.0.0) }
         ensures paths { IfOk result (λ new. new.0.1 ≡ self.now.1) }
         ensures few { IfOk result (λ new. new.1 ≤ count_by (λ e. meets (N.tags_of e.1) tags.now) (entries_in self.now)) }
+        ensures rising { IfOk result (λ new. IsStrictlyIncreasing new.2.items) }
+        ensures among { IfOk result (λ new. (n : ℕ) → is_one n new.2.items ≡ true → meets (tags_at N.tags_of self.now.0 n) tags.now ≡ true) }
+        ensures same { IfOk result (λ new. (n : ℕ) → is_one n new.2.items ≡ false → node_at new.0.0 n ≡ node_at self.now.0 n) }
         ensures none { IfOk result (λ new. new.1 ≡ 0 → count_by (λ e. meets (N.tags_of e.1) tags.now) (entries_in self.now) ≡ 0) }
         ensures counted { IfOk result (λ new. C.counted state.new ≤ C.counted state.old + new.1) }
         ensures at_most { C.counted state.new ≤ C.counted state.old + count_by (λ e. meets (N.tags_of e.1) tags.now) (entries_in self.now) }
@@ -331,8 +346,10 @@ impl<N: Tagged + Drop> TaggedMap<N> {
         let before = self.map();
         let _kinds = before.kinds();
         let numbers = self.numbers_tagged(alloc, tags)?;
-        let (map, fetched) = before.changed_at(alloc, state, change, &numbers)?;
+        let fetched = numbers.len();
+        let (map, changed) = before.changed_at(alloc, state, change, &numbers)?;
         let pairs = self.pairs().share()?;
-        Ok((TaggedMap { map, pairs }, fetched))
+        let changed = rising_numbers(changed);
+        Ok((TaggedMap { map, pairs }, fetched, changed))
     }
 }

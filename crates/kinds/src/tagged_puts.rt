@@ -24,17 +24,18 @@ fn numbers_of(alloc: Global, entries: &[(&Path, usize)]) -> Result<Vec<usize>, A
 }
 
 impl<N: Tagged + Drop> TaggedMap<N> {
-    /// The map of [`KindMap::put_found`], where a number that had a node has one with the same tags. Only the tags of numbers
-    /// that paths got or lost are compared. Fails only if memory, or the numbers, run out, or if paths are more than can be
-    /// counted.
+    /// The map of [`KindMap::put_found`], where a number that had a node has one, with the same tags unless it is one of `others`.
+    /// Only the tags of these and of the numbers that paths got or lost are compared. Fails only if memory, or the numbers, run
+    /// out, or if paths are more than can be counted.
     pub fn put_counted(
         &self,
         alloc: Global,
         kinds: Kinds<N>,
         puts: &[(&Path, usize)],
         gone: &[(&Path, usize)],
+        others: &[usize],
     ) -> Result<TaggedMap<N>, AllocError>
-        requires tags { KeepsTags N.tags_of self.now.0 kinds }
+        requires tags { KeepsTags N.tags_of others.now self.now.0 kinds }
         requires counts { (n : ℕ) → count_at kinds n ≡ count_at self.now.0 n }
         requires used { AreUsed kinds (map seen puts.now) }
         requires puts { IsInOrder (map seen puts.now) }
@@ -45,6 +46,7 @@ impl<N: Tagged + Drop> TaggedMap<N> {
         let _kinds = before.kinds();
         let (map, gone_found, put_found) = before.put_found(alloc, kinds, puts, gone)?;
         let mut numbers = numbers_of(alloc, puts)?;
+        numbers.extend_from_slice(others)?;
         push_found(&mut numbers, &gone_found)?;
         push_found(&mut numbers, &put_found)?;
         let new = self.after_tags(alloc, map, numbers)?;

@@ -1,5 +1,5 @@
 -- Classes by their tags.
-use Rattle.std.proofs.Common.{◌≡◌, ℕ, zero, suc, ◌+◌, ◌*◌, ◌%◌, ◌<◌, ◌≤◌, Bool, true, false, ◌||◌, List, [], ◌∷◌, ◌++◌, length, map, eqb, nat_cmp}
+use Rattle.std.proofs.Common.{◌≡◌, ℕ, zero, suc, ◌+◌, ◌*◌, ◌%◌, ◌<◌, ◌≤◌, Bool, true, false, ◌||◌, ◌&&◌, List, [], ◌∷◌, length, map, eqb, nat_cmp, is_some}
 use Rattle.std.proofs.Common.{nat_lt, Option, Some, None, Less, get_or, refl, sym, ap, ◌∙◌, arith, ltb-true}
 use Rattle.std.proofs.Math.Dec.{eqb→eq, eqb_refl}
 use Rattle.std.specs.Prelude.{◌==◌, ◌^◌, if◌then◌else◌}
@@ -15,8 +15,8 @@ use Rattle.kinds.specs.Tagged.{meets, tags_at}
 use Rattle.kinds.proofs.Tags.{all_one}
 use Rattle.path_classes.specs.declared.path_class.PathClass.{PathClass}
 use Rattle.path_classes.specs.PathClasses.{ClassKinds}
-use Rattle.path_classes.specs.ClassTags.{label_tag, below_tag, above_tags, pair_hash, pair_tag, class_tags}
-use Rattle.path_classes.specs.FoundClasses.{is_labelled, is_touched}
+use Rattle.path_classes.specs.ClassTags.{label_tag, below_tag, search_tags, above_tags, pair_hash, pair_tag, class_tags}
+use Rattle.path_classes.specs.FoundClasses.{is_searched_of, is_below_some}
 use Rattle.path_classes.specs.Renewing.{is_one, IsBelow, is_just_below, is_right_below, AreBelow, AreClassesOf}
 
 -- ---- tags of three sorts do not meet
@@ -65,17 +65,10 @@ or_false : (b : Bool) → (b || false) ≡ b
 or_false true = refl
 or_false false = refl
 
--- the tag of a class above
-below_above : (n : ℕ) (above : Option ℕ) → meets (above_tags above) (below_tag n ∷ []) ≡ option_map_or (λ a. a == n) above false
-below_above n None = refl
-below_above n (Some a) = or_false (eqb (3 * n + 1) (3 * a + 1) || false) ∙ or_false (eqb (3 * n + 1) (3 * a + 1)) ∙ below_itself n a ∙ eqb_swap n a
-
--- a class has the tag of the class above alone
-pub below_tags : (n : ℕ) (above : Option ℕ) (kind : ℕ) → meets (class_tags above kind) (below_tag n ∷ []) ≡ option_map_or (λ a. a == n) above false
-below_tags n above kind =
-    let one : eqb (3 * n + 1) (3 * kind) ≡ false = one_zero n kind in
-    let two : eqb (3 * n + 1) (pair_tag above kind) ≡ false = one_two n (pair_hash above kind % 2 ^ 30) in
-    (λ i. (one i || false) || ((two i || false) || below_above n above i))
+-- tags are of three sorts
+by_sorts : (searched : Bool) (above : Option ℕ) (kind : ℕ) (ts : List ℕ)
+    → meets (class_tags searched above kind) ts ≡ (is_one (pair_tag above kind) ts || (meets (search_tags searched kind) ts || meets (above_tags above) ts))
+by_sorts searched above kind ts = ap (λ b. is_one (pair_tag above kind) ts || b) (list_any-append (λ n. is_one n ts) (search_tags searched kind) (above_tags above))
 
 labels_one : (k : ℕ) (ls : List ℕ) → is_one (label_tag k) (map label_tag ls) ≡ is_one k ls
 labels_one k [] = refl
@@ -93,10 +86,16 @@ labels_above : (above : Option ℕ) (ls : List ℕ) → meets (above_tags above)
 labels_above None ls = refl
 labels_above (Some a) ls = or_false (is_one (below_tag a) (map label_tag ls)) ∙ labels_below a ls
 
--- a class has the tag of its label alone
-pub labels_tags : (ls : List ℕ) (above : Option ℕ) (kind : ℕ) → meets (class_tags above kind) (map label_tag ls) ≡ is_one kind ls
-labels_tags ls above kind =
-    (λ i. labels_one kind ls i || (labels_pair (pair_hash above kind % 2 ^ 30) ls i || labels_above above ls i)) ∙ or_false (is_one kind ls)
+labels_search : (searched : Bool) (kind : ℕ) (ls : List ℕ) → meets (search_tags searched kind) (map label_tag ls) ≡ (searched && is_one kind ls)
+labels_search false kind ls = refl
+labels_search true kind ls = or_false (is_one (label_tag kind) (map label_tag ls)) ∙ labels_one kind ls
+
+-- a class has the tag of its label alone, if it keeps who can search
+labels_tags : (ls : List ℕ) (searched : Bool) (above : Option ℕ) (kind : ℕ) → meets (class_tags searched above kind) (map label_tag ls) ≡ (searched && is_one kind ls)
+labels_tags ls searched above kind =
+    by_sorts searched above kind (map label_tag ls)
+    ∙ (λ i. labels_pair (pair_hash above kind % 2 ^ 30) ls i || (labels_search searched kind ls i || labels_above above ls i))
+    ∙ or_false (searched && is_one kind ls)
 
 below_one : (a : ℕ) (ns : List ℕ) → is_one (below_tag a) (map below_tag ns) ≡ is_one a ns
 below_one a [] = refl
@@ -114,24 +113,22 @@ some_above : (above : Option ℕ) (ns : List ℕ) → meets (above_tags above) (
 some_above None ns = refl
 some_above (Some a) ns = or_false (is_one (below_tag a) (map below_tag ns)) ∙ below_one a ns
 
-below_some : (ns : List ℕ) (above : Option ℕ) (kind : ℕ) → meets (class_tags above kind) (map below_tag ns) ≡ option_map_or (λ a. is_one a ns) above false
-below_some ns above kind = λ i. below_label kind ns i || (below_pair (pair_hash above kind % 2 ^ 30) ns i || some_above above ns i)
+below_search : (searched : Bool) (kind : ℕ) (ns : List ℕ) → meets (search_tags searched kind) (map below_tag ns) ≡ false
+below_search false kind ns = refl
+below_search true kind ns = or_false (is_one (label_tag kind) (map below_tag ns)) ∙ below_label kind ns
 
-either : (a b c d : Bool) → ((a || b) || (c || d)) ≡ ((a || c) || (b || d))
-either true b c d = refl
-either false true true d = refl
-either false true false d = refl
-either false false c d = refl
+below_some : (ns : List ℕ) (searched : Bool) (above : Option ℕ) (kind : ℕ) → meets (class_tags searched above kind) (map below_tag ns) ≡ option_map_or (λ a. is_one a ns) above false
+below_some ns searched above kind =
+    by_sorts searched above kind (map below_tag ns)
+    ∙ (λ i. below_pair (pair_hash above kind % 2 ^ 30) ns i || (below_search searched kind ns i || some_above above ns i))
 
-meets_both : (xs ys zs : List ℕ) → meets xs (ys ++ zs) ≡ (meets xs ys || meets xs zs)
-meets_both [] ys zs = refl
-meets_both (x ∷ xs) ys zs =
-    (λ i. list_any-append (λ m. m == x) ys zs i || meets_both xs ys zs i) ∙ either (is_one x ys) (is_one x zs) (meets xs ys) (meets xs zs)
-
--- a class has the tag of one of some labels, or is right below one of some classes
-pub touched_tags : (ls ns : List ℕ) (c : PathClass) → meets (class_tags c.above c.kind) (map label_tag ls ++ map below_tag ns) ≡ is_touched ls ns c
-touched_tags ls ns c =
-    meets_both (class_tags c.above c.kind) (map label_tag ls) (map below_tag ns) ∙ (λ i. labels_tags ls c.above c.kind i || below_some ns c.above c.kind i)
+-- a class has the tag of the class above alone
+pub below_tags : (n : ℕ) (searched : Bool) (above : Option ℕ) (kind : ℕ) → meets (class_tags searched above kind) (below_tag n ∷ []) ≡ option_map_or (λ a. a == n) above false
+below_tags n searched above kind = below_some (n ∷ []) searched above kind ∙ by above
+  where
+    by : (above : Option ℕ) → option_map_or (λ a. is_one a (n ∷ [])) above false ≡ option_map_or (λ a. a == n) above false
+    by None = refl
+    by (Some a) = or_false (eqb n a) ∙ eqb_swap n a
 
 -- ---- numbers that rise
 
@@ -161,20 +158,28 @@ few_rising end ns rises within =
 
 module _ (k : ClassKinds) where
   abbrev tags_here : ℕ → List ℕ
-  tags_here n = tags_at (λ (c : PathClass). class_tags c.above c.kind) k n
+  tags_here n = tags_at (λ (c : PathClass). class_tags (is_some c.search) c.above c.kind) k n
 
-  below_used : (n : ℕ) (o : Option PathClass) → meets (option_map_or (λ (c : PathClass). class_tags c.above c.kind) o []) (below_tag n ∷ []) ≡ is_just_below n o
+  below_used : (n : ℕ) (o : Option PathClass) → meets (option_map_or (λ (c : PathClass). class_tags (is_some c.search) c.above c.kind) o []) (below_tag n ∷ []) ≡ is_just_below n o
   below_used n None = refl
-  below_used n (Some c) = below_tags n c.above c.kind
+  below_used n (Some c) = below_tags n (is_some c.search) c.above c.kind
 
-  labels_used : (ls : List ℕ) (o : Option PathClass) → meets (option_map_or (λ (c : PathClass). class_tags c.above c.kind) o []) (map label_tag ls) ≡ is_labelled ls o
+  labels_used : (ls : List ℕ) (o : Option PathClass) → meets (option_map_or (λ (c : PathClass). class_tags (is_some c.search) c.above c.kind) o []) (map label_tag ls) ≡ is_searched_of ls o
   labels_used ls None = refl
-  labels_used ls (Some c) = labels_tags ls c.above c.kind
+  labels_used ls (Some c) = labels_tags ls (is_some c.search) c.above c.kind
 
   pub tagged_below : (n : ℕ) (below : List ℕ) → ((m : ℕ) → is_one m below ≡ meets (tags_here m) (below_tag n ∷ [])) → (m : ℕ) → is_one m below ≡ is_right_below k n m
   tagged_below n below exact m = exact m ∙ below_used n (used_at k m)
 
-  pub tagged_labels : (ls ns : List ℕ) → ((m : ℕ) → is_one m ns ≡ meets (tags_here m) (map label_tag ls)) → (m : ℕ) → is_one m ns ≡ is_labelled ls (used_at k m)
+  some_used : (ns : List ℕ) (o : Option PathClass) → meets (option_map_or (λ (c : PathClass). class_tags (is_some c.search) c.above c.kind) o [])
+      (map below_tag ns) ≡ option_map_or (is_below_some ns) o false
+  some_used ns None = refl
+  some_used ns (Some c) = below_some ns (is_some c.search) c.above c.kind
+
+  pub tagged_below_some : (ns below : List ℕ) → ((m : ℕ) → is_one m below ≡ meets (tags_here m) (map below_tag ns)) → (m : ℕ) → is_one m below ≡ option_map_or (is_below_some ns) (used_at k m) false
+  tagged_below_some ns below exact m = exact m ∙ some_used ns (used_at k m)
+
+  pub tagged_labels : (ls ns : List ℕ) → ((m : ℕ) → is_one m ns ≡ meets (tags_here m) (map label_tag ls)) → (m : ℕ) → is_one m ns ≡ is_searched_of ls (used_at k m)
   tagged_labels ls ns exact m = exact m ∙ labels_used ls (used_at k m)
 
   pub used_is : (m : ℕ) (c : PathClass) → 0 < count_at k m → node_at k m ≡ Some c → used_at k m ≡ Some c
@@ -216,13 +221,13 @@ module _ (k : ClassKinds) where
       one : (m : ℕ) → is_one m below ≡ true → IsBelow k n m
       one m h = just_below n m (used_at k m) refl (sym (exact m) ∙ h)
 
-  labelled : (ls : List ℕ) (m : ℕ) (o : Option PathClass) → used_at k m ≡ o → is_labelled ls o ≡ true → 0 < count_at k m
+  labelled : (ls : List ℕ) (m : ℕ) (o : Option PathClass) → used_at k m ≡ o → is_searched_of ls o ≡ true → 0 < count_at k m
   labelled ls m None is h = cc
   labelled ls m (Some c) is h = (used_some m c is).0
 
-  -- those that have some labels
-  pub are_labelled : (ls ns : List ℕ) → ((m : ℕ) → is_one m ns ≡ is_labelled ls (used_at k m)) → AreClassesOf k ls ns
+  -- those that have some labels and keep who can search
+  pub are_labelled : (ls ns : List ℕ) → ((m : ℕ) → is_one m ns ≡ is_searched_of ls (used_at k m)) → AreClassesOf k ls ns
   are_labelled ls ns exact = record {
-    all = λ m c used is here. exact m ∙ ap (is_labelled ls) (used_is m c used is) ∙ here;
+    all = λ m c used is some here. exact m ∙ ap (is_searched_of ls) (used_is m c used is) ∙ (λ i. some i && here i);
     used = all_one (λ m. 0 < count_at k m) ns (λ m h. labelled ls m (used_at k m) refl (sym (exact m) ∙ h));
   }

@@ -1,9 +1,10 @@
 -- Classes by their numbers that stay while others are added, or while one of them keeps who can search down to it.
-use Rattle.std.proofs.Common.{◌≡◌, ℕ, zero, suc, Bool, true, false, List, [], ◌∷◌, ◌++◌, Option, Some, None, eqb, refl, sym, ap, subst, ◌∙◌}
+use Rattle.std.proofs.Common.{◌≡◌, ℕ, zero, suc, Bool, true, false, ◌||◌, List, [], ◌∷◌, ◌++◌, Option, Some, None, eqb, refl, sym, ap, subst, ◌∙◌}
 use Rattle.std.proofs.Common.{is_some}
 use Rattle.std.proofs.Math.Dec.{eqb→eq, eqb_refl}
 use Rattle.acl_names.proofs.Basics.{to_T, from_T, all_end}
-use Rattle.std.specs.Prelude.{IfSome, slice_get, if◌then◌else◌}
+use Rattle.std.specs.Prelude.{IfSome, slice_get, ◌==◌, if◌then◌else◌}
+use Rattle.std.proofs.lemmas.List.Folds.{list_any-append}
 use Rattle.std.specs.List.{AllByRecursion}
 use Rattle.std.specs.Option.{option_map_or, unwrap_or}
 use Rattle.kinds.specs.Kinds.{KindsOf, node_at, IsNode, Adds}
@@ -11,8 +12,10 @@ use Rattle.path_classes.specs.declared.label_row.LabelRow.{LabelRow}
 use Rattle.path_classes.specs.declared.path_class.PathClass.{PathClass}
 use Rattle.path_classes.specs.PathClasses.{ClassKinds, kept_search, search_above, depth_below, AboveKeeps, IsRight}
 use Rattle.path_classes.specs.Searching.{searchers}
-use Rattle.path_classes.specs.ClassBuilding.{IsKnown, IsRightAt, IsRightAbove, AreRight, AreKept, IsKeptClass, Stays, Grows, Widens, Fills, Keeps, Finds}
+use Rattle.path_classes.specs.ClassBuilding.{IsKnown, IsRightAt, IsRightAbove, AreRight, AreKept, IsKeptClass, Stays, Grows, SameClassesBut, Widens, Fills, Keeps, Finds}
 use Rattle.kinds.specs.Renumbered.{Replaces}
+use Rattle.kinds.specs.Tagged.{is_one}
+use Rattle.kinds.proofs.SameNodes.{neither}
 
 pub stays_itself : (c : PathClass) → Stays c c
 stays_itself c = record { kind = refl; above = refl; depth = refl; search = λ s h. h }
@@ -108,6 +111,7 @@ adds_finds rows old new x above kind depth n row keeps deep is a =
       widens = adds_widen rows old new x n a;
       class = record { class = x; is = here rows old new x n a; same_kind = ap (λ (c : PathClass). c.kind) is; same_above = ap (λ (c : PathClass). c.above) is };
       right = (x, (here rows old new x n a, right_grown rows old new (adds_grow rows old new x n a) x (subst (IsRight rows old) (sym is) r)));
+      others = λ m d there out. at_other rows old new x n a m d there;
     }
 
 -- ---- a class that keeps who can search down to it
@@ -135,10 +139,20 @@ module _ (rows : KindsOf LabelRow) (old new : ClassKinds) (c x : PathClass) (at 
       by true same = (x, (r.nodes n ∙ ap (λ b. if b then Some x else node_at old n) same, right_grown rows old new replaced_grows x f.right))
       by false apart = (d.0, (r.nodes n ∙ ap (λ b. if b then Some x else node_at old n) apart ∙ d.1.0, right_grown rows old new replaced_grows d.0 d.1.1))
 
+  replaced_others : SameClassesBut (at ∷ []) old new
+  replaced_others n d is out = by (eqb n at) refl
+    where
+      by : (b : Bool) → eqb n at ≡ b → node_at new n ≡ Some d
+      by true same =
+          let one : is_one n (at ∷ []) ≡ true = ap (λ m. is_one n (m ∷ [])) (sym (eqb→eq n at (to_T (eqb n at) same))) ∙ ap (λ b. b || false) (from_T (eqb n n) (eqb_refl n)) in
+          let no : true ≡ false = sym one ∙ out in cc
+      by false apart = r.nodes n ∙ ap (λ b. if b then Some x else node_at old n) apart ∙ is
+
   pub replaced_keeps : Keeps rows old (Some at) new
   replaced_keeps = record {
     widens = record { grows = replaced_grows; right = replaced_right; counts = r.counts };
     keeps = (f.search, ap kept_search replaced_here ∙ f.kept);
+    others = replaced_others;
   }
 
 pub widens_itself : (rows : KindsOf LabelRow) (k : ClassKinds) → Widens rows k k
@@ -153,7 +167,7 @@ widens_on rows k l m v w = record {
 
 -- it keeps that already
 pub keeps_itself : (rows : KindsOf LabelRow) (k : ClassKinds) (above : Option ℕ) → AboveKeeps k above → Keeps rows k above k
-keeps_itself rows k above keeps = record { widens = widens_itself rows k; keeps = keeps }
+keeps_itself rows k above keeps = record { widens = widens_itself rows k; keeps = keeps; others = λ n c is out. is }
 
 pub some_of : {A : Type 0} (o : Option A) → is_some o ≡ true → (x : A) × (o ≡ Some x)
 some_of None h = cc
@@ -177,15 +191,21 @@ known_finds rows k known above kind n right is = record {
   widens = widens_itself rows k;
   class = is.class;
   right = all_here (IsRightAt rows k) known is.place n is.here right;
+  others = λ m d there out. there;
 }
 
 -- a class that paths outside have
 pub kept_finds : (rows : KindsOf LabelRow) (k outside : ClassKinds) (above : Option ℕ) (kind n : ℕ) → AreKept rows k outside → IsKeptClass k outside above kind n → Finds rows k above kind k n
-kept_finds rows k outside above kind n right is = record { widens = widens_itself rows k; class = is.0; right = right n is.1 }
+kept_finds rows k outside above kind n right is = record { widens = widens_itself rows k; class = is.0; right = right n is.1; others = λ m d there out. there }
 
 -- first the class above keeps who can search down to it
 pub keeps_finds : (rows : KindsOf LabelRow) (old mid new : ClassKinds) (above : Option ℕ) (kind n : ℕ) → Keeps rows old above mid → Finds rows mid above kind new n → Finds rows old above kind new n
-keeps_finds rows old mid new above kind n k f = record { widens = widens_on rows old mid new k.widens f.widens; class = f.class; right = f.right }
+keeps_finds rows old mid new above kind n k f = record {
+  widens = widens_on rows old mid new k.widens f.widens;
+  class = f.class;
+  right = f.right;
+  others = λ m d there out. f.others m d (k.others m d there out) out;
+}
 
 -- those that were right are right still
 pub right_still : (rows : KindsOf LabelRow) (old new : ClassKinds) → Widens rows old new → (known : List ℕ) → AreRight rows old known → AreRight rows new known
@@ -215,3 +235,9 @@ fills rows k c r s is = record {
     by t has =
         let same : t ≡ searchers (search_above k c.above) r.row.row = subst (λ o. IfSome o (λ u. u ≡ searchers (search_above k c.above) r.row.row)) has r.search in
         ap Some (is ∙ sym same)
+
+-- classes that stay the same, but for those of more numbers
+pub same_more : (numbers more all : List ℕ) (first k new : ClassKinds) → all ≡ numbers ++ more → SameClassesBut numbers first k → SameClassesBut more k new → SameClassesBut all first new
+same_more numbers more all first k new is h j n c there out =
+    let outs = neither (is_one n numbers) (is_one n more) (sym (list_any-append (λ m. m == n) numbers more) ∙ ap (is_one n) (sym is) ∙ out) in
+    j n c (h n c there outs.0) outs.1

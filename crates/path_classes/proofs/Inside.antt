@@ -53,10 +53,6 @@ module _ (tops : List PathOf) where
       by true is one = h.0 is
       by false is one = k.0 one
 
-  pub inside_among : (xs ys : List ℕ) → ((m : ℕ) → is_one m xs ≡ true → is_one m ys ≡ true) → (es : Numbers) → AllInside ys tops es → AllInside xs tops es
-  inside_among xs ys among [] h = tt
-  inside_among xs ys among (e ∷ es) h = ((λ one. h.0 (among e.1 one)), inside_among xs ys among es h.1)
-
   -- the nearest above a path is one of some that lie inside
   module _ (numbers : List ℕ) (es : Numbers) (all : AllInside numbers tops es) (p : PathOf) (a : ℕ) (up : class_above p es ≡ Some a) (one : is_one a numbers ≡ true) where
     nearest_over : (fs : Numbers) (r : PathOf × ℕ) → nearest_above p fs ≡ Some r → is_above r.0 p ≡ true

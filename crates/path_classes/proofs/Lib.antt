@@ -29,6 +29,7 @@ pub mod OutsideAnswers
 pub mod SameReach
 pub mod KeptCounts
 pub mod Rerowed
+pub mod MarkedClasses
 pub mod SomeNumbers
 pub mod RelabelledFile
 pub mod PathsBelow

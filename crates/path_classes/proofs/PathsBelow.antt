@@ -1,5 +1,6 @@
 -- Paths whose classes are right below some, counted class by class.
-use Rattle.std.proofs.Common.{◌≡◌, ℕ, zero, suc, ◌+◌, ◌<◌, Bool, true, false, ◌||◌, List, [], ◌∷◌, ◌++◌, length, take, get_or, eqb, nat_cmp, Less, Option, Some, None, refl, sym, ap, ◌∙◌, arith}
+use Rattle.std.proofs.Common.{◌≡◌, ℕ, zero, suc, ◌+◌, ◌<◌, Bool, true, false, ◌||◌, List, [], ◌∷◌, ◌++◌, length, take, get_or, eqb, nat_cmp, Less, Option, Some}
+use Rattle.std.proofs.Common.{None, refl, sym, ap, ◌∙◌, arith, is_some}
 use Rattle.std.proofs.Math.Dec.{eqb→eq}
 use Rattle.std.specs.Prelude.{count_by, ◌==◌, if◌then◌else◌}
 use Rattle.std.specs.List.{AllByRecursion}
@@ -13,7 +14,7 @@ use Rattle.acl_names.proofs.Basics.{to_T}
 use Rattle.kinds.specs.Tagged.{meets}
 use Rattle.path_classes.specs.declared.path_class.PathClass.{PathClass}
 use Rattle.path_classes.specs.ClassTags.{below_tag, class_tags}
-use Rattle.path_classes.specs.FoundClasses.{is_touched}
+use Rattle.path_classes.specs.FoundClasses.{is_below_some}
 use Rattle.path_classes.specs.Renewing.{is_one}
 use Rattle.path_classes.proofs.ClassTags.{below_tags}
 
@@ -55,8 +56,8 @@ apart a n ns out false is = by (is_one a ns)
     by false = let turned : eqb n a ≡ false = grind (arith, is) in (λ i. one_of (turned i || false)) ∙ (λ i. 0 + one_of (sym is i))
 
 one_class : (n : ℕ) (ns : List ℕ) → is_one n ns ≡ false → (c : PathClass)
-    → one_of (is_touched [] (ns ++ n ∷ []) c) ≡ one_of (is_touched [] ns c) + one_of (meets (class_tags c.above c.kind) (below_tag n ∷ []))
-one_class n ns out c = by c.above ∙ ap (λ b. one_of (is_touched [] ns c) + one_of b) (sym (below_tags n c.above c.kind))
+    → one_of (is_below_some (ns ++ n ∷ []) c) ≡ one_of (is_below_some ns c) + one_of (meets (class_tags (is_some c.search) c.above c.kind) (below_tag n ∷ []))
+one_class n ns out c = by c.above ∙ ap (λ b. one_of (is_below_some ns c) + one_of b) (sym (below_tags n (is_some c.search) c.above c.kind))
   where
     by : (above : Option ℕ) → one_of (option_map_or (λ a. is_one a (ns ++ n ∷ [])) above false)
         ≡ one_of (option_map_or (λ a. is_one a ns) above false) + one_of (option_map_or (λ a. a == n) above false)
@@ -64,18 +65,18 @@ one_class n ns out c = by c.above ∙ ap (λ b. one_of (is_touched [] ns c) + on
     by (Some a) = ap one_of (list_any-append (λ m. m == a) ns (n ∷ [])) ∙ apart a n ns out (eqb a n) refl
 
 pub one_more : (n : ℕ) (ns : List ℕ) → is_one n ns ≡ false → (es : List (PathOf × PathClass))
-    → count_by (λ e. is_touched [] (ns ++ n ∷ []) e.1) es ≡ count_by (λ e. is_touched [] ns e.1) es + count_by (λ e. meets (class_tags e.1.above e.1.kind) (below_tag n ∷ [])) es
+    → count_by (λ e. is_below_some (ns ++ n ∷ []) e.1) es ≡ count_by (λ e. is_below_some ns e.1) es + count_by (λ e. meets (class_tags (is_some e.1.search) e.1.above e.1.kind) (below_tag n ∷ [])) es
 one_more n ns out [] = refl
 one_more n ns out (e ∷ es) =
-    let touched : PathOf × PathClass → ℕ = λ x. one_of (is_touched [] (ns ++ n ∷ []) x.1) in
-    let before : PathOf × PathClass → ℕ = λ x. one_of (is_touched [] ns x.1) in
-    let below : PathOf × PathClass → ℕ = λ x. one_of (meets (class_tags x.1.above x.1.kind) (below_tag n ∷ [])) in
+    let touched : PathOf × PathClass → ℕ = λ x. one_of (is_below_some (ns ++ n ∷ []) x.1) in
+    let before : PathOf × PathClass → ℕ = λ x. one_of (is_below_some ns x.1) in
+    let below : PathOf × PathClass → ℕ = λ x. one_of (meets (class_tags (is_some x.1.search) x.1.above x.1.kind) (below_tag n ∷ [])) in
     let one = one_class n ns out e.1 in
     let more = one_more n ns out es in
     omega (arith, one, more, sum_by-cons touched e es, sum_by-cons before e es, sum_by-cons below e es)
 
 -- the same classes in another order are the same
-pub same_touched : (ms ns : List ℕ) → ((n : ℕ) → is_one n ms ≡ is_one n ns) → (c : PathClass) → is_touched [] ms c ≡ is_touched [] ns c
+pub same_touched : (ms ns : List ℕ) → ((n : ℕ) → is_one n ms ≡ is_one n ns) → (c : PathClass) → is_below_some ms c ≡ is_below_some ns c
 same_touched ms ns same c = by c.above
   where
     by : (above : Option ℕ) → option_map_or (λ a. is_one a ms) above false ≡ option_map_or (λ a. is_one a ns) above false
@@ -83,10 +84,10 @@ same_touched ms ns same c = by c.above
     by (Some a) = same a
 
 -- none is right below no class
-pub none_touched : (es : List (PathOf × PathClass)) → 0 ≡ count_by (λ e. is_touched [] [] e.1) es
+pub none_touched : (es : List (PathOf × PathClass)) → 0 ≡ count_by (λ e. is_below_some [] e.1) es
 none_touched [] = refl
 none_touched (e ∷ es) =
-    let none : PathOf × PathClass → ℕ = λ x. one_of (is_touched [] [] x.1) in
+    let none : PathOf × PathClass → ℕ = λ x. one_of (is_below_some [] x.1) in
     let here : none e ≡ 0 = by e.1.above in
     let more = none_touched es in
     omega (arith, here, more, sum_by-cons none e es)

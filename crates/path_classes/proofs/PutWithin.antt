@@ -30,6 +30,8 @@ use Rattle.path_classes.specs.ClassesWithin.{paths_seen, is_inside, inside, outs
 use Rattle.path_classes.specs.ClassTags.{class_tags}
 use Rattle.kinds.specs.Renumbered.{IsPut}
 use Rattle.kinds.specs.Tagged.{KeepsTags}
+use Rattle.path_classes.specs.ClassBuilding.{SameClassesBut}
+use Rattle.path_classes.proofs.Growing.{some_is}
 use Rattle.path_classes.proofs.Maps.{find-values}
 use Rattle.path_classes.proofs.Making.{with_kind, kinds_widened, has_widened}
 use Rattle.path_classes.proofs.Tops.{all_inside, all_outside, not_above_outside, outside_above, nearest_is, nearest_parts, all_parts, tops_parts, inside_more}
@@ -110,6 +112,9 @@ gone_next rows files at e o lt is found gone were =
     by None h = ap (λ (o : Option ℕ). gone ++ cond (not (is_some o)) (seen e ∷ []) []) h
     by (Some n) h = sym (append-nil gone) ∙ ap (λ (o : Option ℕ). gone ++ cond (not (is_some o)) (seen e ∷ []) []) h
 
+abbrev pub class_tags_of : PathClass → List ℕ
+class_tags_of c = class_tags (is_some c.search) c.above c.kind
+
 -- ---- the numbers of all paths
 
 module _ (rows : Kept LabelRow) (tops : List PathOf) (old : Numbers) (first k : ClassKinds) (made : Numbers) (rows_order : IsInOrder rows.1) (old_order : IsInOrder old)
@@ -133,8 +138,8 @@ module _ (rows : Kept LabelRow) (tops : List PathOf) (old : Numbers) (first k : 
   pub made_used : AreUsed k made
   made_used = used_each (λ (e : PathOf × ℕ). option_or (class_above e.0 made) (class_above e.0 (outside tops old))) made f.each
 
-  pub tags_stay : KeepsTags (λ (c : PathClass). class_tags c.above c.kind) first k
-  tags_stay n x is = let d = f.widens.grows n x is in (d.0, (d.1.0, (λ i. class_tags (d.1.1.above i) (d.1.1.kind i))))
+  pub tags_stay : (begun : List ℕ) → SameClassesBut begun first k → KeepsTags class_tags_of begun first k
+  tags_stay begun same n x is = let d = f.widens.grows n x is in (d.0, (d.1.0, λ out. ap class_tags_of (some_is (node_at k n) d.0 x d.1.0 (same n x is out))))
 
   new_order : IsInOrder new
   new_order = in_order-merged made gone old old_order

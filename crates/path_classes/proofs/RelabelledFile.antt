@@ -26,7 +26,7 @@ use Rattle.path_classes.specs.declared.label_row.LabelRow.{LabelRow}
 use Rattle.path_classes.specs.declared.path_class.PathClass.{PathClass}
 use Rattle.path_classes.specs.ClassedRows.{SameAnswers, AreCounted, PutsRow, PutsRows, paths_of, AllInside}
 use Rattle.path_classes.specs.ClassesWithin.{is_inside, inside}
-use Rattle.path_classes.specs.FoundClasses.{is_touched}
+use Rattle.path_classes.specs.FoundClasses.{is_below_some}
 use Rattle.path_classes.specs.PathClasses.{search_at, kind_at, class_above, AreClasses}
 use Rattle.path_classes.specs.Renewing.{is_one, IsOwnClass, AreRelabelled}
 use Rattle.path_classes.proofs.Growing.{some_is}
@@ -296,9 +296,9 @@ module _ (old new : Kept LabelRow) (before : Kept PathClass) (sound : AreSound b
           (ap (find path_cmp q) numbers_now ∙ find-values label_at q before.1 ∙ ap (option_map label_at) found
           ∙ ap Some (label_of_other m class_had (had old new before classes both q m found).is apart))
 
-      untouched : ((m == n) || is_touched [] changed class_has) ≡ false → SameAnswers old new q
+      untouched : ((m == n) || is_below_some changed class_has) ≡ false → SameAnswers old new q
       untouched h =
-          let outs = or_false (m == n) (is_touched [] changed class_has) h in
+          let outs = or_false (m == n) (is_below_some changed class_has) h in
           let used : 0 < count_at before.0 m = let some = found_some q m before.1 found in let e = sound.counted m in omega (arith, some, e) in
           same_answers old new before classes both q m found (kind_still outs.0)
           (ap (option_map (λ (x : LabelRow). x.row)) (same_row m class_had used (had old new before classes both q m found).is outs.0))
@@ -325,25 +325,25 @@ module _ (old new : Kept LabelRow) (before : Kept PathClass) (sound : AreSound b
       is_path same =
           all_found (λ (e : PathOf × ℕ). (e.1 == n) ≡ true → e.0 ≡ p) q before.1 m (only_path p n before.1 own.found (let one = alone in omega (arith, one))) found same
 
-      lies_inside : LiesInside classes.0 (λ m. m == n) (is_touched [] changed) (p ∷ []) (q, m)
+      lies_inside : LiesInside classes.0 (λ m. m == n) (is_below_some changed) (p ∷ []) (q, m)
       lies_inside = record {
         class = class_has;
         is = (has_class old new before classes both q m found).is;
         mine = λ same. ap (λ z. is_inside (p ∷ []) z) (is_path same) ∙ ap (λ b. b || false) (within_itself p);
         others = λ h. (above_is class_has.above refl h).0;
-        apart = λ same. by (is_path same) (is_touched [] changed class_has) refl;
+        apart = λ same. by (is_path same) (is_below_some changed class_has) refl;
       }
         where
-          by : q ≡ p → (b : Bool) → is_touched [] changed class_has ≡ b → is_touched [] changed class_has ≡ false
+          by : q ≡ p → (b : Bool) → is_below_some changed class_has ≡ b → is_below_some changed class_has ≡ false
           by path false h = h
           by path true h = absurd ((above_is class_has.above refl h).1 path)
 
-    module _ (count : ℕ) (is : count ≡ count_by (λ (e : PathOf × PathClass). is_touched [] changed e.1) (entries_in classes)) where
-      sum_is : count_by (λ (e : PathOf × ℕ). e.1 == n) before.1 + count_by (λ (e : PathOf × PathClass). is_touched [] changed e.1) (entries_in classes) ≡ count + 1
+    module _ (count : ℕ) (is : count ≡ count_by (λ (e : PathOf × PathClass). is_below_some changed e.1) (entries_in classes)) where
+      sum_is : count_by (λ (e : PathOf × ℕ). e.1 == n) before.1 + count_by (λ (e : PathOf × PathClass). is_below_some changed e.1) (entries_in classes) ≡ count + 1
       sum_is = let one = own_count n before.1 in let two = alone in omega (arith, one, two, is)
 
       pub file_counted : AreCounted old new (count + 1)
-      file_counted = subst (AreCounted old new) sum_is (all_counted old new before classes both (λ m. m == n) (is_touched [] changed) untouched)
+      file_counted = subst (AreCounted old new) sum_is (all_counted old new before classes both (λ m. m == n) (is_below_some changed) untouched)
 
       pub file_within : count + 1 ≤ length (inside (p ∷ []) new.1)
-      file_within = subst (λ k. k ≤ length (inside (p ∷ []) new.1)) sum_is (all_within old new before classes both (λ m. m == n) (is_touched [] changed) (p ∷ []) lies_inside)
+      file_within = subst (λ k. k ≤ length (inside (p ∷ []) new.1)) sum_is (all_within old new before classes both (λ m. m == n) (is_below_some changed) (p ∷ []) lies_inside)

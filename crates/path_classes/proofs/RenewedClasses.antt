@@ -30,10 +30,10 @@ counted_one P n (e ∷ es) h some = by (e.1 == n) refl (counted_one P n es h.1)
 
 -- tags go by what stays
 abbrev tags_of_class : PathClass → List ℕ
-tags_of_class c = class_tags c.above c.kind
+tags_of_class c = class_tags (is_some c.search) c.above c.kind
 
 abbrev tags_of_shape : Shape → List ℕ
-tags_of_shape s = class_tags s.1.0 s.0
+tags_of_shape s = class_tags s.1.1.1 s.1.0 s.0
 
 tags_by_shape : (b : Bool) (o : Option PathClass) → option_map_or tags_of_class (if b then o else None) [] ≡ option_map_or tags_of_shape (if b then option_map shape o else None) []
 tags_by_shape true None = refl
@@ -130,7 +130,7 @@ module _ (old new : Kept LabelRow) (classes : Kept PathClass) (sound : AreSound 
   each_linked (e ∷ es) h = (record { class = h.0.class; is = h.0.is; above = h.0.above; linked = linked_new h.0.class h.0.right }, each_linked es h.1)
 
   fresh_new : (n : ℕ) (d : PathClass) → 0 < count_at classes.0 n → node_at classes.0 n ≡ Some d → is_one n waiting ≡ false → IsFresh new.0 classes.0 d
-  fresh_new n d used is out = by d.search right.search
+  fresh_new n d used is out = by d.search refl right.search
     where
       one : (p : PathOf) × HasClass old.0 classes.0 classes.1 (p, n)
       one = counted_one (HasClass old.0 classes.0 classes.1) n classes.1 w.each (let e = sound.counted n in omega (arith, used, e))
@@ -141,18 +141,18 @@ module _ (old new : Kept LabelRow) (classes : Kept PathClass) (sound : AreSound 
       clash : (b : Bool) → b ≡ true → b ≡ false → ⊥
       clash b h k = cc
 
-      apart : (b : Bool) → is_one d.kind labels ≡ b → is_one d.kind labels ≡ false
-      apart true here = absurd (clash (is_one n waiting) (c.all n d used is here) out)
-      apart false here = here
+      apart : is_some d.search ≡ true → (b : Bool) → is_one d.kind labels ≡ b → is_one d.kind labels ≡ false
+      apart some true here = absurd (clash (is_one n waiting) (c.all n d used is some here) out)
+      apart some false here = here
 
-      by : (o : Option (List Bool)) → IfSome o (λ s. s ≡ searchers (search_above classes.0 d.above) right.row.row) → IfSome o (IsSearch new.0 classes.0 d)
-      by None f = tt
-      by (Some s) f = λ row has.
+      by : (o : Option (List Bool)) → d.search ≡ o → IfSome o (λ s. s ≡ searchers (search_above classes.0 d.above) right.row.row) → IfSome o (IsSearch new.0 classes.0 d)
+      by None none f = tt
+      by (Some s) some f = λ row has.
           f ∙ ap (searchers (search_above classes.0 d.above))
           (some_is (verdicts_at old.0 d.kind) right.row.row row.row (ap (option_map (λ (x : LabelRow). x.row)) right.has_row)
-          (sym (r.same d.kind (apart (is_one d.kind labels) refl)) ∙ ap (option_map (λ (x : LabelRow). x.row)) has))
+          (sym (r.same d.kind (apart (ap is_some some) (is_one d.kind labels) refl)) ∙ ap (option_map (λ (x : LabelRow). x.row)) has))
 
-  -- all classes fit the new rows, but for those of these labels
+  -- all classes fit the new rows, but for those of these labels that keep who can search
   pub fit_rows : FitBut new classes waiting
   fit_rows = record {
     kinds = w.kinds ∙ sym r.numbers;

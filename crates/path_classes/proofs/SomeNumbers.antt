@@ -1,10 +1,12 @@
 -- Numbers of classes that are found in turn.
-use Rattle.std.proofs.Common.{◌≡◌, ◌<◌, ◌+◌, ℕ, Bool, true, false, ◌||◌, List, [], ◌∷◌, ◌++◌, is_some, nat_lt, Some, None, refl, ap, ◌∙◌, arith, ltb-true, ltb-false}
-use Rattle.std.proofs.Math.Dec.{eqb_refl}
+use Rattle.std.proofs.Common.{◌≡◌, ◌<◌, ◌+◌, ℕ, Bool, true, false, not, ◌||◌, ◌&&◌, cond, List, [], ◌∷◌, ◌++◌, length, take, get_or, is_some, nat_lt, Some}
+use Rattle.std.proofs.Common.{None, refl, sym, ap, ◌∙◌, arith, ltb-true, ltb-false}
+use Rattle.std.proofs.Math.Dec.{eqb→eq, eqb_refl}
 use Rattle.std.specs.Prelude.{◌==◌, if◌then◌else◌}
 use Rattle.std.specs.List.{AllByRecursion}
+use Rattle.std.proofs.lemmas.List.{take_more}
 use Rattle.std.proofs.lemmas.List.Folds.{list_any-append}
-use Rattle.acl_names.proofs.Basics.{from_T, all_end}
+use Rattle.acl_names.proofs.Basics.{to_T, from_T, all_end}
 use Rattle.kinds.specs.Given.{used_at}
 use Rattle.kinds.specs.Kinds.{node_at, count_at}
 use Rattle.path_classes.specs.declared.path_class.PathClass.{PathClass}
@@ -14,15 +16,15 @@ use Rattle.path_classes.specs.Renewing.{is_one}
 use Rattle.path_classes.proofs.ClassTags.{used_is}
 use Rattle.path_classes.proofs.Renewals.{not_both}
 
+or_none : (b : Bool) → (b || false) ≡ b
+or_none true = refl
+or_none false = refl
+
 -- ---- one number more
 
 -- a number among some and one more
 one_or_last : (n m : ℕ) (ns : List ℕ) → is_one n (ns ++ m ∷ []) ≡ (is_one n ns || (m == n))
-one_or_last n m ns = list_any-append (λ i. i == n) ns (m ∷ []) ∙ ap (λ b. is_one n ns || b) (or_false (m == n))
-  where
-    or_false : (b : Bool) → (b || false) ≡ b
-    or_false true = refl
-    or_false false = refl
+one_or_last n m ns = list_any-append (λ i. i == n) ns (m ∷ []) ∙ ap (λ b. is_one n ns || b) (or_none (m == n))
 
 last_one : (n : ℕ) (ns : List ℕ) → is_one n (ns ++ n ∷ []) ≡ true
 last_one n ns = one_or_last n n ns ∙ ap (λ b. is_one n ns || b) (from_T (n == n) (eqb_refl n)) ∙ or_true (is_one n ns)
@@ -69,3 +71,37 @@ module _ (k : ClassKinds) where
       by : (b : Bool) → nat_lt 0 (count_at k end) ≡ b → is_searched (if b then node_at k end else None) ≡ true → 0 < count_at k end
       by true lt h = ltb-true 0 (count_at k end) lt
       by false lt h = cc
+
+-- ---- numbers that fail a test
+
+fails_more : (p q e x n : Bool) → q ≡ (p && not n) → (e ≡ true → n ≡ x) → cond x q (q || (e || false)) ≡ ((p || (e || false)) && not n)
+fails_more p q true true true h same = h ∙ by p
+  where
+    by : (p : Bool) → (p && false) ≡ ((p || true) && false)
+    by true = refl
+    by false = refl
+fails_more p q true true false h same = let no : false ≡ true = same refl in cc
+fails_more p q true false true h same = let no : true ≡ false = same refl in cc
+fails_more p q true false false h same = by p q
+  where
+    by : (p q : Bool) → (q || true) ≡ ((p || true) && true)
+    by true true = refl
+    by true false = refl
+    by false true = refl
+    by false false = refl
+fails_more p q false true n h same = h ∙ ap (λ b. b && not n) (sym (or_none p))
+fails_more p q false false n h same = or_none q ∙ h ∙ ap (λ b. b && not n) (sym (or_none p))
+
+-- those of the first of some numbers, and of one more
+pub left_more : (f : ℕ → Bool) (ns : List ℕ) (i d n : ℕ) (left new : List ℕ) → i < length ns → is_one n left ≡ (is_one n (take i ns) && not (f n))
+    → new ≡ (if f (get_or ns i d) then left else left ++ get_or ns i d ∷ []) → is_one n new ≡ (is_one n (take (i + 1) ns) && not (f n))
+left_more f ns i d n left new lt h is =
+    let x : ℕ = get_or ns i d in
+    ap (is_one n) is
+    ∙ by (f x)
+    ∙ fails_more (is_one n (take i ns)) (is_one n left) (x == n) (f x) (f n) h (λ same. ap f (sym (eqb→eq x n (to_T (x == n) same))))
+    ∙ ap (λ b. b && not (f n)) (sym (ap (is_one n) (take_more ns i d lt) ∙ list_any-append (λ m. m == n) (take i ns) (x ∷ [])))
+  where
+    by : (b : Bool) → is_one n (if b then left else left ++ get_or ns i d ∷ []) ≡ cond b (is_one n left) (is_one n left || ((get_or ns i d == n) || false))
+    by true = refl
+    by false = list_any-append (λ m. m == n) left (get_or ns i d ∷ [])

@@ -1,5 +1,5 @@
 -- Answers that stay as they were, and how many files may have others, by their classes.
-use Rattle.std.proofs.Common.{◌≡◌, ℕ, suc, ◌+◌, ◌≤◌, Bool, true, false, ◌||◌, List, [], ◌∷◌, length, map, cond, Option, Some, None, refl, sym, ap, ◌∙◌, arith}
+use Rattle.std.proofs.Common.{◌≡◌, ℕ, suc, ◌+◌, ◌≤◌, Bool, true, false, not, ◌||◌, ◌&&◌, List, [], ◌∷◌, length, map, cond, Option, Some, None, refl, sym, ap, ◌∙◌, arith}
 use Rattle.std.specs.Prelude.{count_by, option_map, slice_get}
 use Rattle.std.specs.List.{AllByRecursion}
 use Rattle.std.specs.Option.{option_map_or}
@@ -43,9 +43,9 @@ not_twice false b c f g h = let one = implied b c g in omega (arith, one)
 not_twice true true c f g h = let no : true ≡ false = h refl in cc
 not_twice true false c f g h = let one = implied true c f in omega (arith, one)
 
-pub count_none : (es : Numbers) → count_by (λ (e : PathOf × ℕ). false) es ≡ 0
+pub count_none : {A : Type 0} (es : List (PathOf × A)) → count_by (λ (e : PathOf × A). false) es ≡ 0
 count_none [] = refl
-count_none (e ∷ es) = let more = count_none es in let sum = sum_by-cons (λ (e : PathOf × ℕ). one_where false) e es in omega (arith, more, sum)
+count_none {A} (e ∷ es) = let more = count_none es in let sum = sum_by-cons (λ (e : PathOf × A). one_where false) e es in omega (arith, more, sum)
 
 -- a count of paths is that of the same paths with other numbers
 count_valued : (f : PathOf → Bool) (g : ℕ → ℕ) (es : Numbers) → count_by (λ (e : PathOf × ℕ). f e.0) (map {B = PathOf × ℕ} (λ e. (e.0, g e.1)) es) ≡ count_by (λ (e : PathOf × ℕ). f e.0) es
@@ -55,6 +55,33 @@ count_valued f g (e ∷ es) =
     let left = sum_by-cons (λ (e : PathOf × ℕ). one_where (f e.0)) (e.0, g e.1) (map {B = PathOf × ℕ} (λ e. (e.0, g e.1)) es) in
     let right = sum_by-cons (λ (e : PathOf × ℕ). one_where (f e.0)) e es in
     omega (arith, more, left, right)
+
+-- a count of values is that of what they are made of
+pub count_kinds : (f : ℕ → Bool) (g : ℕ → ℕ) (es : Numbers) → count_by (λ (e : PathOf × ℕ). f e.1) (map {B = PathOf × ℕ} (λ e. (e.0, g e.1)) es) ≡ count_by (λ (e : PathOf × ℕ). f (g e.1)) es
+count_kinds f g [] = refl
+count_kinds f g (e ∷ es) =
+    let more = count_kinds f g es in
+    let left = sum_by-cons (λ (e : PathOf × ℕ). one_where (f e.1)) (e.0, g e.1) (map {B = PathOf × ℕ} (λ e. (e.0, g e.1)) es) in
+    let right = sum_by-cons (λ (e : PathOf × ℕ). one_where (f (g e.1))) e es in
+    omega (arith, more, left, right)
+
+or_else : (a b : Bool) → one_where a + one_where (b && not a) ≡ one_where (a || b)
+or_else true true = refl
+or_else true false = refl
+or_else false true = refl
+or_else false false = refl
+
+-- numbers that pass one test, and others that pass another one
+pub count_either : (a b : ℕ → Bool) (es : Numbers)
+    → count_by (λ (e : PathOf × ℕ). a e.1) es + count_by (λ (e : PathOf × ℕ). b e.1 && not (a e.1)) es ≡ count_by (λ (e : PathOf × ℕ). a e.1 || b e.1) es
+count_either a b [] = refl
+count_either a b (e ∷ es) =
+    let more = count_either a b es in
+    let one = or_else (a e.1) (b e.1) in
+    let first = sum_by-cons (λ (e : PathOf × ℕ). one_where (a e.1)) e es in
+    let second = sum_by-cons (λ (e : PathOf × ℕ). one_where (b e.1 && not (a e.1))) e es in
+    let both = sum_by-cons (λ (e : PathOf × ℕ). one_where (a e.1 || b e.1)) e es in
+    omega (arith, more, one, first, second, both)
 
 inside_valued : (tops : List PathOf) (g : ℕ → ℕ) (es : Numbers) → length (inside tops (map {B = PathOf × ℕ} (λ e. (e.0, g e.1)) es)) ≡ length (inside tops es)
 inside_valued tops g [] = refl
@@ -143,7 +170,7 @@ module _ (old new : Kept LabelRow) (before classes : Kept PathClass) (b : AreBot
     pub label_has : find path_cmp p new.1 ≡ Some has.class.kind
     label_has = label_of new classes has.class b.are found_new has.is
 
-    same_above : has.class.above ≡ had.class.above
+    pub same_above : has.class.above ≡ had.class.above
     same_above = has.above ∙ ap (class_above p) b.paths ∙ sym had.above
 
     pub same_search : (changed : List ℕ) → ((m : ℕ) → is_one m changed ≡ false → search_at classes.0 m ≡ search_at before.0 m) → option_map_or (λ a. is_one a changed) has.class.above false ≡ false

@@ -1,10 +1,11 @@
 -- For inner functions: classes while files come in path order.
-use Rattle.std.specs.Prelude.{◌≡◌, ◌<◌, ⊤, ℕ, Bool, List, ◌++◌, map, slice_get, Option, None, Some}
+use Rattle.std.specs.Prelude.{◌≡◌, ◌<◌, ⊤, ℕ, Bool, false, List, [], ◌∷◌, ◌++◌, map, slice_get, Option, None, Some}
 use Rattle.std.specs.List.{AllByRecursion}
 use Rattle.std.specs.Option.{option_or}
 use Rattle.acl_names.specs.Paths.{PathOf}
 use Rattle.kinds.specs.Kinds.{KindsOf, node_at, count_at, IsNode}
 use Rattle.kinds.specs.Numbered.{Numbers}
+use Rattle.kinds.specs.Tagged.{is_one, numbers_found}
 use Rattle.path_classes.specs.declared.label_row.LabelRow.{LabelRow}
 use Rattle.path_classes.specs.declared.path_class.PathClass.{PathClass}
 use Rattle.path_classes.specs.PathClasses.{ClassKinds, kind_at, class_above, AboveKeeps, IsRight, HasClassBelow}
@@ -66,6 +67,10 @@ pub record Widens (rows : KindsOf LabelRow) (old new : ClassKinds) : Type 0 wher
   pub right : (n : ℕ) → IsRightAt rows old n → IsRightAt rows new n
   pub counts : (n : ℕ) → count_at new n ≡ count_at old n
 
+-- classes stay the same, but for those of some numbers
+abbrev pub SameClassesBut : List ℕ → (old new : ClassKinds) → Type 0
+SameClassesBut numbers old new = (n : ℕ) (c : PathClass) → node_at old n ≡ Some c → is_one n numbers ≡ false → node_at new n ≡ Some c
+
 -- a class that keeps who can search down to it, in the place of one
 pub record Fills (rows : KindsOf LabelRow) (k : ClassKinds) (old new : PathClass) : Type 0 where
   pub stays : Stays old new
@@ -77,12 +82,14 @@ pub record Fills (rows : KindsOf LabelRow) (k : ClassKinds) (old new : PathClass
 pub record Keeps (rows : KindsOf LabelRow) (old : ClassKinds) (above : Option ℕ) (new : ClassKinds) : Type 0 where
   pub widens : Widens rows old new
   pub keeps : AboveKeeps new above
+  pub others : SameClassesBut (numbers_found (above ∷ [])) old new
 
 -- the class of a label below a class is found or added
 pub record Finds (rows : KindsOf LabelRow) (old : ClassKinds) (above : Option ℕ) (kind : ℕ) (new : ClassKinds) (n : ℕ) : Type 0 where
   pub widens : Widens rows old new
   pub class : IsClassOf new above kind n
   pub right : IsRightAt rows new n
+  pub others : SameClassesBut (numbers_found (above ∷ [])) old new
 
 -- the last paths with their classes lead to those above the next paths
 pub record LeadsTo (made rest : Numbers) (stack : Numbers) : Type 0 where

@@ -1,5 +1,5 @@
 -- Tags of classes, numbers by which they are found: of three sorts, which leave 0, 1 and 2 when they are divided by 3.
-use Rattle.std.specs.Prelude.{ℕ, ◌+◌, ◌*◌, ◌^◌, ◌%◌, List, [], ◌∷◌, Option, None, Some}
+use Rattle.std.specs.Prelude.{ℕ, ◌+◌, ◌*◌, ◌^◌, ◌%◌, Bool, false, true, List, [], ◌∷◌, ◌++◌, Option, None, Some}
 use Rattle.path_classes.specs.Hashes.{mixed}
 
 -- that of a label's number
@@ -23,6 +23,11 @@ pair_hash (Some above) kind = mixed (mixed 0 kind) above
 abbrev pub pair_tag : Option ℕ → ℕ → ℕ
 pair_tag above kind = 3 * (pair_hash above kind % 2 ^ 30) + 2
 
--- those of a class, by the class above and its label's number
-abbrev pub class_tags : Option ℕ → ℕ → List ℕ
-class_tags above kind = label_tag kind ∷ pair_tag above kind ∷ above_tags above
+-- that of the label's number of a class that keeps who can search down to it
+abbrev pub search_tags : Bool → ℕ → List ℕ
+search_tags false kind = []
+search_tags true kind = label_tag kind ∷ []
+
+-- those of a class, by whether it keeps who can search, the class above and its label's number
+abbrev pub class_tags : Bool → Option ℕ → ℕ → List ℕ
+class_tags searched above kind = pair_tag above kind ∷ (search_tags searched kind ++ above_tags above)

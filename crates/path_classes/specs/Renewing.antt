@@ -109,9 +109,9 @@ pub record FitBut (rows : Kept LabelRow) (classes : Kept PathClass) (waiting : L
   pub each : HaveLinked rows.0 classes
   pub waits : Awaits rows.0 classes.0 classes.0 waiting []
 
--- these are classes of paths, all those whose labels are among some
+-- these are classes of paths, all those that keep who can search down to them and whose labels are among some
 pub record AreClassesOf (k : ClassKinds) (labels waiting : List ℕ) : Type 0 where
-  pub all : (n : ℕ) (c : PathClass) → 0 < count_at k n → node_at k n ≡ Some c → is_one c.kind labels ≡ true → is_one n waiting ≡ true
+  pub all : (n : ℕ) (c : PathClass) → 0 < count_at k n → node_at k n ≡ Some c → is_some c.search ≡ true → is_one c.kind labels ≡ true → is_one n waiting ≡ true
   pub used : AllByRecursion (λ n. 0 < count_at k n) waiting
 
 -- these are classes of paths, all those that keep who can search down to them

@@ -3,23 +3,25 @@
 ghost use Rattle.std.specs.Prelude.{◌≡◌, [], IfOk, IfSome, Some};
 ghost use Rattle.std.specs.Option.{option_copied};
 ghost use Rattle.kinds.specs.Kinds.{IsNode};
-ghost use Rattle.path_classes.specs.PathClasses.{AboveKeeps, search_above, depth_below, IsRight};
-ghost use Rattle.path_classes.specs.ClassBuilding.{IsKnown, IsRightAt, IsRightAbove, AreRight, AreKept, IsThere, Fills, Keeps, Finds};
+ghost use Rattle.path_classes.specs.PathClasses.{ClassKinds, AboveKeeps, search_above, depth_below, IsRight};
+ghost use Rattle.path_classes.specs.ClassBuilding.{IsKnown, IsRightAt, IsRightAbove, AreRight, AreKept, IsThere, Fills, Keeps, Finds, SameClassesBut};
 
 use crate::class_hints::ClassHints;
 use crate::kept_classes::{KeptClasses, is_class_of};
 use crate::label_row::LabelRow;
 use crate::path_class::PathClass;
 use crate::searchers::{Searchers, searchers_below};
-use kinds::Kinds;
+use kinds::{Kinds, push_found};
 use std::alloc::{AllocError, Global};
 use std::rc::Rc;
 
-/// The classes so far; the numbers of those that the walk met, which are right; and hints at their places among these.
+/// The classes so far; the numbers of those that the walk met, which are right; the numbers of those below which it looked for
+/// other classes, and which may keep who can search since then; and hints at the places of those that are known.
 #[derive(Drop)]
 pub(crate) struct ClassBuilder {
     pub(crate) classes: Kinds<PathClass>,
     pub(crate) known: Vec<usize>,
+    pub(crate) begun: Vec<usize>,
     hints: ClassHints,
 }
 
@@ -197,10 +199,12 @@ impl ClassBuilder {
     pub fn new(alloc: Global, classes: Kinds<PathClass>) -> ClassBuilder
         ensures classes { result.classes ≡ classes }
         ensures known { result.known.items ≡ [] }
+        ensures begun { result.begun.items ≡ [] }
     {
         ClassBuilder {
             classes,
             known: Vec::new(alloc),
+            begun: Vec::new(alloc),
             hints: ClassHints::new(alloc),
         }
     }
@@ -221,10 +225,12 @@ impl ClassBuilder {
         requires kept { AreKept rows.now self.classes kept.now.outside }
         ensures finds { IfOk result (λ new. Finds rows.now self.classes above kind new.0.classes new.1) }
         ensures known { IfOk result (λ new. AreRight rows.now new.0.classes new.0.known.items) }
+        ensures begun { IfOk result (λ new. (first : ClassKinds) → SameClassesBut self.begun.items first self.classes → SameClassesBut new.0.begun.items first new.0.classes) }
     {
         let ClassBuilder {
             classes,
             mut known,
+            mut begun,
             mut hints,
         } = self;
         if let Some((place, class)) = known_class(&classes, &known, &hints, above, kind) {
@@ -232,6 +238,7 @@ impl ClassBuilder {
             let same = ClassBuilder {
                 classes,
                 known,
+                begun,
                 hints,
             };
             return Ok((same, class));
@@ -239,23 +246,27 @@ impl ClassBuilder {
         let (classes, class) = kept_or_added(alloc, rows, kept, classes, above, kind)?;
         hints.add(above, kind, known.len())?;
         known.push(class)?;
+        push_found(&mut begun, &[above])?;
         let more = ClassBuilder {
             classes,
             known,
+            begun,
             hints,
         };
         Ok((more, class))
     }
 
-    /// The classes.
-    pub fn into_classes(self) -> Kinds<PathClass>
-        ensures { result ≡ self.classes }
+    /// The classes, and the numbers of those below which a class was looked for.
+    pub fn into_parts(self) -> (Kinds<PathClass>, Vec<usize>)
+        ensures classes { result.0 ≡ self.classes }
+        ensures begun { result.1.items ≡ self.begun.items }
     {
         let ClassBuilder {
             classes,
             known: _known,
+            begun,
             hints: _hints,
         } = self;
-        classes
+        (classes, begun)
     }
 }

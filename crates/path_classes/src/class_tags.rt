@@ -1,14 +1,16 @@
-//! Tags of classes: a class is found by its label, by the class above, and by both.
+//! Tags of classes: a class is found by the class above, by this and its label, and by its label alone if it keeps who can search
+//! down to it.
 
-ghost use Rattle.std.specs.Prelude.{◌≡◌, ◌++◌, map, IfOk, OnOk};
-ghost use Rattle.path_classes.specs.ClassTags.{label_tag, below_tag, above_tags, pair_hash, pair_tag, class_tags};
+ghost use Rattle.std.specs.Prelude.{◌≡◌, ◌++◌, map, is_some, IfOk, OnOk};
+ghost use Rattle.path_classes.specs.ClassTags.{label_tag, below_tag, search_tags, above_tags, pair_hash, pair_tag, class_tags};
 
 use crate::hash::mixed;
 use crate::path_class::PathClass;
+use crate::searchers::Searchers;
 use kinds::Tagged;
 use std::alloc::{AllocError, Global};
 
-/// The tag of the classes of a label. Fails, as if memory ran out, if it is too large.
+/// The tag of the classes of a label that keep who can search down to them. Fails, as if memory ran out, if it is too large.
 pub(crate) fn label_tag(kind: usize) -> Result<usize, AllocError>
     ensures { IfOk result (λ tag. tag ≡ label_tag kind) }
 {
@@ -48,6 +50,20 @@ pub(crate) fn pair_tag(above: Option<usize>, kind: usize) -> usize
     3 * hash + 2
 }
 
+/// Adds the tag of a label, if a class keeps who can search.
+fn push_label(
+    new: &mut Vec<usize>,
+    search: &Option<Searchers>,
+    kind: usize,
+) -> Result<(), AllocError>
+    ensures { OnOk result (new.new.items ≡ new.old.items ++ search_tags (is_some search.now) kind) }
+{
+    if let Some(_search) = search {
+        new.push(label_tag(kind)?)?;
+    }
+    Ok(())
+}
+
 /// Adds the tag of a class above, if there is one.
 fn push_above(new: &mut Vec<usize>, above: Option<usize>) -> Result<(), AllocError>
     ensures { OnOk result (new.new.items ≡ new.old.items ++ above_tags above) }
@@ -58,7 +74,7 @@ fn push_above(new: &mut Vec<usize>, above: Option<usize>) -> Result<(), AllocErr
     Ok(())
 }
 
-/// Adds the tags of the classes of some labels.
+/// The tags of some labels.
 pub(crate) fn label_tags(alloc: Global, labels: &[usize]) -> Result<Vec<usize>, AllocError>
     ensures { IfOk result (λ tags. tags.items ≡ map label_tag labels.now) }
 {
@@ -70,12 +86,12 @@ pub(crate) fn label_tags(alloc: Global, labels: &[usize]) -> Result<Vec<usize>, 
 }
 
 impl Tagged for PathClass {
-    ghost tags_of = { λ class. class_tags class.above class.kind };
+    ghost tags_of = { λ class. class_tags (is_some class.search) class.above class.kind };
 
     /// Adds the tags.
     fn push_tags(&self, alloc: Global, new: &mut Vec<usize>) -> Result<(), AllocError> {
-        new.push(label_tag(self.kind)?)?;
         new.push(pair_tag(self.above, self.kind))?;
+        push_label(new, &self.search, self.kind)?;
         push_above(new, self.above)
     }
 }

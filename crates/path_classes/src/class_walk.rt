@@ -6,7 +6,8 @@ ghost use Rattle.std.specs.Option.{option_or};
 ghost use Rattle.path_map.specs.Entries.{IsInOrder, seen};
 ghost use Rattle.kinds.specs.Numbered.{AreUsed};
 ghost use Rattle.path_classes.specs.Walks.{last_of};
-ghost use Rattle.path_classes.specs.ClassBuilding.{IsRightAbove, AreRight, AreKept, AreWalked};
+ghost use Rattle.path_classes.specs.ClassBuilding.{IsRightAbove, AreRight, AreKept, AreWalked, SameClassesBut};
+ghost use Rattle.path_classes.specs.PathClasses.{ClassKinds};
 
 use crate::class_builder::ClassBuilder;
 use crate::kept_classes::KeptClasses;
@@ -60,6 +61,7 @@ pub(crate) fn walk<'a, 'p>(
     requires kept { AreKept rows.now builder.classes kept.now.outside }
     ensures walked { IfOk result (λ new. AreWalked rows.now files.entry over builder.classes new.0.classes (map seen new.1.items)) }
     ensures known { IfOk result (λ new. AreRight rows.now new.0.classes new.0.known.items) }
+    ensures begun { IfOk result (λ new. (first : ClassKinds) → SameClassesBut builder.begun.items first builder.classes → SameClassesBut new.0.begun.items first new.0.classes) }
 {
     let mut builder = builder;
     let mut stack = Vec::new(alloc);

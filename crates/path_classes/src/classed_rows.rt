@@ -1,6 +1,7 @@
 //! Rows of labels by kinds with the path classes of their files.
 
 ghost use Rattle.std.specs.Prelude.{◌≡◌, ◌≤◌, ◌++◌, [], length, map, IfOk, List};
+ghost use Rattle.std.specs.List.Sorted.{IsStrictlyIncreasing};
 ghost use Rattle.acl_names.specs.Paths.{PathOf};
 ghost use Rattle.path_map.specs.Entries.{IsInOrder, seen};
 ghost use Rattle.kinds.specs.Numbered.{entries_in};
@@ -10,6 +11,7 @@ ghost use Rattle.path_classes.specs.PathClasses.{AreClasses};
 
 use crate::changed_files::classes_with_files;
 use crate::label_row::LabelRow;
+use crate::marked_classes::changed_count;
 use crate::path_class::PathClass;
 use crate::path_classes::classes_of;
 use crate::rerowed_classes::{all_rerowed_classes, rerowed_classes};
@@ -82,8 +84,8 @@ impl ClassedRows {
         &self.classes
     }
 
-    /// Other rows of the same files, whose labels have the same numbers: those of `labels` alone may have other rows. The
-    /// number is that of the files whose answers along their paths were found again. Fails only if memory, or the numbers,
+    /// Other rows of the same files, whose labels have the same numbers: those of `labels`, which rise, alone have other rows.
+    /// The number is that of the files whose answers along their paths were found again. Fails only if memory, or the numbers,
     /// run out.
     pub fn with_rows(
         &self,
@@ -91,7 +93,8 @@ impl ClassedRows {
         rows: TaggedMap<LabelRow>,
         labels: &[usize],
     ) -> Result<(ClassedRows, usize), AllocError>
-        requires { ChangesRows self.now labels.now rows }
+        requires rising { IsStrictlyIncreasing labels.now }
+        requires changes { ChangesRows self.now labels.now rows }
         ensures rows { IfOk result (λ new. new.0 ≡ rows) }
         ensures least { IfOk result (λ new. AreCounted self.now rows new.1) }
         ensures most { IfOk result (λ new. (tops : List PathOf) → AllInside labels.now tops rows.1 → new.1 ≤ length (inside tops rows.1)) }
@@ -116,6 +119,25 @@ impl ClassedRows {
         let before = self.classes();
         let classes = all_rerowed_classes(alloc, old.map(), rows.map(), before)?;
         Ok(ClassedRows { rows, classes })
+    }
+
+    /// The rows of `with_all_rows`, with the number of the files whose labels have other verdicts, or above which others can
+    /// search. Fails only if memory, or the numbers, run out.
+    pub fn with_counted_rows(
+        &self,
+        alloc: Global,
+        rows: TaggedMap<LabelRow>,
+    ) -> Result<(ClassedRows, usize), AllocError>
+        requires { rows.1 ≡ self.now.1 }
+        ensures rows { IfOk result (λ new. new.0 ≡ rows) }
+        ensures least { IfOk result (λ new. AreCounted self.now rows new.1) }
+        ensures most { IfOk result (λ new. new.1 ≤ length rows.1) }
+    {
+        let old = self.rows();
+        let before = self.classes();
+        let classes = all_rerowed_classes(alloc, old.map(), rows.map(), before)?;
+        let count = changed_count(alloc, old.map(), rows.map(), before, &classes)?;
+        Ok((ClassedRows { rows, classes }, count))
     }
 
     /// Rows where some files have other labels, or are new, and others are gone: the paths of both are in path order. All other

@@ -4,8 +4,8 @@ ghost use Rattle.std.specs.Prelude.{◌≡◌, ◌≤◌, ◌++◌, ◌∷◌, [
 ghost use Rattle.path_map.specs.Entries.{IsInOrder, seen};
 ghost use Rattle.path_map.specs.Merged.{has};
 ghost use Rattle.kinds.specs.Numbered.{AreUsed};
-ghost use Rattle.path_classes.specs.PathClasses.{class_above, AreClasses};
-ghost use Rattle.path_classes.specs.ClassBuilding.{IsRightAbove, AreRight, AreKept};
+ghost use Rattle.path_classes.specs.PathClasses.{ClassKinds, class_above, AreClasses};
+ghost use Rattle.path_classes.specs.ClassBuilding.{IsRightAbove, AreRight, AreKept, SameClassesBut};
 ghost use Rattle.path_classes.specs.ClassesWithin.{paths_seen, inside, outside, AreTops, FitOutside, ChangesInside, WalksTop, AreFound};
 ghost use Rattle.path_classes.specs.ClassedRows.{AreCounted};
 
@@ -47,6 +47,7 @@ fn walk_top<'a>(
     requires kept { AreKept rows.now builder.classes kept.now.outside }
     ensures walks { IfOk result (λ new. WalksTop rows.now files.now (class_above top.now before.now) top.now builder.classes (map seen made.old.items) new.classes (map seen made.new.items)) }
     ensures known { IfOk result (λ new. AreRight rows.now new.classes new.known.items) }
+    ensures begun { IfOk result (λ new. (first : ClassKinds) → SameClassesBut builder.begun.items first builder.classes → SameClassesBut new.begun.items first new.classes) }
 {
     files.order_law();
     let over = class_over(before, top);
@@ -57,19 +58,20 @@ fn walk_top<'a>(
 }
 
 /// The classes of the files at or below some tops, of which none is below another one, beside the classes that were there;
-/// and these files with their classes, in path order. Of the classes that were there those can be found that paths outside have.
-/// Fails only if memory, or the numbers, run out.
+/// these files with their classes, in path order; and the numbers of the classes that were there and may be others now. Of the
+/// classes that were there those can be found that paths outside have. Fails only if memory, or the numbers, run out.
 fn classes_within<'a>(
     alloc: Global,
     rows: &'a KindMap<LabelRow>,
     before: &KindMap<PathClass>,
     kept: &KeptClasses,
     tops: &[&Path],
-) -> Result<(Kinds<PathClass>, Vec<(&'a Path, usize)>), AllocError>
+) -> Result<(Kinds<PathClass>, Vec<(&'a Path, usize)>, Vec<usize>), AllocError>
     requires tops { AreTops (paths_seen tops.now) }
     requires fits { FitOutside rows.now (paths_seen tops.now) before.now }
     requires kept { AreKept rows.now.0 before.now.0 kept.now.outside }
-    ensures { IfOk result (λ new. AreFound rows.now (paths_seen tops.now) (outside (paths_seen tops.now) before.now.1) before.now.0 new.0 (map seen new.1.items)) }
+    ensures found { IfOk result (λ new. AreFound rows.now (paths_seen tops.now) (outside (paths_seen tops.now) before.now.1) before.now.0 new.0 (map seen new.1.items)) }
+    ensures begun { IfOk result (λ new. SameClassesBut new.2.items before.now.0 new.0) }
 {
     let numbers = rows.numbers();
     let kinds = rows.kinds();
@@ -82,7 +84,8 @@ fn classes_within<'a>(
         let next = walk_top(alloc, kinds, numbers, paths, kept, builder, *top, &mut made)?;
         builder = next;
     }
-    Ok((builder.into_classes(), made))
+    let (classes, begun) = builder.into_parts();
+    Ok((classes, made, begun))
 }
 
 /// Adds the files of a walk.
@@ -151,7 +154,7 @@ fn gone_of<'a>(
     Ok(gone)
 }
 
-/// The classes of `classes_within`, and the files inside that are gone.
+/// What `classes_within` finds, and the files inside that are gone.
 fn found_within<'a>(
     alloc: Global,
     rows: &'a KindMap<LabelRow>,
@@ -161,6 +164,7 @@ fn found_within<'a>(
     (
         Kinds<PathClass>,
         Vec<(&'a Path, usize)>,
+        Vec<usize>,
         Vec<(&'a Path, usize)>,
     ),
     AllocError,
@@ -168,16 +172,17 @@ fn found_within<'a>(
     requires tops { AreTops (paths_seen tops.now) }
     requires fits { FitOutside rows.now (paths_seen tops.now) before.now }
     ensures found { IfOk result (λ new. AreFound rows.now (paths_seen tops.now) (outside (paths_seen tops.now) before.now.1) before.now.0 new.0 (map seen new.1.items)) }
-    ensures gone { IfOk result (λ new. map seen new.2.items ≡ filter (λ e. not (has e.0 rows.now.1)) (inside (paths_seen tops.now) before.now.1)) }
+    ensures begun { IfOk result (λ new. SameClassesBut new.2.items before.now.0 new.0) }
+    ensures gone { IfOk result (λ new. map seen new.3.items ≡ filter (λ e. not (has e.0 rows.now.1)) (inside (paths_seen tops.now) before.now.1)) }
 {
     let classes_before = before.map();
     let paths = classes_before.numbers();
     let files = rows.numbers();
     let inside = files_within(alloc, paths, tops)?;
     let kept = KeptClasses::of(before, &inside)?;
-    let (classes, made) = classes_within(alloc, rows, classes_before, &kept, tops)?;
+    let (classes, made, begun) = classes_within(alloc, rows, classes_before, &kept, tops)?;
     let gone = gone_of(alloc, files, &inside)?;
-    Ok((classes, made, gone))
+    Ok((classes, made, begun, gone))
 }
 
 /// The classes of all files, where those outside of some tops keep theirs: none of the tops is below another one. The number is
@@ -201,8 +206,8 @@ pub(crate) fn classes_after(
     let _files = rows.numbers();
     let classes_before = before.map();
     let _paths = classes_before.numbers();
-    let (classes, made, gone) = found_within(alloc, rows, before, tops)?;
-    let after = before.put_counted(alloc, classes, &made, &gone)?;
+    let (classes, made, begun, gone) = found_within(alloc, rows, before, tops)?;
+    let after = before.put_counted(alloc, classes, &made, &gone, &begun)?;
     let new = after.map();
     let changed = changed_answers(alloc, old, classes_before, rows, new, &made)?;
     Ok((after, changed))

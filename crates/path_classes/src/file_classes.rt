@@ -54,6 +54,14 @@ impl<'a> FileClasses<'a> {
         Ok(Some((path, class)))
     }
 
+    /// Compares no classes from now on, so that files may be of different classes where these have the same row: for a question
+    /// that looks at one verdict of each class. Allocates nothing.
+    pub fn keep_apart(&mut self)
+        ensures { self.new ≡ self.old }
+    {
+        self.met.keep_apart();
+    }
+
     /// The path of the file that `next` would return. Allocates nothing.
     pub fn path(&self) -> Option<&'a Path>
         ensures { option_map (λ path. path.now) result ≡ option_map (λ row. row.0) (first self.now.1) }

@@ -20,8 +20,8 @@
 //! - A directory that alone has its class gets another label in place: nothing below it moves. Below one that shares its class
 //!   each file gets the class of its label below the class above, which may be one that files elsewhere have.
 //! - Where rows change, the classes of their labels are renewed: who can search is found again for each, and for those right
-//!   below one that changes. Classes are found by tags: their label, the class above, and a hash of both. Where all rows change,
-//!   each class is searched again once, after the one above it.
+//!   below one that changes. Classes are found by tags: the class above, a hash of this and their label, and the label of those
+//!   that say who can search. Where all rows change, each class is searched again once, after the one above it.
 //! - How many files' answers were found again is counted by the counts of classes.
 //!
 //! Rows of verdicts; labels with their rows; who can search down to a place; classes, and how lines on files, memberships and
@@ -44,6 +44,7 @@ mod hash;
 mod kept_classes;
 mod label_row;
 mod left_rows;
+mod marked_classes;
 mod met_rows;
 mod numbered_files;
 mod path_class;

@@ -52,6 +52,14 @@ impl MetRows {
         }
     }
 
+    /// Gives each number that is met from now on a place of its own, also where another one has its row.
+    pub fn keep_apart(&mut self)
+        ensures places { self.new.places ≡ self.old.places }
+        ensures numbers { self.new.numbers ≡ self.old.numbers }
+    {
+        self.hints.keep_apart();
+    }
+
     /// A number that has the row at a place, if there is one. Allocates nothing.
     pub fn number(&self, place: usize) -> Option<usize>
         ensures { result ≡ slice_get self.now.numbers.items place }

@@ -36,5 +36,6 @@ pub(crate) fn classes_of(
     let kept = KeptClasses::none(alloc)?;
     let none = ClassBuilder::new(alloc, Kinds::new(alloc));
     let (walked, made) = walk(alloc, kinds, &kept, none, None, files)?;
-    KindMap::renumbered(alloc, numbers, walked.into_classes(), &made)
+    let (classes, _begun) = walked.into_parts();
+    KindMap::renumbered(alloc, numbers, classes, &made)
 }

@@ -1,18 +1,19 @@
 //! Classes of the same paths, where the rows of labels are others, and how many files may have other answers by that.
 
-ghost use Rattle.std.specs.Prelude.{◌≡◌, ◌≤◌, ◌++◌, [], ℕ, List, true, false, length, map, count_by, IfOk, OnOk};
+ghost use Rattle.std.specs.Prelude.{◌≡◌, ◌≤◌, ◌++◌, ◌∷◌, ◌&&◌, [], ℕ, List, false, not, length, map, count_by, IfOk, OnOk, if◌then◌else◌};
+ghost use Rattle.std.specs.List.Sorted.{IsStrictlyIncreasing};
+ghost use Rattle.std.specs.Option.{option_map_or};
 ghost use Rattle.acl_names.specs.Paths.{PathOf};
 ghost use Rattle.kinds.specs.Given.{used_at};
 ghost use Rattle.kinds.specs.Numbered.{entries_in};
 ghost use Rattle.path_classes.specs.ClassTags.{below_tag};
-ghost use Rattle.path_classes.specs.ClassedRows.{AreCounted, AllInside, ChangesRows, verdicts_at};
+ghost use Rattle.path_classes.specs.ClassedRows.{AreCounted, AllInside, ChangesRows};
 ghost use Rattle.path_classes.specs.ClassesWithin.{inside};
-ghost use Rattle.path_classes.specs.FoundClasses.{is_touched, is_searched};
-ghost use Rattle.path_classes.specs.PathClasses.{AreClasses};
+ghost use Rattle.path_classes.specs.FoundClasses.{is_below_some, is_touched, is_searched};
+ghost use Rattle.path_classes.specs.PathClasses.{AreClasses, kind_at};
 ghost use Rattle.path_classes.specs.Renewing.{AreSearched, is_one};
 
-use crate::cells::same_row;
-use crate::class_tags::{below_tag, label_tags};
+use crate::class_tags::below_tag;
 use crate::label_row::LabelRow;
 use crate::path_class::PathClass;
 use crate::renewed_searches::{renewed_classes, with_searches};
@@ -31,18 +32,94 @@ fn push_below_tags(tags: &mut Vec<usize>, above: &[usize]) -> Result<(), AllocEr
     Ok(())
 }
 
-/// How many paths have a class of one of some labels, or one right below one of some classes: each path counts once.
-pub(crate) fn touched_paths(
+/// The classes of paths right below some classes, rising.
+fn classes_below_some(
     alloc: Global,
     classes: &TaggedMap<PathClass>,
-    labels: &[usize],
-    changed: &[usize],
-) -> Result<usize, AllocError>
-    ensures { IfOk result (λ count. count ≡ count_by (λ e. is_touched labels.now changed.now e.1) (entries_in classes.now)) }
+    above: &[usize],
+) -> Result<Vec<usize>, AllocError>
+    ensures { IfOk result (λ below. (n : ℕ) → is_one n below.items ≡ option_map_or (is_below_some above.now) (used_at classes.now.0 n) false) }
 {
-    let mut tags = label_tags(alloc, labels)?;
-    push_below_tags(&mut tags, changed)?;
-    let count = classes.paths_tagged(alloc, &tags)?;
+    let mut tags = Vec::with_capacity(alloc, above.len())?;
+    push_below_tags(&mut tags, above)?;
+    let numbers = classes.numbers_tagged(alloc, &tags)?;
+    Ok(numbers)
+}
+
+/// The number of the label of a class; 0 if there is none. Allocates nothing.
+fn kind_of(classes: &Kinds<PathClass>, number: usize) -> usize
+    ensures { result ≡ kind_at classes.now number }
+{
+    match classes.get(number) {
+        Some(class) => class.kind,
+        None => 0,
+    }
+}
+
+/// Whether the label of a class is among some, which rise. Allocates nothing.
+fn has_label(classes: &Kinds<PathClass>, labels: &[usize], number: usize) -> bool
+    requires { IsStrictlyIncreasing labels.now }
+    ensures { result ≡ is_one (kind_at classes.now number) labels.now }
+{
+    let kind = kind_of(classes, number);
+    labels.binary_search(&kind).is_ok()
+}
+
+/// Adds a class, unless its label is among some, which rise.
+fn push_unless(
+    left: &mut Vec<usize>,
+    classes: &Kinds<PathClass>,
+    labels: &[usize],
+    number: usize,
+) -> Result<(), AllocError>
+    requires { IsStrictlyIncreasing labels.now }
+    ensures { OnOk result (left.new.items ≡ (if is_one (kind_at classes.now number) labels.now then left.old.items else left.old.items ++ number ∷ [])) }
+{
+    if has_label(classes, labels, number) {
+        return Ok(());
+    }
+    left.push(number)?;
+    Ok(())
+}
+
+/// Those of some classes whose labels are not among some, which rise; rising.
+fn without_labels(
+    alloc: Global,
+    classes: &Kinds<PathClass>,
+    labels: &[usize],
+    numbers: &[usize],
+) -> Result<Vec<usize>, AllocError>
+    requires { IsStrictlyIncreasing labels.now }
+    ensures rising { IfOk result (λ left. IsStrictlyIncreasing left.items) }
+    ensures exact { IfOk result (λ left. (n : ℕ) → is_one n left.items ≡ (is_one n numbers.now && not (is_one (kind_at classes.now n) labels.now))) }
+{
+    let mut left = Vec::new(alloc);
+    for number in numbers {
+        push_unless(&mut left, classes, labels, *number)?;
+    }
+    Ok(rising_numbers(left))
+}
+
+/// How many paths have one of some labels, which rise, or a class right below one of `above`: each path counts once. Classes of
+/// the labels are not looked at.
+fn touched_paths(
+    alloc: Global,
+    rows: &KindMap<LabelRow>,
+    classes: &TaggedMap<PathClass>,
+    labels: &[usize],
+    above: &[usize],
+) -> Result<usize, AllocError>
+    requires rising { IsStrictlyIncreasing labels.now }
+    requires kinds { map (λ e. (e.0, kind_at classes.now.0 e.1)) classes.now.1 ≡ rows.now.1 }
+    ensures { IfOk result (λ count. count ≡ count_by (λ e. is_touched classes.now.0 labels.now above.now e.1) classes.now.1) }
+{
+    let labelled = rows.paths_numbered(labels)?;
+    let below = classes_below_some(alloc, classes, above)?;
+    let others = without_labels(alloc, classes.kinds(), labels, &below)?;
+    let more = classes.map().paths_numbered(&others)?;
+    let Some(count) = labelled.checked_add(more) else {
+        return Err(AllocError);
+    };
     Ok(count)
 }
 
@@ -53,7 +130,7 @@ pub(crate) fn paths_below(
     classes: &TaggedMap<PathClass>,
     above: Vec<usize>,
 ) -> Result<usize, AllocError>
-    ensures { IfOk result (λ count. count ≡ count_by (λ e. is_touched [] above.items e.1) (entries_in classes.now)) }
+    ensures { IfOk result (λ count. count ≡ count_by (λ e. is_below_some above.items e.1) (entries_in classes.now)) }
 {
     let above = rising_numbers(above);
     let mut count = 0usize;
@@ -68,40 +145,8 @@ pub(crate) fn paths_below(
     Ok(count)
 }
 
-/// Whether a label is there before and after, with the same verdicts. Allocates nothing.
-fn has_same_verdicts(old: &Kinds<LabelRow>, rows: &Kinds<LabelRow>, label: usize) -> bool
-    ensures { result ≡ true → verdicts_at rows.now label ≡ verdicts_at old.now label }
-{
-    let Some(old) = old.get(label) else {
-        return false;
-    };
-    let Some(new) = rows.get(label) else {
-        return false;
-    };
-    same_row(old.row.as_slice(), new.row.as_slice())
-}
-
-/// Those of some labels whose verdicts are others. Fails only if memory runs out.
-fn changed_labels(
-    alloc: Global,
-    old: &Kinds<LabelRow>,
-    rows: &Kinds<LabelRow>,
-    labels: &[usize],
-) -> Result<Vec<usize>, AllocError>
-    ensures among { IfOk result (λ changed. (n : ℕ) → is_one n changed.items ≡ true → is_one n labels.now ≡ true) }
-    ensures same { IfOk result (λ changed. (n : ℕ) → is_one n labels.now ≡ true → is_one n changed.items ≡ false → verdicts_at rows.now n ≡ verdicts_at old.now n) }
-{
-    let mut changed = Vec::new(alloc);
-    for label in labels {
-        if !has_same_verdicts(old, rows, *label) {
-            changed.push(*label)?;
-        }
-    }
-    Ok(changed)
-}
-
-/// The classes of the same paths, where the verdicts on some labels may be others. And how many files have a label whose verdicts
-/// are others, or are right below a class to which others can search now: all others have the answers that they had. Classes
+/// The classes of the same paths, where the verdicts on some labels, which rise, are others. And how many files have one of
+/// these labels, or are right below a class to which others can search now: all others have the answers that they had. Classes
 /// are looked at by their tags alone. Fails only if memory, or the numbers, run out.
 pub(crate) fn rerowed_classes(
     alloc: Global,
@@ -111,6 +156,7 @@ pub(crate) fn rerowed_classes(
     labels: &[usize],
 ) -> Result<(TaggedMap<PathClass>, usize), AllocError>
     requires were { AreClasses old.now before.now }
+    requires rising { IsStrictlyIncreasing labels.now }
     requires changes { ChangesRows old.now labels.now rows.now }
     ensures classes { IfOk result (λ new. AreClasses rows.now new.0) }
     ensures least { IfOk result (λ new. AreCounted old.now rows.now new.1) }
@@ -118,14 +164,13 @@ pub(crate) fn rerowed_classes(
 {
     old.order_law();
     rows.order_law();
-    let labels_before = old.kinds();
-    let labels_now = rows.kinds();
+    let _labels_before = old.kinds();
+    let _labels = rows.kinds();
     let _classes = before.kinds();
-    let others = changed_labels(alloc, labels_before, labels_now, labels)?;
-    let waiting = classes_of_labels(alloc, before, &others)?;
+    let waiting = classes_of_labels(alloc, before, labels)?;
     let new = renewed_classes(alloc, rows, before, waiting)?;
     let (classes, changed) = new;
-    let count = touched_paths(alloc, &classes, &others, &changed)?;
+    let count = touched_paths(alloc, rows, before, labels, &changed)?;
     Ok((classes, count))
 }
 
@@ -162,7 +207,8 @@ pub(crate) fn all_rerowed_classes(
 ) -> Result<TaggedMap<PathClass>, AllocError>
     requires were { AreClasses old.now before.now }
     requires paths { rows.now.1 ≡ old.now.1 }
-    ensures { IfOk result (λ new. AreClasses rows.now new) }
+    ensures classes { IfOk result (λ new. AreClasses rows.now new) }
+    ensures paths { IfOk result (λ new. new.1 ≡ before.now.1) }
 {
     let labels = rows.kinds();
     let _classes = before.kinds();

@@ -7,6 +7,8 @@ use std::alloc::{AllocError, Global};
 /// Places of rows by a hash of their label and of who gets through from above.
 #[derive(Drop)]
 pub(crate) struct RowHints {
+    /// Whether numbers are apart, also where their rows are the same: nothing is hashed and kept then.
+    are_apart: bool,
     /// For each path class above that was met, the hash of who can search down to it.
     searchers: Vec<Option<u64>>,
     /// 1 more than the place of a row, at its hash modulo the length, which grows with the places; 0 where there is none.
@@ -17,9 +19,15 @@ impl RowHints {
     /// None. Allocates nothing.
     pub fn new(alloc: Global) -> RowHints {
         RowHints {
+            are_apart: false,
             searchers: Vec::new(alloc),
             places: Vec::new(alloc),
         }
+    }
+
+    /// Keeps numbers apart from now on, also where their rows are the same.
+    pub fn keep_apart(&mut self) {
+        self.are_apart = true;
     }
 
     /// The hash of who gets through a path class: found once for each. Fails only if memory runs out.
@@ -42,14 +50,14 @@ impl RowHints {
         Ok(hash)
     }
 
-    /// The hash of a number's row: of its label and of who gets through from above. None where the numbers are those of labels, of
-    /// which no two are compared. Fails only if memory runs out.
+    /// The hash of a number's row: of its label and of who gets through from above. None where numbers are apart, as
+    /// those of labels are, of which no two are compared. Fails only if memory runs out.
     pub fn hash(
         &mut self,
         files: &NumberedFiles<'_>,
         number: usize,
     ) -> Result<Option<u64>, AllocError> {
-        if !files.are_classes() {
+        if self.are_apart || !files.are_classes() {
             return Ok(None);
         }
         let label = files.label(number) as u64;

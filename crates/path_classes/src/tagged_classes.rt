@@ -3,7 +3,7 @@
 ghost use Rattle.std.specs.Prelude.{◌≡◌, ℕ, IfOk};
 ghost use Rattle.std.specs.List.Sorted.{IsStrictlyIncreasing};
 ghost use Rattle.kinds.specs.Given.{used_at};
-ghost use Rattle.path_classes.specs.FoundClasses.{is_labelled};
+ghost use Rattle.path_classes.specs.FoundClasses.{is_searched_of};
 ghost use Rattle.path_classes.specs.Renewing.{is_one, AreBelow};
 
 use crate::class_tags::{below_tag, label_tags};
@@ -24,14 +24,15 @@ pub(crate) fn classes_below(
     Ok(numbers)
 }
 
-/// The classes of paths that have one of some labels, rising. Fails only if memory, or the numbers, run out.
+/// The classes of paths that have one of some labels and keep who can search down to them, rising. Fails only if memory, or the
+/// numbers, run out.
 pub(crate) fn classes_of_labels(
     alloc: Global,
     classes: &TaggedMap<PathClass>,
     labels: &[usize],
 ) -> Result<Vec<usize>, AllocError>
     ensures rising { IfOk result (λ numbers. IsStrictlyIncreasing numbers.items) }
-    ensures exact { IfOk result (λ numbers. (n : ℕ) → is_one n numbers.items ≡ is_labelled labels.now (used_at classes.now.0 n)) }
+    ensures exact { IfOk result (λ numbers. (n : ℕ) → is_one n numbers.items ≡ is_searched_of labels.now (used_at classes.now.0 n)) }
 {
     let tags = label_tags(alloc, labels)?;
     let numbers = classes.numbers_tagged(alloc, &tags)?;

@@ -15,6 +15,7 @@ loop-path-init c = record {
       made_none c.args.rows.now c.args.files c.args.files c.args.over c.args.builder.classes (map seen c.new-made.result.items) (map seen c.new-stack.result.items)
       (ap (map seen) c.new-made.ensures.items) (ap (map seen) c.new-stack.ensures.items) refl;
   known = c.requires.known;
+  begun = λ first h. h;
 }
 
 pub depth_above-depth-requires : goal.depth_above-depth-requires
@@ -61,6 +62,7 @@ loop-path-preserved c =
           (ap (map seen) c.in_ok-push.ensures.items ∙ map-append seen c.loop-path.made.items ((c.in-Some.path, c.in_ok-next.class) ∷ []))
           c.in_ok-put.ensures;
       known = c.in_ok-next.ensures.known;
+      begun = λ first h. c.in_ok-next.ensures.begun first (c.loop-path.invariant.begun first h);
     }
 
 pub returns-clause-walked : goal.returns-clause-walked
@@ -70,3 +72,6 @@ returns-clause-walked c =
 
 pub class_of-requires-clause-kept : goal.class_of-requires-clause-kept
 class_of-requires-clause-kept c = λ n lt. c.loop-path.invariant.made.widens.right n (c.requires.kept n lt)
+
+pub returns-clause-begun : goal.returns-clause-begun
+returns-clause-begun c = c.loop-path.invariant.begun

@@ -11,8 +11,9 @@ use Rattle.path_classes.specs.PathClasses.{AreClasses}
 use Rattle.path_classes.specs.ClassesWithin.{paths_seen, inside}
 use Rattle.path_classes.specs.ClassedRows.{AreCountedOf}
 use Rattle.kinds.specs.Renumbered.{IsPut}
+use Rattle.kinds.specs.Tagged.{KeepsTags}
 use Rattle.path_classes.proofs.FitWithin.{fits_outside}
-use Rattle.path_classes.proofs.PutWithin.{made_order, gone_order, made_used, tags_stay, made_among, put_classes}
+use Rattle.path_classes.proofs.PutWithin.{class_tags_of, made_order, gone_order, made_used, tags_stay, made_among, put_classes}
 use Rattle.path_classes.proofs.OutsideAnswers.{length_kinds, length_seen, counted_all}
 use Rattle.path_classes.proofs.classes_within.classes_after.Goals as goal
 
@@ -25,8 +26,9 @@ put_counted-requires-clause-tags c =
     let before : Kept PathClass = c.args.before.now in
     let old_order : IsInOrder before.1 = subst (λ (m : Kept PathClass). IsInOrder m.1) c.map-classes_before.ensures c.numbers-paths.ensures.sound.order in
     let fits = fits_outside c.args.old.now rows (paths_seen c.args.tops.now) before c.requires.were c.requires.changes in
-    tags_stay rows (paths_seen c.args.tops.now) before.1 before.0 c.in_ok-classes.classes (map seen c.in_ok-classes.made.items)
-    c.numbers-files.ensures.sound.order old_order fits c.in_ok-classes.ensures.found
+    subst (λ (ns : List ℕ). KeepsTags class_tags_of ns before.0 c.in_ok-classes.classes) (sym c.deref-3.ensures.value)
+    (tags_stay rows (paths_seen c.args.tops.now) before.1 before.0 c.in_ok-classes.classes (map seen c.in_ok-classes.made.items)
+    c.numbers-files.ensures.sound.order old_order fits c.in_ok-classes.ensures.found c.in_ok-classes.begun.items c.in_ok-classes.ensures.begun)
 
 pub put_counted-requires-clause-counts : goal.put_counted-requires-clause-counts
 put_counted-requires-clause-counts c = c.in_ok-classes.ensures.found.widens.counts
@@ -85,7 +87,7 @@ changed_answers-requires-clause-order c =
     let before : Kept PathClass = c.args.before.now in
     let old_order : IsInOrder before.1 = subst (λ (m : Kept PathClass). IsInOrder m.1) c.map-classes_before.ensures c.numbers-paths.ensures.sound.order in
     let fits = fits_outside c.args.old.now rows (paths_seen c.args.tops.now) before c.requires.were c.requires.changes in
-    subst (λ (fs : List (Bor PathOf × ℕ)). IsInOrder (map seen fs)) (sym c.deref-3.ensures.value)
+    subst (λ (fs : List (Bor PathOf × ℕ)). IsInOrder (map seen fs)) (sym c.deref-4.ensures.value)
     (made_order rows (paths_seen c.args.tops.now) before.1 before.0 c.in_ok-classes.classes (map seen c.in_ok-classes.made.items)
     c.numbers-files.ensures.sound.order old_order fits c.in_ok-classes.ensures.found)
 
@@ -99,7 +101,7 @@ changed_answers-requires-clause-among c =
     let put : IsPut before c.in_ok-classes.classes made (map seen c.in_ok-classes.gone.items) c.in_ok-after.after =
     subst (λ (fs : List (Bor PathOf × ℕ)). IsPut before c.in_ok-classes.classes made (map seen fs) c.in_ok-after.after) c.deref-2.ensures.value
     (subst (λ (fs : List (Bor PathOf × ℕ)). IsPut before c.in_ok-classes.classes (map seen fs) (map seen c.deref-2.result.now) c.in_ok-after.after) c.deref.ensures.value c.in_ok-after.ensures) in
-    subst (λ (fs : List (Bor PathOf × ℕ)). AreAmong c.map-new.result.now.1 (map seen fs)) (sym c.deref-3.ensures.value)
+    subst (λ (fs : List (Bor PathOf × ℕ)). AreAmong c.map-new.result.now.1 (map seen fs)) (sym c.deref-4.ensures.value)
     (subst (λ (ns : Numbers). AreAmong ns made)
     (sym (ap (λ (m : Kept PathClass). m.1) c.map-new.ensures ∙ put.numbers ∙ ap (λ (es : Numbers). merged made es before.1) c.in_ok-classes.ensures.gone))
     (made_among rows (paths_seen c.args.tops.now) before.1 before.0 c.in_ok-classes.classes (map seen c.in_ok-classes.made.items)
@@ -122,12 +124,12 @@ pub returns-clause-least : goal.returns-clause-least
 returns-clause-least c =
     counted_all c.args.old.now c.args.rows.now (paths_seen c.args.tops.now) c.requires.changes c.order_law.ensures c.order_law-2.ensures
     c.in_ok-classes.classes (map seen c.in_ok-classes.made.items) c.in_ok-changed.changed c.in_ok-classes.ensures.found.kinds
-    (subst (λ (fs : List (Bor PathOf × ℕ)). AreCountedOf c.args.old.now c.args.rows.now (map seen fs) c.in_ok-changed.changed) c.deref-3.ensures.value c.in_ok-changed.ensures.least)
+    (subst (λ (fs : List (Bor PathOf × ℕ)). AreCountedOf c.args.old.now c.args.rows.now (map seen fs) c.in_ok-changed.changed) c.deref-4.ensures.value c.in_ok-changed.ensures.least)
 
 pub returns-clause-most : goal.returns-clause-most
 returns-clause-most c =
     let few = c.in_ok-changed.ensures.most in
-    let same = ap (λ (fs : List (Bor PathOf × ℕ)). length fs) c.deref-3.ensures.value in
+    let same = ap (λ (fs : List (Bor PathOf × ℕ)). length fs) c.deref-4.ensures.value in
     let paths = length_seen c.in_ok-classes.made.items in
     let whole = length_kinds c.in_ok-classes.classes (map seen c.in_ok-classes.made.items) (inside (paths_seen c.args.tops.now) c.args.rows.now.1) c.in_ok-classes.ensures.found.kinds in
     omega (arith, few, same, paths, whole)

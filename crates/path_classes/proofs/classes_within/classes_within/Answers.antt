@@ -1,12 +1,13 @@
-use Rattle.std.proofs.Common.{List, map, sym, ap, subst, ◌∙◌}
+use Rattle.std.proofs.Common.{ℕ, List, map, sym, ap, subst, ◌∙◌}
 use Rattle.std.specs.Borrow.{Bor}
 use Rattle.acl_names.specs.Paths.{PathOf}
 use Rattle.path_map.specs.Entries.{seen}
-use Rattle.kinds.specs.Kinds.{KindsOf}
+use Rattle.kinds.specs.Kinds.{KindsOf, node_at}
 use Rattle.kinds.specs.Numbered.{Kept, AreUsed}
 use Rattle.path_classes.specs.declared.label_row.LabelRow.{LabelRow}
 use Rattle.path_classes.specs.declared.path_class.PathClass.{PathClass}
-use Rattle.path_classes.specs.ClassBuilding.{IsRightAt, AreRight}
+use Rattle.path_classes.specs.ClassBuilding.{IsRightAt, AreRight, SameClassesBut}
+use Rattle.path_classes.specs.PathClasses.{ClassKinds}
 use Rattle.path_classes.specs.ClassesWithin.{paths_seen, outside}
 use Rattle.path_classes.proofs.FoundWithin.{found_first, top_over, top_found, found_last}
 use Rattle.path_classes.proofs.classes_within.classes_within.Goals as goal
@@ -21,6 +22,7 @@ loop-top-init c =
           found_first rows (outside (paths_seen tops) before.1) before.0 c.new-builder.result.classes tops (map seen c.new-made.result.items)
           (c.new-builder.ensures.classes ∙ c.in_ok-classes.ensures ∙ c.kinds-old.ensures.all) (ap (map seen) c.new-made.ensures.items);
       known = subst (AreRight rows.0 c.new-builder.result.classes) (sym c.new-builder.ensures.known) tt;
+      begun = λ n x is out. ap (λ (k : ClassKinds). node_at k n) (c.new-builder.ensures.classes ∙ c.in_ok-classes.ensures ∙ c.kinds-old.ensures.all) ∙ is;
     }
 
 pub walk_top-requires-clause-used : goal.walk_top-requires-clause-used
@@ -50,15 +52,22 @@ loop-top-preserved c =
           c.kinds-kinds.result.now c.kinds-kinds.ensures.all c.numbers-numbers.result.now c.numbers-numbers.ensures.all c.numbers-paths.result.now c.numbers-paths.ensures.all
           c.loop-top.builder.classes c.in_ok-next.next.classes (map seen c.loop-top.made.items) (map seen c.walk_top.new.made.items) c.loop-top.invariant.found c.in_ok-next.ensures.walks;
       known = subst (λ (k : KindsOf LabelRow). AreRight k c.in_ok-next.next.classes c.in_ok-next.next.known.items) c.kinds-kinds.ensures.all c.in_ok-next.ensures.known;
+      begun = c.in_ok-next.ensures.begun before.0 c.loop-top.invariant.begun;
     }
 
-pub returns : goal.returns
-returns c =
+pub returns-clause-found : goal.returns-clause-found
+returns-clause-found c =
     let rows : Kept LabelRow = c.args.rows.now in
     let before : Kept PathClass = c.args.before.now in
     let tops : List (Bor PathOf) = c.args.tops.now in
-    found_last rows (outside (paths_seen tops) before.1) before.0 c.loop-top.builder.classes c.into_classes.result tops c.loop-top.top-index (map seen c.loop-top.made.items)
-    c.loop-top-test.false c.into_classes.ensures c.loop-top.invariant.found
+    found_last rows (outside (paths_seen tops) before.1) before.0 c.loop-top.builder.classes c.into_parts-classes.result.0 tops c.loop-top.top-index (map seen c.loop-top.made.items)
+    c.loop-top-test.false c.into_parts-classes.ensures.classes c.loop-top.invariant.found
+
+pub returns-clause-begun : goal.returns-clause-begun
+returns-clause-begun c =
+    let before : Kept PathClass = c.args.before.now in
+    subst (λ (ns : List ℕ). SameClassesBut ns before.0 c.into_parts-classes.result.0) (sym c.into_parts-classes.ensures.begun)
+    (subst (SameClassesBut c.loop-top.builder.begun.items before.0) (sym c.into_parts-classes.ensures.classes) c.loop-top.invariant.begun)
 
 pub walk_top-requires-clause-kept : goal.walk_top-requires-clause-kept
 walk_top-requires-clause-kept c = λ n lt.

@@ -8,6 +8,7 @@ use Rattle.kinds.specs.Kinds.{count_at}
 use Rattle.kinds.specs.Numbered.{Kept, paths_with}
 use Rattle.path_classes.specs.declared.label_row.LabelRow.{LabelRow}
 use Rattle.path_classes.specs.declared.path_class.PathClass.{PathClass}
+use Rattle.path_classes.specs.ClassBuilding.{SameClassesBut}
 use Rattle.path_classes.specs.ClassesWithin.{paths_seen, is_inside, inside, outside, FitOutside, AreFound}
 use Rattle.path_classes.proofs.FoundWithin.{kept_right}
 use Rattle.path_classes.proofs.classes_within.found_within.Goals as goal
@@ -38,7 +39,10 @@ gone_of-requires c =
 pub returns-clause-found : goal.returns-clause-found
 returns-clause-found c =
     subst (λ (m : Kept PathClass). AreFound c.args.rows.now (paths_seen c.args.tops.now) (outside (paths_seen c.args.tops.now) m.1) m.0 c.in_ok-classes.classes (map seen c.in_ok-classes.made.items))
-    c.map-classes_before.ensures c.in_ok-classes.ensures
+    c.map-classes_before.ensures c.in_ok-classes.ensures.found
+
+pub returns-clause-begun : goal.returns-clause-begun
+returns-clause-begun c = subst (λ (m : Kept PathClass). SameClassesBut c.in_ok-classes.begun.items m.0 c.in_ok-classes.classes) c.map-classes_before.ensures c.in_ok-classes.ensures.begun
 
 pub returns-clause-gone : goal.returns-clause-gone
 returns-clause-gone c =

@@ -32,3 +32,6 @@ returns-clause-walks c =
           subst (λ (es : Numbers). AreWalked c.args.rows.now es (class_above c.args.top.now c.args.before.now) c.args.builder.classes c.in_ok-next.next.classes own) c.within-below.ensures
           (subst (λ (o : Option ℕ). AreWalked c.args.rows.now c.within-below.result o c.args.builder.classes c.in_ok-next.next.classes own) c.class_over-over.ensures c.in_ok-next.ensures.walked);
     }
+
+pub returns-clause-begun : goal.returns-clause-begun
+returns-clause-begun c = c.in_ok-next.ensures.begun

@@ -41,7 +41,7 @@ pub renumbered-requires-clause-used : goal.renumbered-requires-clause-used
 renumbered-requires-clause-used c =
     let rows : Kept LabelRow = c.args.rows.now in
     let all = c.within-files.ensures ∙ (λ i. within (c.root-top.ensures i) (c.numbers-numbers.ensures.all i)) ∙ within_root rows.1 in
-    subst (λ (k : ClassKinds). AreUsed k (map seen c.deref.result.now)) (sym c.into_classes.ensures)
+    subst (λ (k : ClassKinds). AreUsed k (map seen c.deref.result.now)) (sym c.into_parts-classes.ensures.classes)
     (subst (λ (fs : List (Bor PathOf × ℕ)). AreUsed c.in_ok-walked.walked.classes (map seen fs)) (sym c.deref.ensures.value)
     (made_used rows c.in_ok-walked.walked.classes (map seen c.in_ok-walked.made.items)
     (walked_all rows c.kinds-kinds.result.now c.within-files.result c.new-none.result.classes c.in_ok-walked.walked.classes (map seen c.in_ok-walked.made.items)
@@ -51,7 +51,7 @@ pub renumbered-requires-clause-fresh : goal.renumbered-requires-clause-fresh
 renumbered-requires-clause-fresh c = λ n.
     let rows : Kept LabelRow = c.args.rows.now in
     let all = c.within-files.ensures ∙ (λ i. within (c.root-top.ensures i) (c.numbers-numbers.ensures.all i)) ∙ within_root rows.1 in
-    ap (λ (k : ClassKinds). count_at k n) c.into_classes.ensures
+    ap (λ (k : ClassKinds). count_at k n) c.into_parts-classes.ensures.classes
     ∙ made_fresh rows c.in_ok-walked.walked.classes (map seen c.in_ok-walked.made.items)
     (walked_all rows c.kinds-kinds.result.now c.within-files.result c.new-none.result.classes c.in_ok-walked.walked.classes (map seen c.in_ok-walked.made.items)
     c.kinds-kinds.ensures.all all (c.new-none.ensures.classes ∙ c.new.ensures) c.in_ok-walked.ensures.walked) n
@@ -67,7 +67,7 @@ returns c =
     (walked_all rows c.kinds-kinds.result.now c.within-files.result c.new-none.result.classes c.in_ok-walked.walked.classes made
     c.kinds-kinds.ensures.all all (c.new-none.ensures.classes ∙ c.new.ensures) c.in_ok-walked.ensures.walked) new
     (subst (λ (fs : List (Bor PathOf × ℕ)). IsRenumbered c.in_ok-walked.walked.classes (map seen fs) new) c.deref.ensures.value
-    (subst (λ (k : ClassKinds). IsRenumbered k (map seen c.deref.result.now) new) c.into_classes.ensures is)))
+    (subst (λ (k : ClassKinds). IsRenumbered k (map seen c.deref.result.now) new) c.into_parts-classes.ensures.classes is)))
     c.renumbered.ensures
 
 pub walk-requires-clause-kept : goal.walk-requires-clause-kept

@@ -1,4 +1,4 @@
-use Rattle.std.proofs.Common.{ℕ, List, Option, sym, subst}
+use Rattle.std.proofs.Common.{ℕ, List, Option, sym, ap, subst}
 use Rattle.std.specs.Prelude.{IfSome}
 use Rattle.kinds.specs.Kinds.{KindsOf}
 use Rattle.kinds.specs.Numbered.{Kept}
@@ -29,8 +29,8 @@ with_searches-requires c =
     subst (λ (o : Option ClassKinds). IfSome o (AreRenewed c.kinds-labels.result.now c.args.before.now.0)) c.in-Some.is c.in_ok-found.ensures in
     record { counts = found.counts; shapes = found.shapes }
 
-pub returns-in-Some : goal.returns-in-Some
-returns-in-Some c =
+pub returns-in-Some-clause-classes : goal.returns-in-Some-clause-classes
+returns-in-Some-clause-classes c =
     let rows : Kept LabelRow = c.args.rows.now in
     let before : Kept PathClass = c.args.before.now in
     let new : ClassKinds = c.in-Some.classes in
@@ -46,3 +46,6 @@ pub renewed_classes-requires : goal.renewed_classes-requires
 renewed_classes-requires c =
     fit_all_rows c.args.old.now c.args.rows.now c.args.before.now c.kinds-labels.ensures.sound.used c.in_ok-searched.searched.items c.requires.were c.requires.paths
     (subst (λ (l : Kept PathClass). AreSearched l.0 c.in_ok-searched.searched.items) c.map.ensures c.in_ok-searched.ensures)
+
+pub returns-in-Some-clause-paths : goal.returns-in-Some-clause-paths
+returns-in-Some-clause-paths c = ap (λ (l : Kept PathClass). l.1) c.in_ok-new.ensures

@@ -1,4 +1,4 @@
-use Rattle.std.proofs.Common.{ℕ, List, ◌∷◌, [], ap, ◌∙◌}
+use Rattle.std.proofs.Common.{ℕ, List, ◌∷◌, [], ap, ◌∙◌, is_some}
 use Rattle.kinds.specs.Tagged.{meets, tags_at}
 use Rattle.path_classes.specs.declared.path_class.PathClass.{PathClass}
 use Rattle.path_classes.specs.PathClasses.{ClassKinds}
@@ -11,4 +11,5 @@ returns c =
     let k : ClassKinds = c.args.classes.now.0 in
     let below : List ℕ = c.in_ok-numbers.numbers.items in
     are_below k c.args.above below c.in_ok-numbers.ensures.rising
-    (tagged_below k c.args.above below (λ m. c.in_ok-numbers.ensures.exact m ∙ ap (λ t. meets (tags_at (λ (c : PathClass). class_tags c.above c.kind) k m) (t ∷ [])) c.in_ok-tag.ensures))
+    (tagged_below k c.args.above below
+    (λ m. c.in_ok-numbers.ensures.exact m ∙ ap (λ t. meets (tags_at (λ (c : PathClass). class_tags (is_some c.search) c.above c.kind) k m) (t ∷ [])) c.in_ok-tag.ensures))

@@ -1,4 +1,4 @@
-use Rattle.std.proofs.Common.{ℕ, List, ap, ◌∙◌}
+use Rattle.std.proofs.Common.{ℕ, List, ap, ◌∙◌, is_some}
 use Rattle.kinds.specs.Tagged.{meets, tags_at}
 use Rattle.path_classes.specs.declared.path_class.PathClass.{PathClass}
 use Rattle.path_classes.specs.PathClasses.{ClassKinds}
@@ -10,4 +10,5 @@ pub returns-clause-exact : goal.returns-clause-exact
 returns-clause-exact c =
     let k : ClassKinds = c.args.classes.now.0 in
     tagged_labels k c.args.labels.now c.in_ok-numbers.numbers.items
-    (λ m. c.in_ok-numbers.ensures.exact m ∙ ap (λ (ts : List ℕ). meets (tags_at (λ (c : PathClass). class_tags c.above c.kind) k m) ts) (c.deref.ensures.value ∙ c.in_ok-tags.ensures))
+    (λ m. c.in_ok-numbers.ensures.exact m ∙ ap (λ (ts : List ℕ). meets (tags_at (λ (c : PathClass). class_tags (is_some c.search) c.above c.kind) k m) ts)
+    (c.deref.ensures.value ∙ c.in_ok-tags.ensures))

@@ -25,6 +25,6 @@ with_rows_of-requires-clause-used g c =
 
 pub returns-clause-rows : goal.returns-clause-rows
 returns-clause-rows g c =
-    c.in_ok-new.ensures
+    c.in_ok-new.ensures.rows
     ∙ rows_rowed g.J.Judge.verdict_of c.args.users.now c.args.files.now.0 c.args.files.now.1 c.deref.result.now c.kinds-kinds.ensures.sound
     (ap (λ l. shared_nodes l) c.deref.ensures.value ∙ c.in_ok-nodes.ensures.rows)

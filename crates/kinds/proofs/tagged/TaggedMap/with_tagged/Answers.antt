@@ -1,8 +1,8 @@
-use Rattle.std.proofs.Common.{ℕ, List, length, sym, ap, subst, ◌∙◌, arith}
-use Rattle.kinds.specs.Kinds.{KindsOf}
+use Rattle.std.proofs.Common.{◌≡◌, ℕ, List, length, sym, ap, subst, ◌∙◌, arith}
+use Rattle.kinds.specs.Kinds.{KindsOf, node_at}
 use Rattle.kinds.specs.Numbered.{Kept, AreSound, entries_by}
 use Rattle.kinds.specs.Renewed.{changed_where}
-use Rattle.kinds.specs.Tagged.{meets, AreTagsOf, ChangesEach}
+use Rattle.kinds.specs.Tagged.{is_one, meets, AreTagsOf, ChangesEach}
 use Rattle.kinds.proofs.Renewals.{renewed_entries}
 use Rattle.kinds.proofs.Tags.{few_files, no_files, renews_tagged, changes_tagged, renewed_pairs, same_where}
 use Rattle.kinds.proofs.tagged.TaggedMap.with_tagged.Goals as goal
@@ -82,8 +82,7 @@ returns-clause-few g c =
     let ns = c.args.self.now.1 in
     let sound : AreSound k ns = subst (λ (m : Kept g.row.N.Denot). AreSound m.0 m.1) c.map-before.ensures c.kinds-kinds.ensures.sound in
     let few = few_files tags wanted k c.in_ok-numbers.numbers.items c.in_ok-numbers.ensures.exact ns sound c.in_ok-numbers.ensures.rising in
-    let long = ap length c.deref.ensures.value in
-    omega (arith, few, long, c.in_ok-map.ensures.fetched)
+    omega (arith, few, c.len-fetched.ensures, c.in_ok-numbers.numbers.ok)
 
 pub returns-clause-none : goal.returns-clause-none
 returns-clause-none g c none =
@@ -93,8 +92,8 @@ returns-clause-none g c none =
     let ns = c.args.self.now.1 in
     let sound : AreSound k ns = subst (λ (m : Kept g.row.N.Denot). AreSound m.0 m.1) c.map-before.ensures c.kinds-kinds.ensures.sound in
     let few = few_files tags wanted k c.in_ok-numbers.numbers.items c.in_ok-numbers.ensures.exact ns sound c.in_ok-numbers.ensures.rising in
-    let long = ap length c.deref.ensures.value in
-    no_files tags wanted k c.in_ok-numbers.numbers.items c.in_ok-numbers.ensures.exact ns sound (sym long ∙ sym c.in_ok-map.ensures.fetched ∙ none)
+    let fetched : length c.in_ok-numbers.numbers.items ≡ c.len-fetched.result = omega (arith, c.len-fetched.ensures, c.in_ok-numbers.numbers.ok) in
+    no_files tags wanted k c.in_ok-numbers.numbers.items c.in_ok-numbers.ensures.exact ns sound (fetched ∙ none)
 
 pub returns-clause-at_most : goal.returns-clause-at_most
 returns-clause-at_most g c =
@@ -120,3 +119,15 @@ returns-clause-kinds g c =
 
 pub returns-clause-paths : goal.returns-clause-paths
 returns-clause-paths g c = c.in_ok-map.ensures.paths ∙ ap (λ (m : Kept g.row.N.Denot). m.1) c.map-before.ensures
+
+pub returns-clause-counted : goal.returns-clause-counted
+returns-clause-counted g c =
+    let long = ap length c.deref.ensures.value in
+    omega (arith, long, c.len-fetched.ensures, c.in_ok-numbers.numbers.ok, c.in_ok-map.ensures.at_most)
+
+pub returns-clause-among : goal.returns-clause-among
+returns-clause-among g c n one =
+    sym (c.in_ok-numbers.ensures.exact n) ∙ ap (is_one n) (sym c.deref.ensures.value) ∙ c.in_ok-map.ensures.noted.among n (sym (c.rising_numbers-changed.ensures.same n) ∙ one)
+
+pub returns-clause-same : goal.returns-clause-same
+returns-clause-same g c n out = c.in_ok-map.ensures.noted.same n (sym (c.rising_numbers-changed.ensures.same n) ∙ out) ∙ ap (λ (m : Kept g.row.N.Denot). node_at m.0 n) c.map-before.ensures
