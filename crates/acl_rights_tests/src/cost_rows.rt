@@ -109,13 +109,13 @@ pub static LIKE_ANOTHER: [Row; 2] = [
     },
 ];
 
-/// All five files change, which are as many as the tree has numbers of kinds: each of them counts. Then there are four labels:
-/// the root and run have the same owner, group and list. Joe's verdicts on f and log are others.
+/// All five files change, which are as many as the tree has numbers of kinds. Then there are four labels: the root and run have
+/// the same owner, group and list. Joe's verdicts on f and log are others: these two files count.
 pub static FOUR_LABELS: [Row; 1] = [Row {
     line: Line::Setfacl(b"u:joe:rX", true, b"."),
     asked: (0, 12),
     looked: 0,
-    refreshed: 15,
+    refreshed: 6,
     verdicts: &[
         Verdict {
             user: JOE,

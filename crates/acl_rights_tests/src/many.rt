@@ -55,13 +55,14 @@ static SETUP: [Row; 3] = [
     },
 ];
 
-/// Two lines on all files, for which every verdict along a path is found again, and others from the rows that these leave.
+/// Two lines on all files, and others from the rows that these leave. By the first joe's verdicts on the nine files that are no
+/// directories become others, by the second none do.
 static ALL_FILES: [Row; 5] = [
     Row {
         line: Line::Setfacl(b"u:joe:rX", true, b"."),
         asked: (0, 6),
         looked: 0,
-        refreshed: 36,
+        refreshed: 27,
         verdicts: &[
             Verdict {
                 user: JOE,
@@ -89,7 +90,7 @@ static ALL_FILES: [Row; 5] = [
         line: Line::Setfacl(b"g:adm:r", true, b"."),
         asked: (0, 6),
         looked: 0,
-        refreshed: 36,
+        refreshed: 0,
         verdicts: &[Verdict {
             user: JOE,
             path: b"a/1",
@@ -185,7 +186,7 @@ static THEN_ONE: [Row; 2] = [
         line: Line::Setfacl(b"u:joe:rX", true, b"."),
         asked: (0, 6),
         looked: 0,
-        refreshed: 36,
+        refreshed: 27,
         verdicts: &[],
         reach: &[],
     },
@@ -204,7 +205,7 @@ static THEN_ONE: [Row; 2] = [
 ];
 
 /// A directory has the label that files have, and a line on all files gives it another one than these: `X` is search for a
-/// directory alone.
+/// directory alone. So labels get other numbers, and all files count.
 static A_LABEL_PARTS: [Row; 2] = [
     Row {
         line: Line::Chmod(0o640, b"b"),
