@@ -13,7 +13,7 @@ of-requires g c =
     let r = c.args.region.now.0 in
     let paths = c.args.region.now.1 in
     let kept : Kept Node = c.files_by_path-files.result.now in
-    let meant : kept.1 ≡ files_meant r paths kept.1 = all_meant r paths c.args.requires kept.1 in
+    let meant : kept.1 ≡ files_meant r paths kept.1 = all_meant r paths c.requires kept.1 in
     let new : Kept Node = c.in_ok-map.map in
     subst (λ b. IsSoundTree (record { files = entries_in new; loaded = b })) (sym c.is_loaded.ensures)
     (sound_edited edit r paths kept.0 kept.1 c.args.tree.now c.kinds-sound.ensures.sound c.files_by_path-files.ensures.all kept.1 meant new kept.1
@@ -25,7 +25,7 @@ returns g c =
     let r = c.args.region.now.0 in
     let paths = c.args.region.now.1 in
     let kept : Kept Node = c.files_by_path-files.result.now in
-    let meant : kept.1 ≡ files_meant r paths kept.1 = all_meant r paths c.args.requires kept.1 in
+    let meant : kept.1 ≡ files_meant r paths kept.1 = all_meant r paths c.requires kept.1 in
     let new : Kept Node = c.in_ok-map.map in
     edited_all edit r paths kept.0 kept.1 c.args.tree.now c.kinds-sound.ensures.sound c.files_by_path-files.ensures.all kept.1 meant new kept.1
     c.in_ok-map.ensures.made c.in_ok-map.ensures.put c.files_by_path-files.ensures.sound.order
