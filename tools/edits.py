@@ -320,9 +320,10 @@ def main() -> int:
             return gate.run(Proved(crates, kit), kit, given.jobs, work)
         refusals = Refusals(crates, kit)
         left = gate.leave_out(refusals)
-        status = gate.run(Beside(work, given.beside, given.log, given.jobs), kit, given.jobs, work)
-        refusals.keep(left, gate.refused)
-        return status
+        try:
+            return gate.run(Beside(work, given.beside, given.log, given.jobs), kit, given.jobs, work)
+        finally:
+            refusals.keep(left, gate.refused)
 
 
 if __name__ == "__main__":
