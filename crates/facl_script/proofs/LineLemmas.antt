@@ -21,14 +21,14 @@ lines_of-rest [] h p = absurd (omega (arith, p))
 lines_of-rest (b ∷ []) h p = rw (h.0) refl
 lines_of-rest (b ∷ c ∷ text) h p = rw (h.0, lines_of-rest (c ∷ text) h.1 (omega arith)) refl
 
+pub not_true : (is : Bool) → (is ≡ true → ⊥) → is ≡ false
+not_true true never = absurd (never refl)
+not_true false never = refl
+
 -- where each byte is another one, none is an LF
 all_other : (bytes : List ℕ) → ((k : ℕ) → k < length bytes → eqb (slice_index bytes k) 10 ≡ true → ⊥) → HasNoLineFeed bytes
 all_other [] other = tt
-all_other (b ∷ bytes) other = (by (eqb b 10) (other 0 (omega arith)), all_other bytes (λ k lt is. other (suc k) (omega (arith, lt)) is))
-  where
-    by : (is : Bool) → (is ≡ true → ⊥) → is ≡ false
-    by true never = absurd (never refl)
-    by false never = refl
+all_other (b ∷ bytes) other = (not_true (eqb b 10) (other 0 (omega arith)), all_other bytes (λ k lt is. other (suc k) (omega (arith, lt)) is))
 
 -- a search for the byte of an LF finds the first one
 pub first_line_feed : (bytes : List ℕ) (found : Option ℕ) → IsFirstByte (is_byte 10) bytes found

@@ -1,16 +1,18 @@
 -- Lemmas on the text of a unit.
 use Rattle.std.proofs.Common.{◌≡◌, ◌<◌, ◌≤◌, ◌+◌, ℕ, Bool, true, false, not, cond, List, [], ◌∷◌, ◌++◌, refl, sym, ap, ◌∙◌, append_assoc, append-nil, length, length-append, arith, Option, None, Some}
-use Rattle.std.proofs.Common.{take, drop, add-zero, add_assoc, take-append-drop, length-take-le}
-use Rattle.std.proofs.Math.Seq.{take-append_seam}
-use Rattle.std.specs.Prelude.{nat_le, option_map}
-use Rattle.std.proofs.lemmas.Bool.{le-leb}
+use Rattle.std.proofs.Common.{zero, suc, ◌⊎◌, ⊎_elim, subst, take, filter, get_or, slice_index, eqb, add-zero, add_assoc, get_or-take, length-take-le}
+use Rattle.std.proofs.lemmas.List.{take_more}
+use Rattle.std.specs.Prelude.{nat_le, option_map, IfSome}
+use Rattle.std.proofs.lemmas.Bool.{le-leb, eqb-true, cases_Bool}
 use Rattle.std.proofs.lemmas.Bool.Decides.{nat_tests}
 use Rattle.facl_script.specs.Lines.{lines_of, HasNoLineFeed, spelled}
 use Rattle.facl_script.specs.Units.{Open, within, outside, unended, cut, is_end, with_text_line, more_text, ended_text, closed, full_units}
-use Rattle.facl_script.specs.ReadText.{HoldsText, IsTextFound, IsTextPart}
+use Rattle.facl_script.specs.Pieces.{line_feeds}
+use Rattle.facl_script.specs.ReadText.{HoldsText, IsTextFound, IsTextPart, IsLastFeed, end_between}
+use Rattle.memchr.specs.Find.{OccursAt, Nowhere, NoneBefore, IsLastByte, is_byte}
 use Rattle.facl_script.specs.declared.text.TextFound.{TextFound}
 use Rattle.facl_script.specs.declared.text.TextFound.TheVariants.{Absent, Whole, TooLong, Unended, Lost}
-use Rattle.facl_script.proofs.LineLemmas.{lines_of-ended, lines_of-rest}
+use Rattle.facl_script.proofs.LineLemmas.{HasNoLineFeed-append, lines_of-ended, lines_of-rest, not_true}
 
 -- a line of the text that doesn't end it
 pub text_line : (asks : List ℕ → Bool) (o : Open) (n : ℕ) (line rest : List ℕ) → HasNoLineFeed line → is_end line ≡ false
@@ -107,16 +109,122 @@ part_more part line lines p none goes short = record {
     more None = refl
     more (Some t) = more_text_short (t ++ part) line short ∙ ap Some (append_assoc t part (line ++ 10 ∷ []))
 
--- what is taken with one more line
-pub part_taken : (piece after : List ℕ) (end at : ℕ) → end ≤ length piece → after ≡ drop end piece → at < length after → after ≡ take at after ++ (10 ∷ drop (at + 1) after)
-    → take (end + (at + 1)) piece ≡ take end piece ++ (take at after ++ 10 ∷ [])
-part_taken piece after end at le is lt split =
-    let line : List ℕ = take at after ++ 10 ∷ [] in
-    let front : List ℕ = take end piece ++ line in
-    let rest : List ℕ = drop (at + 1) after in
-    let whole : piece ≡ front ++ rest =
-    sym (take-append-drop end piece) ∙ ap (λ l. take end piece ++ l) (sym is ∙ split ∙ sym (append_assoc (take at after) (10 ∷ []) rest)) ∙ sym (append_assoc (take end piece) line rest) in
-    let one : length (take end piece) ≡ end = length-take-le end piece le in
-    let two : length (take at after) ≡ at = length-take-le at after (omega (arith, lt)) in
-    let long : end + (at + 1) ≡ length front = omega (arith, one, two, length-append (take end piece) line, length-append (take at after) (10 ∷ [])) in
-    (λ i. take (long i) (whole i)) ∙ take-append_seam front rest
+-- ---- where whole lines of a text go, of which none ends it
+
+-- how many LFs there are with one byte more
+feeds_more : (b : ℕ) (bytes : List ℕ) → line_feeds (b ∷ bytes) ≡ cond (eqb b 10) 1 0 + line_feeds bytes
+feeds_more b bytes = by (eqb b 10)
+  where
+    by : (is : Bool) → length (cond is (b ∷ filter (λ x. eqb x 10) bytes) (filter (λ x. eqb x 10) bytes)) ≡ cond is 1 0 + length (filter (λ x. eqb x 10) bytes)
+    by true = omega arith
+    by false = omega arith
+
+-- the line `.` is between no two LFs
+abbrev pub Never : List ℕ → Type 0
+Never bytes = (k : ℕ) → OccursAt bytes end_between k → ⊥
+
+never_after : (b : ℕ) (bytes : List ℕ) → Never (b ∷ bytes) → Never bytes
+never_after b bytes never k occurs = never (suc k) (record {
+  fits = omega (arith, occurs.fits);
+  reads = λ j lt. let next : suc k + j ≡ suc (k + j) = omega arith in ap (slice_index (b ∷ bytes)) next ∙ occurs.reads j lt;
+})
+
+never_past : (front bytes : List ℕ) → Never (front ++ bytes) → Never bytes
+never_past [] bytes never = never
+never_past (b ∷ front) bytes never = never_past front bytes (never_after b (front ++ bytes) never)
+
+-- a line after an LF is not `.` where that is between no two LFs
+goes_on : (line rest : List ℕ) → HasNoLineFeed line → Never (10 ∷ (line ++ (10 ∷ rest))) → is_end line ≡ false
+goes_on [] rest none never = refl
+goes_on (b ∷ c ∷ line) rest none never = refl
+goes_on (b ∷ []) rest none never = not_true (eqb b 46) (λ is. never 0 (record { fits = fits; reads = reads (eqb-true b 46 is) }))
+  where
+    fits : 3 ≤ suc (suc (suc (length rest)))
+    fits = omega arith
+    reads : b ≡ 46 → (j : ℕ) → j < 3 → slice_index (10 ∷ b ∷ 10 ∷ rest) (0 + j) ≡ slice_index end_between j
+    reads is zero lt = refl
+    reads is (suc zero) lt = is
+    reads is (suc (suc zero)) lt = refl
+    reads is (suc (suc (suc j))) lt = absurd (omega (arith, lt))
+
+-- the lines of `line`, of which some bytes come before, and of `body`, with an LF at the end
+part_lines : (front line body : List ℕ) (lines : ℕ) → IsTextPart front lines → HasNoLineFeed line → length line + length body ≤ 65536
+    → Never (10 ∷ (line ++ (body ++ 10 ∷ []))) → IsTextPart (front ++ (line ++ (body ++ 10 ∷ []))) (lines + line_feeds (body ++ 10 ∷ []))
+part_lines front line [] lines part none short never = part_more front line lines part none (goes_on line [] none never) (omega (arith, short))
+part_lines front line (b ∷ body) lines part none short never =
+    let tail : List ℕ = body ++ 10 ∷ [] in
+    let more : line_feeds (b ∷ tail) ≡ cond (eqb b 10) 1 0 + line_feeds tail = feeds_more b tail in
+    ⊎_elim (λ yes.
+    let feed : b ≡ 10 = eqb-true b 10 yes in
+    let here : Never (10 ∷ (line ++ (10 ∷ tail))) = subst (λ (x : ℕ). Never (10 ∷ (line ++ (x ∷ tail)))) feed never in
+    let next : List ℕ = front ++ (line ++ 10 ∷ []) in
+    let one : IsTextPart next (lines + 1) = part_more front line lines part none (goes_on line tail none here) (omega (arith, short)) in
+    let all : IsTextPart (next ++ tail) ((lines + 1) + line_feeds tail) = part_lines next [] body (lines + 1) one tt (omega (arith, short)) (never_past (10 ∷ line) (10 ∷ tail) here) in
+    let whole : next ++ tail ≡ front ++ (line ++ (b ∷ tail)) =
+    append_assoc front (line ++ 10 ∷ []) tail ∙ ap (λ l. front ++ l) (append_assoc line (10 ∷ []) tail) ∙ ap (λ (x : ℕ). front ++ (line ++ (x ∷ tail))) (sym feed) in
+    let count : (lines + 1) + line_feeds tail ≡ lines + line_feeds (b ∷ tail) = let n : line_feeds (b ∷ tail) ≡ 1 + line_feeds tail = more ∙ ap (λ t. cond t 1 0 + line_feeds tail) yes in omega (arith, n) in
+    subst (λ l. IsTextPart l (lines + line_feeds (b ∷ tail))) whole (subst (λ (n : ℕ). IsTextPart (next ++ tail) n) count all))
+    (λ no.
+    let whole : (line ++ b ∷ []) ++ tail ≡ line ++ (b ∷ tail) = append_assoc line (b ∷ []) tail in
+    let all : IsTextPart (front ++ ((line ++ b ∷ []) ++ tail)) (lines + line_feeds tail) =
+    part_lines front (line ++ b ∷ []) body lines part (HasNoLineFeed-append line (b ∷ []) none (no, tt)) (omega (arith, short, length-append line (b ∷ [])))
+    (subst (λ l. Never (10 ∷ l)) (sym whole) never) in
+    let count : lines + line_feeds tail ≡ lines + line_feeds (b ∷ tail) = let n : line_feeds (b ∷ tail) ≡ 0 + line_feeds tail = more ∙ ap (λ t. cond t 1 0 + line_feeds tail) no in omega (arith, n) in
+    subst (λ l. IsTextPart (front ++ l) (lines + line_feeds (b ∷ tail))) whole (subst (λ (n : ℕ). IsTextPart (front ++ ((line ++ b ∷ []) ++ tail)) n) count all))
+    (cases_Bool (eqb b 10))
+
+-- a piece that does not begin with the line `.` has none between two LFs where it is cut, nor does its front
+never_cut : (piece : List ℕ) (at : ℕ) → IsLastFeed piece at → (OccursAt piece (46 ∷ 10 ∷ []) 0 → ⊥) → Never (10 ∷ take (at + 1) piece)
+never_cut piece at last first zero occurs =
+    let long : length (take (at + 1) piece) ≡ at + 1 = length-take-le (at + 1) piece (omega (arith, last.within)) in
+    let fits : 3 ≤ suc (length (take (at + 1) piece)) = occurs.fits in
+    let a : get_or piece 0 0 ≡ 46 = sym (get_or-take (at + 1) piece 0 0 (omega arith)) ∙ occurs.reads 1 (omega arith) in
+    let b : get_or piece 1 0 ≡ 10 = sym (get_or-take (at + 1) piece 1 0 (omega (arith, fits, long))) ∙ occurs.reads 2 (omega arith) in
+    first (record { fits = omega (arith, fits, long, last.within); reads = reads a b })
+  where
+    reads : get_or piece 0 0 ≡ 46 → get_or piece 1 0 ≡ 10 → (j : ℕ) → j < 2 → slice_index piece (0 + j) ≡ slice_index (46 ∷ 10 ∷ []) j
+    reads a b zero lt = a
+    reads a b (suc zero) lt = b
+    reads a b (suc (suc j)) lt = absurd (omega (arith, lt))
+never_cut piece at last first (suc k) occurs =
+    let part : List ℕ = take (at + 1) piece in
+    let long : length part ≡ at + 1 = length-take-le (at + 1) piece (omega (arith, last.within)) in
+    let fits : suc k + 3 ≤ suc (length part) = occurs.fits in
+    last.before k (omega (arith, fits, long)) (record {
+      fits = omega (arith, fits, long, last.within);
+      reads = λ j lt.
+          let short : j < 3 = lt in
+          let next : suc (k + j) ≡ suc k + j = omega arith in
+          sym (get_or-take (at + 1) piece (k + j) 0 (omega (arith, fits, long, short))) ∙ ap (slice_index (10 ∷ part)) next ∙ occurs.reads j lt;
+    })
+
+-- what is taken up to the last LF
+pub part_cut : (piece : List ℕ) (at : ℕ) → IsLastFeed piece at → (OccursAt piece (46 ∷ 10 ∷ []) 0 → ⊥) → length piece ≤ 65536
+    → IsTextPart (take (at + 1) piece) (line_feeds (take (at + 1) piece))
+part_cut piece at last first short =
+    let body : List ℕ = take at piece in
+    let is : take (at + 1) piece ≡ body ++ 10 ∷ [] = take_more piece at 0 last.within ∙ ap (λ (x : ℕ). body ++ x ∷ []) last.feed in
+    let long : length body ≡ at = length-take-le at piece (omega (arith, last.within)) in
+    let none : 0 + line_feeds (body ++ 10 ∷ []) ≡ line_feeds (body ++ 10 ∷ []) = omega arith in
+    subst (λ l. IsTextPart l (line_feeds l)) (sym is)
+    (subst (λ (n : ℕ). IsTextPart (body ++ 10 ∷ []) n) none
+    (part_lines [] [] body 0 part_none tt (omega (arith, long, last.within, short)) (subst (λ l. Never (10 ∷ l)) is (never_cut piece at last first))))
+
+-- the LF before the line `.`, or else the last one
+pub feed_before : (piece : List ℕ) (at : ℕ) → NoneBefore (OccursAt piece end_between) 0 (length piece + 1) at → OccursAt piece end_between at → IsLastFeed piece at
+feed_before piece at none occurs =
+    let fits : at + 3 ≤ length piece = occurs.fits in
+    let here : at ≡ at + 0 = omega arith in
+    record {
+      within = omega (arith, fits);
+      feed = ap (slice_index piece) here ∙ occurs.reads 0 (omega arith);
+      before = λ k lt. none.before k (omega arith) lt;
+    }
+
+pub feed_at_end : (piece : List ℕ) (found : Option ℕ) → Nowhere (OccursAt piece end_between) 0 (length piece + 1) → IsLastByte (is_byte 10) piece found → IfSome found (IsLastFeed piece)
+feed_at_end piece None nowhere last = tt
+feed_at_end piece (Some at) nowhere last = record {
+  within = last.0.high;
+  feed = eqb-true (slice_index piece at) 10 last.1;
+  before = λ k lt. nowhere k (omega arith) (omega (arith, lt, last.0.high));
+}

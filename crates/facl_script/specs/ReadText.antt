@@ -1,6 +1,7 @@
 -- What reading a text finds.
-use Rattle.std.specs.Prelude.{◌≡◌, ◌≤◌, ◌+◌, ℕ, Bool, false, List, [], ◌∷◌, ◌++◌, length, Option, None, Some, option_map, Result, MatchResult}
+use Rattle.std.specs.Prelude.{◌≡◌, ◌<◌, ◌≤◌, ◌+◌, ℕ, Bool, false, List, [], ◌∷◌, ◌++◌, length, slice_index, Option, None, Some, option_map, Result, MatchResult}
 use Rattle.std.specs.Io.KnownBytes.{Consumes, IsAtEnd}
+use Rattle.memchr.specs.Find.{OccursAt}
 use Rattle.facl_script.specs.Lines.{lines_of}
 use Rattle.facl_script.specs.ByteSource.{pending, unread, taken_count, StopsReading}
 use Rattle.facl_script.specs.Units.{opened, UnitText, none, whole, too_long, unended, outside, within, cut, closed, HasNoUnitWithin}
@@ -24,6 +25,16 @@ pub record IsTextPart (part : List ℕ) (lines : ℕ) : Type 0 where
       → cut asks (within (record { number = number; line = line; text = content })) n (lines_of (part ++ rest))
       ≡ cut asks (within (record { number = number; line = line; text = option_map (λ t. t ++ part) content })) (n + lines) (lines_of rest)
   pub few : lines ≤ length part
+
+-- the line `.` between two LFs (for inner functions)
+abbrev pub end_between : List ℕ
+end_between = 10 ∷ 46 ∷ 10 ∷ []
+
+-- An LF is at this place, and before it none that has the line `.` after it (for inner functions).
+pub record IsLastFeed (piece : List ℕ) (at : ℕ) : Type 0 where
+  pub within : at < length piece
+  pub feed : slice_index piece at ≡ 10
+  pub before : (k : ℕ) → k < at → OccursAt piece end_between k → ⊥
 
 -- `lines` lines that are read already are taken, and kept where the others are (for inner functions).
 pub record TakesLines (lines : ℕ) (was is : TextFound) (old_text new_text : List ℕ) (old new : ByteSource) : Type 0 where

@@ -25,7 +25,7 @@ pub(crate) struct LineRead {
 }
 
 /// The place of the first LF, if there is one.
-pub(crate) fn line_feed_at(piece: &[u8]) -> Option<usize>
+fn line_feed_at(piece: &[u8]) -> Option<usize>
     ensures { MatchOption result (HasNoLineFeed piece.now) (λ n.
         (n < length piece.now) × HasNoLineFeed (take n piece.now)
         × (piece.now ≡ take n piece.now ++ (10 ∷ drop (n + 1) piece.now))) }
@@ -89,7 +89,8 @@ impl ByteSource {
 
     /// The bytes that are read and not taken yet.
     pub fn pending(&self) -> &[u8]
-        ensures { result.now ≡ pending self.now }
+        ensures all { result.now ≡ pending self.now }
+        ensures within { length result.now ≤ chunk_limit }
     {
         &self.chunk[self.start..self.end]
     }

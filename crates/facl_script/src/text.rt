@@ -1,13 +1,17 @@
 //! The text of a unit: the lines up to a line `.`.
-ghost use Rattle.std.specs.Prelude.{◌≡◌, ◌≤◌, ◌+◌, ℕ, List, [], ◌∷◌, ◌++◌, false, take, drop, length, OnOk, Option, option_map};
+ghost use Rattle.std.specs.Prelude.{◌≡◌, ◌≤◌, ◌+◌, ℕ, List, [], ◌∷◌, ◌++◌, false, take, drop, length, OnOk, IfSome, Option, option_map};
 ghost use Rattle.facl_script.specs.ByteSource.{pending, taken_count};
 ghost use Rattle.facl_script.specs.Units.{is_end as ends_text, more_text};
+ghost use Rattle.facl_script.specs.Limits.{line_limit};
 ghost use Rattle.facl_script.specs.Lines.{Held};
-ghost use Rattle.facl_script.specs.ReadText.{HoldsText, IsTextPart, TakesLines, ReadsText};
+ghost use Rattle.facl_script.specs.Pieces.{line_feeds};
+ghost use Rattle.facl_script.specs.ReadText.{HoldsText, IsLastFeed, IsTextPart, TakesLines, ReadsText};
 
 use crate::devices::Feed;
 use crate::fault::ScriptFault;
-use crate::source::{ByteSource, LINE_LIMIT, line_feed_at};
+use crate::source::ByteSource;
+use memchr::arch::all::is_prefix;
+use memchr::{memchr_iter, memmem, memrchr};
 use std::alloc::AllocError;
 
 /// What is held of the text of a unit.
@@ -75,21 +79,36 @@ fn keep(text: &mut Vec<u8>, held: TextFound, is_too_long: bool, line: &[u8]) -> 
     }
 }
 
-/// How far whole lines go of which none ends a text, and how many they are.
-fn lines_of_text(piece: &[u8]) -> (usize, u64)
-    ensures within { result.0 ≤ length piece.now }
-    ensures part { IsTextPart (take result.0 piece.now) result.1 }
+/// How many LFs there are.
+fn line_feeds(bytes: &[u8]) -> usize
+    ensures { result ≡ line_feeds bytes.now }
 {
-    let mut end = 0;
-    let mut lines = 0;
-    while let Some(at) = line_feed_at(&piece[end..]) {
-        if at > LINE_LIMIT || is_end(&piece[end..end + at]) {
-            break;
-        }
-        end += at + 1;
-        lines += 1;
+    memchr_iter(b'\n', bytes).count()
+}
+
+/// The place of the LF before the first line `.` that has one, or else of the last LF, if there is one.
+fn last_feed(piece: &[u8]) -> Option<usize>
+    ensures { IfSome result (IsLastFeed piece.now) }
+{
+    match memmem::find(piece, b"\n.\n") {
+        Some(at) => Some(at),
+        None => memrchr(b'\n', piece),
     }
-    (end, lines)
+}
+
+/// How far whole lines go of which none ends a text. No line of a piece is over the limit.
+fn end_of_lines(piece: &[u8]) -> usize
+    requires { length piece.now ≤ line_limit }
+    ensures within { result ≤ length piece.now }
+    ensures part { IsTextPart (take result piece.now) (line_feeds (take result piece.now)) }
+{
+    if is_prefix(piece, b".\n") {
+        return 0;
+    }
+    match last_feed(piece) {
+        Some(at) => at + 1,
+        None => 0,
+    }
 }
 
 /// Adds lines to what is kept of a text, and returns what is kept by now.
@@ -110,8 +129,10 @@ fn keep_part(text: &mut Vec<u8>, held: TextFound, part: &[u8]) -> TextFound
 fn take_lines(source: &mut ByteSource, text: &mut Vec<u8>, held: TextFound) -> (u64, TextFound)
     ensures { TakesLines result.0 held result.1 text.old.items text.new.items source.old source.new }
 {
-    let (end, lines) = lines_of_text(source.pending());
-    let held = keep_part(text, held, &source.pending()[..end]);
+    let end = end_of_lines(source.pending());
+    let part = &source.pending()[..end];
+    let lines = line_feeds(part) as u64;
+    let held = keep_part(text, held, part);
     source.skip(end);
     (lines, held)
 }

@@ -15,8 +15,8 @@ returns-in-Some-clause-reads g c =
     let n : ℕ = c.in-Some.at in
     let front = take n piece in
     let cut : pending c.fill.new.self ≡ (front ++ 10 ∷ []) ++ pending c.skip.new.self =
-    sym c.pending-piece.ensures ∙ found.2 ∙ sym (append_assoc front (10 ∷ []) (drop (n + 1) piece))
-    ∙ ap (λ l. (front ++ 10 ∷ []) ++ l) (ap (drop (n + 1)) c.pending-piece.ensures ∙ sym c.skip.ensures.pending) in (
+    sym c.pending-piece.ensures.all ∙ found.2 ∙ sym (append_assoc front (10 ∷ []) (drop (n + 1) piece))
+    ∙ ap (λ l. (front ++ 10 ∷ []) ++ l) (ap (drop (n + 1)) c.pending-piece.ensures.all ∙ sym c.skip.ensures.pending) in (
       (
         inv.text ++ front,
         record {
@@ -37,8 +37,8 @@ loop-self-preserved g c =
     let n : ℕ = length piece in
     let all : take n piece ≡ piece = take_all n piece (omega arith) in
     let cut : pending c.fill.new.self ≡ piece ++ pending c.skip-in-None.new.self =
-    sym c.pending-piece.ensures ∙ sym (take-append-drop n piece) ∙ ap (λ l. l ++ drop n piece) all
-    ∙ ap (λ l. piece ++ l) (ap (drop n) c.pending-piece.ensures ∙ sym c.skip-in-None.ensures.pending) in
+    sym c.pending-piece.ensures.all ∙ sym (take-append-drop n piece) ∙ ap (λ l. l ++ drop n piece) all
+    ∙ ap (λ l. piece ++ l) (ap (drop n) c.pending-piece.ensures.all ∙ sym c.skip-in-None.ensures.pending) in
     record {
       works = c.in_ok-fill.ensures.fills.1;
       text = inv.text ++ piece;
