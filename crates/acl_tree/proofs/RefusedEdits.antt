@@ -1,5 +1,5 @@
 -- Why edits of files are refused.
-use Rattle.std.proofs.Common.{◌≡◌, ◌≤◌, Bool, true, false, cond, ◌||◌, List, [], ◌∷◌, map, Option, Some, None, Result, Ok, Err, if◌then◌else◌, refl, sym, ap, subst, ◌∙◌, arith}
+use Rattle.std.proofs.Common.{◌≡◌, ◌≤◌, Bool, true, false, cond, ◌||◌, List, [], ◌∷◌, Option, Some, None, Result, Ok, Err, if◌then◌else◌, refl, sym, ap, subst, ◌∙◌, arith}
 use Rattle.std.specs.Option.{option_or}
 use Rattle.std.specs.Ordering.{is_eq}
 use Rattle.std.specs.FinMap.{find}
@@ -18,6 +18,7 @@ use Rattle.acl_tree.specs.Files.{Files}
 use Rattle.path_map.specs.Entries.{IsInOrder}
 use Rattle.acl_tree.specs.Operands.{is_file, files_meant, first_missing}
 use Rattle.acl_tree.specs.Edits.{and_others, edit_each, with_edits, file_fault, unless_missing}
+use Rattle.acl_tree.specs.Inner.{paths_in}
 use Rattle.acl_tree.specs.Restoring.{restore_one, paths_of}
 use Rattle.acl_tree.specs.declared.command.Command.{Command}
 use Rattle.acl_tree.specs.declared.command.Command.TheVariants as commands
@@ -27,10 +28,6 @@ use Rattle.acl_tree.specs.Refusals.{IsAmong, IsMissing, IsEditRefused, Applies, 
 use Rattle.acl_tree.proofs.Refused.{Decides, decides_err, decides_ok, AreApart, refused_for_first}
 use Rattle.acl_tree.proofs.FirstAmong.{first_of, none_among, first_among, one_place, among_later}
 use Rattle.acl_tree.proofs.RefusedOperands.{is_first_missing, none_is_missing}
-
--- the paths of files
-abbrev paths_in : Files → List PathOf
-paths_in t = map (λ e. e.0) t
 
 recorded_among : (t : Files) (p : PathOf) (n : Node) → find path_cmp p t ≡ Some n → IsAmong (paths_in t) p
 recorded_among [] p n h = absurd (none_is_not_some n h)

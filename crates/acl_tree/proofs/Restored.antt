@@ -1,6 +1,6 @@
 -- Files restored from records: each record's file, found by search and sorted by path, is a file of the command.
 use Rattle.std.proofs.Common.{◌≡◌, ◌≢◌, ℕ, zero, suc, ◌+◌, ◌<◌, arith, length, get_or, Bool, true, false, cond, ◌&&◌, ◌||◌, IsTrue, List, [], ◌∷◌, map, Option}
-use Rattle.std.proofs.Common.{Some, None, Result, Err, is_some, if◌then◌else◌, Ordering, Less, Equal, Greater, refl, sym, ap, subst, ◌∙◌}
+use Rattle.std.proofs.Common.{Some, None, Result, Err, is_some, if◌then◌else◌, Ordering, Less, Equal, Greater, refl, sym, ap, subst, ◌∙◌, true≢false}
 use Rattle.std.specs.Prelude.{option_map}
 use Rattle.std.specs.Option.{option_or}
 use Rattle.std.specs.Ordering.{is_eq, is_lt, eq_by_cmp}
@@ -18,7 +18,8 @@ use Rattle.acl_edit.specs.declared.edit.EditFault.{EditFault}
 use Rattle.acl_edit.specs.declared.node.Node.{Node}
 use Rattle.path_map.specs.Entries.{IsInOrder}
 use Rattle.path_map.proofs.Differences.{Leads, leads_all}
-use Rattle.path_map.proofs.Rows.{in_order-filter}
+use Rattle.path_map.specs.Merged.{put_all}
+use Rattle.path_map.proofs.Rows.{in_order-filter, find_put_all}
 use Rattle.acl_tree.specs.Loading.{in_path_order, record_at}
 use Rattle.acl_tree.proofs.Loaded.{seen, in_order-records}
 use Rattle.acl_tree.proofs.Mapped.{found}
@@ -29,7 +30,7 @@ use Rattle.acl_tree.specs.Files.{Files, Recorded}
 use Rattle.acl_tree.specs.Operands.{is_file, files_meant, first_missing}
 use Rattle.acl_tree.specs.Edits.{and_others, edit_each, edit_all, file_fault, unless_missing}
 use Rattle.acl_tree.specs.Restoring.{edit_of, edit_if_some, restore_one, paths_of, restored_tree}
-use Rattle.acl_tree.specs.Inner.{AreFilesOf, RestoredFile, IsFileOf, SomeEdited, restored, restore_each}
+use Rattle.acl_tree.specs.Inner.{AreFilesOf, RestoredFile, IsFileOf, SomeEdited, restored, restore_each, paths_in}
 use Rattle.acl_tree.proofs.Left.{by_path}
 
 -- ---- sorted by the paths of their records
@@ -174,6 +175,19 @@ module _ (edit : PathOf → Node → Result Node EditFault) where
   pub restored_are : (xs : List RestoredFile) → AllByRecursion (λ x. edit x.0.0 x.0.1 ≡ restored x) xs → restore_each xs ≡ edit_each edit (map (λ x. x.0) xs)
   restored_are [] all = refl
   restored_are (x ∷ xs) all = (λ i. and_others x.0.0 (sym all.0 i) (restored_are xs all.1 i))
+
+-- a path that is not among those of files has none of them
+absent : (p : PathOf) (es : Files) → is_file false (paths_in es) p ≡ false → find path_cmp p es ≡ None
+absent p [] out = refl
+absent p (e ∷ es) out = by (eq_by_cmp path_cmp p e.0) (absent p es) out
+  where
+    by : (b : Bool) → (is_file false (paths_in es) p ≡ false → find path_cmp p es ≡ None) → (b || is_file false (paths_in es) p) ≡ false → cond b (Some e.1) (find path_cmp p es) ≡ None
+    by true rest out = absurd (true≢false out)
+    by false rest out = rest out
+
+-- no other file is touched than those that are put
+pub untouched : (p : PathOf) (puts t : Files) → IsInOrder puts → is_file false (paths_in puts) p ≡ false → find path_cmp p (put_all puts t) ≡ find path_cmp p t
+untouched p puts t order out = find_put_all p puts t order ∙ ap (λ o. option_or o (find path_cmp p t)) (absent p puts out)
 
 -- a fault of a file is the restore's, where no path is missing
 pub fault_reported : (records : List DumpRecord) (t : Recorded) (fault : FileFault) → first_missing (paths_of records) t.files ≡ None

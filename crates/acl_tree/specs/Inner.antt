@@ -136,6 +136,10 @@ SomeEdited file edit [] (k ∷ ks) = ⊥
 SomeEdited file edit (x ∷ xs) [] = (edit x ≡ Ok (file x).1) × SomeEdited file edit xs []
 SomeEdited file edit (x ∷ xs) (k ∷ ks) = Either ((((file x).0 ≡ k.0) × (edit x ≡ Ok k.1)) × SomeEdited file edit xs ks) ((edit x ≡ Ok (file x).1) × SomeEdited file edit xs (k ∷ ks))
 
+-- the paths of files
+abbrev pub paths_in : Files → List PathOf
+paths_in es = map (λ e. e.0) es
+
 -- a file with its edited node is put after others, or left out where it stays as it is
 abbrev pub PutsOrLeaves : Files → PathOf × Node → Node → Files → Type 0
 PutsOrLeaves before e n after = Either (after ≡ before ++ (e.0, n) ∷ []) ((after ≡ before) × (e.1 ≡ n))

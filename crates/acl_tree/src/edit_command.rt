@@ -123,7 +123,8 @@ pub(crate) fn prepare_restore(
     ensures { Prepares (whole state.now) (Restore records.now) result }
 {
     state.tree.soundness_law();
-    let restored = restore_files(alloc, state.tree, records)?;
-    let staged = Staged::with_files(state, restored, records.region(alloc)?)?;
+    let after = restore_files(alloc, state.tree, records)?;
+    let (restored, touched) = after;
+    let staged = Staged::with_files(state, restored, touched)?;
     Ok(staged.keeping_files())
 }

@@ -7,9 +7,9 @@ ghost use Rattle.kinds.specs.Numbered.{entries_in};
 ghost use Rattle.acl_text.specs.InTurn.{GivesUnless};
 ghost use Rattle.acl_text.specs.OwnPaths.{have_own_paths};
 ghost use Rattle.acl_tree.specs.Loading.{in_path_order};
-ghost use Rattle.acl_tree.specs.Inner.{AreFilesOf, restore_each, RestoredFile, coded_restored, restored_by, restored, SomeEdited, PutsOrLeaves};
-ghost use Rattle.acl_names.specs.Paths.{PathOf};
-ghost use Rattle.acl_tree.specs.Operands.{LooksUp, first_missing, is_file, in_region};
+ghost use Rattle.acl_tree.specs.Changed.{SameBut};
+ghost use Rattle.acl_tree.specs.Inner.{AreFilesOf, restore_each, RestoredFile, coded_restored, restored_by, restored, SomeEdited, PutsOrLeaves, paths_in};
+ghost use Rattle.acl_tree.specs.Operands.{LooksUp, first_missing, in_region};
 ghost use Rattle.acl_tree.specs.Restoring.{paths_of, restored_tree};
 ghost use Rattle.acl_text.specs.contracts.record.DumpRecord as record_contracts;
 ghost use Rattle.acl_text.specs.declared.record.DumpRecord.{DumpRecord as Whole};
@@ -57,17 +57,6 @@ impl DumpRecords {
         ensures apart { have_own_paths self.now ≡ true }
     {
         &self.list
-    }
-
-    /// The files at the paths of the records. Fails only if memory runs out.
-    pub fn region(&self, alloc: Global) -> Result<Region, AllocError>
-        ensures { IfOk result (λ region. (q : PathOf) → in_region region q ≡ is_file false (paths_of self.now) q) }
-    {
-        let mut paths = Vec::with_capacity(alloc, self.list.len())?;
-        for entry in &self.list {
-            paths.push(entry.path.try_clone(alloc)?)?;
-        }
-        Ok(Region::new(paths, false))
     }
 }
 
@@ -143,52 +132,65 @@ fn in_path_order(found: Vec<Restored<'_>>) -> Vec<Restored<'_>>
     sorted
 }
 
-/// A file with its edited node more to be put, unless it stays as it is.
+/// A file with its edited node more to be put, and its path more of those that are touched, unless it stays as it is.
 fn push_restored<'a>(
     alloc: Global,
     puts: KindPuts<'a, Node>,
+    touched: &mut Vec<Path>,
     path: &'a Path,
     old: &Node,
     node: Node,
 ) -> Result<KindPuts<'a, Node>, AllocError>
-    ensures { IfOk result (λ new. (new.0 ≡ puts.entry.0) × PutsOrLeaves puts.entry.1 (path.now, old.now) node new.1) }
+    ensures made { IfOk result (λ new. (new.0 ≡ puts.entry.0) × PutsOrLeaves puts.entry.1 (path.now, old.now) node new.1) }
+    ensures touched { IfOk result (λ new. paths_in puts.entry.1 ≡ touched.old.items → paths_in new.1 ≡ touched.new.items) }
 {
     if AlikeNodes.is_same(old, &node) {
         return Ok(puts);
     }
+    touched.push(path.try_clone(alloc)?)?;
     let puts = puts.push(alloc, path, node, &AlikeNodes)?;
     Ok(puts)
 }
 
-/// The files as their records have them, to be put among those of a map, but for those that stay as they are.
+/// The files as their records have them, to be put among those of a map, but for those that stay as they are; and the paths of
+/// those that are put.
 fn restore_each<'a>(
     alloc: Global,
     files: &'a KindMap<Node>,
     found: &[Restored<'a>],
-) -> Result<KindPuts<'a, Node>, FileFault>
-    ensures before { IfOk result (λ puts. puts.0 ≡ entries_in files.now) }
-    ensures made { IfOk result (λ puts. SomeEdited (λ x. x.0) restored found.now puts.1) }
+) -> Result<(KindPuts<'a, Node>, Vec<Path>), FileFault>
+    ensures before { IfOk result (λ new. new.0.0 ≡ entries_in files.now) }
+    ensures made { IfOk result (λ new. SomeEdited (λ x. x.0) restored found.now new.0.1) }
+    ensures touched { IfOk result (λ new. paths_in new.0.1 ≡ new.1.items) }
     ensures refused { IfErr result (λ fault. fault ≢ FileFault.NoMemory → restore_each found.now ≡ Err fault) }
 {
     let mut puts = KindPuts::new(alloc, files)?;
+    let mut touched = Vec::new(alloc);
     let mut rest = found;
     while let [restored, more @ ..] = rest {
         let (path, old) = (&restored.entry.path, restored.node);
         let node = edit_one(alloc, restored, path, old)?;
-        puts = push_restored(alloc, puts, path, old, node)?;
+        puts = push_restored(alloc, puts, &mut touched, path, old, node)?;
         rest = more;
     }
-    Ok(puts)
+    Ok((puts, touched))
 }
 
-/// The tree with the files of records restored.
-pub fn restore_files(alloc: Global, tree: &Files, records: &DumpRecords) -> Result<Files, TreeFault>
-    ensures { GivesUnless TreeFault.NoMemory (λ t. t) result (restored_tree records.now tree.now) }
+/// The tree with the files of records restored, and a region outside of which no file is another one than before.
+pub fn restore_files(
+    alloc: Global,
+    tree: &Files,
+    records: &DumpRecords,
+) -> Result<(Files, Region), TreeFault>
+    ensures restored { GivesUnless TreeFault.NoMemory (λ new. new.0) result (restored_tree records.now tree.now) }
+    ensures others { IfOk result (λ new. SameBut (in_region new.1) tree.now.files new.0.files) }
 {
     tree.soundness_law();
     let found = files_of(alloc, tree, records.as_slice())?;
     let sorted = in_path_order(found);
-    let puts = restore_each(alloc, tree.files_by_path(), &sorted)?;
+    let made = restore_each(alloc, tree.files_by_path(), &sorted)?;
+    let (puts, touched) = made;
     let by_path = puts.finish(alloc)?;
-    Ok(Files::of(by_path, tree.is_loaded()))
+    let restored = Files::of(by_path, tree.is_loaded());
+    Ok((restored, Region::new(touched, false)))
 }

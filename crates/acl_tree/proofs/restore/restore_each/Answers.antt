@@ -14,10 +14,11 @@ loop-rest-preserved c =
     let made : restored x ≡ Ok c.in_ok-node.node = grind (arith, common_steps) in
     let file_is : (c.restored.inside.entry.now.path, c.restored.inside.node.now) ≡ x.0 = grind (arith, common_steps) in
     record {
-      before = c.in_ok-puts-2.ensures.0 ∙ c.loop-rest.invariant.before;
+      before = c.in_ok-puts-2.ensures.made.0 ∙ c.loop-rest.invariant.before;
+      touched = c.in_ok-puts-2.ensures.touched c.loop-rest.invariant.touched;
       made = λ ms h.
           put_more (λ x. x.0) restored c.args.found.now more x c.loop-rest.puts.1 c.in_ok-puts-2.puts.1 ms c.in_ok-node.node made
-          (subst (λ e. PutsOrLeaves c.loop-rest.puts.1 e c.in_ok-node.node c.in_ok-puts-2.puts.1) file_is c.in_ok-puts-2.ensures.1)
+          (subst (λ e. PutsOrLeaves c.loop-rest.puts.1 e c.in_ok-node.node c.in_ok-puts-2.puts.1) file_is c.in_ok-puts-2.ensures.made.1)
           (λ ks some. c.loop-rest.invariant.made ks (subst (λ l. SomeEdited (λ x. x.0) restored l ks) split some)) h;
       refused = λ fault h. c.loop-rest.invariant.refused fault (ap restore_each (sym split) ∙ (λ i. and_others x.0.0 (made i) (h i)));
     }
