@@ -23,6 +23,9 @@ const SELDOM: usize = 32;
 /// How many bodies in a row may be none of those found last, before these are no longer tried first.
 const MAX_STRAYED: usize = 8;
 
+/// Marks are taken to places by their rest of this: a division of 32 bits takes less time than one of 64.
+const PLACED_BY: u64 = 1 << 32;
+
 /// What a mark is multiplied by, so that it spreads.
 const SPREAD: u64 = 0x9e37_79b9_7f4a_7c15;
 
@@ -51,16 +54,30 @@ fn mixed(mark: u64, word: u64) -> u64 {
     (mark ^ word).wrapping_mul(SPREAD).rotate_left(29)
 }
 
-/// A number of bytes that are the same; it is a hint alone.
+/// A number of bytes that are the same; it is a hint alone. Two marks take turns, so that neither waits for the one before.
 pub(crate) fn mark_of(bytes: &[u8]) -> u64 {
     let mut mark = SPREAD;
+    let mut next = 0;
     let mut rest = bytes;
     while let [a, b, c, d, e, f, g, h, after @ ..] = rest {
         let word = u64::from_le_bytes([*a, *b, *c, *d, *e, *f, *g, *h]);
-        mark = mixed(mark, word);
+        let marked = mixed(mark, word);
+        mark = next;
+        next = marked;
         rest = after;
     }
-    mark_of_few(mark, rest)
+    mark_of_last(mixed(mark, next), bytes)
+}
+
+/// A mark with the last bytes worked into it.
+fn mark_of_last(mark: u64, bytes: &[u8]) -> u64 {
+    match bytes {
+        [.., a, b, c, d, e, f, g, h] => {
+            let word = u64::from_le_bytes([*a, *b, *c, *d, *e, *f, *g, *h]);
+            mixed(mark, word)
+        }
+        _ => mark_of_few(mark, bytes),
+    }
 }
 
 /// A mark with each byte worked into it.
@@ -172,7 +189,7 @@ impl<'a> Bodies<'a> {
         if most == 0 {
             0
         } else {
-            ((mark >> 20) % most) as usize
+            (mark % PLACED_BY % most) as usize
         }
     }
 }
