@@ -23,6 +23,9 @@ const SELDOM: usize = 32;
 /// How many bodies in a row may be none of those found last, before these are no longer tried first.
 const MAX_STRAYED: usize = 8;
 
+/// How many bytes of a body are enough to look for it. A body of lists that getfacl(1) writes has seldom fewer.
+const FRONT: usize = 56;
+
 /// Marks are taken to places by their rest of this: a division of 32 bits takes less time than one of 64.
 const PLACED_BY: u64 = 1 << 32;
 
@@ -41,6 +44,8 @@ pub(crate) struct Known<'a> {
 #[derive(Drop)]
 pub(crate) struct Bodies<'a> {
     kept: Vec<Option<Known<'a>>>,
+    /// Where a body is whose front has the mark of the place: the one of them that was looked for last.
+    fronts: Vec<usize>,
     /// Where the bodies are that were looked for last.
     recent: [usize; 4],
     /// How many bodies, one after another, were not one of these.
@@ -99,16 +104,30 @@ impl<'a> Bodies<'a> {
         for _ in 0..places {
             kept.push(None)?;
         }
+        let mut fronts = Vec::new(alloc);
+        fronts.resize(places, places)?;
         Ok(Bodies {
             kept,
+            fronts,
             recent: [0; 4],
             strayed: 0,
             missed: 0,
         })
     }
 
+    /// The body with which a text begins, if it is one of those that were looked for last or is found by its front, and what comes
+    /// after it.
+    pub(crate) fn first_known(&self, text: &'a [u8]) -> Option<(Known<'a>, &'a [u8])>
+        ensures { IfSome result (λ found. (IsAmong self.now found.0) × ((text.now ≡ found.0.body.bytes.now ++ found.1.now) × Ends found.1.now)) }
+    {
+        match self.first_recent(text) {
+            Some(found) => Some(found),
+            None => self.first_by_front(text),
+        }
+    }
+
     /// The body with which a text begins, if it is one of those that were looked for last, and what comes after it.
-    pub(crate) fn first_recent(&self, text: &'a [u8]) -> Option<(Known<'a>, &'a [u8])>
+    fn first_recent(&self, text: &'a [u8]) -> Option<(Known<'a>, &'a [u8])>
         ensures { IfSome result (λ found. (IsAmong self.now found.0) × ((text.now ≡ found.0.body.bytes.now ++ found.1.now) × Ends found.1.now)) }
     {
         if self.strayed > MAX_STRAYED {
@@ -120,6 +139,36 @@ impl<'a> Bodies<'a> {
             }
         }
         None
+    }
+
+    /// The body with which a text begins, if it is the one that is found by its front, and what comes after it. Where few come
+    /// again, it is not looked for.
+    fn first_by_front(&self, text: &'a [u8]) -> Option<(Known<'a>, &'a [u8])>
+        ensures { IfSome result (λ found. (IsAmong self.now found.0) × ((text.now ≡ found.0.body.bytes.now ++ found.1.now) × Ends found.1.now)) }
+    {
+        if self.missed >= MAX_MISSED {
+            return None;
+        }
+        let at = self.fronts.get(self.front_of(text)?)?;
+        self.first(*at, text)
+    }
+
+    /// Where the place of a body is noted that begins as a text does. `None` where the text is short.
+    fn front_of(&self, text: &[u8]) -> Option<usize> {
+        let front = text.get(..FRONT)?;
+        Some(self.place_of(mark_of(front)))
+    }
+
+    /// Notes where the body is of these bytes, which was looked for.
+    fn note_front(&mut self, bytes: &[u8], at: usize)
+        ensures { self.new.kept ≡ self.old.kept }
+    {
+        let Some(front) = self.front_of(bytes) else {
+            return;
+        };
+        if let Some(noted) = self.fronts.get_mut(front) {
+            *noted = at;
+        }
     }
 
     /// The body at a place, if a text begins with it, and what comes after it.
@@ -168,6 +217,7 @@ impl<'a> Bodies<'a> {
         }
         let known = *known;
         self.note(at);
+        self.note_front(bytes, at);
         self.missed = 0;
         Some(known)
     }
@@ -181,6 +231,7 @@ impl<'a> Bodies<'a> {
             *place = Some(known);
         }
         self.note(at);
+        self.note_front(known.body.bytes, at);
     }
 
     /// Where a body of this mark is kept.

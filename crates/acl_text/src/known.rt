@@ -105,7 +105,7 @@ fn read_lines<'a, N: Names>(
     ensures fits { IfOk result (λ next. next.0 + length next.1.now ≤ length text.now) }
     ensures known { OnOk result (AreKnown (N.naming names.now) dump_use records.new.items bodies.new) }
 {
-    if let Some((known, after)) = bodies.first_recent(text) {
+    if let Some((known, after)) = bodies.first_known(text) {
         bodies.missed = 0;
         push_like(alloc, records, known.place, draft)?;
         return Ok((known.body.lines, after));
