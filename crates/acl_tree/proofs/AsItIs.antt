@@ -37,7 +37,7 @@ own_list : (k : Kind) (o : Option KeyMap) → (k ≡ Plain → o ≡ None) → a
 own_list Plain o h = subst (λ z. allowed Plain false z ≡ Ok z) (sym (h refl)) refl
 own_list Directory o h = refl
 
-stays : (n : Node) (r : DumpRecord) → IsSound n → Contains r n → edit n (edit_of r) false ≡ Ok n
+pub stays : (n : Node) (r : DumpRecord) → IsSound n → Contains r n → edit n (edit_of r) false ≡ Ok n
 unfolding restore
 stays n r sound contains =
     (λ i. allowed n.kind false (contains.default i) >>= λ d. Ok (record {

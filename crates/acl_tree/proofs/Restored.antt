@@ -1,6 +1,6 @@
 -- Files restored from records: each record's file, found by search and sorted by path, is a file of the command.
 use Rattle.std.proofs.Common.{◌≡◌, ◌≢◌, ℕ, zero, suc, ◌+◌, ◌<◌, arith, length, get_or, Bool, true, false, cond, ◌&&◌, ◌||◌, IsTrue, List, [], ◌∷◌, map, Option}
-use Rattle.std.proofs.Common.{Some, None, Result, Err, is_some, if◌then◌else◌, Ordering, Less, Equal, Greater, refl, sym, ap, subst, ◌∙◌, true≢false}
+use Rattle.std.proofs.Common.{Some, None, Result, Ok, Err, is_some, if◌then◌else◌, Ordering, Less, Equal, Greater, refl, sym, ap, subst, ◌∙◌, true≢false}
 use Rattle.std.specs.Prelude.{option_map}
 use Rattle.std.specs.Option.{option_or}
 use Rattle.std.specs.Ordering.{is_eq, is_lt, eq_by_cmp}
@@ -12,7 +12,7 @@ use Rattle.std.proofs.lemmas.List.Elements.{recursion_from_All}
 use Rattle.std.proofs.lemmas.List.Sorted.{All-permutation}
 use Rattle.acl_names.specs.Paths.{path_cmp, PathOf}
 use Rattle.acl_names.proofs.PathOrder.{path_total, exact_paths}
-use Rattle.acl_names.proofs.Basics.{to_T}
+use Rattle.acl_names.proofs.Basics.{err_is_not_ok, to_T}
 use Rattle.acl_text.specs.declared.record.DumpRecord.{DumpRecord}
 use Rattle.acl_edit.specs.declared.edit.EditFault.{EditFault}
 use Rattle.acl_edit.specs.declared.node.Node.{Node}
@@ -30,7 +30,7 @@ use Rattle.acl_tree.specs.Files.{Files, Recorded}
 use Rattle.acl_tree.specs.Operands.{is_file, files_meant, first_missing}
 use Rattle.acl_tree.specs.Edits.{and_others, edit_each, edit_all, file_fault, unless_missing}
 use Rattle.acl_tree.specs.Restoring.{edit_of, edit_if_some, restore_one, paths_of, restored_tree}
-use Rattle.acl_tree.specs.Inner.{AreFilesOf, RestoredFile, IsFileOf, SomeEdited, restored, restore_each, paths_in}
+use Rattle.acl_tree.specs.Inner.{AreFilesOf, RestoredFile, IsFileOf, SomeEdited, restored_by, restored, restore_each, paths_in}
 use Rattle.acl_tree.proofs.Left.{by_path}
 
 -- ---- sorted by the paths of their records
@@ -175,6 +175,14 @@ module _ (edit : PathOf → Node → Result Node EditFault) where
   pub restored_are : (xs : List RestoredFile) → AllByRecursion (λ x. edit x.0.0 x.0.1 ≡ restored x) xs → restore_each xs ≡ edit_each edit (map (λ x. x.0) xs)
   restored_are [] all = refl
   restored_are (x ∷ xs) all = (λ i. and_others x.0.0 (sym all.0 i) (restored_are xs all.1 i))
+
+-- a file that is refused is the first fault of those that begin with it
+pub refused_first : (x : RestoredFile) (rest : List RestoredFile) (fault : FileFault) → edit_each (λ p n. restored_by x.1 n) (x.0 ∷ []) ≡ Err fault → restore_each (x ∷ rest) ≡ Err fault
+refused_first x rest fault refused = by (restored x) refused
+  where
+    by : (r : Result Node EditFault) → and_others x.0.0 r (Ok []) ≡ Err fault → and_others x.0.0 r (restore_each rest) ≡ Err fault
+    by (Ok n) h = absurd (err_is_not_ok _ _ (sym h))
+    by (Err f) h = h
 
 -- a path that is not among those of files has none of them
 absent : (p : PathOf) (es : Files) → is_file false (paths_in es) p ≡ false → find path_cmp p es ≡ None

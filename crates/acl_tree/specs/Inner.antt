@@ -143,3 +143,9 @@ paths_in es = map (λ e. e.0) es
 -- a file with its edited node is put after others, or left out where it stays as it is
 abbrev pub PutsOrLeaves : Files → PathOf × Node → Node → Files → Type 0
 PutsOrLeaves before e n after = Either (after ≡ before ++ (e.0, n) ∷ []) ((after ≡ before) × (e.1 ≡ n))
+
+-- so it is with a file that is restored
+pub record IsPutOrLeft (x : RestoredFile) (before after : Files) : Type 0 where
+  pub node : Node
+  pub made : restored x ≡ Ok node
+  pub puts : PutsOrLeaves before x.0 node after

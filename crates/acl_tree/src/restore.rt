@@ -1,14 +1,16 @@
 //! setfacl(1) --restore: files get back what their records contain.
 
-ghost use Rattle.std.specs.Prelude.{◌≡◌, ◌≢◌, true, map, false, IfOk, IfErr, OnOk, Err, List};
+ghost use Rattle.std.specs.Prelude.{◌≡◌, ◌≢◌, true, map, false, IfOk, IfErr, Ok, Err, List, ◌∷◌, unwrap_or};
 ghost use Rattle.std.specs.List.Sorted.{IsPermutation};
 ghost use Rattle.std.specs.Coded.{coded_list};
 ghost use Rattle.kinds.specs.Numbered.{entries_in};
 ghost use Rattle.acl_text.specs.InTurn.{GivesUnless};
 ghost use Rattle.acl_text.specs.OwnPaths.{have_own_paths};
+ghost use Rattle.acl_edit.specs.Edits.{no_flags};
+ghost use Rattle.acl_edit.specs.Nodes.{IsSound};
 ghost use Rattle.acl_tree.specs.Loading.{in_path_order};
 ghost use Rattle.acl_tree.specs.Changed.{SameBut};
-ghost use Rattle.acl_tree.specs.Inner.{AreFilesOf, restore_each, RestoredFile, coded_restored, restored_by, restored, SomeEdited, PutsOrLeaves, paths_in};
+ghost use Rattle.acl_tree.specs.Inner.{AreFilesOf, restore_each, RestoredFile, coded_restored, restored_by, restored, SomeEdited, IsPutOrLeft, paths_in};
 ghost use Rattle.acl_tree.specs.Operands.{LooksUp, first_missing, in_region};
 ghost use Rattle.acl_tree.specs.Restoring.{paths_of, restored_tree};
 ghost use Rattle.acl_text.specs.contracts.record.DumpRecord as record_contracts;
@@ -19,10 +21,10 @@ use crate::edit::{FileFault, NodeEdit, edit_one};
 use crate::fault::TreeFault;
 use crate::files::Files;
 use crate::region::Region;
-use acl_edit::{EditFault, Node, restore_node};
+use acl_edit::{EditFault, Kind, Node, restore_node};
 use acl_names::Path;
 use acl_text::DumpRecord;
-use kinds::{KindMap, KindPuts, Likeness};
+use kinds::{KindMap, KindPuts};
 use std::alloc::{AllocError, Global};
 use std::marker::Model;
 
@@ -132,23 +134,67 @@ fn in_path_order(found: Vec<Restored<'_>>) -> Vec<Restored<'_>>
     sorted
 }
 
-/// A file with its edited node more to be put, and its path more of those that are touched, unless it stays as it is.
-fn push_restored<'a>(
+/// Whether a file has the owner and the group of a record, as far as it names them.
+fn has_ids(node: &Node, entry: &DumpRecord) -> bool
+    ensures { result ≡ true → (unwrap_or entry.now.owner node.now.label.owner ≡ node.now.label.owner)
+        × (unwrap_or entry.now.group node.now.label.group ≡ node.now.label.group) }
+{
+    let label = &node.label;
+    entry.owner.unwrap_or(label.owner) == label.owner
+        && entry.group.unwrap_or(label.group) == label.group
+}
+
+/// Whether a file has the flags of a record, or none where that has no such line.
+fn has_recorded_flags(node: &Node, entry: &DumpRecord) -> bool
+    ensures { result ≡ true → unwrap_or entry.now.flags no_flags ≡ node.now.flags }
+{
+    entry.flags.unwrap_or([false; 3]) == node.flags
+}
+
+/// Whether a file has the default list of a record, which only a directory may have.
+fn has_recorded_default(node: &Node, entry: &DumpRecord) -> bool
+    ensures { result ≡ true → (entry.now.dacl ≡ node.now.dacl) × IsSound node.now }
+{
+    match (&entry.dacl, &node.dacl) {
+        (None, None) => true,
+        (Some(one), Some(other)) => node.kind == Kind::Directory && one.same(other),
+        _ => false,
+    }
+}
+
+/// Whether a file is what its record makes of it.
+fn is_as_recorded(node: &Node, entry: &DumpRecord) -> bool
+    ensures { result ≡ true → restored_by entry.now node.now ≡ Ok node.now }
+{
+    if !has_ids(node, entry) || !has_recorded_flags(node, entry) {
+        return false;
+    }
+    if !entry.access.same(&node.label.acl) {
+        return false;
+    }
+    has_recorded_default(node, entry)
+}
+
+/// A file with its edited node more to be put, and its path more of those that are touched, unless it is what its record makes
+/// of it.
+fn put_restored<'a>(
     alloc: Global,
     puts: KindPuts<'a, Node>,
     touched: &mut Vec<Path>,
-    path: &'a Path,
-    old: &Node,
-    node: Node,
-) -> Result<KindPuts<'a, Node>, AllocError>
-    ensures made { IfOk result (λ new. (new.0 ≡ puts.entry.0) × PutsOrLeaves puts.entry.1 (path.now, old.now) node new.1) }
+    file: &Restored<'a>,
+) -> Result<KindPuts<'a, Node>, FileFault>
+    ensures before { IfOk result (λ new. new.0 ≡ puts.entry.0) }
+    ensures made { IfOk result (λ new. IsPutOrLeft file.now puts.entry.1 new.1) }
     ensures touched { IfOk result (λ new. paths_in puts.entry.1 ≡ touched.old.items → paths_in new.1 ≡ touched.new.items) }
+    ensures refused { IfErr result (λ fault. fault ≢ FileFault.NoMemory → (rest : List RestoredFile) → restore_each (file.now ∷ rest) ≡ Err fault) }
 {
-    if AlikeNodes.is_same(old, &node) {
+    let (entry, old) = (file.entry, file.node);
+    if is_as_recorded(old, entry) {
         return Ok(puts);
     }
-    touched.push(path.try_clone(alloc)?)?;
-    let puts = puts.push(alloc, path, node, &AlikeNodes)?;
+    let node = edit_one(alloc, file, &entry.path, old)?;
+    touched.push(entry.path.try_clone(alloc)?)?;
+    let puts = puts.push(alloc, &entry.path, node, &AlikeNodes)?;
     Ok(puts)
 }
 
@@ -168,9 +214,7 @@ fn restore_each<'a>(
     let mut touched = Vec::new(alloc);
     let mut rest = found;
     while let [restored, more @ ..] = rest {
-        let (path, old) = (&restored.entry.path, restored.node);
-        let node = edit_one(alloc, restored, path, old)?;
-        puts = push_restored(alloc, puts, &mut touched, path, old, node)?;
+        puts = put_restored(alloc, puts, &mut touched, restored)?;
         rest = more;
     }
     Ok((puts, touched))

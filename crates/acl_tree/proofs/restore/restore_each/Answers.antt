@@ -1,7 +1,7 @@
-use Rattle.std.proofs.Common.{◌≡◌, ◌-◌, [], ◌∷◌, List, length, take, drop, Ok, sym, ap, subst, ◌∙◌, append-nil, arith}
+use Rattle.std.proofs.Common.{◌≡◌, ◌-◌, [], ◌∷◌, List, length, take, drop, sym, ap, subst, ◌∙◌, append-nil, arith}
 use Rattle.std.proofs.lemmas.Grind.{common_steps}
 use Rattle.acl_tree.specs.Edits.{and_others}
-use Rattle.acl_tree.specs.Inner.{RestoredFile, SomeEdited, restored, restore_each, PutsOrLeaves}
+use Rattle.acl_tree.specs.Inner.{RestoredFile, SomeEdited, restored, restore_each}
 use Rattle.acl_tree.proofs.Left.{put_more}
 use Rattle.acl_tree.proofs.restore.restore_each.Goals as goal
 
@@ -11,16 +11,14 @@ loop-rest-preserved c =
     let x : RestoredFile = c.restored-item.result in
     let more : List RestoredFile = take (length rest - 1) (drop 1 rest) in
     let split : x ∷ more ≡ rest = grind (arith, common_steps) in
-    let made : restored x ≡ Ok c.in_ok-node.node = grind (arith, common_steps) in
-    let file_is : (c.restored.inside.entry.now.path, c.restored.inside.node.now) ≡ x.0 = grind (arith, common_steps) in
+    let one = c.in_ok-puts-2.ensures.made in
     record {
-      before = c.in_ok-puts-2.ensures.made.0 ∙ c.loop-rest.invariant.before;
+      before = c.in_ok-puts-2.ensures.before ∙ c.loop-rest.invariant.before;
       touched = c.in_ok-puts-2.ensures.touched c.loop-rest.invariant.touched;
       made = λ ms h.
-          put_more (λ x. x.0) restored c.args.found.now more x c.loop-rest.puts.1 c.in_ok-puts-2.puts.1 ms c.in_ok-node.node made
-          (subst (λ e. PutsOrLeaves c.loop-rest.puts.1 e c.in_ok-node.node c.in_ok-puts-2.puts.1) file_is c.in_ok-puts-2.ensures.made.1)
+          put_more (λ x. x.0) restored c.args.found.now more x c.loop-rest.puts.1 c.in_ok-puts-2.puts.1 ms one.node one.made one.puts
           (λ ks some. c.loop-rest.invariant.made ks (subst (λ l. SomeEdited (λ x. x.0) restored l ks) split some)) h;
-      refused = λ fault h. c.loop-rest.invariant.refused fault (ap restore_each (sym split) ∙ (λ i. and_others x.0.0 (made i) (h i)));
+      refused = λ fault h. c.loop-rest.invariant.refused fault (ap restore_each (sym split) ∙ (λ i. and_others x.0.0 (one.made i) (h i)));
     }
 
 pub returns-clause-made : goal.returns-clause-made
