@@ -1,6 +1,6 @@
 -- Lemmas on the text of a unit.
 use Rattle.std.proofs.Common.{◌≡◌, ◌<◌, ◌≤◌, ◌+◌, ℕ, Bool, true, false, not, cond, List, [], ◌∷◌, ◌++◌, refl, sym, ap, ◌∙◌, append_assoc, append-nil, length, length-append, arith, Option, None, Some}
-use Rattle.std.proofs.Common.{zero, suc, ◌⊎◌, ⊎_elim, subst, take, filter, get_or, slice_index, eqb, add-zero, add_assoc, get_or-take, length-take-le}
+use Rattle.std.proofs.Common.{zero, suc, ⊎_elim, subst, take, filter, get_or, slice_index, eqb, add-zero, add_assoc, get_or-take, length-take-le}
 use Rattle.std.proofs.lemmas.List.{take_more}
 use Rattle.std.specs.Prelude.{nat_le, option_map, IfSome}
 use Rattle.std.proofs.lemmas.Bool.{le-leb, eqb-true, cases_Bool}

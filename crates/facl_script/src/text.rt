@@ -1,5 +1,5 @@
 //! The text of a unit: the lines up to a line `.`.
-ghost use Rattle.std.specs.Prelude.{◌≡◌, ◌≤◌, ◌+◌, ℕ, List, [], ◌∷◌, ◌++◌, false, take, drop, length, OnOk, IfSome, Option, option_map};
+ghost use Rattle.std.specs.Prelude.{◌≡◌, ◌≤◌, ◌+◌, ℕ, List, [], ◌∷◌, ◌++◌, false, take, length, OnOk, IfSome, Option, option_map};
 ghost use Rattle.facl_script.specs.ByteSource.{pending, taken_count};
 ghost use Rattle.facl_script.specs.Units.{is_end as ends_text, more_text};
 ghost use Rattle.facl_script.specs.Limits.{line_limit};

@@ -1,4 +1,4 @@
-use Rattle.std.proofs.Common.{true, true≢false, sym, ◌∙◌}
+use Rattle.std.proofs.Common.{true≢false, sym, ◌∙◌}
 use Rattle.facl_script.proofs.TextLemmas.{part_none, part_cut}
 use Rattle.facl_script.proofs.text.end_of_lines.Goals as goal
 
