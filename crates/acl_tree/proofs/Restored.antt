@@ -177,8 +177,9 @@ module _ (edit : PathOf → Node → Result Node EditFault) where
   restored_are (x ∷ xs) all = (λ i. and_others x.0.0 (sym all.0 i) (restored_are xs all.1 i))
 
 -- a file that is refused is the first fault of those that begin with it
-pub refused_first : (x : RestoredFile) (rest : List RestoredFile) (fault : FileFault) → edit_each (λ p n. restored_by x.1 n) (x.0 ∷ []) ≡ Err fault → restore_each (x ∷ rest) ≡ Err fault
-refused_first x rest fault refused = by (restored x) refused
+pub refused_first : (x : RestoredFile) (e : PathOf × Node) (rest : List RestoredFile) (fault : FileFault) → e ≡ x.0 → edit_each (λ p n. restored_by x.1 n) (e ∷ []) ≡ Err fault
+    → restore_each (x ∷ rest) ≡ Err fault
+refused_first x e rest fault is refused = by (restored x) (subst (λ (e : PathOf × Node). edit_each (λ p n. restored_by x.1 n) (e ∷ []) ≡ Err fault) is refused)
   where
     by : (r : Result Node EditFault) → and_others x.0.0 r (Ok []) ≡ Err fault → and_others x.0.0 r (restore_each rest) ≡ Err fault
     by (Ok n) h = absurd (err_is_not_ok _ _ (sym h))
