@@ -24,9 +24,6 @@ const SELDOM: usize = 1 << 5;
 /// See [`MAX_CREDIT`]: a copy saves more than a look costs.
 const WORTH: usize = 3;
 
-/// Marks are taken to places by their rest of this: a division of 32 bits takes less time than one of 64.
-const PLACED_BY: u64 = 1 << 32;
-
 /// What a mark is multiplied by, so that it spreads.
 const SPREAD: u64 = 0x9E37_79B9_7F4A_7C15;
 
@@ -186,8 +183,7 @@ impl<'a> KeptTexts<'a> {
     fn place_of(&self, mark: u64) -> Option<usize>
         ensures { IfSome result (λ place. place < length self.now.places.items) }
     {
-        let rest = mark % PLACED_BY;
-        (rest as usize).checked_rem(self.places.len())
+        (mark as usize).checked_rem(self.places.len())
     }
 
     /// What is at the place of a mark.

@@ -1,6 +1,6 @@
 //! The listings of getfacl(1), by its options.
 
-ghost use Rattle.std.specs.Prelude.{◌≡◌, ◌==◌, ◌||◌, ◌++◌, ◌∷◌, [], length, is_some, MatchResult, OnOk};
+ghost use Rattle.std.specs.Prelude.{◌≡◌, ◌++◌, ◌∷◌, [], length, MatchResult, OnOk};
 ghost use Rattle.std.specs.Io.{StartsWith};
 ghost use Rattle.acl_text.specs.DumpWriting as dump;
 ghost use Rattle.acl_text.specs.DumpWriting.{list_text};
@@ -30,18 +30,14 @@ fn is_listed(options: &Options, file: &FoundFile<'_>) -> bool
     !(options.skip_base && has_base_alone(file.node()))
 }
 
-/// Whether a directory is seen to be one without a final `/`: it is the root, or has a default list or a file below it.
-fn is_seen(file: &FoundFile<'_>) -> bool
-    ensures { result ≡ ((length file.now.path == 0) || (is_some file.now.node.dacl || file.now.has_below)) }
-{
-    file.path().components().is_empty() || file.node().dacl.is_some() || file.has_below()
-}
-
 /// Whether a final `/` shows that the file is a directory, as nothing else does.
 pub(crate) fn has_slash(file: &FoundFile<'_>) -> bool
     ensures { result ≡ has_slash file.now }
 {
-    file.node().kind == Kind::Directory && !is_seen(file)
+    let is_shown = file.path().components().is_empty()
+        || file.node().dacl.is_some()
+        || file.has_below();
+    file.node().kind == Kind::Directory && !is_shown
 }
 
 /// Adds a line feed. Fails only if memory runs out; then nothing is added.
@@ -68,10 +64,14 @@ pub fn push_path_shown(text: &mut Vec<u8>, file: &FoundFile<'_>) -> Result<(), A
 pub fn push_path(text: &mut Vec<u8>, file: &FoundFile<'_>) -> Result<(), AllocError>
     ensures { Appends result text.old text.new (dump.file_text file.now.path (has_slash file.now)) }
 {
-    text.extend_from_slice(b"# file: ")?;
-    push_path_shown(text, file)?;
-    text.push(b'\n')?;
-    Ok(())
+    let header = Header {
+        path: file.path(),
+        slash: has_slash(file),
+        owner: None,
+        group: None,
+        flags: None,
+    };
+    append_header(text, &header, &NoNames)
 }
 
 /// The flags, where one of them is set.

@@ -141,6 +141,7 @@ goes_on (b ∷ []) rest none never = not_true (eqb b 46) (λ is. never 0 (record
   where
     fits : 3 ≤ suc (suc (suc (length rest)))
     fits = omega arith
+
     reads : b ≡ 46 → (j : ℕ) → j < 3 → slice_index (10 ∷ b ∷ 10 ∷ rest) (0 + j) ≡ slice_index end_between j
     reads is zero lt = refl
     reads is (suc zero) lt = is
@@ -162,7 +163,8 @@ part_lines front line (b ∷ body) lines part none short never =
     let all : IsTextPart (next ++ tail) ((lines + 1) + line_feeds tail) = part_lines next [] body (lines + 1) one tt (omega (arith, short)) (never_past (10 ∷ line) (10 ∷ tail) here) in
     let whole : next ++ tail ≡ front ++ (line ++ (b ∷ tail)) =
     append_assoc front (line ++ 10 ∷ []) tail ∙ ap (λ l. front ++ l) (append_assoc line (10 ∷ []) tail) ∙ ap (λ (x : ℕ). front ++ (line ++ (x ∷ tail))) (sym feed) in
-    let count : (lines + 1) + line_feeds tail ≡ lines + line_feeds (b ∷ tail) = let n : line_feeds (b ∷ tail) ≡ 1 + line_feeds tail = more ∙ ap (λ t. cond t 1 0 + line_feeds tail) yes in omega (arith, n) in
+    let count : (lines + 1) + line_feeds tail ≡ lines + line_feeds (b ∷ tail) = let n : line_feeds (b ∷ tail) ≡ 1 + line_feeds tail = more
+    ∙ ap (λ t. cond t 1 0 + line_feeds tail) yes in omega (arith, n) in
     subst (λ l. IsTextPart l (lines + line_feeds (b ∷ tail))) whole (subst (λ (n : ℕ). IsTextPart (next ++ tail) n) count all))
     (λ no.
     let whole : (line ++ b ∷ []) ++ tail ≡ line ++ (b ∷ tail) = append_assoc line (b ∷ []) tail in
