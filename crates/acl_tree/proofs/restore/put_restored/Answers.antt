@@ -4,7 +4,7 @@ use Rattle.std.proofs.lemmas.Result.{err_from_is_err_and}
 use Rattle.acl_names.specs.Paths.{PathOf}
 use Rattle.acl_edit.specs.declared.node.Node.{Node}
 use Rattle.acl_tree.specs.Files.{Files}
-use Rattle.acl_tree.specs.Inner.{RestoredFile, IsPutOrLeft, PutsOrLeaves, restored, restored_by, paths_in}
+use Rattle.acl_tree.specs.Inner.{RestoredFile, IsPutOrLeft, PutsOrLeaves, restored_by, paths_in}
 use Rattle.acl_tree.proofs.Restored.{refused_first}
 use Rattle.acl_tree.proofs.restore.put_restored.Goals as goal
 
