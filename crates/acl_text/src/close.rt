@@ -9,15 +9,21 @@ use crate::draft::RecordDraft;
 use crate::fault::{FaultKind, TextFault, Which};
 use crate::record::{DumpRecord, DumpUse};
 use crate::seen::{Seen, watch};
+use crate::shared::Shared;
 use acl_entry::{Acl, Entry, ListFault};
 use std::alloc::{AllocError, Global};
 
 /// The list of a record's entries, or its fault.
-fn list_of(alloc: Global, at: usize, which: Which, entries: &[Entry]) -> Result<Acl, TextFault>
+fn list_of(
+    alloc: Global,
+    at: usize,
+    which: Which,
+    entries: &[Entry],
+) -> Result<Shared<Acl>, TextFault>
     ensures { GivesAt at (λ acl. acl) result (list_of which entries.now) }
 {
     match Acl::from_entries(alloc, entries) {
-        Ok(acl) => Ok(acl),
+        Ok(acl) => Ok(Shared::new(alloc, acl)?),
         Err(ListFault::NoMemory) => Err(TextFault {
             kind: FaultKind::NoMemory,
             at,
@@ -30,7 +36,11 @@ fn list_of(alloc: Global, at: usize, which: Which, entries: &[Entry]) -> Result<
 }
 
 /// The default list of a record's entries; `None` without entries.
-fn default_list_of(alloc: Global, at: usize, entries: &[Entry]) -> Result<Option<Acl>, TextFault>
+fn default_list_of(
+    alloc: Global,
+    at: usize,
+    entries: &[Entry],
+) -> Result<Option<Shared<Acl>>, TextFault>
     ensures { GivesAt at (λ acl. acl) result (default_list_of entries.now) }
 {
     if entries.is_empty() {
@@ -54,7 +64,7 @@ fn lists_of(
     alloc: Global,
     dump_use: DumpUse,
     draft: &RecordDraft,
-) -> Result<(Acl, Option<Acl>), TextFault>
+) -> Result<(Shared<Acl>, Option<Shared<Acl>>), TextFault>
     ensures { GivesAt draft.now.at (λ lists. record_with draft.now lists.0 lists.1) result (record_of dump_use draft.now) }
 {
     let at = draft.at;
@@ -70,7 +80,7 @@ fn lists_of(
 }
 
 /// The record that has these lists, and all else of its lines.
-fn record_with(draft: RecordDraft, access: Acl, dacl: Option<Acl>) -> DumpRecord
+fn record_with(draft: RecordDraft, access: Shared<Acl>, dacl: Option<Shared<Acl>>) -> DumpRecord
     ensures { result ≡ record_with draft access dacl }
 {
     DumpRecord {

@@ -11,6 +11,7 @@ use crate::effective::Effective;
 use crate::entries::Form;
 use crate::fault::Which;
 use crate::naming::Names;
+use crate::shared::Shared;
 use crate::writing::append_entry;
 use acl_entry::{Acl, Entry, Key, Perm};
 use std::alloc::AllocError;
@@ -170,7 +171,7 @@ pub fn append_list<N: Names>(
 /// Adds the default list, if there is one, as [`append_list`] adds it.
 pub(crate) fn append_default<N: Names>(
     text: &mut Vec<u8>,
-    dacl: &Option<Acl>,
+    dacl: &Option<Shared<Acl>>,
     how: Effective,
     names: &N,
 ) -> Result<(), AllocError>
@@ -178,6 +179,6 @@ pub(crate) fn append_default<N: Names>(
 {
     match dacl {
         None => Ok(()),
-        Some(acl) => append_list(text, acl, Which::Default, how, names),
+        Some(acl) => append_list(text, acl.get(), Which::Default, how, names),
     }
 }

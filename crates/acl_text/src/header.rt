@@ -10,6 +10,7 @@ use crate::effective::Effective;
 use crate::fault::Which;
 use crate::naming::Names;
 use crate::record::DumpRecord;
+use crate::shared::Shared;
 use crate::writing::append_id;
 use acl_entry::{Acl, Id};
 use acl_names::{Path, append_path};
@@ -167,18 +168,17 @@ fn push_lists<N: Names>(
     ensures { Appends result text.old text.new (list_text (N.naming names.now) Effective.WhereMasked Which.Access dump_record.now.access
         ++ (default_text (N.naming names.now) Effective.WhereMasked dump_record.now.dacl ++ 10 ∷ [])) }
 {
-    append_list(
-        text,
-        &dump_record.access,
-        Which::Access,
-        Effective::WhereMasked,
-        names,
-    )?;
+    let access = dump_record.access.get();
+    append_list(text, access, Which::Access, Effective::WhereMasked, names)?;
     end_record(text, &dump_record.dacl, names)
 }
 
 /// Ends a record: its default list, if there is one, and an empty line.
-fn end_record<N: Names>(text: &mut Vec<u8>, dacl: &Option<Acl>, names: &N) -> Result<(), AllocError>
+fn end_record<N: Names>(
+    text: &mut Vec<u8>,
+    dacl: &Option<Shared<Acl>>,
+    names: &N,
+) -> Result<(), AllocError>
     ensures { Appends result text.old text.new (default_text (N.naming names.now) Effective.WhereMasked dacl.now ++ 10 ∷ []) }
 {
     append_default(text, dacl, Effective::WhereMasked, names)?;

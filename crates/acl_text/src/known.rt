@@ -18,6 +18,7 @@ use crate::item::bad_header;
 use crate::line::{LineKind, content_of};
 use crate::naming::Names;
 use crate::record::{DumpRecord, DumpUse};
+use crate::shared::Shared;
 use acl_entry::Acl;
 use acl_names::cut::{cut, first_piece};
 use std::alloc::{AllocError, Global};
@@ -107,7 +108,7 @@ fn read_lines<'a, N: Names>(
 {
     if let Some((known, after)) = bodies.first_known(text) {
         bodies.missed = 0;
-        push_like(alloc, records, known.place, draft)?;
+        push_like(records, known.place, draft)?;
         return Ok((known.body.lines, after));
     }
     if bodies.is_next_looked_for() {
@@ -184,7 +185,7 @@ fn read_body<'a, N: Names>(
 {
     let mark = mark_of(body.bytes);
     if let Some(known) = bodies.find(mark, body.bytes) {
-        push_like(alloc, records, known.place, draft)?;
+        push_like(records, known.place, draft)?;
         return Ok(());
     }
     let place = records.len();
@@ -196,7 +197,6 @@ fn read_body<'a, N: Names>(
 
 /// Adds a record that has all but its `# file:` line from the one at a place.
 fn push_like(
-    alloc: Global,
     records: &mut Vec<DumpRecord>,
     place: usize,
     draft: RecordDraft,
@@ -204,21 +204,17 @@ fn push_like(
     requires { place < length records.old.items }
     ensures { OnOk result ((other : DumpRecord) → records.new.items ≡ records.old.items ++ moved draft.at draft.path draft.slash (slice_index_or records.old.items place other) ∷ []) }
 {
-    let record = record_like(alloc, &records[place], draft)?;
+    let record = record_like(&records[place], draft)?;
     records.push(record)?;
     Ok(())
 }
 
 /// The record of a `# file:` line that has all else from another.
-fn record_like(
-    alloc: Global,
-    other: &DumpRecord,
-    draft: RecordDraft,
-) -> Result<DumpRecord, AllocError>
+fn record_like(other: &DumpRecord, draft: RecordDraft) -> Result<DumpRecord, AllocError>
     ensures { IfOk result (λ r. r ≡ moved draft.at draft.path draft.slash other.now) }
 {
-    let access = other.access.try_clone(alloc)?;
-    let dacl = clone_if(alloc, &other.dacl)?;
+    let access = other.access.share()?;
+    let dacl = share_if(&other.dacl)?;
     Ok(DumpRecord {
         at: draft.at,
         path: draft.path,
@@ -231,13 +227,13 @@ fn record_like(
     })
 }
 
-/// A copy of a list, if there is one.
-fn clone_if(alloc: Global, acl: &Option<Acl>) -> Result<Option<Acl>, AllocError>
-    ensures { IfOk result (λ copy. copy ≡ acl.now) }
+/// A list, shared, if there is one.
+fn share_if(acl: &Option<Shared<Acl>>) -> Result<Option<Shared<Acl>>, AllocError>
+    ensures { IfOk result (λ same. same ≡ acl.now) }
 {
     match acl {
         None => Ok(None),
-        Some(acl) => Ok(Some(acl.try_clone(alloc)?)),
+        Some(acl) => Ok(Some(acl.share()?)),
     }
 }
 

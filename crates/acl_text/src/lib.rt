@@ -33,6 +33,7 @@ mod passwd;
 mod record;
 mod rows;
 mod seen;
+mod shared;
 mod table;
 mod user_name;
 mod writing;
@@ -62,6 +63,7 @@ pub use naming::{Names, NoNames, read_group_word, read_user_word};
 pub use passwd::read_passwd;
 pub use record::{DumpRecord, DumpUse};
 pub use rows::{GroupRow, MAX_ROWS, NameList, PasswdRow};
+pub use shared::Shared;
 pub use user_name::is_user_name;
 pub use writing::{append_entry, append_id, append_short, write_long, write_short};
 

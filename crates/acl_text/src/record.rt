@@ -1,5 +1,6 @@
 //! The records of a dump.
 
+use crate::shared::Shared;
 use acl_entry::{Acl, Id};
 use acl_names::Path;
 
@@ -12,7 +13,7 @@ pub enum DumpUse {
     Restore,
 }
 
-/// A file as in a record of a dump.
+/// A file as in a record of a dump. It shares its lists with records that have the same lines.
 #[derive(Drop)]
 pub struct DumpRecord {
     /// The number of its `# file:` line, counted from 1.
@@ -24,7 +25,7 @@ pub struct DumpRecord {
     pub group: Option<Id>,
     /// Whether the file has set user ID, set group ID, and is sticky, where the record has a `# flags:` line.
     pub flags: Option<[bool; 3]>,
-    pub access: Acl,
+    pub access: Shared<Acl>,
     /// The default list, where the record has default entries.
-    pub dacl: Option<Acl>,
+    pub dacl: Option<Shared<Acl>>,
 }

@@ -62,7 +62,7 @@ fn names_with_escapes(rt: HostRuntime) {
         expect_row(
             &rt,
             row,
-            record.owner == Id::new(1000) && record.access.mode() == 0o751,
+            record.owner == Id::new(1000) && record.access.get().mode() == 0o751,
         );
     }
 }

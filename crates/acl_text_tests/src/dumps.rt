@@ -63,9 +63,14 @@ fn access_text<N: Names>(
 ) -> Vec<u8> {
     let mut text = Vec::new(alloc);
     for record in &load(rt, alloc, SOMEDIR) {
-        append_list(&mut text, &record.access, Which::Access, effective, names).expect(
-            rt, "memory",
-        );
+        append_list(
+            &mut text,
+            record.access.get(),
+            Which::Access,
+            effective,
+            names,
+        )
+        .expect(rt, "memory");
     }
     text
 }
@@ -266,7 +271,7 @@ fn with_users(rt: &impl Abort, alloc: Global, users: u32) -> Vec<u8> {
 fn length_of(alloc: Global, bytes: &[u8]) -> Result<Option<usize>, TextFault> {
     match read_dump(alloc, bytes, DumpUse::Restore, &NoNames) {
         Ok(records) => match records.first() {
-            Some(record) => Ok(Some(record.access.entries().len())),
+            Some(record) => Ok(Some(record.access.get().entries().len())),
             None => Ok(None),
         },
         Err(fault) => Err(fault),

@@ -177,6 +177,7 @@ fn a_dump(rt: HostRuntime) {
         access,
         dacl,
     } = &records[0];
+    let access: &Acl = access.get();
     assert!(rt; *at == 1 && *slash && owner.is_none() && group.is_none() && dacl.is_none());
     assert!(rt; *flags == Some([false, false, true]) && access.mode() == 0o750);
 }

@@ -56,5 +56,5 @@ pub use acl_entry::{Acl, Id, Key, Label, ListFault, NoMemory, Subject};
 pub use acl_names::{Name, Path, read_name};
 pub use acl_people::{People, UserName};
 pub use acl_text::{
-    DumpRecord, DumpUse, FaultKind, Names, NoNames, Spec, TextFault, Which, read_dump,
+    DumpRecord, DumpUse, FaultKind, Names, NoNames, Shared, Spec, TextFault, Which, read_dump,
 };

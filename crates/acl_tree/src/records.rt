@@ -13,9 +13,9 @@ ghost use Rattle.acl_tree.specs.Operands.{in_region};
 use crate::alike::AlikeNodes;
 use crate::region::{Region, numbers_in};
 use acl_edit::{Kind, Node};
-use acl_entry::{Id, Label};
+use acl_entry::{Acl, Id, Label};
 use acl_names::Path;
-use acl_text::DumpRecord;
+use acl_text::{DumpRecord, Shared};
 use kinds::{KindMap, KindMapBuilder, KindPuts};
 use std::alloc::{AllocError, Global};
 
@@ -66,22 +66,33 @@ fn id_or_root(id: Option<Id>) -> Id
     }
 }
 
-/// The file of a record.
-fn file_of(has_below: bool, entry: DumpRecord) -> (Path, Node)
-    ensures { result ≡ (entry.path, node_of has_below entry) }
+/// A copy of a record's default list, if there is one. Fails only if memory runs out.
+pub fn copy_of(alloc: Global, dacl: &Option<Shared<Acl>>) -> Result<Option<Acl>, AllocError>
+    ensures { IfOk result (λ copy. copy ≡ dacl.now) }
 {
-    let kind = kind_of(has_below, &entry);
+    match dacl {
+        None => Ok(None),
+        Some(acl) => Ok(Some(acl.get().try_clone(alloc)?)),
+    }
+}
+
+/// The file of a record, with copies of its lists. Fails only if memory runs out.
+fn file_of(alloc: Global, has_below: bool, entry: DumpRecord) -> Result<(Path, Node), AllocError>
+    ensures { IfOk result (λ file. file ≡ (entry.path, node_of has_below entry)) }
+{
+    let acl = entry.access.get().try_clone(alloc)?;
+    let dacl = copy_of(alloc, &entry.dacl)?;
     let node = Node {
-        kind,
+        kind: kind_of(has_below, &entry),
         label: Label {
             owner: id_or_root(entry.owner),
             group: id_or_root(entry.group),
-            acl: entry.access,
+            acl,
         },
         flags: entry.flags.unwrap_or([false; 3]),
-        dacl: entry.dacl,
+        dacl,
     };
-    (entry.path, node)
+    Ok((entry.path, node))
 }
 
 /// Whether the first of the records that follow in path order, which are given from the last to the first, is below a path.
@@ -106,8 +117,8 @@ fn free_moved(left: &mut Vec<DumpRecord>)
     }
 }
 
-/// The map of the files of records that are in path order. Paths and lists are moved out of the records into the map, and
-/// memory of records is freed meanwhile.
+/// The map of the files of records that are in path order. Paths are moved out of the records into the map, and memory of
+/// records is freed meanwhile.
 fn map_of(alloc: Global, sorted: Vec<DumpRecord>) -> Result<KindMap<Node>, AllocError>
     requires { IsInOrder (files_from sorted.items) }
     ensures { IfOk result (λ files. entries_in files ≡ files_from sorted.items) }
@@ -117,7 +128,8 @@ fn map_of(alloc: Global, sorted: Vec<DumpRecord>) -> Result<KindMap<Node>, Alloc
     left.reverse();
     while let Some(entry) = left.pop() {
         let has_below = is_followed_below(&entry.path, &left);
-        let (path, node) = file_of(has_below, entry);
+        let file = file_of(alloc, has_below, entry)?;
+        let (path, node) = file;
         files = files.push(alloc, path, node, &AlikeNodes)?;
         free_moved(&mut left);
     }

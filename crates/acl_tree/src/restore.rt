@@ -20,6 +20,7 @@ use crate::alike::AlikeNodes;
 use crate::edit::{FileFault, NodeEdit, edit_one};
 use crate::fault::TreeFault;
 use crate::files::Files;
+use crate::records::copy_of;
 use crate::region::Region;
 use acl_edit::{EditFault, Kind, Node, restore_node};
 use acl_names::Path;
@@ -83,11 +84,12 @@ impl NodeEdit for Restored<'_> {
 
     fn edited(&self, alloc: Global, node: &Node) -> Result<Node, EditFault> {
         let entry = self.entry;
+        let dacl = copy_of(alloc, &entry.dacl)?;
         restore_node(
             alloc,
             node,
-            &entry.access,
-            &entry.dacl,
+            entry.access.get(),
+            &dacl,
             entry.owner,
             entry.group,
             entry.flags,
@@ -157,7 +159,7 @@ fn has_recorded_default(node: &Node, entry: &DumpRecord) -> bool
 {
     match (&entry.dacl, &node.dacl) {
         (None, None) => true,
-        (Some(one), Some(other)) => node.kind == Kind::Directory && one.same(other),
+        (Some(one), Some(other)) => node.kind == Kind::Directory && one.get().same(other),
         _ => false,
     }
 }
@@ -169,7 +171,7 @@ fn is_as_recorded(node: &Node, entry: &DumpRecord) -> bool
     if !has_ids(node, entry) || !has_recorded_flags(node, entry) {
         return false;
     }
-    if !entry.access.same(&node.label.acl) {
+    if !entry.access.get().same(&node.label.acl) {
         return false;
     }
     has_recorded_default(node, entry)

@@ -1,4 +1,4 @@
-use Rattle.std.proofs.Common.{[], ◌∷◌, ◌++◌}
+use Rattle.std.proofs.Common.{[], ◌∷◌, ◌++◌, ap, ◌∙◌}
 use Rattle.acl_text.specs.declared.fault.Which.TheVariants.{Access}
 use Rattle.acl_text.specs.declared.effective.Effective.TheVariants.{WhereMasked}
 use Rattle.acl_text.specs.DumpWriting.{list_text, default_text}
@@ -12,4 +12,4 @@ returns g c =
     appends_both c.end_record.result c.args.text.now c.append_list.new.text c.end_record.new.text
     (list_text naming WhereMasked Access r.access)
     (default_text naming WhereMasked r.dacl ++ 10 ∷ [])
-    c.in_ok-append_list.ensures c.end_record.ensures
+    (c.in_ok-append_list.ensures ∙ ap (λ acl. c.args.text.now.items ++ list_text naming WhereMasked Access acl) c.get-access.ensures) c.end_record.ensures

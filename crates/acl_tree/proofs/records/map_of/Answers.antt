@@ -20,18 +20,18 @@ push-requires c =
     let is : c.is_followed_below-has_below.result ≡ next_below c.in-Some.entry.path (reverse left) =
     c.is_followed_below-has_below.ensures ∙ ap (λ l. next_below c.in-Some.entry.path (reverse l)) c.deref.ensures.value
     in
-    let file : (c.file_of-path.result.0, c.file_of-path.result.1) ≡ (c.in-Some.entry.path, node_of (next_below c.in-Some.entry.path (reverse left)) c.in-Some.entry) =
-    c.file_of-path.ensures ∙ ap (λ b. (c.in-Some.entry.path, node_of b c.in-Some.entry)) is
+    let file : c.in_ok-file.file ≡ (c.in-Some.entry.path, node_of (next_below c.in-Some.entry.path (reverse left)) c.in-Some.entry) =
+    c.in_ok-file.ensures ∙ ap (λ b. (c.in-Some.entry.path, node_of b c.in-Some.entry)) is
     in
     let step : c.loop-entry.files ++ files_from (c.in-Some.entry ∷ reverse left) ≡ files_from c.args.sorted.items =
     ap (λ rs. c.loop-entry.files ++ files_from rs) (sym (ap (λ l. reverse l) c.in-Some.ensures.items ∙ reverse-end left c.in-Some.entry)) ∙ c.loop-entry.invariant
     in
-    let whole : (c.loop-entry.files ++ (c.file_of-path.result.0, c.file_of-path.result.1) ∷ []) ++ files_from (reverse left) ≡ files_from c.args.sorted.items =
+    let whole : (c.loop-entry.files ++ c.in_ok-file.file ∷ []) ++ files_from (reverse left) ≡ files_from c.args.sorted.items =
     ap (λ e. (c.loop-entry.files ++ e ∷ []) ++ files_from (reverse left)) file
     ∙ append_assoc c.loop-entry.files ((c.in-Some.entry.path, node_of (next_below c.in-Some.entry.path (reverse left)) c.in-Some.entry) ∷ []) (files_from (reverse left))
     ∙ step
     in
-    in_order-left (c.loop-entry.files ++ (c.file_of-path.result.0, c.file_of-path.result.1) ∷ []) (files_from (reverse left)) (subst (λ (es : Files). IsInOrder es) (sym whole) c.requires)
+    in_order-left (c.loop-entry.files ++ c.in_ok-file.file ∷ []) (files_from (reverse left)) (subst (λ (es : Files). IsInOrder es) (sym whole) c.requires)
 
 pub loop-entry-preserved : goal.loop-entry-preserved
 loop-entry-preserved c =
@@ -39,8 +39,8 @@ loop-entry-preserved c =
     let is : c.is_followed_below-has_below.result ≡ next_below c.in-Some.entry.path (reverse left) =
     c.is_followed_below-has_below.ensures ∙ ap (λ l. next_below c.in-Some.entry.path (reverse l)) c.deref.ensures.value
     in
-    let file : (c.file_of-path.result.0, c.file_of-path.result.1) ≡ (c.in-Some.entry.path, node_of (next_below c.in-Some.entry.path (reverse left)) c.in-Some.entry) =
-    c.file_of-path.ensures ∙ ap (λ b. (c.in-Some.entry.path, node_of b c.in-Some.entry)) is
+    let file : c.in_ok-file.file ≡ (c.in-Some.entry.path, node_of (next_below c.in-Some.entry.path (reverse left)) c.in-Some.entry) =
+    c.in_ok-file.ensures ∙ ap (λ b. (c.in-Some.entry.path, node_of b c.in-Some.entry)) is
     in
     (λ i. c.in_ok-files.ensures i ++ files_from (reverse (c.free_moved.ensures i)))
     ∙ ap (λ e. (c.loop-entry.files ++ e ∷ []) ++ files_from (reverse left)) file
