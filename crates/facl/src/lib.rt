@@ -2,7 +2,8 @@
 //! refused.
 //!
 //! [`run`] loads three texts, answers a script line by line, and writes what each line prints. Its contract is the
-//! whole: what is written are the bytes of a session made from scratch.
+//! whole: what is written are the bytes of a session made from scratch. [`initial_state`] and [`run_from`] are its two
+//! steps, for a caller that frees the texts between them.
 //!
 //! Each tool has one file, in `facl_tools` or, where it asks who may do what, below `tools`: its syntax, its reader from
 //! the words of a line to a value of its own type (`None`: usage), and what it does at a state. `tool_line` reads a
@@ -21,8 +22,8 @@ mod tools;
 mod words;
 
 pub use laws::lines_are_refused_for_their_first_fault;
-pub use program::{run, run_judged};
-pub use setup::Setup;
+pub use program::{run, run_from, run_judged};
+pub use setup::{Setup, initial_state};
 pub use status::Status;
 pub use tools::laws::{
     each_tool_has_its_row, lines_are_refused_for_the_first_fault_of_their_command,
@@ -47,7 +48,7 @@ pub use facl_tools::{
 };
 // The public calls take and give these values of the crates below.
 pub use acl_entry::{Label, Perm, Requests, Subject};
-pub use acl_rights::{IndexedState, Judge, Verdicts};
+pub use acl_rights::{IndexedState, Judge, Posix, Verdicts};
 pub use acl_tree::State;
 pub use facl_output::{LineFault, RunFault, Source, push_run_fault};
 pub use facl_script::{

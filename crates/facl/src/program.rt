@@ -1,6 +1,6 @@
 //! A run over a script.
 
-ghost use Rattle.std.specs.Prelude.{◌≡◌, ◌⊎◌, ℕ, true, false, IfOk, IfErr, IfSome, OnOk, Err};
+ghost use Rattle.std.specs.Prelude.{◌≡◌, ◌⊎◌, ℕ, true, false, IfOk, IfErr, IfSome, OnOk, Ok, Err};
 ghost use Rattle.std.specs.Io.KnownBytes.{IsAtEnd};
 ghost use Rattle.acl_entry.specs.Check.{rights};
 ghost use Rattle.facl_script.specs.Streams.{streams};
@@ -8,12 +8,55 @@ ghost use Rattle.facl.specs.Setups.{initial_state};
 ghost use Rattle.facl.specs.Runs.{RunsTo, EndsBy, devices};
 
 use crate::session::{FaclSession, JudgedSession};
-use crate::setup::{Setup, start};
+use crate::setup::{Setup, initial_state};
 use crate::status::Status;
 use acl_rights::{Judge, Posix};
+use acl_tree::State;
 use facl_output::RunFault;
 use facl_script::{Feed, Sink, run_session};
 use std::alloc::Global;
+
+/// [`run_judged`] after its setup: answers a script from the state on that [`initial_state`] returns.
+/// The texts of the setup can be freed before.
+///
+/// # Errors
+///
+/// Those of [`run`], but for `Setup`.
+pub fn run_from<J: Judge, R: Feed, O: Sink, E: Sink>(
+    alloc: Global,
+    state: State,
+    judge: &mut J,
+    reader: &mut R,
+    out: &mut O,
+    err: &mut E,
+) -> Result<Status, RunFault>
+    requires asked { J.asked_of judge.old ≡ 0 }
+    requires reader { R.has_failed reader.old ≡ false }
+    requires out { O.has_failed out.old ≡ false }
+    requires err { E.has_failed err.old ≡ false }
+
+    ensures ok { IfOk result (λ status. IfSome (R.remaining reader.old) (λ script.
+        RunsTo J.verdict_of (Ok state) script status (J.asked_of judge.new)
+        (streams (O.contents out.old) (E.contents err.old)) (streams (O.contents out.new) (E.contents err.new)))) }
+    ensures fault { IfErr result (λ fault.
+        EndsBy fault J.verdict_of (Ok state) (J.asked_of judge.new)
+        (devices (R.remaining reader.old) (O.contents out.old) (E.contents err.old))
+        (devices (R.remaining reader.new) (O.contents out.new) (E.contents err.new))) }
+
+    // A status comes only once the reader is at its end, and where no device has failed.
+    ensures end { OnOk result (IsAtEnd (R.remaining reader.new)) }
+    ensures works { OnOk result ((R.has_failed reader.new ≡ false)
+        × (O.has_failed out.new ≡ false) × (E.has_failed err.new ≡ false)) }
+
+    // A fault of a device is returned only where that device has failed.
+    ensures read { result ≡ Err RunFault.Read → R.has_failed reader.new ≡ true }
+    ensures write { result ≡ Err RunFault.Write → (O.has_failed out.new ≡ true) ⊎ (E.has_failed err.new ≡ true) }
+{
+    let session = FaclSession::new(alloc, judge, state)?;
+    let mut judged = JudgedSession { judge, session };
+    let is_refused = run_session(alloc, &mut judged, reader, out, err)?;
+    Ok(Status::of(is_refused))
+}
 
 /// [`run`] with a judge of who may do what in the place of acl(5)'s check. The judge is asked for at most one verdict for
 /// each user and file at the start, and for each accepted line at most one more for each verdict that it can have
@@ -53,11 +96,8 @@ pub fn run_judged<J: Judge, R: Feed, O: Sink, E: Sink>(
     ensures read { result ≡ Err RunFault.Read → R.has_failed reader.new ≡ true }
     ensures write { result ≡ Err RunFault.Write → (O.has_failed out.new ≡ true) ⊎ (E.has_failed err.new ≡ true) }
 {
-    let state = start(alloc, setup)?;
-    let session = FaclSession::new(alloc, judge, state)?;
-    let mut judged = JudgedSession { judge, session };
-    let is_refused = run_session(alloc, &mut judged, reader, out, err)?;
-    Ok(Status::of(is_refused))
+    let state = initial_state(alloc, setup)?;
+    run_from(alloc, state, judge, reader, out, err)
 }
 
 /// Loads the setup's texts, then answers a script: reads it line by line, and writes what each line prints to `out`,

@@ -78,8 +78,13 @@ fn with_text(
     }
 }
 
-/// The state before the first line.
-pub(crate) fn start(alloc: Global, setup: &Setup<'_>) -> Result<State, RunFault>
+/// The state before the first line of a script: the texts of a setup, loaded one after another. None of them is needed after
+/// that.
+///
+/// # Errors
+///
+/// `Setup` is the first text that is refused. `NoMemory`: memory ran out.
+pub fn initial_state(alloc: Global, setup: &Setup<'_>) -> Result<State, RunFault>
     ensures { MatchResult result
         (λ state. initial_state setup.now ≡ Ok state)
         (λ fault. fault ≢ RunFault.NoMemory → initial_state setup.now ≡ Err fault) }

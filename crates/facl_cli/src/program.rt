@@ -13,7 +13,7 @@ use crate::args::files_named;
 use crate::fault::{ProgramFault, write_fault};
 use crate::file_store::FileStore;
 use crate::files::read_texts;
-use facl::{Status, run};
+use facl::{Posix, Status, initial_state, run_from};
 use facl_script::{Feed, Sink};
 use std::alloc::Global;
 use std::process::ExitCode;
@@ -60,7 +60,10 @@ pub(crate) fn answer_words<S: FileStore, R: Feed, O: Sink, E: Sink>(
 {
     let files = files_named(alloc, words)?;
     let texts = read_texts(alloc, store, files)?;
-    let status = run(alloc, &texts.setup(), reader, out, err)?;
+    let state = initial_state(alloc, &texts.setup())?;
+    drop(texts);
+    let mut judge = Posix::new();
+    let status = run_from(alloc, state, &mut judge, reader, out, err)?;
     Ok(status)
 }
 

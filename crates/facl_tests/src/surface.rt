@@ -4,8 +4,8 @@
 use crate::judges::OwnerAlone;
 use crate::texts::WHOLE;
 use facl::{
-    Feed, Judge, LineFault, RunFault, Setup, Sink, Source, Status, StdFeed, StdSink, Tool, Words,
-    read_args, read_words, run, run_judged,
+    Feed, Judge, LineFault, Posix, RunFault, Setup, Sink, Source, State, Status, StdFeed, StdSink,
+    Tool, Words, initial_state, read_args, read_words, run, run_from, run_judged,
 };
 use std::alloc::Global;
 use std::io;
@@ -26,6 +26,23 @@ fn a_session(rt: HostRuntime) {
     assert!(rt; ended.ok() == Some(Status::Refused) && Status::Refused.code() == 1);
     assert!(rt; out.as_slice() == b"f [u::rw-,u:joe:rwx,g::r--,m::rwx,o::---]\n".as_slice());
     assert!(rt; err.as_slice() == b"line 3: facl: unknown tool\n".as_slice());
+}
+
+#[test]
+fn a_session_after_its_setup(rt: HostRuntime) {
+    let state: Result<State, RunFault> = initial_state(rt.alloc(), &WHOLE);
+    let mut judge: Posix = Posix::new();
+    let mut out: Vec<u8> = Vec::new(rt.alloc());
+    let ended: Result<Status, RunFault> = run_from(
+        rt.alloc(),
+        state.expect(&rt, "a state"),
+        &mut judge,
+        &mut StdFeed::new(b"chacl -l f\n".as_slice()),
+        &mut StdSink::new(&mut out),
+        &mut StdSink::new(Vec::new(rt.alloc())),
+    );
+    assert!(rt; ended.ok() == Some(Status::Accepted) && judge.asked() == 15);
+    assert!(rt; out.as_slice() == b"f [u::rw-,g::r--,o::---]\n".as_slice());
 }
 
 #[test]

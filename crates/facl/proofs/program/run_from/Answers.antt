@@ -1,11 +1,10 @@
-use Rattle.std.proofs.Common.{rules, ◌∙◌, ℕ, sym, ap, subst}
+use Rattle.std.proofs.Common.{rules, ◌∙◌, ℕ, Ok, refl, sym, ap, subst}
 use Rattle.std.proofs.lemmas.Result.{err_from_is_err_and}
 use Rattle.facl_output.specs.Faults.{run_fault_of_script}
 use Rattle.facl.specs.Runs.{EndsBy, devices}
 use Rattle.facl.specs.Sessions.{states_of}
-use Rattle.facl.specs.Setups.{initial_state}
 use Rattle.facl.proofs.Ending.{ends_by}
-use Rattle.facl.proofs.program.run_judged.Goals as goal
+use Rattle.facl.proofs.program.run_from.Goals as goal
 
 pub returns-in_err-is_refused-clause-fault : goal.returns-in_err-is_refused-clause-fault
 returns-in_err-is_refused-clause-fault g c =
@@ -14,9 +13,9 @@ returns-in_err-is_refused-clause-fault g c =
     let asked = g.J.Judge.asked_of c.run_session.new.session.judge.now in
     let old = devices (g.R.Feed.remaining c.args.reader.now) (g.O.Sink.contents c.args.out.now) (g.E.Sink.contents c.args.err.now) in
     let new = devices (g.R.Feed.remaining c.run_session.new.reader) (g.O.Sink.contents c.run_session.new.out) (g.E.Sink.contents c.run_session.new.err) in
-    let ends = ends_by c.in_err-is_refused.field-0.0 V (initial_state c.args.setup.now) c.in_ok-state.state (states_of c.in_ok-session.session)
+    let ends = ends_by c.in_err-is_refused.field-0.0 V (Ok c.args.state) c.args.state (states_of c.in_ok-session.session)
     (states_of c.run_session.new.session.session) _ asked old new
-    c.in_ok-state.ensures c.in_ok-session.ensures.state c.in_ok-session.ensures.asked c.in_err-is_refused.ensures.answers in
+    refl c.in_ok-session.ensures.state c.in_ok-session.ensures.asked c.in_err-is_refused.ensures.answers in
     rw (p.1, p.2)
-    (subst (λ (n : ℕ). EndsBy (run_fault_of_script c.in_err-is_refused.field-0.0) V (initial_state c.args.setup.now) n old new)
+    (subst (λ (n : ℕ). EndsBy (run_fault_of_script c.in_err-is_refused.field-0.0) V (Ok c.args.state) n old new)
     (ap g.J.Judge.asked_of (sym c.drop-judged.ensures ∙ search rules)) ends)
