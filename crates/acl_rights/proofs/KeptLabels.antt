@@ -11,7 +11,6 @@ use Rattle.kinds.specs.Given.{HaveNodes}
 use Rattle.kinds.proofs.Chosen.{paths_same, length_same}
 use Rattle.acl_edit.specs.declared.node.Node.{Node}
 use Rattle.path_classes.specs.declared.label_row.LabelRow.{LabelRow}
-use Rattle.path_classes.specs.ClassedRows.{paths_of}
 use Rattle.acl_rights.specs.KindRows.{AsManyAreSame}
 use Rattle.acl_rights.specs.KeptLabels.{row_by, rows_by, IsRowAt, HaveRows, Keeps}
 
