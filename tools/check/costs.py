@@ -429,7 +429,8 @@ class Step:
         most = self.after.at_or_below(self.changed) * users
         if () in self.changed and len(self.changed) >= max(self.numbers, len(self.after.labels) // 8):
             files = len(self.after.labels) * users
-            return "all files", Bounds(others, others), NONE, Bounds(self.differing(), most, frozenset({files}))
+            either = frozenset({len(self.found_again()) * users, files})
+            return "all files", Bounds(others, others), NONE, Bounds(self.differing(), most, either)
         asked = Bounds(others, len(labels) * users)
         values = {count * users for count in self.counts_of_all()}
         return "files", asked, NONE, Bounds(self.differing(), most, frozenset(values))

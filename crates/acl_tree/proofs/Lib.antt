@@ -28,7 +28,7 @@ pub mod Outside
 pub mod Placed
 pub mod Restored
 pub mod Ancestors
-pub mod Shared
+pub mod PutFile
 pub mod Follows
 pub mod Loaded
 pub mod Mapped

@@ -14,7 +14,7 @@ use Rattle.acl_names.specs.Below.{is_above}
 use Rattle.acl_names.proofs.Basics.{any-map}
 use Rattle.acl_tree.specs.Loading.{insert_record, in_path_order, node_of, has_below, as_files, files_of}
 use Rattle.acl_tree.specs.Inner.{next_below, files_from, next_file_below}
-use Rattle.acl_tree.proofs.Shared.{in_order-put}
+use Rattle.acl_tree.proofs.PutFile.{in_order-put}
 use Rattle.acl_tree.proofs.Follows.{known_by_next}
 
 -- ---- path order

@@ -31,7 +31,7 @@ use Rattle.acl_tree.specs.InnerCommands.{IsNewIn}
 use Rattle.path_map.specs.Below.{holds_below}
 use Rattle.acl_tree.specs.Sound.{IsPlaced, ArePlaced, IsSoundTree}
 use Rattle.acl_tree.proofs.Changes.{none_gone}
-use Rattle.acl_tree.proofs.Shared.{in_order-put}
+use Rattle.acl_tree.proofs.PutFile.{in_order-put}
 
 -- ---- tests of lists
 
