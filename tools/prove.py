@@ -67,8 +67,24 @@ def sums_of(crates: Crates, kit: Kit, wanted: Iterable[str]) -> Dict[str, str]:
     return {crate: sum_of(crate) for crate in wanted}
 
 
+def sum_of_file(path: str) -> str:
+    with open(path, "rb") as file:
+        return hashlib.sha256(file.read()).hexdigest()
+
+
+def sum_below(folder: str) -> str:
+    """A sum of all files below a folder, with their names."""
+    found = hashlib.sha256()
+    for at, folders, names in os.walk(folder):
+        folders.sort()
+        for name in sorted(names):
+            path = os.path.join(at, name)
+            found.update(f"{os.path.relpath(path, folder)}\0{sum_of_file(path)}\0".encode())
+    return found.hexdigest()
+
+
 class Kept:
-    """What was proved, each crate beside a sum of all that its check read."""
+    """What was proved, each crate beside a sum of all that its check read, and one of what the check wrote."""
 
     def __init__(self, crates: Crates, kit: Kit) -> None:
         self.crates, self.kit = crates, kit
@@ -81,11 +97,9 @@ class Kept:
         return os.path.join(KEPT, crate + ".rlib")
 
     def text(self, crate: str) -> str:
-        """What stands beside a crate that is proved: the sum, and of the program its own too."""
-        if crate != PROGRAM:
-            return self.sums[crate]
-        with open(BUILT, "rb") as program:
-            return f"{self.sums[crate]} {hashlib.sha256(program.read()).hexdigest()}"
+        """What stands beside a crate that is proved: the sum of what its check read, and that of its library or program."""
+        made = sum_of_file(BUILT) if crate == PROGRAM else sum_below(self.library(crate))
+        return f"{self.sums[crate]} {made}"
 
     def has(self, crate: str) -> bool:
         """Whether a crate is proved as it is now."""
