@@ -4,14 +4,15 @@ from __future__ import annotations
 import os
 from typing import Dict, List, NamedTuple, Optional
 
-from ..base.names import json_text
+from ..base.names import json_text, number_of
 from ..base.trusted import read_trusted
 
 NAME = b"meta"
 FILES, USERS, GROUPS, LINKED = b"files", b"users", b"groups", b"linked-names"  # How many are recorded.
 EXCLUDED, UNREAD = b"excluded", b"unread"  # How many names are left out, and how many could not be read.
+ASKED = b"users-asked-for"  # Of the users those whom the list of getent lacks.
 PART = b"part"  # Of several snapshots, `001 of 003`.
-NUMBERS = (FILES, USERS, GROUPS, LINKED, EXCLUDED, UNREAD, PART)
+NUMBERS = (FILES, USERS, GROUPS, LINKED, EXCLUDED, UNREAD, ASKED, PART)
 
 
 class Meta(NamedTuple):
@@ -55,10 +56,17 @@ def meta_of(folder: bytes) -> Meta:
     return read_meta(text_of(folder))
 
 
-def fields_of(meta: Meta) -> Dict[str, Optional[str]]:
+def users_asked_for(meta: Meta) -> Optional[int]:
+    """How many of its users the list of getent lacks: those of a directory service whom facl-snapshot asked for, also by
+    --users. None where that is not known."""
+    number = meta.numbers.get(ASKED, b"")
+    return number_of(number) if number.isdigit() else None
+
+
+def fields_of(meta: Meta) -> Dict[str, object]:
     """For JSON."""
-    return {name: None if meta is UNKNOWN else json_text(text) for name,
-            text in (("host", meta.host), ("date", meta.date))}
+    texts = {name: None if meta is UNKNOWN else json_text(text) for name, text in (("host", meta.host), ("date", meta.date))}
+    return {**texts, "users_asked_for": users_asked_for(meta)}
 
 
 def is_of_another_host(meta: Meta) -> bool:

@@ -46,9 +46,9 @@ def check_all(folder: bytes) -> List[bytes]:
 
 
 def meta_of_all(folders: List[bytes]) -> meta.Meta:
-    """What some parts are of, without the numbers of one of them."""
+    """What some parts are of, with the numbers that are those of all."""
     found = meta.meta_of(folders[0])
-    numbers = {key: found.numbers[key] for key in (meta.EXCLUDED,) if key in found.numbers}
+    numbers = {key: found.numbers[key] for key in (meta.EXCLUDED, meta.ASKED) if key in found.numbers}
     unread = [meta.meta_of(it).numbers.get(meta.UNREAD, b"0") for it in folders]
     numbers[meta.UNREAD] = b"%d" % sum(int(it) for it in unread if it.isdigit())
     return found._replace(numbers=numbers)

@@ -10,7 +10,7 @@ from ..base.accounts import is_of_system
 from ..base.names import read_name
 from ..model import meta, sources
 from ..model.entries import read_record
-from ..model.everybody import everybody_in, free_ids, with_row
+from ..model.everybody import everybody_in, free_ids
 from ..model.label_answers import PeopleTexts, ask_labels
 from ..model.people import plain_id, rows_of
 from ..model.snapshot import Snapshot
@@ -28,8 +28,8 @@ class Probes:
 
     def __init__(self, snapshot: Snapshot, bodies: List[bytes], changes: bytes) -> None:
         used = {plain_id(it) for text in (*bodies, changes) for it in re.findall(rb"[0-9]+", text)}
-        everybody = everybody_in(snapshot.passwd, snapshot.group, used, used, changes)
-        self.passwd, self.group = with_row(snapshot.passwd, everybody.passwd), with_row(snapshot.group, everybody.group)
+        everybody = everybody_in(lambda: (snapshot.passwd, snapshot.group, changes, *bodies))
+        self.passwd, self.group = everybody.with_user(snapshot.passwd), everybody.with_group(snapshot.group)
         mentioned = {gid for body in bodies for gid in read_record(body).mentioned_groups()}
         groups = [row for row in rows_of(snapshot.group) if int(row[2]) in mentioned]
         token = os.urandom(8).hex().encode()
@@ -83,4 +83,4 @@ def head_of(folder: bytes, name: bytes) -> Dict[str, object]:
     found = meta.meta_of(folder)
     date = re.sub(rb"T([0-9]+:[0-9]+):[0-9]+Z", rb" \1 UTC", found.date)
     return {"name": shown(name), "host": shown(found.host), "date": shown(date), "version": shown(found.version),
-            "folders": [shown(it) for it in found.folders]}
+            "folders": [shown(it) for it in found.folders], "asked": meta.users_asked_for(found) or 0}

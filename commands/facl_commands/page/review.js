@@ -177,7 +177,7 @@ function drawPeople() {
   const hasRow = it => it.by.length > 0 || it.reads + it.changes + it.enters > 0 || named.has("user " + it.name);
   const table = element("table", {className: "counts"}, headRow("Person", "Entries", "Reads", "Changes", "Enters", "By"),
     element("tbody", {}, ...data.people.filter(hasRow).map(personRow)));
-  const nobody = data.people.filter(it => !hasRow(it)).map(it => it.name);
+  const nobody = data.people.slice(1).filter(it => !hasRow(it)).map(it => it.name); // Everybody else is the first.
   box.append(element("p", {textContent: "How many of the files and folders each person may read and change, and how many of the folders enter"
     + (data.alone ? ", each judged alone." : ", along paths.")}), element("div", {className: "wide"}, table));
   if (nobody.length) box.append(element("p", {id: "nobody", textContent: "Nothing: " + (nobody.length > 50 ? counted(nobody.length, "other person", "other people") : nobody.join(", "))}));

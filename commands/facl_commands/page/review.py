@@ -20,6 +20,7 @@ from ..base.numbered import Numbered
 from ..base.trusted import read_trusted
 from ..model import choice, meta, overview, sources
 from ..model.entries import GROUP, MASK, NOTHING, OTHER, USER, Entry, NamesOfIds, entries_of, read_record
+from ..model.everybody import SHOWN, Everybody, everybody_in
 from ..model.label_answers import LabelAnswers, PeopleTexts, ask_labels
 from ..model.snapshot import check_texts
 from ..model.sources import Source
@@ -30,7 +31,7 @@ from .tree import Labels, ListedRecord, PageTree, records_of
 
 READ, WRITE, SEARCH = 4, 2, 1  # Requests, which are bits of a byte of `index`.
 STYLE, SCRIPT = "review.css", "review.js"
-MOST, OTHERS = b"at most (mask)", b"everybody else"
+MOST = b"at most (mask)"
 
 
 class Reviewed(NamedTuple):
@@ -42,7 +43,7 @@ class Reviewed(NamedTuple):
 
 
 class Person(NamedTuple):
-    name: bytes  # As the program prints it.
+    name: bytes  # As the page has it.
     place: int  # In the answers.
 
 
@@ -156,7 +157,7 @@ def who_of(entry: Entry, names: Tuple[bytes, bytes], ids: NamesOfIds, is_default
     if entry.is_named():
         return text_of(ids.shown(entry.key))
     mine, its = (b"its owner", b"its group") if is_default else (b"owner " + names[0], b"owning group " + names[1])
-    return text_of({USER: mine, GROUP: its, MASK: MOST, OTHER: OTHERS}[entry.key[0]])
+    return text_of({USER: mine, GROUP: its, MASK: MOST, OTHER: SHOWN}[entry.key[0]])
 
 
 @lru_cache(maxsize=None)
@@ -212,7 +213,7 @@ def facts_of(reviewed: Reviewed, source: Source, name: str) -> List[List[str]]:
     folders = sum(record.is_directory for record in reviewed.records)
     facts = [["host", text_of(about.host)], ["date", text_of(about.date)], ["folder", name],
              ["version", text_of(about.version)], ["files", str(len(reviewed.records) - folders)],
-             ["folders", str(folders)]]
+             ["folders", str(folders)], ["users of a directory service", str(meta.users_asked_for(about) or "")]]
     return [[title, text] for title, text in facts if text]
 
 
@@ -226,15 +227,22 @@ def columns_of(reviewed: Reviewed, labels: Labels) -> Tuple[Dict[str, object], L
     return {"parents": tree.parents, "names": names, "lists": lists}, list(numbers)
 
 
+def people_of(users: List[bytes], everybody: Everybody, kept: List[bytes]) -> List[Person]:
+    """Everybody else, and those of the users of answers who are kept."""
+    places = {user: place for place, user in enumerate(users)}
+    return [Person(everybody.shown(user), places[user]) for user in [everybody.name, *kept]]
+
+
 def data_of(program: str, reviewed: Reviewed, source: Source, given: argparse.Namespace,
             is_whole: bool) -> Dict[str, object]:
     passwd, group = (read_trusted(os.path.join(source.folder, name)) for name in (b"passwd", b"group"))
     labels = Labels()
     for record in [*reviewed.above, *reviewed.records]:
         labels.number(record.body)
-    answers = ask_labels(program, PeopleTexts(passwd, group, b""), labels.bodies())
-    places = {user: place for place, user in enumerate(answers.users)}
-    views = Views(answers, [Person(user, places[user]) for user in choice.kept(answers.users, given, passwd)])
+    everybody = everybody_in(lambda: (passwd, group, *labels.bodies()))
+    people_texts = PeopleTexts(everybody.with_user(passwd), everybody.with_group(group), b"")
+    answers = ask_labels(program, people_texts, labels.bodies())
+    views = Views(answers, people_of(answers.users, everybody, choice.kept(answers.users, given, passwd)))
     rights = rights_of(reviewed, labels, views, given.file_alone)
     files, kinds = columns_of(reviewed, labels)
     lists = Lists(labels, views, rights, NamesOfIds(passwd, group))

@@ -25,7 +25,8 @@ NONE = "none"
 HELP = """\
 Looks for what is wrong with the access lists of a snapshot, or of FOLDERs in it: findings by weight, each with the
 number of files, the first of them, and a line for facl-plan that mends it. Rights are those along paths, as the program
-answers: "everybody" is a user whom no list names and who is in no group of the tree.
+answers: `everybody else` is a user whom no list names and who is in no group of the tree, as one whom the snapshot does
+not have.
 
 It changes nothing. A finding that is as it should be is accepted by a line of the FILE of --accepted,
 

@@ -19,10 +19,10 @@ class KindOfFinding(NamedTuple):
 
 
 KINDS = (
-    KindOfFinding("writable-by-everybody", HIGH, "any user can write it, along its path"),
+    KindOfFinding("writable-by-everybody", HIGH, "everybody else, whom no list names, can write it along its path"),
     KindOfFinding("set-user-id", HIGH, "a plain file that is run with the rights of its owner"),
-    KindOfFinding("readable-by-everybody", MIDDLE, "any user can read it, along its path"),
-    KindOfFinding("writable-behind-closed", MIDDLE, "any user can write it as soon as a directory above is opened"),
+    KindOfFinding("readable-by-everybody", MIDDLE, "everybody else, whom no list names, can read it along its path"),
+    KindOfFinding("writable-behind-closed", MIDDLE, "everybody else can write it as soon as a directory above is opened"),
     KindOfFinding("writable-by-teams", MIDDLE, "several groups can remove each other's files: the directory is not sticky"),
     KindOfFinding("writer-outside-groups", MIDDLE, "a user can write where nobody else of the user's groups may"),
     KindOfFinding("mask-cuts-entry", MIDDLE, "an entry of a user or a group says more than the mask lets through"),
@@ -31,12 +31,15 @@ KINDS = (
     KindOfFinding("entry-without-row", MIDDLE, "whoever gets this id next has the entry's rights"),
     KindOfFinding("set-group-id", MIDDLE, "a plain file that is run with the rights of its group"),
     KindOfFinding("links-across-folders", MIDDLE, "one file has names in several folders: closing one leaves the others"),
-    KindOfFinding("readable-behind-closed", LOW, "any user can read it as soon as a directory above is opened"),
-    KindOfFinding("execute-for-everybody", LOW, "a plain file that any user can run, along its path"),
+    KindOfFinding("readable-behind-closed", LOW, "everybody else can read it as soon as a directory above is opened"),
+    KindOfFinding("execute-for-everybody", LOW, "a plain file that everybody else can run along its path"),
     KindOfFinding("entry-without-effect", LOW, "an entry that can go, and nobody's rights change"),
     KindOfFinding("default-not-inherited", LOW, "the directory lacks default entries that the directory above has"),
     KindOfFinding("default-differs", LOW, "new files here get entries for other users or groups than the directory has"),
 )
+# Those of everybody else.
+OF_EVERYBODY = {"writable-by-everybody", "readable-by-everybody", "execute-for-everybody", "writable-behind-closed",
+                "readable-behind-closed"}
 BY_NAME: Dict[str, KindOfFinding] = {kind.name: kind for kind in KINDS}
 
 

@@ -6,9 +6,10 @@ from typing import Callable, Dict, Iterator, List, NamedTuple, Optional
 from ...base.messages import counted
 from ...base.names import file_name, json_text, shown, shown_path
 from ...base.tables import Column, Paint, Table, fitting_line
+from ...model.everybody import beside
 from ...model.meta import Meta, fields_of, named
 from .accepted import Unused
-from .findings import HIGH, KINDS, LOW, MIDDLE, WEIGHTS, Findings, FoundFile, KindOfFinding
+from .findings import HIGH, KINDS, LOW, MIDDLE, OF_EVERYBODY, WEIGHTS, Findings, FoundFile, KindOfFinding
 
 SCHEMA = "facl-audit/1"
 FIRST = 3  # Names of a finding.
@@ -76,6 +77,8 @@ def lines_of(report: AuditReport) -> Iterator[bytes]:
     paint = Paint()
     for kind in report.kinds():
         yield from lines_of_kind(kind, report.findings[kind.name], report.is_whole, paint)
+    if any(kind.name in OF_EVERYBODY for kind in report.kinds()):
+        yield from map(fitting_line, beside(report.meta))
     yield summary(report)
     if report.kinds():
         name = report.kinds()[0].name.encode()

@@ -1,4 +1,4 @@
-"""Findings of facl-audit that are answers of the program: what everybody may do, who else may, and entries without
+"""Findings of facl-audit that are answers of the program: what everybody else may do, who of the users may, and entries without
 effect."""
 from __future__ import annotations
 
@@ -36,21 +36,21 @@ class Audited(NamedTuple):
         return self.files[path].is_directory
 
 
-# --- everybody
+# --- everybody else
 
 
 class FilesOfEverybody(NamedTuple):
-    """The files that a user without entries may use, along paths and alone."""
+    """The files that everybody else may use, along paths and alone."""
 
     reached: Dict[bytes, Set[bytes]]  # By request.
     alone: Dict[bytes, Set[bytes]]
 
 
 def ask_everybody(audited: Audited) -> FilesOfEverybody:
-    world, is_alone = audited.world, audited.given.file_alone
+    world, user, is_alone = audited.world, audited.world.everybody.name, audited.given.file_alone
     requests = (READ, WRITE, EXECUTE, IN_DIRECTORY)
-    alone = {it: world.may(world.everybody, it, True) for it in requests}
-    return FilesOfEverybody(alone if is_alone else {it: world.may(world.everybody, it, False) for it in requests}, alone)
+    alone = {it: world.may(user, it, True) for it in requests}
+    return FilesOfEverybody(alone if is_alone else {it: world.may(user, it, False) for it in requests}, alone)
 
 
 def writable(audited: Audited, granted: Dict[bytes, Set[bytes]]) -> Iterator[bytes]:
@@ -72,7 +72,7 @@ def open_to_everybody(audited: Audited, paths: Iterable[bytes], letter: bytes) -
 
 def behind_closed(audited: Audited, everybody: FilesOfEverybody, letter: bytes,
                   paths: Iterable[bytes]) -> Iterator[FoundFile]:
-    """Files that everybody may use alone, and not along their paths; with the highest directory that is closed."""
+    """Files that everybody else may use alone, and not along their paths; with the highest directory that is closed."""
     for path in paths:
         if path not in everybody.reached[letter]:
             above = (it for it in directories_above(path) if it in audited.files)

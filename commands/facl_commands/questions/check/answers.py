@@ -4,13 +4,13 @@ from __future__ import annotations
 import argparse
 from typing import Dict, Iterable, List, NamedTuple, Set, Tuple
 
-from ...base.names import at_or_below, path_word, read_name
+from ...base.names import at_or_below, path_word, read_name, write_user
 from ...model.choice import is_recorded
 from ...model.entries import Entries, entries_of
 from ...model.everybody import World
 from ...model.records import Files, name_of, path_of, records_in
 from ...model.sources import find_tops
-from .rules import ALWAYS, ENTER, NEVER, ONLY, OTHERS, READ, WRITE, Rule
+from .rules import ALWAYS, ENTER, NEVER, ONLY, READ, WRITE, Rule
 
 REQUESTS = {READ: b"r", WRITE: b"w", ENTER: b"x"}
 IN_DIRECTORY = b"wx"  # Nothing can be made or removed in a directory without search.
@@ -30,10 +30,10 @@ class Violation(NamedTuple):
     """A user for whom a rule does not hold."""
 
     place: int  # Of the user among those on whom the rule says something.
-    user: bytes  # The name; OTHERS for the user without entries.
+    user: bytes  # As an answer has the name.
     paths: List[bytes]  # The files on which the user may, or, of `always`, may not.
     blocks: List[Block]  # Of the first of them, and of the directories above it.
-    others: List[bytes]  # Who else may, on the first of them.
+    others: List[bytes]  # Who else may, on the first of them, in the same form.
 
 
 class RuleOutcome(NamedTuple):
@@ -97,10 +97,18 @@ class Rights:
         return IN_DIRECTORY if right == WRITE and self.files[path].is_directory else REQUESTS[right]
 
     def who(self, right: bytes, path: bytes) -> List[bytes]:
-        """Those of the chosen users who have a right on a file."""
+        """Those of the chosen users, and everybody else, who have a right on a file."""
         line = b"who %s-- %s %s" % (self.reach, self.request_on(path, right), path_word(path))
         found = {read_name(name) for name in self.world.session.ask_accepted(line).lines()}
-        return [name for name in self.chosen if name in found]
+        return [name for name in self.all_users() if name in found]
+
+    def all_users(self) -> List[bytes]:
+        """Everybody else, and those whom the check is about."""
+        return [self.world.everybody.name, *self.chosen]
+
+    def shown(self, user: bytes) -> bytes:
+        """What an answer has for a name."""
+        return self.world.everybody.shown(write_user(user))
 
     def why(self, user: bytes, path: bytes) -> List[Block]:
         """The entries that decide on a user, of the directories above a file and of the file."""
@@ -118,16 +126,16 @@ def deciding(blocks: List[Block], is_missing: bool) -> List[Block]:
 
 def violation(rights: Rights, rule: Rule, place: int, user: bytes, paths: List[bytes]) -> Violation:
     blocks = deciding(rights.why(user, paths[0]), rule.kind == ALWAYS)
-    others = [name for name in rights.who(rule.right, paths[0]) if name != user]
-    return Violation(place, OTHERS if user == rights.world.everybody else user, paths, blocks, others)
+    others = [rights.shown(name) for name in rights.who(rule.right, paths[0]) if name != user]
+    return Violation(place, rights.shown(user), paths, blocks, others)
 
 
 def subjects(rights: Rights, rule: Rule) -> List[bytes]:
-    """The users on whom a rule says something, in the order of their rows; the one without entries is the last."""
-    everybody = rights.world.everybody
+    """The users on whom a rule says something, in the order of their rows; everybody else is the first."""
+    everybody = rights.world.everybody.name
     if rule.kind in (NEVER, ALWAYS):
-        return [*sorted(rule.users), *[everybody] * rule.has_others]
-    return [*(name for name in rights.chosen if name not in rule.users), *[everybody] * (not rule.has_others)]
+        return [*[everybody] * rule.has_others, *sorted(rule.users)]
+    return [*[everybody] * (not rule.has_others), *(name for name in rights.chosen if name not in rule.users)]
 
 
 def missing(rights: Rights, rule: Rule, user: bytes) -> List[bytes]:
@@ -143,7 +151,7 @@ def outcome(rights: Rights, rule: Rule) -> RuleOutcome:
     else:
         some = rights.some(rule.right, rule.path)
         if rule.kind == ONLY:
-            rights.left_out |= some - rule.users - {*rights.chosen, rights.world.everybody}
+            rights.left_out |= some - rule.users - {*rights.all_users()}
         found = [(place, user, rights.granted(user, rule.right, rule.path)) for place, user in users if user in some]
     violations = [violation(rights, rule, place, user, paths) for place, user, paths in found if paths]
     return RuleOutcome(rule, len(rights.asked(rule.right, rule.path)), violations)

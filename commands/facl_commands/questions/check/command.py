@@ -30,7 +30,8 @@ Checks that rules hold in a snapshot. RULES is a file of lines
 
 never: none of these may, on any file at or below the path. only: no other user may, and nobody else. always: each of
 these may, on every file at or below it. A user is a name or an id, @GROUP its members, `people` all users whom the
-check is about, and `others` a user whom no list names. Rights are those along paths.
+check is about, `others` everybody else, whom no list names, as a user whom the snapshot does not have, and `everybody`
+both. Rights are those along paths.
 
 A rule that does not hold is printed with the users for whom it does not, the first files, the entries that decide
 there, and who else may. With --write the rules that hold are printed, of FOLDERs in place of RULES, as a start.

@@ -28,10 +28,10 @@ def words_of(names: Set[bytes], reader: RuleReader) -> List[bytes]:
 
 def rules_of(rights: Rights, reader: RuleReader, right: bytes, top: bytes) -> Iterator[List[bytes]]:
     """The rules on one right at or below a path, each as its words without right and path."""
-    everybody = rights.world.everybody
+    everybody = rights.world.everybody.name
     number = len(rights.asked(right, top))
     some = rights.some(right, top)
-    counts = {name: len(rights.granted(name, right, top)) for name in [*rights.chosen, everybody] if name in some}
+    counts = {name: len(rights.granted(name, right, top)) for name in rights.all_users() if name in some}
     of_others = counts.pop(everybody, 0)
     able = {name for name, count in counts.items() if count}
     full = {name for name, count in counts.items() if count == number}

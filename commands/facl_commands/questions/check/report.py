@@ -4,9 +4,10 @@ from __future__ import annotations
 from typing import Dict, Iterator, List, NamedTuple
 
 from ...base.messages import counted
-from ...base.names import json_text, shown_path, write_user
+from ...base.names import json_text, shown_path
 from ...base.tables import Column, Paint, Table, fitting_line
 from ...model.entries import Entry
+from ...model.everybody import SHOWN, beside
 from ...model.meta import Meta, fields_of, named
 from .answers import Block, RuleOutcome, Violation
 from .rules import ALWAYS
@@ -39,7 +40,7 @@ def what_is_wrong(outcome: RuleOutcome, found: Violation) -> bytes:
     verb = b"may not " if outcome.rule.kind == ALWAYS else b"may "
     files = counted(len(found.paths), "file")
     of_all = b" of %d" % outcome.files if outcome.rule.kind == ALWAYS else b""
-    return b"%s %s%s %s%s, first: %s" % (write_user(found.user), verb, outcome.rule.right, files, of_all,
+    return b"%s %s%s %s%s, first: %s" % (found.user, verb, outcome.rule.right, files, of_all,
                                          names_of([shown_path(path) for path in found.paths], FIRST))
 
 
@@ -56,9 +57,9 @@ def lines_of_violation(outcome: RuleOutcome, found: Violation) -> Iterator[bytes
     for place, block in enumerate(found.blocks):
         yield (b"        by  " if place == 0 else b"            ") + block_text(block)
     if outcome.rule.kind == ALWAYS:
-        yield b"        who may: " + (names_of([write_user(it) for it in found.others], NAMES) or b"(nobody)")
+        yield b"        who may: " + (names_of(found.others, NAMES) or b"(nobody)")
     elif found.others:
-        yield b"        who else may: " + names_of([write_user(it) for it in found.others], NAMES)
+        yield b"        who else may: " + names_of(found.others, NAMES)
 
 
 def summary(report: CheckReport) -> bytes:
@@ -69,6 +70,11 @@ def summary(report: CheckReport) -> bytes:
     return b"%s: %d of %s %s not hold" % (name, broken, counted(number, "rule"), b"does" if broken == 1 else b"do")
 
 
+def has_everybody(report: CheckReport) -> bool:
+    """Whether everybody else is one of the users in the report."""
+    return any(SHOWN in (found.user, *found.others) for outcome in report.broken() for found in outcome.violations)
+
+
 def lines_of(report: CheckReport) -> Iterator[bytes]:
     paint = Paint()
     for outcome in report.broken():
@@ -77,13 +83,15 @@ def lines_of(report: CheckReport) -> Iterator[bytes]:
         for found in outcome.violations:
             for line in lines_of_violation(outcome, found):
                 yield fitting_line(line)
+    if has_everybody(report):
+        yield from map(fitting_line, beside(report.meta))
     text = fitting_line(summary(report))
     yield paint.bold(text) if report.broken() else paint.green(text)
 
 
 def table_of(report: CheckReport) -> Table:
     """A row for each user for whom a rule does not hold."""
-    rows = [[b"%d" % outcome.rule.number, outcome.rule.text(), write_user(found.user), b"%d" % len(found.paths),
+    rows = [[b"%d" % outcome.rule.number, outcome.rule.text(), found.user, b"%d" % len(found.paths),
              shown_path(found.paths[0]), block_text(found.blocks[-1]) if found.blocks else b""]
             for outcome in report.broken() for found in outcome.violations]
     columns = [Column("LINE", True), Column("RULE"), Column("USER"), Column("FILES", True), Column("FIRST"),
@@ -93,12 +101,12 @@ def table_of(report: CheckReport) -> Table:
 
 def json_of_violation(found: Violation) -> Dict[str, object]:
     return {
-        "user": json_text(write_user(found.user)),
+        "user": json_text(found.user),
         "count": len(found.paths),
         "files": [json_text(shown_path(path)) for path in found.paths[:FIRST]],
         "entries": [{"path": json_text(shown_path(block.path)), "entries": [json_text(entry_text(it)) for it in
                                                                             block.entries]} for block in found.blocks],
-        "who_else": [json_text(write_user(name)) for name in found.others],
+        "who_else": list(map(json_text, found.others)),
     }
 
 

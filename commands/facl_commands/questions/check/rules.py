@@ -19,7 +19,8 @@ from ...program.scripts import WORD, lines_with_numbers, read_text, words_of
 
 NEVER, ONLY, ALWAYS = b"never", b"only", b"always"
 READ, WRITE, ENTER = b"read", b"write", b"enter"
-OTHERS, PEOPLE = b"others", b"people"  # A user without entries; all users whom the check is about.
+OTHERS, PEOPLE = b"others", b"people"  # Everybody else; all users whom the check is about,
+EVERYBODY = b"everybody"  # and both.
 IN_GROUP = b"@"
 KINDS, RIGHTS = (NEVER, ONLY, ALWAYS), (READ, WRITE, ENTER)
 COMMENT = re.compile(rb"(?:^|(?<=[ \t]))#")
@@ -105,11 +106,9 @@ class RuleReader:
         return not self.roots.isdisjoint(self.members_of.get(group.gid, set()))
 
     def who(self, place: int, raw: bytes) -> Tuple[Set[bytes], bool]:
-        """The users that a word means, and whether it is the word for others."""
-        if raw == OTHERS:
-            return set(), True
-        if raw == PEOPLE:
-            return set(self.chosen), False
+        """The users that a word means, and whether it means everybody else too."""
+        if raw in (OTHERS, PEOPLE, EVERYBODY):
+            return set(self.chosen if raw != OTHERS else ()), raw != PEOPLE
         word = raw.replace(b"'", b"")
         if raw.startswith(IN_GROUP):
             return self.members_asked(place, self.group(place, word[1:], b"'" in raw)), False
@@ -187,7 +186,7 @@ def of_word(place: int, text: bytes) -> bytes:
 
 
 def user_word(name: bytes) -> bytes:
-    is_special = name in (OTHERS, PEOPLE) or name.isdigit() or name[:1] in (IN_GROUP, b"#")
+    is_special = name in (OTHERS, PEOPLE, EVERYBODY) or name.isdigit() or name[:1] in (IN_GROUP, b"#")
     word = plain_word(write_name(name))
     return b"'" + word + b"'" if is_special and not word.startswith(b"'") else word
 

@@ -5,11 +5,12 @@ import argparse
 import os
 from typing import Dict, Iterable, List, NamedTuple, Optional, Set, Tuple
 
-from ...base import scratch, tables
+from ...base import tables
 from ...base.messages import Command, Failure, parser_of
 from ...base.names import is_at_or_below, write_user
 from ...base.new_file import NewFile
 from ...model import choice, overview, sources
+from ...model.everybody import Everybody
 from ...model.gains import Gain, ask_gains
 from ...model.people import rows_of as rows_of_text
 from ...model.records import name_of, path_of, records_in
@@ -20,9 +21,9 @@ from .labels import LabelDifferences, Shapes, records_of_folders
 from .moved import Moved, find_moved
 from .reasons import ask_records, reasons_of
 from .report import Compared
-from .rows import rows_of
+from .rows import AllUsers, rows_of
 from .states import (
-    Pair, State, counts_of, is_same_text, listing_of_all, members_of, pairs_of, people_counts, read_state,
+    Pair, State, counts_of, everybody_of, is_same_text, listing_of_all, members_of, pairs_of, people_counts, read_state,
     session_of, tops_of,
 )
 
@@ -30,9 +31,12 @@ SAME, DIFFERS = 0, 1
 BY_GAINS, BY_INDEX = "gains", "index"
 HELP = """\
 Says who gained and lost what between two snapshots by facl-snapshot: by other lists, owners, groups, memberships and
-users, and by files that are new, gone or moved. People of one change are on one line, those of most files first:
+users, and by files that are new, gone or moved. First is what `everybody else` gained or lost, whom no list names, as a
+user whom the snapshots do not have; then what everybody did, gains of write, other gains, and losses. People of one change
+are on one line, of each of these kinds those of most files first:
 
   BEFORE, AFTER  the rights, as rw-; `none`; or `absent`, where the file or the user is not there
+  WHO            the users; `everybody (N)` are all N who are looked at, and everybody else
   FILES, FIRST   on how many files, and on which first
   WHY            why it is so on the first file, where that is plain
 
@@ -90,11 +94,12 @@ def folders_of(sessions: Tuple[Session, Session], words: Iterable[str]) -> List[
 
 
 class Comparison:
-    """Two snapshots by their listings."""
+    """Two snapshots by their listings, with everybody else among the users of both."""
 
-    def __init__(self, program: str, states: Tuple[State, State], listings: List[List[OutputSlice]],
+    def __init__(self, program: str, states: Tuple[State, State], everybody: Everybody, listings: List[List[OutputSlice]],
                  given: argparse.Namespace) -> None:
-        self.program, self.states, self.listings, self.given = program, states, listings, given
+        self.program, self.plain, self.everybody, self.listings, self.given = program, states, everybody, listings, given
+        self.states = states[0].with_everybody(everybody), states[1].with_everybody(everybody)
         self.is_alone: bool = given.file_alone
         self.folders: List[bytes] = []  # Those that are looked at; none where all files are.
         self.is_whole = False  # Whether paths start at the root of the file system.
@@ -120,9 +125,9 @@ class Comparison:
         return Differences(BY_INDEX, labels.gains(), pairs, [], [])
 
     def compared(self, answered: Differences) -> Compared:
-        old, new = self.states
+        old, new = self.plain
         chosen = chosen_users(old, new, self.given)
-        place = {user: number for number, user in enumerate(chosen)}
+        place = {user: number for number, user in enumerate([self.everybody.name, *chosen])}
         gains = sorted((it for it in answered.gains if it.user in place), key=lambda it: place[it.user])
         counted = [pair for pair in answered.pairs if is_at_or_below(pair.path, self.folders or [b""])]
         moved: List[Moved] = find_moved(old, new, counted)
@@ -131,18 +136,19 @@ class Comparison:
         reasons.moved_from = {it.new: it.old for it in moved}
         reasons.moved_to = {it.old: it.new for it in moved}
         left_out = list(dict.fromkeys(it.user for it in answered.gains if it.user not in place))
-        return Compared(old, new, self.folders, self.is_alone, self.is_whole, answered.by, rows_of(gains, reasons.of),
-                        set(chosen), left_out, counts_of(counted),
+        everybody = AllUsers((old, new), set(chosen), self.everybody)
+        return Compared(old, new, self.folders, self.is_alone, self.is_whole, answered.by,
+                        rows_of(gains, reasons.of, everybody), everybody, left_out, counts_of(counted),
                         people_counts(members_of(old.people()), members_of(new.people())), moved)
 
 
 class OfSessions(Comparison):
     """Two snapshots, each with a session."""
 
-    def __init__(self, program: str, states: Tuple[State, State], sessions: Tuple[Session, Session],
+    def __init__(self, program: str, states: Tuple[State, State], everybody: Everybody, sessions: Tuple[Session, Session],
                  given: argparse.Namespace) -> None:
-        super().__init__(program, states, [sources.list_below(session, sources.find_tops(session, state.folder))
-                                           for session, state in zip(sessions, states)], given)
+        super().__init__(program, states, everybody, [sources.list_below(session, sources.find_tops(session, state.folder))
+                                                      for session, state in zip(sessions, states)], given)
         self.sessions = sessions
         self.tops = tops_of((sessions[0], states[0]), (sessions[1], states[1]))
         self.folders, self.is_whole = folders_of(sessions, given.folders), self.tops == [b""]
@@ -175,18 +181,18 @@ class OfSessions(Comparison):
             return None
         from .page import page_of  # Few runs need it.
 
-        group = group_text(*self.states)
+        group = group_text(*self.plain)
         listings = [self.listings[0], answered.listing]
-        return page_of(self.program, self.states[0], self.states[1], group, answered.people, listings, self.given)
+        return page_of(self.program, self.plain[0], self.plain[1], group, answered.people, listings, self.given)
 
 
 class OfParts(Comparison):
     """Two snapshots of which at least one has parts. One session has no room for the files of all of them."""
 
-    def __init__(self, program: str, states: Tuple[State, State], given: argparse.Namespace) -> None:
+    def __init__(self, program: str, states: Tuple[State, State], everybody: Everybody, given: argparse.Namespace) -> None:
         if given.page is not None:
             raise Failure(b"--page: a snapshot in parts has none")
-        super().__init__(program, states, [[listing_of_all(program, state)] for state in states], given)
+        super().__init__(program, states, everybody, [[listing_of_all(program, state)] for state in states], given)
         firsts = [next(records_in(it), b"") for it in self.listings]
         self.is_whole = b"" in [path_of(name_of(record)) for record in firsts if record]
         self.folders = choice.folders_in(given.folders, self.recorded_of)
@@ -219,17 +225,18 @@ def compare(command: Command, given: argparse.Namespace) -> Tuple[Compared, Opti
         command.say(text)
     for state in (old, new):
         overview.say_notices(command, sources.Source(state.folder, state.folder, False), has_masks=state is new)
+    everybody = everybody_of(old, new)
     if old.is_split() or new.is_split():
-        parts = OfParts(program, (old, new), given)
+        parts = OfParts(program, (old, new), everybody, given)
         try:
             return parts.compared(parts.answer()), None
         finally:
             parts.close()
-    with scratch.folder("facl-diff.") as work:
-        with session_of(program, old, work, group_text(old, new)) as before, session_of(program, new, work) as after:
-            comparison = OfSessions(program, (old, new), (before, after), given)
-            answered = comparison.answer()
-            return comparison.compared(answered), comparison.page(answered)
+    states = old.with_everybody(everybody), new.with_everybody(everybody)
+    with session_of(program, states[0], group_text(*states)) as before, session_of(program, states[1]) as after:
+        comparison = OfSessions(program, (old, new), everybody, (before, after), given)
+        answered = comparison.answer()
+        return comparison.compared(answered), comparison.page(answered)
 
 
 def write(command: Command, given: argparse.Namespace, compared: Compared) -> None:
@@ -242,7 +249,8 @@ def write(command: Command, given: argparse.Namespace, compared: Compared) -> No
         with tables.paged(command, not given.no_pager):
             if compared.rows:
                 tables.write_table(command, given, report.table_of(compared))
-            command.tell(report.summary(compared))
+            for line in [*report.line_beside(compared), report.summary(compared)]:
+                command.tell(line)
     for note in choice.notes(compared.left_out, compared.new.passwd + b"\n" + compared.old.passwd):
         command.say(note)
 

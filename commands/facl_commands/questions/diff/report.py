@@ -1,22 +1,21 @@
 """What facl-diff prints: a table for a person, rows for a script, or one object."""
 from __future__ import annotations
 
-from typing import Callable, Dict, Iterator, List, NamedTuple, Sequence, Set, Tuple
+from typing import Callable, Dict, Iterator, List, NamedTuple, Sequence, Tuple
 
 from ...base.names import file_name, is_at_or_below, json_text, write_user
 from ...base.tables import Column, Table
+from ...model.everybody import SHOWN, beside
 from ...model.meta import EXCLUDED, PART, UNREAD, Meta, fields_of
 from ...model.records import path_of
-from ...model.rights import ABSENT
 from .moved import Moved
-from .rows import ChangeRow
+from .rows import AllUsers, ChangeRow
 from .states import FileCounts, PeopleCounts, State
 
 SCHEMA = "facl-diff/1"
 COLUMNS = [Column("BEFORE"), Column("AFTER"), Column("WHO"), Column("FILES", True), Column("FIRST"), Column("WHY")]
 MOST_NAMES = 8  # In a row for a person,
 MOST_FOLDERS = 3  # and in a warning.
-FEWEST = 2  # People who are called everybody.
 
 
 class Compared(NamedTuple):
@@ -29,7 +28,7 @@ class Compared(NamedTuple):
     is_whole: bool  # Whether paths start at the root of the file system.
     by: str  # What the changes are from: `gains` of a session, or `index`.
     rows: List[ChangeRow]
-    chosen: Set[bytes]  # The users that rows are about, as the program prints them.
+    everybody: AllUsers  # Whom rows can be about.
     left_out: List[bytes]  # Other users who have changes.
     files: FileCounts
     people: PeopleCounts
@@ -46,22 +45,12 @@ class Compared(NamedTuple):
 # --- for a person
 
 
-class AllUsers:
-    """All users that a row can be about: those who are there before and after, or at the time at which the file is."""
-
-    def __init__(self, compared: Compared) -> None:
-        sides = [{write_user(user.name) for user in state.people().users} for state in (compared.old, compared.new)]
-        self.before, self.after = (compared.chosen & side for side in sides)
-
-    def of(self, row: ChangeRow) -> Set[bytes]:
-        if ABSENT in (row.old, row.new):
-            return self.after if row.old == ABSENT else self.before
-        return self.before & self.after
-
-
 def who_of(row: ChangeRow, everybody: AllUsers) -> bytes:
-    if len(row.users) >= FEWEST and set(row.users) == everybody.of(row):
-        return b"everybody (%d)" % len(row.users)
+    """The users of a row: everybody are those of the snapshots, whose number is said, and everybody else."""
+    if everybody.has_else(row):
+        return SHOWN if len(row.users) == 1 else b"everybody (%d)" % (len(row.users) - 1)
+    if everybody.are_known(row):
+        return b"all known users (%d)" % len(row.users)
     rest = len(row.users) - MOST_NAMES
     return b" ".join(row.users[:MOST_NAMES]) + (b" and %d more" % rest if rest > 0 else b"")
 
@@ -71,8 +60,12 @@ def fields_of_row(compared: Compared, row: ChangeRow, who: bytes) -> List[bytes]
 
 
 def table_of(compared: Compared) -> Table:
-    everybody = AllUsers(compared)
-    return Table(COLUMNS, [fields_of_row(compared, row, who_of(row, everybody)) for row in compared.rows])
+    return Table(COLUMNS, [fields_of_row(compared, row, who_of(row, compared.everybody)) for row in compared.rows])
+
+
+def line_beside(compared: Compared) -> List[bytes]:
+    """What stands beside everybody else, where a row has them."""
+    return beside(compared.new.about) if any(map(compared.everybody.has_else, compared.rows)) else []
 
 
 def numbers(kind: bytes, *parts: Tuple[int, bytes, Sequence[bytes]]) -> List[bytes]:
@@ -105,7 +98,12 @@ def summary(compared: Compared) -> bytes:
 
 def fields_table(compared: Compared) -> Table:
     """A row for each user of a change."""
-    return Table(COLUMNS, [fields_of_row(compared, row, user) for row in compared.rows for user in row.users])
+    return Table(COLUMNS, [fields_of_row(compared, row, user) for row in compared.rows for user in shown_users(compared, row)])
+
+
+def shown_users(compared: Compared, row: ChangeRow) -> List[bytes]:
+    """The users of a row, as an answer has their names."""
+    return list(map(compared.everybody.everybody.shown, row.users))
 
 
 def texts(names: Sequence[bytes], write: Callable[[bytes], bytes] = bytes) -> List[str]:
@@ -117,7 +115,7 @@ def snapshot_json(state: State) -> Dict[str, object]:
 
 
 def row_json(compared: Compared, row: ChangeRow) -> Dict[str, object]:
-    return {"before": row.old, "after": row.new, "users": texts(row.users), "files": row.files,
+    return {"before": row.old, "after": row.new, "users": texts(shown_users(compared, row)), "files": row.files,
             "first": json_text(compared.first_of(row)), "why": json_text(row.why) or None}
 
 

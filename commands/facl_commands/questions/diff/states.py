@@ -1,16 +1,16 @@
 """Two snapshots for facl-diff: their files record by record, their users and groups, and what differs between them."""
 from __future__ import annotations
 
-import contextlib
 import itertools
 import os
-from typing import Dict, FrozenSet, Iterable, Iterator, List, NamedTuple, Optional, Tuple
+from typing import ContextManager, Dict, FrozenSet, Iterable, Iterator, List, NamedTuple, Optional, Tuple
 
 from ...base import scratch
 from ...base.messages import Failure
 from ...base.names import highest, sorting_key
 from ...base.trusted import read_trusted
 from ...model import meta, sources, split_tree
+from ...model.everybody import Everybody, everybody_in, session_with, texts_in
 from ...model.people import People, groups_by_user
 from ...model.records import body_of, is_of_directory, name_of, path_of, records_in
 from ...model.snapshot import NEEDED
@@ -32,6 +32,10 @@ class State(NamedTuple):
 
     def named(self) -> bytes:
         return meta.named(self.folder, self.about)
+
+    def with_everybody(self, everybody: Everybody) -> State:
+        """With everybody else among the users."""
+        return self._replace(passwd=everybody.with_user(self.passwd), group=everybody.with_group(self.group))
 
     def people(self) -> People:
         """Its users and groups."""
@@ -85,6 +89,11 @@ def read_state(folder: bytes) -> State:
     return State(folder, passwd, group, about, folders)
 
 
+def everybody_of(old: State, new: State) -> Everybody:
+    """Everybody else in both snapshots."""
+    return everybody_in(lambda: texts_in([*old.folders, *new.folders]))
+
+
 def members_of(people: People) -> Members:
     groups = groups_by_user(people)
     return {user.name: Member(user.uid, user.gid, frozenset(groups[user.name])) for user in people.users}
@@ -93,19 +102,9 @@ def members_of(people: People) -> Members:
 # --- a session over a snapshot
 
 
-@contextlib.contextmanager
-def session_of(program: str, state: State, work: str, group: Optional[bytes] = None) -> Iterator[Session]:
-    """A session over a snapshot; with other groups in the place of its own over a folder that is made in work."""
-    folder = state.folder
-    if group is not None:
-        folder = os.fsencode(work)
-        for name in (b"passwd", b"dump"):
-            os.symlink(os.path.join(os.getcwdb(), state.folder, name), os.path.join(folder, name))
-        with open(os.path.join(folder, b"group"), "wb") as file:
-            file.write(group)
-    with Session(program, folder) as session:
-        session.folder = state.folder  # By which messages name it.
-        yield session
+def session_of(program: str, state: State, group: Optional[bytes] = None) -> ContextManager[Session]:
+    """A session over a snapshot; with other groups in the place of its own."""
+    return session_with(program, state.folder, state.passwd, state.group if group is None else group)
 
 
 def tops_of(*sides: Tuple[Session, State]) -> List[bytes]:

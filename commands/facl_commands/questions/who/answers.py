@@ -7,6 +7,7 @@ from typing import Dict, List, NamedTuple, Tuple
 from ...base.messages import Failure
 from ...base.names import number_of, read_name, write_user
 from ...base.tables import Table
+from ...model.everybody import SHOWN
 from ...model.people import is_named, needed_word
 from .asking import Asker
 
@@ -49,6 +50,13 @@ def like(word: bytes, names: List[bytes]) -> bytes:
     texts = [name.decode("latin-1") for name in names]
     found = [write_user(text.encode("latin-1")) for text in difflib.get_close_matches(word.decode("latin-1"), texts)]
     return b": there is " + b", ".join(found) if found else b""
+
+
+def anybody(asker: Asker, word: bytes) -> NamedUser:
+    """A user whom the program can be asked of, or everybody else."""
+    if word == SHOWN and all(user.name != SHOWN for user in asker.users):
+        return NamedUser(asker.world.everybody.name, asker.world.everybody.number)
+    return user_with_row(asker, word)
 
 
 def user_with_row(asker: Asker, word: bytes) -> NamedUser:

@@ -8,13 +8,13 @@ from typing import Dict, Iterable, List, NamedTuple, Sequence, Tuple
 
 from ...base.messages import Failure
 from ...base.names import file_name, highest, path_word, read_name, read_path
-from ...model import sources
+from ...model import meta, sources
 from ...model.entries import OTHER_KEY, OWNER_KEY, OWNING_GROUP_KEY, Entries, Entry, entries_of, read_record
+from ...model.everybody import SHOWN, World, beside
 from ...model.label_answers import ask_records
-from ...model.people import needed_word, user_word, users_in
+from ...model.people import needed_word, user_word
 from ...model.rights import REQUESTS
 from ...program.protocol import BELOW, EFFECTIVE, ENTRIES_OF, LIST_NAMES
-from ...program.session import Session
 from ...program.tools import REACH
 
 WORDS = {"read": 4, "write": 2, "enter": 1}
@@ -58,10 +58,20 @@ def read_rights(text: str) -> List[Right]:
 class Asker:
     """A session with what its answers need: along paths or not, the users, and how files are named."""
 
-    def __init__(self, session: Session, given: argparse.Namespace, passwd: bytes) -> None:
-        self.session, self.given, self.passwd = session, given, passwd
-        self.is_whole = sources.find_tops(session, session.folder) == [b""]
-        self.users = users_in(passwd)  # Where the program does not load it, it has said so.
+    def __init__(self, world: World, given: argparse.Namespace) -> None:
+        self.world, self.session, self.given = world, world.session, given
+        self.is_whole = sources.find_tops(self.session, self.session.folder) == [b""]
+        self.users = world.users
+        # The rows of all whom an answer can have, in its order: everybody else comes first.
+        self.passwd = world.everybody.passwd() + world.texts.passwd
+
+    def shown(self, user: bytes) -> bytes:
+        """What an answer has for a user, by the name that the program prints."""
+        return self.world.everybody.shown(user)
+
+    def beside(self, shown_users: Iterable[bytes]) -> List[bytes]:
+        """What stands below an answer where everybody else is one of its users."""
+        return beside(meta.meta_of(self.session.folder)) if SHOWN in shown_users else []
 
     def name_of(self, path: bytes) -> bytes:
         """The name of a file on the live system, where the snapshot starts at the root; with the program's escapes."""

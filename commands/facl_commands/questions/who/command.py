@@ -10,13 +10,13 @@ from ...base import tables
 from ...base.accounts import SUPERUSER
 from ...base.messages import Command, Failure, parser_of
 from ...base.names import json_text, shell_word
-from ...base.trusted import read_trusted
 from ...model import choice, meta, overview, sources
+from ...model.everybody import world_of
 from ...model.snapshot import NEEDED, check_texts, is_hidden
 from ...model.sources import Source
-from ...program.session import Session, find_program
+from ...program.session import find_program
 from . import of_files, of_folder, of_rights, of_user
-from .answers import WhoAnswer, user_of, user_with_row
+from .answers import WhoAnswer, anybody, user_of, user_with_row
 from .asking import Asker, read_rights
 
 SCHEMA = "facl-who/1"
@@ -36,6 +36,8 @@ Says who may do what with the files of a snapshot: a row for each person, with t
 FOLDERs, the first of them, and the entries of its list by which the person may. PERMS is read, write, enter, or
 letters of rwx, which are asked for at once. By other options: what one user may do, by folder; which files somebody
 owns, or is named on; who can remove a file; which lists a new file and a new folder of a user get.
+
+The row `everybody else` comes first: what a user may do whom no list names, as one whom the snapshot does not have.
 
 A FOLDER is written as on the live system, or from the root of the snapshot, and may be a file; without one those that
 the snapshot was made of are looked at. A user needs search on all directories above a file, unless --file-alone is
@@ -65,7 +67,7 @@ def usage() -> str:
 
 def add_questions(parser: argparse.ArgumentParser) -> None:
     form = parser.add_mutually_exclusive_group()
-    form.add_argument("--user", metavar="USER", help="what a user may do, by folder")
+    form.add_argument("--user", metavar="USER", help="what a user may do, by folder; also 'everybody else'")
     form.add_argument("--owner", metavar="USER", help="the files that a user owns; an id needs no user")
     form.add_argument("--names", metavar="USER", help="the files of which an entry names a user; an id needs no user")
     form.add_argument("--remove", metavar="FILE", help="who can remove a file")
@@ -125,7 +127,7 @@ def answer_of(asker: Asker) -> WhoAnswer:
         return of_folder.answer_new_file(asker, choice.folder_of(session, folder), user_with_row(asker, user))
     folders = choice.folders_of(session, given.folders) if given.folders else choice.folders_made_of(session)
     if given.user is not None:
-        return of_user.answer(asker, user_with_row(asker, os.fsencode(given.user)), folders)
+        return of_user.answer(asker, anybody(asker, os.fsencode(given.user)), folders)
     for question, word in (("owner", given.owner), ("names", given.names)):
         if word is not None:
             return of_files.answer(asker, question, user_of(asker, os.fsencode(word)), folders)
@@ -156,15 +158,14 @@ def body(command: Command, words: List[str]) -> int:
         check_source(source, given)
         program = find_program(given.program)
         overview.say_notices(command, source)
-        passwd = read_trusted(os.path.join(source.folder, b"passwd"))
-        with Session(program, source.folder) as session:
-            asker = Asker(session, given, passwd)
+        with world_of(program, source) as world:
+            asker = Asker(world, given)
             answer = answer_of(asker)
             with tables.paged(command, not given.no_pager):
                 write_answer(command, asker, answer)
-        for note in () if given.json else choice.notes(answer.left_out, passwd):
+        for note in () if given.json else choice.notes(answer.left_out, asker.passwd):
             command.say(note)
-        if given.user is not None and not given.with_root and user_of(asker, os.fsencode(given.user)).uid == SUPERUSER:
+        if given.user is not None and not given.with_root and anybody(asker, os.fsencode(given.user)).uid == SUPERUSER:
             command.say(os.fsencode(given.user) + b": has the uid 0, to which the kernel grants nearly everything; "
                         b"this is what lists grant it")
     return SOMEBODY if answer.table.rows else NOBODY

@@ -62,20 +62,21 @@ def removed_path(asker: Asker, word: str) -> bytes:
 def answer_remove(asker: Asker, path: bytes) -> WhoAnswer:
     folder = parent_of(path)
     removed, ids = ask_removed(asker, path), ids_in(asker.passwd)
-    users = list(asker.lines_of(WHO, CHANGE.letters(), path_word(folder)))
+    users = choice.in_order(asker.lines_of(WHO, CHANGE.letters(), path_word(folder)), asker.passwd)
     roles = {user: removed.role(ids[read_name(user)]) for user in users}
     users = [user for user in users if roles[user] is not None]
     kept = choice.kept(users, asker.given, asker.passwd)
     reasons = Reasons(asker, [(user, folder) for user in kept])
-    rows = [[user, reasons.text((user, folder), CHANGE), *filter(None, [roles[user]])] for user in kept]
+    rows = [[asker.shown(user), reasons.text((user, folder), CHANGE), *filter(None, [roles[user]])] for user in kept]
     columns = [Column("USER"), Column("BY"), *[Column("AS")] * removed.is_sticky]
     name = asker.name_of(path)
     notes = [name + b": is not empty, so what is in it has to be removed before"] if removed.is_full else []
     notes += [asker.name_of(folder) + b": is sticky, so only the owners of the file and of the folder may"] * removed.is_sticky
+    notes += asker.beside(row[0] for row in rows)
     return WhoAnswer(
         "remove", Table(columns, rows),
         {"file": json_text(name), "sticky": removed.is_sticky, "empty": not removed.is_full,
-         "users": [{"user": json_text(user), "as": json_text(roles[user] or b"") or None,
+         "users": [{"user": json_text(asker.shown(user)), "as": json_text(roles[user] or b"") or None,
                     "by": [json_text(plain_entry(it)) for it in reasons.granting((user, folder), CHANGE)]} for user in kept]},
         b"nobody may remove " + name, [it for it in users if it not in kept], tuple(notes))
 
@@ -88,7 +89,7 @@ class Made(NamedTuple):
 
     kind: str
     record: ReadRecord
-    readers: List[bytes]
+    readers: List[bytes]  # As an answer has them.
     writers: List[bytes]
     left_out: List[bytes]  # Others who may.
 
@@ -118,10 +119,10 @@ def make(asker: Asker, folder: bytes, user: bytes, kind: str) -> Made:
     word = path_word(path)
     asker.session.ask_accepted(line % (user, mode, asker.given.umask.encode()) + b" " + word)
     record = read_record(asker.records([LIST_NAMED + b" " + word])[0])
-    who = [list(asker.lines_of(WHO, letter, word)) for letter in (b"r", b"w")]
-    readers, writers = (choice.kept(users, asker.given, asker.passwd) for users in who)
-    left_out = [user for user in who[0] + who[1] if user not in readers + writers]
-    return Made(kind, record, readers, writers, left_out)
+    who = [choice.in_order(asker.lines_of(WHO, letter, word), asker.passwd) for letter in (b"r", b"w")]
+    kept = [choice.kept(users, asker.given, asker.passwd) for users in who]
+    left_out = [user for user in who[0] + who[1] if user not in kept[0] + kept[1]]
+    return Made(kind, record, list(map(asker.shown, kept[0])), list(map(asker.shown, kept[1])), left_out)
 
 
 def has_default_list(asker: Asker, folder: bytes) -> bool:
@@ -145,7 +146,8 @@ def answer_new_file(asker: Asker, folder: bytes, user: NamedUser) -> WhoAnswer:
               else name + b" has no default list, so the umask counts, taken as " + umask)
     rows = [[it.kind.encode(), line] for it in made for line in it.lines()]
     left_out = list(dict.fromkeys(user for it in made for user in it.left_out))
+    notes = [it.summary() for it in made] + asker.beside(user for it in made for user in it.readers + it.writers)
     return WhoAnswer(
         "new-file", Table([Column("NEW"), Column("LIST")], rows),
         {"folder": json_text(name), "user": json_text(user.shown), "new": [it.as_object() for it in made]},
-        user.shown + b" may make no file in " + name, left_out, (origin, *(it.summary() for it in made)))
+        user.shown + b" may make no file in " + name, left_out, (origin, *notes))

@@ -22,7 +22,7 @@ def columns_of(rights: List[Right]) -> List[Column]:
 
 def fields_of(asker: Asker, user: bytes, rights: List[Right], found: List[ByUser], reasons: Reasons) -> Iterator[bytes]:
     """A row of the table."""
-    yield user
+    yield asker.shown(user)
     for right, users in zip(rights, found):
         its = users.get(user)
         if its is None:
@@ -34,7 +34,7 @@ def fields_of(asker: Asker, user: bytes, rights: List[Right], found: List[ByUser
 def object_of(asker: Asker, user: bytes, rights: List[Right], found: List[ByUser], reasons: Reasons) -> Dict[str, object]:
     """The same for JSON, without the rights that the user does not have."""
     its = [(right, users[user]) for right, users in zip(rights, found) if user in users]
-    return {"user": json_text(user), "rights": [
+    return {"user": json_text(asker.shown(user)), "rights": [
         {"right": right.word, "files": files, "first": json_text(asker.name_of(first)),
          "by": [json_text(plain_entry(entry)) for entry in reasons.granting((user, first), right)]}
         for right, (files, first) in its]}
@@ -52,4 +52,5 @@ def answer(asker: Asker, rights: List[Right], folders: List[bytes]) -> WhoAnswer
         "rights", Table(columns_of(rights), rows),
         {"folders": [json_text(asker.name_of(path)) for path in folders],
          "users": [object_of(asker, user, rights, found, reasons) for user in kept]},
-        b"nobody may " + what + b" anything " + spoken_folders(asker, folders), [it for it in users if it not in set(kept)])
+        b"nobody may " + what + b" anything " + spoken_folders(asker, folders), [it for it in users if it not in set(kept)],
+        tuple(asker.beside(row[0] for row in rows)))

@@ -101,7 +101,8 @@ def answer(asker: Asker, user: NamedUser, folders: List[bytes]) -> WhoAnswer:
     paths = [path for path in found.paths if any(its[path] for its in counts)]
     rows = [FolderRow(path, here, [its[path] for its in counts], found.files[path])
             for path, here in zip(paths, ask_here(asker, word, paths))]
+    name = asker.shown(user.shown)
     return WhoAnswer(
         "user", Table(COLUMNS, [row.fields(asker) for row in rows]),
-        {"user": json_text(user.shown), "depth": asker.given.depth, "folders": [row.as_object(asker) for row in rows]},
-        user.shown + b" may read, write and enter nothing " + spoken_folders(asker, folders))
+        {"user": json_text(name), "depth": asker.given.depth, "folders": [row.as_object(asker) for row in rows]},
+        name + b" may read, write and enter nothing " + spoken_folders(asker, folders), after=tuple(asker.beside([name])))
