@@ -180,6 +180,39 @@ class EachFinding(Audits):
         self.assertEqual([row[4:] for row in found], [[b"group law", b"setfacl -n -x g:law /srv/hr/new"]])
 
 
+class EverybodyElse(Audits):
+    BESIDE = b"everybody else: users whom the snapshot does not have; it has 13 of a directory service\n"
+
+    def test_granted(self) -> None:
+        self.take(MADE["readable-by-everybody"].records)
+        wanted = b"""\
+small (of srva, 2026-11-27T03:10:00Z): 3 files at or below /srv/hr
+middle  readable-by-everybody   1 file
+        everybody else, whom no list names, can read it along its path
+        first: srv/hr/new
+        for facl-plan: setfacl -n -m o::--- /srv/hr/new
+findings: 1 middle
+all files of one: facl-audit --list readable-by-everybody small
+all lines of one: facl-audit --edits readable-by-everybody small >edits; facl-plan small edits
+"""
+        self.expect(self.audit(), 0, wanted)
+        self.write("small/meta", self.read("small/meta") + b"users-asked-for 13\n")
+        self.expect(self.audit(), 0, wanted.replace(b"findings: 1", self.BESIDE + b"findings: 1"))
+        self.assertEqual(json.loads(self.audit("--json").out)["snapshot"]["users_asked_for"], 13)
+
+    def test_not_granted(self) -> None:
+        """The entry of others has nothing to say of whom an entry names."""
+        self.take({**MADE["set-group-id"].records, b"/srv/hr/": with_entries(FOLDER, b"user:1009:r-x")})
+        self.write("small/meta", self.read("small/meta") + b"users-asked-for 13\n")
+        self.assertNotIn(b"everybody else", self.audit().out)
+
+    def test_a_group_that_lists_a_name_of_nobody(self) -> None:
+        """No row of the snapshot makes everybody else a member, or the owner of a file."""
+        ids = b"".join(b"m%d:x:%d:\n" % (number, number) for number in (1_000_000_000, 4_294_967_294))
+        self.take({FILE: PLAIN.replace(b"owner: 1001", b"owner: 4294967294")}, group=GROUP + ids + b"hall:x:2009:facl-everybody-else\n")
+        self.assertEqual([row[1] for row in self.rows()], [b"owner-without-row"])
+
+
 class TwoKinds(Audits):
     """A tree with two findings."""
 

@@ -65,17 +65,45 @@ class Forms(Checks):
         self.assertEqual(self.broken(b"only @hr xaver read /srv/hr/"), [])
         self.assertEqual(self.broken(b"only bert read srv/hr/cases/"), [b"anna 5 srv/hr/cases", b"xaver 2 srv/hr/cases/one"])
         self.assertEqual(self.broken(b"only anna bert write srv/hr/"), [])
-        self.assertEqual(self.broken(b"only @hr enter srv/hr/", "--quiet"), [b"carl 4 srv/hr", b"xaver 2 srv/hr", b"others 4 srv/hr"])
+        self.assertEqual(self.broken(b"only @hr enter srv/hr/", "--quiet"), [b"everybody else 4 srv/hr", b"carl 4 srv/hr", b"xaver 2 srv/hr"])
 
     def test_always(self) -> None:
         self.assertEqual(self.broken(b"always anna write srv/hr/"), [])
         self.assertEqual(self.broken(b"always @hr write srv/hr/"), [b"bert 1 srv/hr/cases/two"])
         self.assertEqual(self.broken(b"always others enter srv/hr/"), [])
-        self.assertEqual(self.broken(b"always others read srv/hr/"), [b"others 8 srv/hr"])
+        self.assertEqual(self.broken(b"always others read srv/hr/"), [b"everybody else 8 srv/hr"])
 
     def test_others(self) -> None:
         self.assertEqual(self.broken(b"never others write /"), [])
-        self.assertEqual(self.broken(b"never others read /"), [b"others 2 ."])
+        self.assertEqual(self.broken(b"never others read /"), [b"everybody else 2 ."])
+
+    def test_everybody_are_people_and_others(self) -> None:
+        self.take({})  # What is in srv/hr is closed to all but hr.
+        self.assertEqual(self.broken(b"never everybody read /")[:1], [b"everybody else 2 ."])
+        self.assertEqual(self.broken(b"never everybody enter srv/"), [
+            b"everybody else 1 srv", b"anna 2 srv", b"bert 2 srv", b"carl 1 srv", b"xaver 1 srv"])
+        self.assertEqual(self.broken(b"never people read /"), [b"anna 4 .", b"bert 4 .", b"carl 2 .", b"xaver 2 ."])
+        self.assertEqual(self.broken(b"never others read srv/hr/"), [])
+        self.assertEqual(self.broken(b"never everybody read srv/hr/"), [b"anna 2 srv/hr", b"bert 2 srv/hr"])
+        self.assertEqual(self.broken(b"only everybody read /", "--quiet"), [])
+        self.assertEqual(self.broken(b"only people read /", "--quiet"), [b"everybody else 2 ."])
+        self.take(TREE)
+        self.assertEqual(self.broken(b"always everybody enter srv/hr/"), [b"xaver 2 srv/hr/cases/full"])
+
+    def test_who_else_may(self) -> None:
+        self.assertIn(b"        who else may: everybody else, anna, bert, xaver\n", self.check(b"never carl enter srv/hr/\n").out)
+        self.assertIn(b"        who else may: anna, bert, carl, xaver\n", self.check(b"never others enter srv/hr/\n").out)
+        self.assertIn(b"        who may: everybody else, anna, bert, carl\n", self.check(b"always xaver enter srv/hr/cases/full/\n").out)
+        self.assertIn(b"        who else may: anna, bert\n", self.check(b"never xaver read srv/hr/\n").out)
+        found = json.loads(self.check(b"never others carl enter srv/hr/\n", "--json").out)["rules"][0]["violations"]
+        self.assertEqual([(it["user"], it["who_else"][0]) for it in found], [("everybody else", "anna"), ("carl", "everybody else")])
+
+    def test_the_number_of_a_directory_service(self) -> None:
+        self.write("small/meta", self.read("small/meta") + b"users-asked-for 13\n")
+        beside = b"everybody else: users whom the snapshot does not have; it has 13 of a directory service\nsmall (of srva, "
+        for rule, is_said in ((b"never others enter srv/hr/\n", True), (b"never carl enter srv/hr/\n", True),
+                              (b"never xaver read srv/hr/\n", False), (b"never others write /\n", False)):
+            self.assertEqual((rule, beside in self.check(rule).out), (rule, is_said))
 
     def test_write_in_a_directory_takes_search(self) -> None:
         self.assertEqual(self.broken(b"never xaver write srv/hr/tools/"), [])
@@ -246,6 +274,14 @@ class Written(Checks):
             b"never others write srv/hr/", b"only @hr write srv/hr/", b"always anna write srv/hr/"])
         self.assertIn(b"always @hr write srv/hr/cases/one", lines)
         self.assertEqual(self.rows(done.out), [])
+
+    def test_a_user_named_as_a_word(self) -> None:
+        for word in (b"others", b"people", b"everybody"):
+            self.take(TREE, passwd=PASSWD.replace(b"xaver:", word + b":"))
+            done = self.run_command("facl-check", ["--write", "small", "srv/hr"])
+            self.assertIn(b"only @hr '%s' read srv/hr/\n" % word, done.out)
+            self.assertEqual(self.rows(done.out), [])
+            self.assertEqual(self.broken(b"never '%s' read srv/hr/" % word), [word + b" 3 srv/hr"])
 
     def test_odd_names(self) -> None:
         passwd = PASSWD.replace(b"xaver:", b"others:").replace(b"bert:", b"@hr:").replace(b"carl:", b"o'x \x1b[1m:")

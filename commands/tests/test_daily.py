@@ -41,11 +41,11 @@ facl on HOST, DAY: TOP/tree
 == findings (facl-audit)
 TOP/kept/DAY.2 (of HOST, TIME): 2 files at or below TOP/tree
 high    writable-by-everybody   1 file
-        any user can write it, along its path
+        everybody else, whom no list names, can write it along its path
         first: PATH/tree/file
         for facl-plan: setfacl -n -m o::r-- TOP/tree/file
 middle  readable-by-everybody   2 files
-        any user can read it, along its path
+        everybody else, whom no list names, can read it along its path
         first: PATH/tree
         then:  PATH/tree/file
         for facl-plan: setfacl -n -m o::--x TOP/tree
@@ -55,7 +55,7 @@ all lines of one: facl-audit --edits writable-by-everybody TOP/kept/DAY.2 >edits
 
 == rules that do not hold (facl-check)
 TOP/rules, line 1: never others write TOP/tree/
-    others may write 1 file, first: PATH/tree/file
+    everybody else may write 1 file, first: PATH/tree/file
         by  .: other::r-x
             BLOCKS
         who else may: anna
@@ -191,7 +191,7 @@ class InParts(Daily):
         self.assertEqual((done.status, done.messages), (1, b""))
         self.assertEqual(done.out.count(b"== "), 2, done.out)
         self.assertIn(b"files: 1 with another owner, group, flags or list, 1 new\n", done.out)
-        self.assertIn(b"    others may write 1 file, first: %s/e\n" % self.tree.strip("/").encode(), done.out)
+        self.assertIn(b"    everybody else may write 1 file, first: %s/e\n" % self.tree.strip("/").encode(), done.out)
 
 
 class Units(Daily):

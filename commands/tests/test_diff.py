@@ -83,10 +83,10 @@ memberships: 1 new
         # mara owns drafts, which the path hides until she is of staff; the row of notes is her own entry under the mask.
         self.edit("after/passwd", (b"1003:200:", b"1003:100:"))
         self.assertEqual(self.rows(), [
-            ("none", "r--", "mara", "9", "/srv/share/-x", "new member of staff"),
-            ("none", "r-x", "mara", "1", "/srv/share", "new member of staff"),
             ("none", "rwx", "mara", "1", "/srv/share/drafts", "new member of staff"),
             ("none", "rw-", "mara", "1", "/srv/share/drafts/logo.svg", "new member of staff"),
+            ("none", "r--", "mara", "9", "/srv/share/-x", "new member of staff"),
+            ("none", "r-x", "mara", "1", "/srv/share", "new member of staff"),
         ])
         self.assertEqual(self.rows("--file-alone"), [("none", "r--", "mara", "8", "/srv/share/-x", "new member of staff"),
                                                      ("none", "r-x", "mara", "1", "/srv/share", "new member of staff")])
@@ -95,10 +95,10 @@ memberships: 1 new
         self.edit("after/passwd", (b"ben:x:1002:100:Ben Kaya:/home/ben:/bin/sh\n", b"yves:x:1050:100:::\n"))
         self.expect(self.diff(), 1, b"""\
 BEFORE  AFTER   WHO   FILES  FIRST          WHY
-r--     absent  ben       9  /srv/share/-x  user removed
 absent  r--     yves      9  /srv/share/-x  new user
-r-x     absent  ben       3  /              user removed
 absent  r-x     yves      3  /              new user
+r--     absent  ben       9  /srv/share/-x  user removed
+r-x     absent  ben       3  /              user removed
 users: 1 new (yves), 1 gone (ben)
 """)
 
@@ -135,12 +135,14 @@ users: 1 new (yves), 1 gone (ben)
         self.edit("after/dump", (b"# file: /srv/share/\n# owner: 1001\n# group: 100\nuser::rwx\ngroup::r-x\nother::---",
                                  b"# file: /srv/share/\n# owner: 1001\n# group: 100\nuser::rwx\ngroup::r-x\nother::--x"))
         self.expect(self.diff(), 1, b"""\
-BEFORE  AFTER  WHO         FILES  FIRST                       WHY
-none    r--    mara            2  /srv/share/notes            /srv/share opened
-none    --x    mara guest      1  /srv/share                  others' entry changed
-none    rwx    mara            1  /srv/share/drafts           /srv/share opened
-none    rw-    mara            1  /srv/share/drafts/logo.svg  /srv/share opened
-none    r--    guest           1  /srv/share/one              /srv/share opened, others' entry changed
+BEFORE  AFTER  WHO             FILES  FIRST                       WHY
+none    --x    everybody else      1  /srv/share                  others' entry changed
+none    r--    everybody else      1  /srv/share/one              /srv/share opened, others' entry changed
+none    rwx    mara                1  /srv/share/drafts           /srv/share opened
+none    rw-    mara                1  /srv/share/drafts/logo.svg  /srv/share opened
+none    r--    mara                2  /srv/share/notes            /srv/share opened
+none    --x    mara guest          1  /srv/share                  others' entry changed
+none    r--    guest               1  /srv/share/one              /srv/share opened, others' entry changed
 files: 2 with another owner, group, flags or list
 """)
 
@@ -153,15 +155,101 @@ files: 2 with another owner, group, flags or list
         self.assertEqual({row[2] for row in self.rows("--with-root", "--all-users")}, {"www", "root"})
 
 
+class EverybodyElse(DiffCase):
+    """Others have r-x on / and srv, of which the superuser is the owner; all else is closed to them."""
+
+    SRV = b"# file: /srv/\n# owner: 0\n# group: 0\nuser::rwx\ngroup::r-x\nother::%s\n"
+    SHARE = b"# file: /srv/share/\n# owner: 1001\n# group: 100\nuser::rwx\ngroup::r-x\nother::%s\n"
+    NAMED = b"# file: /srv/\n# owner: 0\n# group: 0\nuser::rwx\n%sgroup::r-x\nmask::rwx\nother::%s\n"
+
+    def named(self, permissions: bytes, others: bytes) -> bytes:
+        """srv with an entry for each user of the snapshot, and one for others."""
+        users = b"".join(b"user:%d:%s\n" % (uid, permissions) for uid in (1001, 1002, 1003, 1009))
+        return self.NAMED % (users, others)
+
+    def test_everybody(self) -> None:
+        """All users of the snapshots, and everybody else."""
+        self.edit("after/dump", (self.SRV % b"r-x", self.SRV % b"rwx"))
+        self.expect(self.diff(), 1, b"""\
+BEFORE  AFTER  WHO            FILES  FIRST  WHY
+r-x     rwx    everybody (4)      1  /srv   others' entry changed
+files: 1 with another owner, group, flags or list
+""")
+        row = ("r-x", "rwx", "1", "/srv", "others' entry changed")
+        self.assertEqual(self.rows(), [(*row[:2], user, *row[2:]) for user in ("everybody else", "ines", "ben", "mara", "guest")])
+        changes = [{"before": "r-x", "after": "rwx", "users": ["everybody else", "ines", "ben", "mara", "guest"], "files": 1,
+                    "first": "/srv", "why": "others' entry changed"}]
+        self.assertEqual(self.report()["changes"], changes)
+        self.assertEqual((self.report("/srv")["changes"], self.report("/srv")["answered_by"]), (changes, "index"))
+
+    def test_all_users_of_the_snapshots_alone(self) -> None:
+        self.edit("after/dump", (self.SRV % b"r-x", self.named(b"rwx", b"r-x")))
+        self.assertIn(b"\nr-x     rwx    all known users (4)      1  /srv   user entry added\n", self.diff().out)
+        self.assertEqual([row[2] for row in self.rows()], ["ines", "ben", "mara", "guest"])
+
+    def test_everybody_else_alone(self) -> None:
+        for name, others in (("before", b"r-x"), ("after", b"rwx")):
+            self.edit(name + "/dump", (self.SRV % b"r-x", self.named(b"r-x", others)))
+        self.expect(self.diff(), 1, b"""\
+BEFORE  AFTER  WHO             FILES  FIRST  WHY
+r-x     rwx    everybody else      1  /srv   others' entry changed
+files: 1 with another owner, group, flags or list
+""")
+        self.expect(self.run_command("facl-diff", ["--tsv", "after", "before"]), 1,
+                    b"BEFORE\tAFTER\tWHO\tFILES\tFIRST\tWHY\nrwx\tr-x\teverybody else\t1\t/srv\tothers' entry changed\n")
+
+    def test_nothing_of_everybody_else(self) -> None:
+        self.edit("after/group", (b"staff:x:100:", b"staff:x:100:guest"))
+        self.assertNotIn(b"everybody", self.diff().out)
+
+    def test_the_order(self) -> None:
+        """Everybody else, everybody, gains of write, other gains, losses; of each those of most files first."""
+        self.edit("after/dump", (self.SRV % b"r-x", self.SRV % b"rwx"), (self.SHARE % b"---", self.SHARE % b"--x"))
+        self.edit("after/group", (b"staff:x:100:", b"staff:x:100:guest"), (b"design:x:200:", b"design:x:200:guest"))
+        self.edit("after/passwd", (b"ben:x:1002:100:", b"ben:x:1002:300:"))
+        self.assertEqual([row[:4] for row in self.rows()], [
+            ("none", "--x", "everybody else", "1"),
+            *(("r-x", "rwx", user, "1") for user in ("everybody else", "ines", "ben", "mara", "guest")),
+            ("none", "rwx", "mara", "1"), ("none", "rwx", "guest", "1"), ("none", "rw-", "mara", "1"), ("none", "rw-", "guest", "1"),
+            ("none", "r--", "guest", "9"), ("none", "--x", "mara", "1"), ("none", "r-x", "guest", "1"), ("none", "r--", "mara", "1"),
+            ("r--", "none", "ben", "9"), ("r-x", "--x", "ben", "1")])
+
+    def test_new_and_removed_files(self) -> None:
+        made = b"# file: /srv/new\n" + NEW_FILE.replace(b"other::---", b"other::r--")
+        self.write("after/dump", self.read("after/dump").replace(b"# file: /srv/share/\n", made + b"# file: /srv/share/\n"))
+        new, gone = (self.run_command("facl-diff", ["--tsv", *pair]).out.decode().splitlines() for pair in (PAIR, PAIR[::-1]))
+        self.assertEqual(new[1:], ["absent\tr--\teverybody else\t1\t/srv/new\tnew file", "absent\trw-\tines\t1\t/srv/new\tnew file",
+                                   *("absent\tr--\t%s\t1\t/srv/new\tnew file" % user for user in ("ben", "mara", "guest"))])
+        self.assertEqual([line.split("\t")[2] for line in gone[1:]], ["everybody else", "ben", "mara", "guest", "ines"])
+
+    def test_the_number_of_a_directory_service(self) -> None:
+        beside = b"everybody else: users whom the snapshot does not have; it has 13 of a directory service\nfiles: "
+        self.write("after/meta", META % (b"srva", 27, b"/srv/share") + b"users-asked-for 13\n")
+        self.edit("after/dump", (ONE + NEW_FILE, ONE + NEW_FILE.replace(b"group::r--", b"group::rw-")))
+        self.assertNotIn(beside, self.diff().out)
+        self.edit("after/dump", (self.SRV % b"r-x", self.SRV % b"rwx"))
+        self.assertIn(beside, self.diff().out)
+        self.assertEqual(self.report()["after"]["users_asked_for"], 13)
+
+    def test_no_answer_has_the_name_in_questions(self) -> None:
+        self.edit("after/dump", (self.SRV % b"r-x", self.SRV % b"rwx"), (self.SHARE % b"---", self.SHARE % b"--x"))
+        before = {name: self.read("before/" + name) for name in os.listdir(self.path("before"))}
+        for words in ([], ["--json"], ["--tsv", "--all-users", "--with-root"], ["--page", "page.html"]):
+            done = self.diff(*words)
+            self.assertNotIn(b"facl-everybody", done.out + done.messages)
+        self.assertNotIn(b"facl-everybody", self.read("page.html"))
+        self.assertEqual({name: self.read("before/" + name) for name in os.listdir(self.path("before"))}, before)
+
+
 class Files(DiffCase):
     def test_new_and_removed_files(self) -> None:
         self.edit("after/dump", (b"# file: /srv/share/it's\n", b"# file: /srv/share/neu.xlsx\n"))
         self.expect(self.diff(), 1, b"""\
 BEFORE  AFTER   WHO   FILES  FIRST                WHY
-rw-     absent  ines      1  /srv/share/it's      removed
-r--     absent  ben       1  /srv/share/it's      removed
 absent  rw-     ines      1  /srv/share/neu.xlsx  new file
 absent  r--     ben       1  /srv/share/neu.xlsx  new file
+rw-     absent  ines      1  /srv/share/it's      removed
+r--     absent  ben       1  /srv/share/it's      removed
 files: 1 new, 1 gone
 """)
 
@@ -188,8 +276,8 @@ files: 1 new, 1 gone
     def test_a_file_that_became_a_directory(self) -> None:
         self.edit("after/dump", (ONE + NEW_FILE, b"# file: /srv/share/one/\n" + NEW_FILE.replace(b"rw-", b"rwx")
                                  + b"# file: /srv/share/one/in\n" + NEW_FILE))
-        rows = [("rw-", "rwx", "ines", "1", "/srv/share/one", "owner's entry changed"),
-                ("absent", "rw-", "ines", "1", "/srv/share/one/in", "new file")]
+        rows = [("absent", "rw-", "ines", "1", "/srv/share/one/in", "new file"),
+                ("rw-", "rwx", "ines", "1", "/srv/share/one", "owner's entry changed")]
         self.assertEqual(self.rows(), rows)
         self.assertEqual(self.report()["answered_by"], "gains")
         shutil.copytree(self.path("before"), self.path("third"))
@@ -261,10 +349,10 @@ class Words(DiffCase):
         self.assertEqual(self.why((plain, plain.replace(b"group::r--", b"group::---"))),
                          [("ben", "r--", "none", "group entry changed")])
         self.assertEqual(self.why((plain, plain.replace(b"owner: 1001", b"owner: 1009"))),
-                         [("ines", "rw-", "r--", "no longer the owner"), ("guest", "none", "rw-", "is the owner now")])
+                         [("guest", "none", "rw-", "is the owner now"), ("ines", "rw-", "r--", "no longer the owner")])
         self.assertEqual(self.why((plain, plain.replace(b"group: 100", b"group: 300"))),
-                         [("ben", "r--", "none", "other group of the file"),
-                          ("guest", "none", "r--", "other group of the file")])
+                         [("guest", "none", "r--", "other group of the file"),
+                          ("ben", "r--", "none", "other group of the file")])
         self.assertEqual(self.why((b"user:1003:rw-\t\t\t#effective:r--\ngroup::r--\nmask::r--",
                                    b"user:1003:rw-\ngroup::r--\nmask::rw-")), [("mara", "r--", "rw-", "mask changed")])
         self.assertEqual(self.why((b"user:1003:rw-\t\t\t#effective:r--\ngroup::r--\nmask::r--\n", b"group::r--\n")),
@@ -382,8 +470,8 @@ facl-diff: warning: left out of before alone as another file system, so what is 
         self.edit("after/group", (b"staff:x:100:", b"staff:x:100:guest"))
         self.assertEqual(self.report(), {
             "schema": "facl-diff/1", "version": "0",
-            "before": {"snapshot": "before", "host": "srva", "date": "2026-11-26T03:10:00Z"},
-            "after": {"snapshot": "after", "host": None, "date": None},
+            "before": {"snapshot": "before", "host": "srva", "date": "2026-11-26T03:10:00Z", "users_asked_for": None},
+            "after": {"snapshot": "after", "host": None, "date": None, "users_asked_for": None},
             "folders": [], "along_paths": True, "answered_by": "gains",
             "changes": [{"before": "none", "after": "r--", "users": ["guest"], "files": 9, "first": "/srv/share/-x",
                          "why": "new member of staff"},

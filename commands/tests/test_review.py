@@ -44,13 +44,16 @@ class Review(FirmCase):
         for words, option in cases:
             data = self.page(*words)
             people = {it["name"]: it for it in data["people"]}
-            self.assertEqual(list(people), ["anna", "bert", "carla", "dirk", "xaver"])
+            self.assertEqual(list(people), ["everybody else", "anna", "bert", "carla", "dirk", "xaver"])
             with Session(find_program(None), os.fsencode(self.path("firm"))) as session:
                 for key, request in (("reads", b"r"), ("changes", b"w")):
                     lines = session.ask_accepted(b"below %s%s srv/finance" % (option, request)).read().decode().splitlines()
                     wanted = {line.split(" ")[1]: int(line.split(" ")[0]) for line in lines if line.split(" ")[1] != "root"}
-                    self.assertEqual({name: it[key] for name, it in people.items() if it[key]},
+                    self.assertEqual({name: it[key] for name, it in people.items() if it[key] and name != "everybody else"},
                                      {name: count for name, count in wanted.items() if name in people})
+            # 04.csv has r for others, and is in closed folders.
+            self.assertEqual([people["everybody else"][key] for key in ("reads", "changes", "enters")], [1 if words else 0, 0, 0])
+            self.assertEqual(people["everybody else"]["by"], ["everybody else"] if words else [])
         people = {it["name"]: it for it in self.page()["people"]}
         self.assertEqual((people["dirk"]["by"], people["carla"]["by"]), ([], ["group audit"]))
         self.assertEqual((people["xaver"]["enters"], people["carla"]["enters"]), (2, 1))
@@ -67,8 +70,24 @@ class Review(FirmCase):
         self.assertEqual([it["key"] for it in first["entries"] if it["isDefault"] and it["key"]], ["d:u:xaver", "d:g:audit"])
         names = [[data["people"][it]["name"] for it in data["sets"][entry["people"]]] for entry in first["entries"][:4]]
         self.assertEqual(names, [["anna"], ["xaver"], ["bert"], ["carla"]])
-        self.assertEqual(len(self.page("--all-users")["people"]), 6)
-        self.assertEqual(len(self.page("--all-users", "--with-root")["people"]), 7)
+        self.assertEqual(len(self.page("--all-users")["people"]), 7)
+        self.assertEqual(len(self.page("--all-users", "--with-root")["people"]), 8)
+
+    def test_everybody_else(self) -> None:
+        files = {**FILES, "/srv/finance/": FILES["/srv/finance/"].replace("mask::rwx other::---", "mask::rwx other::--x", 1),
+                 "/srv/finance/budget.ods": FILES["/srv/finance/budget.ods"].replace("other::---", "other::r--")}
+        snapshot = self.take_snapshot(files=files)
+        self.write(snapshot + "/meta", self.read(snapshot + "/meta") + b"users-asked-for 13\n")
+        done = self.run_command("facl-report", ["--for-review", "--folder", FOLDER, snapshot])
+        data = data_of(done.out)
+        first = data["people"][0]
+        self.assertEqual((first["name"], first["reads"], first["changes"], first["enters"], first["by"]),
+                         ("everybody else", 1, 0, 1, ["everybody else"]))
+        entry = data["lists"][0]["entries"][5]  # That of the folder for others.
+        self.assertEqual((entry["who"], entry["key"], [data["people"][it]["name"] for it in data["sets"][entry["people"]]]),
+                         ("everybody else", "", ["everybody else", "dirk"]))
+        self.assertEqual(dict(data["facts"])["users of a directory service"], "13")
+        self.assertNotIn(b"facl-everybody", done.out)
 
     def test_words(self) -> None:
         snapshot = self.take_snapshot()

@@ -209,8 +209,8 @@ class Changes(SplitCase):
         rights = [(it["before"], it["after"], it["users"], it["files"], it["first"], it["why"])
                   for it in found["changes"]]  # type: ignore[attr-defined]
         self.assertEqual(rights, [
-            ("rw-", "none", ["anna"], 5, "/srv/a/1", "/srv/a closed"), ("r--", "none", ["bert"], 5, "/srv/a/1", "/srv/a closed"),
-            ("r-x", "none", ["anna", "bert", "carl", "dora"], 1, "/srv/a", "others' entry changed")])
+            ("r-x", "none", ["everybody else", "anna", "bert", "carl", "dora"], 1, "/srv/a", "others' entry changed"),
+            ("rw-", "none", ["anna"], 5, "/srv/a/1", "/srv/a closed"), ("r--", "none", ["bert"], 5, "/srv/a/1", "/srv/a closed")])
 
     def test_a_directory_that_became_empty(self) -> None:
         # Its list is as before, in parts and without.

@@ -35,7 +35,8 @@ FIRST_UID, FIRST_GID, NOBODY = 71000, 72000, 71999
 READ, WRITE, ENTER = "read", "write", "enter"
 RIGHTS = (READ, WRITE, ENTER)
 REQUESTS = {"r": 4, "w": 2, "x": 1, "wx": 3}
-OTHERS = "others"
+OTHERS, EVERYBODY = "others", "everybody"  # Words of rules; all whom the check is about are people.
+SHOWN = "everybody else"  # What answers have for others.
 FIRST = 3  # Files that facl-check names.
 MODES = (0o755, 0o750, 0o711, 0o700, 0o644, 0o640, 0o664, 0o604, 0o770, 0o773, 0o772, 0o775)
 Paths = Dict[Tuple[str, str], Set[str]]  # By user and request.
@@ -169,9 +170,9 @@ class Rights:
 
 def who_of(world: World) -> Tuple[List[str], Set[str]]:
     """Words of a rule, and the users that they mean."""
-    words = world.chance.sample([*world.users, *("@" + it for it in world.groups), OTHERS], world.chance.choice((1, 1, 2, 4)))
-    users = {it for word in words for it in (world.groups[word[1:]] if word.startswith("@") else [word])}
-    return words, users
+    words = world.chance.sample([*world.users, *("@" + it for it in world.groups), OTHERS, EVERYBODY], world.chance.choice((1, 1, 2, 4)))
+    of_word = {EVERYBODY: [*world.uids], **{"@" + name: users for name, users in world.groups.items()}}
+    return words, {it for word in words for it in of_word.get(word, [word])}
 
 
 def rule_at_random(world: World, rights: Rights) -> Rule:
@@ -197,7 +198,8 @@ def compare_rules(world: World, rights: Rights, number: int, *options: str) -> T
         file.write("".join(rule.words + "\n" for rule in rules))
     os.chmod(name, 0o600)
     found = json.loads(world.command("facl-check", "--json", *options, world.snapshot, name))["rules"]
-    said = [{(it["user"], it["count"], tuple("/" + path for path in it["files"])) for it in rule["violations"]} for rule in found]
+    said = [{(OTHERS if it["user"] == SHOWN else it["user"], it["count"], tuple("/" + path for path in it["files"]))
+             for it in rule["violations"]} for rule in found]
     odd = [(rule.words, *sorted(rule.broken ^ its)) for rule, its in zip(rules, said) if rule.broken != its]
     broken = sum(len(rule.broken) for rule in rules)
     print(f"facl-check {' '.join(options)}: {number} rules, {sum(not it.broken for it in rules)} hold, {broken} users for whom one "

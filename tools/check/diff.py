@@ -7,7 +7,8 @@ As root, on a file system with access control lists: of each pair (300) facl-sna
 and N users (8), which the real tools then change: setfacl, chmod, chown, mv, rm, mkdir and others, and edits of passwd
 and group (up to 12). Names have what is odd in names. facl-diff compares the two snapshots along paths and with each
 file alone, by edits, by records, and below a folder. What it says of each user is compared with what `index` says of
-both snapshots; along paths a user has what is granted where `index` has search for the user on all directories above.
+both snapshots; along paths a user has what is granted where `index` has search for the user on all directories above. The
+user whom it calls everybody else is one more there, of whom neither snapshot has the name or the ids.
 
 The exit status is 1 where an answer differs, 2 where the words are others.
 """
@@ -38,6 +39,7 @@ NAMES = [b"a", b"b c", b"d\ne", b"f\\g", b"h'i", b"-j", b"=k", b"#l", b"\xff", "
 USERS = [b"anna", b"bert carla", b"=dora", b"emil#", b"\xfffritz", "gül".encode(), b"-hans", b"1007", b"ida\\", b"jan"]
 PERMISSIONS = ["---", "r--", "rw-", "r-x", "rwx", "--x", "-wx"]
 FIRST_UID, FIRST_GID = 71000, 72000
+ELSE = b"everybody\\040else"  # As `index` has the name.
 Change = Tuple[bytes, str, str]  # A user, with the right before and after.
 Path = Tuple[bytes, ...]
 Rights = Dict[Path, Dict[bytes, int]]  # A byte of `index` for each user.
@@ -221,7 +223,12 @@ class World:
 
 def rights_of(program: str, snapshot: str) -> Tuple[Rights, Dict[Path, bytes]]:
     """What `index` says, and the names of the files there."""
-    words = [word for name in ("passwd", "group", "dump") for word in ("--" + name, os.path.join(snapshot, name))]
+    with open(os.path.join(snapshot, "passwd"), "rb") as file:
+        rows = file.read() + b"everybody else:x:4200000000:4200000000::/:\n"
+    with open(snapshot + ".passwd", "wb") as file:
+        file.write(rows)
+    words = ["--passwd", snapshot + ".passwd",
+             *(word for name in ("group", "dump") for word in ("--" + name, os.path.join(snapshot, name)))]
     found: Rights = {}
     names: Dict[Path, bytes] = {}
     for line in tool(program, *words, text=b"index\n").split(b"\n")[:-1]:
@@ -276,6 +283,10 @@ def plain(name: bytes) -> bytes:
     return name.decode("utf-8", "backslashreplace").replace("\\xff", "\\377").encode()
 
 
+def shown(user: bytes) -> bytes:
+    return plain(user) if user != ELSE else b"everybody else"
+
+
 def check(given: argparse.Namespace, seed: int, seen: Counter[str]) -> List[str]:
     """What differs for one pair of states."""
     with tempfile.TemporaryDirectory(prefix="facl-diff-check.") as work:
@@ -291,7 +302,7 @@ def check(given: argparse.Namespace, seed: int, seen: Counter[str]) -> List[str]
             asked = [os.fsdecode(folder)] if form == "folder" else folders
             below = components(folder.replace(b"\\", b"\\\\")) if form == "folder" else ()
             for view in VIEWS:
-                wanted = {(plain(user), old, new): (count, plain(first)) for (user, old, new), (count, first) in
+                wanted = {(shown(user), old, new): (count, plain(first)) for (user, old, new), (count, first) in
                           expected(sides[0], sides[1], not view, below).items()}
                 words = [*view, *OPTIONS, "--program", given.program, "--", before, after, *asked]
                 faults += compare(wanted, words, f"seed {seed}, {form} {view}", seen)

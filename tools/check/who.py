@@ -6,8 +6,9 @@ usage: tools/check/who.py PROGRAM [--users N] [--files N] [--seed N] [--record]
 As root: it makes a tree of N files (300) with lists, default lists, masks, sticky and set-group-ID directories, of N
 users (12), and facl-snapshot records it. For each user a process with the user's ids asks access(2) of each file, along
 its path and by its descriptor alone, renames files and back, as who can remove them may, and makes new files and
-folders, whose lists getfacl prints. facl-who has to give the same counts, first files, rows of --user, users of
---remove and lists of --new-file; owners and named entries are compared with those that stat(2) and getfacl print.
+folders, whose lists getfacl prints. One user more is asked of, whom the snapshot does not have and no list names: everybody
+else. facl-who has to give the same counts, first files, rows of --user, users of --remove and lists of --new-file; owners
+and named entries are compared with those that stat(2) and getfacl print.
 Lists with an empty mask whose others have something are taken away before. --record writes what was found into
 docs/CHECKS.md.
 
@@ -35,6 +36,7 @@ TEXTS = ["---", "--x", "-w-", "-wx", "r--", "r-x", "rw-", "rwx"]
 RIGHTS = {"read": 4, "write": 2, "enter": 1, "rw": 6, "rwx": 7}
 SAMPLE = 60  # Files that are renamed, and new files.
 DEPTH = 3
+ELSE = "everybody else"
 Rows = List[List[str]]
 
 
@@ -58,6 +60,11 @@ class Tree(World):
         text = self.list_of(place)
         if "\nmask::---" in text and "\nother::---" not in text:
             printed(["setfacl", "-b", place])
+
+    def names(self) -> Dict[int, str]:
+        """What answers have for users, in their order; everybody else is a user of the next id, in the group of all alone, of
+        which no file is."""
+        return {self.users: ELSE, **{user: f"k{user}" for user in range(self.users)}}
 
     def list_of(self, place: str) -> str:
         """What getfacl prints, by the names that the snapshot has."""
@@ -114,9 +121,9 @@ def below(paths: Iterable[str], folder: str) -> List[str]:
 def ask_kernel(tree: Tree) -> Rights:
     descriptors = [os.open(path, os.O_PATH) for path in tree.files]
     along = [tree.as_user(user, lambda: [sum(1 << it for it in range(1, 8) if os.access(path, it)) for path in tree.files])
-             for user in range(tree.users)]
+             for user in range(tree.users + 1)]
     alone = [tree.as_user(user, lambda: [sum(1 << it for it in range(1, 8) if asked(descriptor, b"", it))
-                                         for descriptor in descriptors]) for user in range(tree.users)]
+                                         for descriptor in descriptors]) for user in range(tree.users + 1)]
     for descriptor in descriptors:
         os.close(descriptor)
     return Rights(along, alone)
@@ -139,8 +146,8 @@ class Compared:
 def wanted_rights(tree: Tree, granted: List[List[int]], folder: str) -> Rows:
     """The rows without entries: for each user who has one of the rights, numbers and first files."""
     rows, places = [], {path: place for place, path in enumerate(tree.files)}
-    for user, bits in enumerate(granted):
-        row = [f"k{user}"]
+    for user, name in tree.names().items():
+        row, bits = [name], granted[user]
         for request in RIGHTS.values():
             files = ordered(path for path in below(tree.files, folder) if bits[places[path]] >> request & 1)
             row += [str(len(files)), files[0] if files else ""]
@@ -167,15 +174,15 @@ def greatest(bits: int) -> str:
 
 def compare_users(tree: Tree, rights: Rights, compared: Compared) -> None:
     bits_of = [dict(zip(tree.files, bits)) for bits in rights.along]
-    for user, bits in enumerate(bits_of):
-        wanted = []
+    for user, name in tree.names().items():
+        wanted, bits = [], bits_of[user]
         for folder in ordered(path for path in tree.files if os.path.isdir(path)):
             files = below(tree.files, folder)
             counts = [sum(bits[path] >> request & 1 for path in files) for request in (4, 2, 1)]
             if any(counts) and folder.count("/") - tree.top.count("/") <= DEPTH:
                 highest = "write" if counts[1] else "read" if counts[0] else "enter"
                 wanted.append([folder, greatest(bits[folder]), highest, *map(str, counts), str(len(files))])
-        rows = tree.rows("--user", f"k{user}", "--depth", str(DEPTH), tree.snapshot, tree.top)
+        rows = tree.rows("--user", name, "--depth", str(DEPTH), tree.snapshot, tree.top)
         compared.expect("users", user, rows, wanted)
 
 
@@ -191,9 +198,9 @@ def try_rename(path: str) -> bool:
 
 def compare_removal(tree: Tree, compared: Compared) -> None:
     files = tree.chance.sample(tree.files[1:], min(SAMPLE, len(tree.files) - 1))
-    able = [tree.as_user(user, lambda: list(map(try_rename, files))) for user in range(tree.users)]
+    able = {user: tree.as_user(user, lambda: list(map(try_rename, files))) for user in tree.names()}
     for place, path in enumerate(files):
-        wanted = [f"k{user}" for user in range(tree.users) if able[user][place]]
+        wanted = [name for user, name in tree.names().items() if able[user][place]]
         compared.expect("removal", path, [row[0] for row in tree.rows("--remove", path, tree.snapshot)], wanted)
 
 
@@ -239,8 +246,8 @@ def main() -> int:
     given = options_of(__doc__, files=300, users=12, seed=1).parse_args()
     if os.geteuid() != 0:
         raise Failed("run it as root")
-    if given.users > 99:
-        raise Failed("at most 99 users")
+    if given.users > 98:
+        raise Failed("at most 98 users")
     compared = Compared()
     with tempfile.TemporaryDirectory(prefix="facl-who.") as work:
         os.chmod(work, 0o755)
