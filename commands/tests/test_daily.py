@@ -137,6 +137,20 @@ class Week(Daily):
         self.expect(self.daily(*words), 0, b"")
         self.assertEqual(self.kept(), ["2026-01-01", "DAY.3", "DAY.4", "made.by-facl-daily"])
 
+    def test_what_everybody_else_gained_comes_first(self) -> None:
+        """anna is the only user who is a person, and has what others have."""
+        self.expect(self.daily(), 0, b"")
+        os.chmod(os.path.join(self.tree, "file"), 0o646)
+        lines = self.daily().out.decode().splitlines()
+        first = next(place for place, line in enumerate(lines) if line.startswith("== changes since ")) + 1
+        for place, pattern in enumerate(("BEFORE +AFTER +WHO +FILES ", "r-- +rw- +everybody else +1 ", "r-- +rw- +anna +1 ")):
+            self.assertRegex(lines[first + place], "^" + pattern)
+        os.chmod(os.path.join(self.tree, "file"), 0o640)
+        text = self.daily("--fail-on", "none").out.decode()
+        self.assertEqual(re.findall(r"^rw- +none +(everybody else|anna) ", text, re.MULTILINE), ["everybody else", "anna"])
+        os.chmod(os.path.join(self.tree, "file"), 0o600)
+        self.assertNotIn(b"everybody else", self.daily("--fail-on", "none").out)
+
     def test_printed(self) -> None:
         os.chmod(os.path.join(self.tree, "file"), 0o646)
         done = self.daily()
