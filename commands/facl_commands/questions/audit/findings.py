@@ -33,7 +33,7 @@ KINDS = (
     KindOfFinding("links-across-folders", MIDDLE, "one file has names in several folders: closing one leaves the others"),
     KindOfFinding("readable-behind-closed", LOW, "everybody else can read it as soon as a directory above is opened"),
     KindOfFinding("execute-for-everybody", LOW, "a plain file that everybody else can run along its path"),
-    KindOfFinding("entry-without-effect", LOW, "an entry that can go, and nobody's rights change"),
+    KindOfFinding("entry-without-effect", LOW, "an entry that can go: without it all users of the snapshot have the same rights"),
     KindOfFinding("default-not-inherited", LOW, "the directory lacks default entries that the directory above has"),
     KindOfFinding("default-differs", LOW, "new files here get entries for other users or groups than the directory has"),
 )

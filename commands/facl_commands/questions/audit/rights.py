@@ -189,7 +189,7 @@ def single_removals(audited: Audited) -> List[Removal]:
 
 
 def without_effect(audited: Audited, program: str, removals: List[Removal]) -> List[Removal]:
-    """Those that change nobody's rights: they are done in a session that has a file for each."""
+    """Those that change no rights of the snapshot's users: they are done in a session that has a file for each."""
     if not removals:
         return []
     texts = audited.world.texts
