@@ -108,7 +108,7 @@ class RuleReader:
     def who(self, place: int, raw: bytes) -> Tuple[Set[bytes], bool]:
         """The users that a word means, and whether it means everybody else too."""
         if raw in (OTHERS, PEOPLE, EVERYBODY):
-            return set(self.chosen if raw != OTHERS else ()), raw != PEOPLE
+            return set() if raw == OTHERS else set(self.chosen), raw != PEOPLE
         word = raw.replace(b"'", b"")
         if raw.startswith(IN_GROUP):
             return self.members_asked(place, self.group(place, word[1:], b"'" in raw)), False
