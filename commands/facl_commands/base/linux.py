@@ -1,5 +1,5 @@
-"""Calls of Linux that Python does not have: a status with the birth, a rename that replaces nothing, and an end of
-writing."""
+"""Calls of Linux that Python does not have: a status with the birth and with what Linux looks at beside lists, a rename that
+replaces nothing, and an end of writing."""
 from __future__ import annotations
 
 import ctypes
@@ -11,12 +11,17 @@ from typing import Dict, NamedTuple, Set, Tuple
 
 LIBRARY = ctypes.CDLL(None, use_errno=True)
 AT_EMPTY_PATH, AT_SYMLINK_NOFOLLOW = 0x1000, 0x100
-STATX_BASIC_STATS, STATX_BTIME = 0x7FF, 0x800
+STATX_BASIC_STATS, STATX_BTIME, STATX_MNT_ID = 0x7FF, 0x800, 0x1000
+STATX_WANTED = STATX_BASIC_STATS | STATX_BTIME | STATX_MNT_ID
+IMMUTABLE, APPEND_ONLY = 0x10, 0x20  # Attributes of statx(2), which are those of chattr(1).
+ATTRIBUTES = IMMUTABLE | APPEND_ONLY
+UNKNOWN = 1  # No attribute: the file system does not say whether a file has them.
 RENAME_NOREPLACE, RENAME_EXCHANGE = 1, 2
 NO_OVERLAY, OF_ONE, OF_SEVERAL = range(3)
 OVERLAY = 0x794C7630  # The kind of file system, as statfs(2) has it.
-# struct statx: the mask of what is known, names, owner, group, mode, inode, birth in seconds and nanoseconds, device.
-STATX = struct.Struct("<I12xIIIH2xQ40xqI44xII")
+# struct statx: the mask of what is known, attributes, names, owner, group, mode, inode, which attributes are known, birth in
+# seconds and nanoseconds, device, mount.
+STATX = struct.Struct("<I4xQIIIH2xQ16xQ16xqI44xIIQ")
 BUFFER = ctypes.create_string_buffer(256)
 STATX_CALL = getattr(LIBRARY, "statx", None)
 NO_DESCRIPTOR = -1
@@ -28,6 +33,9 @@ BOOT_FILE = "/proc/sys/kernel/random/boot_id"
 # Of a file: mode, owner, group, names, device, inode, and birth in nanoseconds since 1970, 0 where the file system has
 # none.
 Status = Tuple[int, int, int, int, int, int, int]
+Mount = Tuple[int, int]  # A device, and the number of the mount, which is 0 where Linux does not say it.
+# What Linux looks at beside the lists of a file: ATTRIBUTES that it has, or UNKNOWN; and what it is mounted by.
+Beside = Tuple[int, Mount]
 
 
 class Identity(NamedTuple):
@@ -80,18 +88,28 @@ def overlays() -> Set[bytes]:
     return {first.split()[2] for first, second in halves if second.split()[0] == b"overlay"}
 
 
-def status_of(descriptor: int, name: bytes = b"") -> Status:
-    """The status of an open file, or of a name in an open directory, which is not followed where it is a link."""
+def look_at(descriptor: int, name: bytes = b"") -> Tuple[Status, Beside]:
+    """The status of an open file, or of a name in an open directory, which is not followed where it is a link; and what counts
+    beside lists. Nothing is opened for it."""
     if STATX_CALL is None:
         found = os.stat(name, dir_fd=descriptor, follow_symlinks=False) if name else os.fstat(descriptor)
-        return found.st_mode, found.st_uid, found.st_gid, found.st_nlink, found.st_dev, found.st_ino, 0
-    if STATX_CALL(descriptor, name, AT_EMPTY_PATH | AT_SYMLINK_NOFOLLOW, STATX_BASIC_STATS | STATX_BTIME, BUFFER) != 0:
+        status = found.st_mode, found.st_uid, found.st_gid, found.st_nlink, found.st_dev, found.st_ino, 0
+        return status, (UNKNOWN, (found.st_dev, 0))
+    if STATX_CALL(descriptor, name, AT_EMPTY_PATH | AT_SYMLINK_NOFOLLOW, STATX_WANTED, BUFFER) != 0:
         number = ctypes.get_errno()
         raise OSError(number, os.strerror(number))
-    known, names, owner, group, mode, inode, seconds, nanoseconds, major, minor = STATX.unpack_from(BUFFER)
+    known, its, names, owner, group, mode, inode, says, seconds, nanoseconds, major, minor, mount = STATX.unpack_from(BUFFER)
     has_birth = known & STATX_BTIME and KEPT_BIRTHS[major, minor]
     birth = seconds * 1_000_000_000 + nanoseconds if has_birth else 0
-    return mode, owner, group, names, DEVICES[major, minor], inode, birth
+    device = DEVICES[major, minor]
+    attributes = its & ATTRIBUTES if says & ATTRIBUTES == ATTRIBUTES else UNKNOWN
+    return ((mode, owner, group, names, device, inode, birth),
+            (attributes, (device, mount if known & STATX_MNT_ID else 0)))
+
+
+def status_of(descriptor: int, name: bytes = b"") -> Status:
+    """The status alone."""
+    return look_at(descriptor, name)[0]
 
 
 def rename_new(old: bytes, new: bytes, folder: int) -> None:

@@ -31,7 +31,8 @@ class NotFound(Exception):
 
 
 class Seen(NamedTuple):
-    """A file as it is: which file, its mode, how many names it has, its owner and group, and its lists."""
+    """A file as it is: which file, its mode, how many names it has, its owner and group, its lists, and the attributes by which
+    nobody can change it."""
 
     device: int
     inode: int
@@ -42,6 +43,7 @@ class Seen(NamedTuple):
     group: int
     access: bytes
     default: bytes
+    attributes: int = linux.UNKNOWN
 
     @property
     def identity(self) -> Identity:
@@ -78,8 +80,8 @@ def attribute(name: bytes, attribute_name: bytes, follow: bool = True) -> Option
         return None
 
 
-def seen_of(status: Status, name: bytes, follow: bool = True) -> Seen:
-    """A file as it is, of its status and of a name for its attributes; NotFound where it is a link."""
+def seen_of(status: Status, name: bytes, follow: bool = True, attributes: int = linux.UNKNOWN) -> Seen:
+    """A file as it is, of its status and of a name for its lists; NotFound where it is a link."""
     mode, owner, group, names, device, inode, birth = status
     if stat.S_ISLNK(mode):
         raise NotFound(b"is a symbolic link now")
@@ -87,7 +89,16 @@ def seen_of(status: Status, name: bytes, follow: bool = True) -> Seen:
     default = attribute(name, acl_bytes.DEFAULT, follow) if stat.S_ISDIR(mode) else None
     return Seen(device, inode, birth, mode, names, owner, group, MINIMAL[mode & 0o777] if access is None
                 else LISTS[access],
-                b"" if default is None else LISTS[default])
+                b"" if default is None else LISTS[default], attributes)
+
+
+def fixed(attributes: int) -> Optional[bytes]:
+    """Why nobody can change the owner, mode and lists of a file with these attributes; None where they allow it."""
+    if attributes & linux.IMMUTABLE:
+        return b"is immutable, so nobody can change it: chattr -i it before"
+    if attributes & linux.APPEND_ONLY:
+        return b"is append-only, so nobody can change its owner, mode and lists: chattr -a it before"
+    return None
 
 
 class OpenFile:
@@ -101,7 +112,8 @@ class OpenFile:
         os.close(self.descriptor)
 
     def look(self) -> Seen:
-        return seen_of(linux.status_of(self.descriptor), self.name)
+        status, (attributes, _) = linux.look_at(self.descriptor)
+        return seen_of(status, self.name, attributes=attributes)
 
     def record(self) -> Record:
         status = os.fstat(self.descriptor)
@@ -210,7 +222,8 @@ class Opener:
         above, _, name = path.rpartition(b"/")
         try:
             folder = self.folder(above)
-            return seen_of(linux.status_of(folder, name), b"/proc/self/fd/%d/%s" % (folder, name), follow=not name)
+            status, (attributes, _) = linux.look_at(folder, name)
+            return seen_of(status, b"/proc/self/fd/%d/%s" % (folder, name), not name, attributes)
         except OSError as error:
             raise not_found(error) from error
 

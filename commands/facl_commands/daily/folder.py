@@ -33,7 +33,7 @@ NEW, NEXT, BEGUN = b"new", b"made", b"begun"  # In the work folder.
 WORK = re.compile(rb"\.work\.[0-9A-Za-z]{10}")
 NAME = re.compile(rb"[0-9]{4,}-[0-9]{2}-[0-9]{2}(?:\.([0-9]{1,9}))?")
 PART = re.compile(rb"[0-9]{3,7}")  # The folder of a part of a snapshot (--split).
-TEXTS = (b"passwd", b"group", b"dump", b"links", b"inodes", b"meta")
+TEXTS = (b"passwd", b"group", b"dump", b"links", b"inodes", b"marks", b"meta")
 LIST_LIMIT = 1 << 20  # Bytes of the list.
 
 

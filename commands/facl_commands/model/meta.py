@@ -4,6 +4,7 @@ from __future__ import annotations
 import os
 from typing import Dict, List, NamedTuple, Optional
 
+from ..base import beside
 from ..base.names import json_text, number_of
 from ..base.trusted import read_trusted
 
@@ -12,7 +13,8 @@ FILES, USERS, GROUPS, LINKED = b"files", b"users", b"groups", b"linked-names"  #
 EXCLUDED, UNREAD = b"excluded", b"unread"  # How many names are left out, and how many could not be read.
 ASKED = b"users-asked-for"  # Of the users those whom the list of getent lacks.
 PART = b"part"  # Of several snapshots, `001 of 003`.
-NUMBERS = (FILES, USERS, GROUPS, LINKED, EXCLUDED, UNREAD, ASKED, PART)
+MARKED = beside.NAME  # How many lines the file marks has.
+NUMBERS = (FILES, USERS, GROUPS, LINKED, EXCLUDED, UNREAD, ASKED, PART, MARKED, *beside.KINDS)
 
 
 class Meta(NamedTuple):

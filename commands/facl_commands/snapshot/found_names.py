@@ -31,13 +31,13 @@ class Choice(NamedTuple):
 
 
 class Node:
-    """A name in its directory; `below` has the names in a directory."""
+    """A name in its directory; `below` has the names in a directory, and `mount` how a recorded file is mounted."""
 
-    __slots__ = ("parent", "name", "kind", "device", "inode", "below", "rank")
+    __slots__ = ("parent", "name", "kind", "device", "inode", "below", "rank", "mount")
 
     def __init__(self, parent: Optional[Node], name: bytes, kind: bytes) -> None:
         self.parent, self.name, self.kind = parent, name, kind
-        self.device, self.inode, self.rank = UNKNOWN, 0, 0
+        self.device, self.inode, self.rank, self.mount = UNKNOWN, 0, 0, b""
         self.below: Optional[Dict[bytes, Node]] = None
 
     @property

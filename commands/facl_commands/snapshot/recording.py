@@ -1,4 +1,4 @@
-"""What facl-snapshot records of files: dump, inodes and links of one snapshot, or of several.
+"""What facl-snapshot records of files: dump, inodes, links and marks of one snapshot, or of several.
 
 Each file is opened by its path, component by component and through no symbolic link, and recorded by its descriptor. It
 has to be the file that find found under this name: where it is not, or is gone, it is not recorded.
@@ -11,7 +11,7 @@ import operator
 import os
 import shutil
 import stat
-from typing import IO, Dict, Iterable, Iterator, List, NamedTuple, Optional, Set, Tuple
+from typing import Dict, Iterable, Iterator, List, NamedTuple, Optional, Set, Tuple
 
 from ..base import acl_bytes, linux, live
 from ..base.live import NotFound, Opener
@@ -21,6 +21,8 @@ from .found_names import (
     EXCLUDED, FILE, LINK, OTHER_SYSTEM, START, UNKNOWN, Choice, Complaints, NameTree, Node, find_below, find_words,
 )
 from .list_texts import FileText, NoList, record_of, shown_name
+from .marking import KnownMounts, Marker
+from .written import Written, close_all, write_file
 
 MOST_BYTES = 268_435_456  # Of a dump, which the program reads.
 MOST_PATHS = 4096  # Directories whose paths are kept.
@@ -62,39 +64,6 @@ class PathsOfNodes:
         return self.folder(node) if node.below is not None else self.folder(node.parent) + node.name
 
 
-class Written:
-    """A file of a snapshot, which is written from its start to its end; Failure where that cannot be."""
-
-    def __init__(self, folder: bytes, name: bytes) -> None:
-        self.name, self.size = name, 0
-        try:
-            self.file: IO[bytes] = open(os.path.join(folder, name), "xb")
-        except OSError as error:
-            raise self.failure(error) from error
-
-    def failure(self, error: OSError) -> Failure:
-        return Failure(b"cannot write " + self.name + b": " + reason(error))
-
-    def write(self, text: bytes) -> None:
-        self.size += len(text)
-        try:
-            self.file.write(text)
-        except OSError as error:
-            raise self.failure(error) from error
-
-    def close(self) -> None:
-        try:
-            self.file.close()
-        except OSError as error:
-            raise self.failure(error) from error
-
-
-def write_file(folder: bytes, name: bytes, text: bytes) -> None:
-    file = Written(folder, name)
-    file.write(text)
-    file.close()
-
-
 class Recorded(NamedTuple):
     """What is recorded in one snapshot, and whom that names."""
 
@@ -112,11 +81,12 @@ class Recorder:
 
     def __init__(self, choice: Choice, opener: Opener) -> None:
         self.choice, self.opener = choice, opener
-        self.paths = PathsOfNodes()
+        self.paths, self.mounts = PathsOfNodes(), KnownMounts()
 
     def look(self, node: Node, name: bytes, into: Recorded) -> Optional[FileText]:
         """The record of a file, with its line of inodes in the file of this name; None, and a complaint, where it cannot be
         looked at or is another one."""
+        node.mount = b""
         try:
             file = self.opener.open(name.strip(b"/"))
         except NotFound as error:
@@ -132,7 +102,7 @@ class Recorder:
             file.close()
 
     def record(self, node: Node, name: bytes, file: live.OpenFile, into: Recorded) -> Optional[FileText]:
-        mode, owner, group, links, device, inode, birth = linux.status_of(file.descriptor)
+        (mode, owner, group, links, device, inode, birth), beside = linux.look_at(file.descriptor)
         is_other = stat.S_ISLNK(mode) or stat.S_ISDIR(mode) != (node.below is not None)
         if is_other or node.device != UNKNOWN and (node.device, node.inode) != (device, inode):
             into.complaints.add(shown_name(name) + b": " + EXCHANGED)
@@ -140,6 +110,7 @@ class Recorder:
         default = live.attribute(file.name, acl_bytes.DEFAULT) if node.below is not None else None
         found = record_of(name, mode, owner, group, live.attribute(file.name, acl_bytes.ACCESS), default)
         node.device, node.inode = device, inode
+        self.marker.add(node, name, file, mode, beside)
         self.inodes.write(b"%d %d %d.%09d %s\0" % (device, inode, *divmod(birth, 1_000_000_000), name))
         into.nodes.append(node)
         if links > 1 and node.below is None:
@@ -155,18 +126,16 @@ class Recorder:
     def write(self, folder: bytes, nodes: Iterable[Node], complaints: Complaints, number: int) -> None:
         """Writes a snapshot, and what is said of it."""
         into = Recorded([], [], [], [], set(), set(), complaints)
-        dump, self.inodes = Written(folder, b"dump"), Written(folder, b"inodes")
+        dump, self.inodes, self.marker = Written(folder, b"dump"), Written(folder, b"inodes"), Marker(folder, self.mounts)
         self.inodes.write(b"boot " + linux.boot().encode() + b"\0")
         for node in nodes:
             found = self.look(node, self.paths.of(node), into)
             if found is not None:
                 dump.write(found.text)
                 if dump.size > MOST_BYTES:
-                    dump.close()
-                    self.inodes.close()
+                    close_all(dump, self.inodes, self.marker.file)
                     raise TooLarge(len(into.nodes) - 1)
-        dump.close()
-        self.inodes.close()
+        close_all(dump, self.inodes, self.marker.file)
         if not into.nodes:
             raise Failure(b"no file could be read: " + complaints.first)
         self.write_rest(folder, into, b"%03d." % number)
@@ -189,8 +158,10 @@ class Recorder:
                  into.repeated))
         work = self.choice.work
         write_file(work, prefix + b"said", b"".join(
-            b"%s: %d, first: %s\n" % (text, len(nodes), shown_name(self.paths.of(nodes[0]))) for text, nodes in said if nodes))
-        write_file(work, prefix + b"numbers", b"files %d\nlinked-names %d\n" % (len(into.nodes), len(linked)))
+            b"%s: %d, first: %s\n" % (text, len(nodes), shown_name(self.paths.of(nodes[0]))) for text, nodes in said if nodes)
+                   + self.marker.said())
+        write_file(work, prefix + b"numbers", b"files %d\nlinked-names %d\n" % (len(into.nodes), len(linked))
+                   + self.marker.numbers())
         write_file(work, prefix + b"passwd", b"".join(b"%d\n" % number for number in into.users))
         write_file(work, prefix + b"group", b"".join(b"%d\n" % number for number in into.groups))
         write_file(work, prefix + b"unread", b"%d\n%s\n" % (into.complaints.number, into.complaints.first))
