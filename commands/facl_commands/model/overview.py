@@ -8,13 +8,14 @@ import os
 import re
 from typing import Dict, Iterator, List, NamedTuple, Set
 
+from ..base import beside
 from ..base.messages import Command, counted
 from ..base.names import live_name
 from ..base.trusted import read_trusted
 from ..program.protocol import (
     EMPTY_MASK, EMPTY_MASK_LINE, FILE_HEAD, FREE_FILE_LINE, GROUP_ID_LINE, OPEN_OTHERS_LINE, USER_ID_LINE,
 )
-from . import meta, split_tree
+from . import marks, meta, split_tree
 from . import sources as source_texts
 from .people import plain_id, rows_of
 from .snapshot import NEEDED, read_links
@@ -144,6 +145,7 @@ def torn(texts: LoadedTexts) -> Iterator[bytes]:
         (b"passwd", meta.USERS, texts.passwd.count(b"\n"), "row"),
         (b"group", meta.GROUPS, texts.group.count(b"\n"), "row"),
         (b"links", meta.LINKED, sum(map(len, read_links(texts.links))), "name"),
+        (beside.NAME, meta.MARKED, marks.text_of(texts.folder).count(b"\n"), "line"),
     ):
         if recorded.get(key, b"%d" % number) != b"%d" % number:
             yield name + b": has " + counted(number, noun) + b", and facl-snapshot recorded " + recorded[key]
@@ -164,16 +166,19 @@ def torn_warnings(texts: LoadedTexts, source: Source) -> Iterator[bytes]:
         yield b"warning: " + (text if source.is_made else os.path.join(source.shown, text))
 
 
-def say_notices(command: Command, source: Source, has_masks: bool = True) -> None:
-    """What answers over this snapshot cannot tell, and the warning of empty masks, where there are any."""
+def say_notices(command: Command, source: Source, has_masks: bool = True, is_alone: bool = True) -> None:
+    """What answers over this snapshot cannot tell, and the warning of empty masks, where there are any. Answers by lists alone
+    do not tell what Linux looks at beside them."""
     names: Dict[bytes, None] = {}  # A directory can be in several parts of a snapshot.
     for folder in split_tree.snapshots_in(source.folder):
         part = source if folder == source.folder else Source(folder, folder, False)
         found = read_texts(folder)
         for text in unknown(folder, found.dump):
             command.say(part.shown + b": " + text if not text.startswith(b"warning: ") else text)
-        for text in torn_warnings(found, part):
+        for text in (*torn_warnings(found, part), *(part.shown + b": " + it for it in marks.not_judged(folder))):
             command.say(text)
         names.update(dict.fromkeys(open_empty_masks(found.dump) if has_masks else ()))
     if names:
         command.say(warning_of(EMPTY_MASKS, [*names]))
+    for text in marks.alone(marks.marks_of(source.folder)) if is_alone else ():
+        command.say(source.shown + b": " + text)

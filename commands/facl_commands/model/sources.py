@@ -13,7 +13,7 @@ import re
 import subprocess
 from typing import Iterator, List, NamedTuple, Optional, Set
 
-from ..base import scratch
+from ..base import beside, scratch
 from ..base.environment import environment_of_called
 from ..base.messages import Failure, reason
 from ..base.names import highest, path_word, read_name, read_path
@@ -180,8 +180,11 @@ def notice(folder: bytes, dump: bytes) -> Optional[bytes]:
     found: List[bytes] = []
     if not dump.startswith(LIVE_ROOT) and b"\n" + LIVE_ROOT not in dump:
         found.append(b"the directories above are not recorded, so they are taken as open")
-    if not os.path.exists(os.path.join(folder, b"links")):
-        found.append(b"hard links are not known")
+    unknown = [b"hard links"] if not os.path.exists(os.path.join(folder, b"links")) else []
+    if not os.path.exists(os.path.join(folder, beside.NAME)):
+        unknown += [b"immutable files", b"read-only file systems"]
+    if unknown:
+        found.append(b" and ".join(filter(None, [b", ".join(unknown[:-1]), unknown[-1]])) + b" are not known")
     return b"; ".join(found) or None
 
 
@@ -213,11 +216,11 @@ def list_below(session: Session, tops: List[bytes]) -> List[OutputSlice]:
     return [output for words in operands_of(tops) for output in list_words(session, words)]
 
 
-def list_words(session: Session, words: List[bytes]) -> List[OutputSlice]:
-    """The listings of some tops, one by one where not all of them are there."""
-    answer = session.ask(b" ".join([LIST_ALL, *words]) + b"\n")
+def list_words(session: Session, words: List[bytes], line: bytes = LIST_ALL) -> List[OutputSlice]:
+    """The listings of some files, by this line, one by one where not all of them are there."""
+    answer = session.ask(b" ".join([line, *words]) + b"\n")
     if not answer.messages:
         return [answer.output]
     if not lacks_file(answer.messages):
         raise Failure(b"the program refused to list the files: " + answer.messages[0])
-    return [output for word in words for output in list_words(session, [word])] if len(words) > 1 else []
+    return [output for word in words for output in list_words(session, [word], line)] if len(words) > 1 else []

@@ -3,8 +3,9 @@ the names of files as on the live system."""
 from __future__ import annotations
 
 import argparse
+import contextlib
 import re
-from typing import Dict, Iterable, List, NamedTuple, Sequence, Tuple
+from typing import Dict, Iterable, Iterator, List, NamedTuple, Optional, Sequence, Tuple
 
 from ...base.messages import Failure
 from ...base.names import file_name, highest, path_word, read_name, read_path
@@ -12,8 +13,10 @@ from ...model import meta, sources
 from ...model.entries import OTHER_KEY, OWNER_KEY, OWNING_GROUP_KEY, Entries, Entry, entries_of, read_record
 from ...model.everybody import SHOWN, World, beside
 from ...model.label_answers import ask_records
+from ...model.marks import NO_MARKS, marks_of
 from ...model.people import needed_word, user_word
 from ...model.rights import REQUESTS
+from ...model.unwritable import Unwritable, find_unwritable, without_write
 from ...program.protocol import BELOW, EFFECTIVE, ENTRIES_OF, LIST_NAMES
 from ...program.tools import REACH
 
@@ -64,6 +67,11 @@ class Asker:
         self.users = world.users
         # The rows of all whom an answer can have, in its order: everybody else comes first.
         self.passwd = world.everybody.passwd() + world.texts.passwd
+        self.marks = marks_of(self.session.folder)
+        self.judged_by = NO_MARKS if given.lists_alone else self.marks
+        self.unwritable: Optional[Unwritable] = None  # Files that were left out last.
+        self.folders: List[bytes] = []  # At or below which files are looked at,
+        self.named: List[bytes] = []  # and the paths that a person names.
 
     def shown(self, user: bytes) -> bytes:
         """What an answer has for a user, by the name that the program prints."""
@@ -80,6 +88,17 @@ class Asker:
     def line(self, tool: bytes, *words: bytes) -> bytes:
         """A question along paths, unless each file is to be judged alone."""
         return b" ".join([tool, *([] if self.given.file_alone else [REACH]), b"--", *words])
+
+    @contextlib.contextmanager
+    def without_unwritable(self, letters: bytes, folders: Iterable[bytes]) -> Iterator[None]:
+        """Leaves files at or below some paths that nobody can write out of what is asked meanwhile of these permissions."""
+        found = find_unwritable(self.session, self.judged_by, list(folders)) if b"w" in letters else None
+        if found is None or not found.bodies:
+            yield
+            return
+        self.unwritable = found
+        with without_write(self.session, found):
+            yield
 
     def lines_of(self, tool: bytes, *words: bytes) -> Iterable[bytes]:
         """The lines of its answer."""
@@ -98,12 +117,13 @@ class Asker:
 def ask_below(asker: Asker, right: Right, folders: Iterable[bytes]) -> Dict[bytes, FoundRight]:
     """By user, as the program prints the name: those who have a right on a file at or below some paths."""
     found: Dict[bytes, FoundRight] = {}
-    for words in sources.operands_of(highest(folders)):
-        for line in asker.lines_of(BELOW, right.letters(), *words):
-            count, user, name = line.split(b" ", 2)
-            before = found.get(user)
-            found[user] = (FoundRight(int(count), read_path(name)) if before is None
-                           else FoundRight(before.files + int(count), before.first))
+    with asker.without_unwritable(right.letters(), folders):
+        for words in sources.operands_of(highest(folders)):
+            for line in asker.lines_of(BELOW, right.letters(), *words):
+                count, user, name = line.split(b" ", 2)
+                before = found.get(user)
+                found[user] = (FoundRight(int(count), read_path(name)) if before is None
+                               else FoundRight(before.files + int(count), before.first))
     return found
 
 

@@ -4,10 +4,11 @@ from __future__ import annotations
 
 import argparse
 import os
-from typing import Dict, List
+from typing import Dict, Iterator, List
 
 from ...base import tables
 from ...base.accounts import SUPERUSER
+from ...base.beside import NOEXEC
 from ...base.messages import Command, Failure, parser_of
 from ...base.names import json_text, shell_word
 from ...model import choice, meta, overview, sources
@@ -77,6 +78,9 @@ def add_questions(parser: argparse.ArgumentParser) -> None:
                         help="with --user: folders so far below each FOLDER; 2 without it")
     parser.add_argument("--umask", metavar="MASK", type=mask, default="022",
                         help="with --new-file: where there is no default list; 022 without it")
+    parser.add_argument("--lists-alone", action="store_true",
+                        help="also files that nobody can write, though lists grant it: immutable ones, and those on read-only file "
+                        "systems")
 
 
 def depth(word: str) -> int:
@@ -121,11 +125,14 @@ def check_source(source: Source, given: argparse.Namespace) -> None:
 def answer_of(asker: Asker) -> WhoAnswer:
     given, session = asker.given, asker.session
     if given.remove is not None:
-        return of_folder.answer_remove(asker, of_folder.removed_path(asker, given.remove))
+        asker.named = [of_folder.removed_path(asker, given.remove)]
+        return of_folder.answer_remove(asker, asker.named[0])
     if given.new_file is not None:
         folder, user = map(os.fsencode, given.new_file)
-        return of_folder.answer_new_file(asker, choice.folder_of(session, folder), user_with_row(asker, user))
+        asker.named = [choice.folder_of(session, folder)]
+        return of_folder.answer_new_file(asker, asker.named[0], user_with_row(asker, user))
     folders = choice.folders_of(session, given.folders) if given.folders else choice.folders_made_of(session)
+    asker.folders, asker.named = folders, folders if given.folders else []
     if given.user is not None:
         return of_user.answer(asker, anybody(asker, os.fsencode(given.user)), folders)
     for question, word in (("owner", given.owner), ("names", given.names)):
@@ -140,7 +147,7 @@ def write_answer(command: Command, asker: Asker, answer: WhoAnswer) -> None:
         about = meta.fields_of(meta.meta_of(asker.session.folder))
         tables.write_json(command, SCHEMA, {
             "snapshot": about, "question": answer.question, "along_paths": not given.file_alone, **answer.fields,
-            "left_out": list(map(json_text, answer.left_out))})
+            "left_out": list(map(json_text, answer.left_out)), **beside_lists(asker)})
     elif given.tsv or answer.table.rows:
         tables.write_table(command, given, answer.table)
     else:
@@ -148,6 +155,28 @@ def write_answer(command: Command, asker: Asker, answer: WhoAnswer) -> None:
     if not given.json and not given.tsv:
         for line in answer.after if answer.table.rows else ():
             command.tell(line)
+        for path in asker.named:
+            for text in asker.marks.texts(path):
+                command.tell(asker.name_of(path) + b": " + text)
+
+
+def beside_lists(asker: Asker) -> Dict[str, object]:
+    """What Linux looks at beside lists, for JSON: the marks of files that a person names, and how many were left out."""
+    marked = [{"file": json_text(asker.name_of(path)), "marks": list(map(json_text, asker.marks.of(path)))} for path in asker.named]
+    left_out = {} if asker.unwritable is None else asker.unwritable.numbers
+    return {"marked": [it for it in marked if it["marks"]],
+            "unwritable": {json_text(kind): number for kind, number in left_out.items() if number}}
+
+
+def notes_beside_lists(asker: Asker) -> Iterator[bytes]:
+    """What is said where lists do not decide alone."""
+    given = asker.given
+    if asker.unwritable is not None:
+        yield b"left out, as nobody can write them: " + asker.unwritable.text() + b" (--lists-alone)"
+    asks_for_x = given.user is not None or not given.question and any(it.request & 1 for it in read_rights(given.perms))
+    noexec = asker.judged_by.mounted(NOEXEC, asker.folders) if asks_for_x else []
+    if noexec:
+        yield b"on a noexec file system, where x of a file grants no execution: " + choice.few(list(map(asker.name_of, noexec)))
 
 
 def body(command: Command, words: List[str]) -> int:
@@ -157,13 +186,15 @@ def body(command: Command, words: List[str]) -> int:
     with sources.opened(given) as source:
         check_source(source, given)
         program = find_program(given.program)
-        overview.say_notices(command, source)
+        overview.say_notices(command, source, is_alone=False)
         with world_of(program, source) as world:
             asker = Asker(world, given)
             answer = answer_of(asker)
             with tables.paged(command, not given.no_pager):
                 write_answer(command, asker, answer)
         for note in () if given.json else choice.notes(answer.left_out, asker.passwd):
+            command.say(note)
+        for note in () if given.json else notes_beside_lists(asker):
             command.say(note)
         if given.user is not None and not given.with_root and anybody(asker, os.fsencode(given.user)).uid == SUPERUSER:
             command.say(os.fsencode(given.user) + b": has the uid 0, to which the kernel grants nearly everything; "

@@ -62,7 +62,9 @@ def removed_path(asker: Asker, word: str) -> bytes:
 def answer_remove(asker: Asker, path: bytes) -> WhoAnswer:
     folder = parent_of(path)
     removed, ids = ask_removed(asker, path), ids_in(asker.passwd)
-    users = choice.in_order(asker.lines_of(WHO, CHANGE.letters(), path_word(folder)), asker.passwd)
+    why = asker.judged_by.keeps_name(path)
+    may = asker.lines_of(WHO, CHANGE.letters(), path_word(folder)) if why is None else ()
+    users = choice.in_order(may, asker.passwd)
     roles = {user: removed.role(ids[read_name(user)]) for user in users}
     users = [user for user in users if roles[user] is not None]
     kept = choice.kept(users, asker.given, asker.passwd)
@@ -78,7 +80,12 @@ def answer_remove(asker: Asker, path: bytes) -> WhoAnswer:
         {"file": json_text(name), "sticky": removed.is_sticky, "empty": not removed.is_full,
          "users": [{"user": json_text(asker.shown(user)), "as": json_text(roles[user] or b"") or None,
                     "by": [json_text(plain_entry(it)) for it in reasons.granting((user, folder), CHANGE)]} for user in kept]},
-        b"nobody may remove " + name, [it for it in users if it not in kept], tuple(notes))
+        b"nobody may remove " + name + since(why), [it for it in users if it not in kept], tuple(notes))
+
+
+def since(why: Optional[bytes]) -> bytes:
+    """The end of a line, where nobody can do something whatever lists say."""
+    return b"" if why is None else b", since " + why
 
 
 # --- what a new file gets
@@ -139,7 +146,8 @@ def answer_new_file(asker: Asker, folder: bytes, user: NamedUser) -> WhoAnswer:
     word = asker.word_of(user.shown)
     name = asker.name_of(folder)
     granted = b"".join(asker.lines_of(CAN, word, path_word(folder))).split(b" ")
-    is_allowed = b"-wx" in granted
+    why = asker.judged_by.keeps_out(folder)
+    is_allowed = b"-wx" in granted and why is None
     made = [make(asker, folder, word, kind) for kind in KINDS] if is_allowed else []
     umask = asker.given.umask.encode()
     origin = (b"by the default list of " + name if has_default_list(asker, folder)
@@ -150,4 +158,4 @@ def answer_new_file(asker: Asker, folder: bytes, user: NamedUser) -> WhoAnswer:
     return WhoAnswer(
         "new-file", Table([Column("NEW"), Column("LIST")], rows),
         {"folder": json_text(name), "user": json_text(user.shown), "new": [it.as_object() for it in made]},
-        user.shown + b" may make no file in " + name, left_out, (origin, *notes))
+        user.shown + b" may make no file in " + name + since(why), left_out, (origin, *notes))

@@ -97,10 +97,11 @@ def answer(asker: Asker, user: NamedUser, folders: List[bytes]) -> WhoAnswer:
     dump = read_trusted(os.path.join(asker.session.folder, sources.DUMP))
     found = Folders(highest(folders), asker.given.depth, dump, with_default_entries(asker, dump))
     word = asker.word_of(user.shown)
-    counts = [found.count(map(read_path, asker.lines_of(MAY, word, right.letters()))) for right in RIGHTS]
-    paths = [path for path in found.paths if any(its[path] for its in counts)]
-    rows = [FolderRow(path, here, [its[path] for its in counts], found.files[path])
-            for path, here in zip(paths, ask_here(asker, word, paths))]
+    with asker.without_unwritable(b"w", folders):
+        counts = [found.count(map(read_path, asker.lines_of(MAY, word, right.letters()))) for right in RIGHTS]
+        paths = [path for path in found.paths if any(its[path] for its in counts)]
+        rows = [FolderRow(path, here, [its[path] for its in counts], found.files[path])
+                for path, here in zip(paths, ask_here(asker, word, paths))]
     name = asker.shown(user.shown)
     return WhoAnswer(
         "user", Table(COLUMNS, [row.fields(asker) for row in rows]),
