@@ -16,6 +16,7 @@ from ..base.messages import SIGNALS, Command, Failure, parser_of, reason
 from ..base.names import shown
 from ..base.trusted import MOST_WRITTEN, too_large
 from ..model import overview, sources
+from ..model.marks import NO_MARKS, marks_of
 from ..model.snapshot import check_texts
 from ..model.sources import Source
 from ..program.answering import answer_unit, below_heading, write_messages
@@ -161,12 +162,13 @@ def answer_units(
     is_explained: bool = True,
     place_of: Callable[[Unit], bytes] = lambda unit: unit.place(),
 ) -> int:
-    """Answers lines one after another; at a terminal `why --reach` says where the user is stopped."""
+    """Answers lines one after another; at a terminal `why` has marks."""
     status, is_terminal = ANSWERED, os.isatty(1)
+    marks = marks_of(folder) if is_terminal else NO_MARKS
     with Session(program, folder) as session:
         for unit in units:
             output, messages = answer_unit(session, unit)
-            lines = marked(unit, output.lines()) if is_terminal else output.lines()
+            lines = marked(unit, output.lines(), marks) if is_terminal else output.lines()
             pieces = (shown(line) + b"\n" for line in lines) if is_terminal else output.pieces()
             for piece in below_heading(unit, lines, messages) if has_headings else pieces:
                 command.write(piece)
@@ -230,7 +232,8 @@ def run_prompt(command: Command, program: str, source: Source, with_root: bool) 
 
     take_signals()
     superusers = Superusers({} if with_root else ids_in(found.passwd))
-    prompt = Prompt(lambda: Session(program, source.folder), completer.page, completer, out, dim, superusers)
+    prompt = Prompt(lambda: Session(program, source.folder), completer.page, completer, out, dim, superusers,
+                    marks_of(source.folder))
     with kept_terminal(), contextlib.closing(prompt):
         refuse_early_end(prompt.session)
         name = meta.named(source.shown, meta.meta_of(source.folder))

@@ -6,6 +6,7 @@ from typing import Callable, Iterator, List, Optional, Set
 
 from ..base.messages import Failure
 from ..base.names import read_path, shown, write_name
+from ..model.marks import NO_MARKS, Marks
 from ..model.superuser import Superusers
 from ..program.hints import causes
 from ..program.protocol import (
@@ -33,9 +34,9 @@ class Prompt:
 
     def __init__(
         self, start: Callable[[], Session], page: Optional[Page], completer: Completer, out: Callable[[bytes], None],
-        dim: Callable[[bytes], bytes] = bytes, superusers: Optional[Superusers] = None,
+        dim: Callable[[bytes], bytes] = bytes, superusers: Optional[Superusers] = None, marks: Marks = NO_MARKS,
     ) -> None:
-        self.start = start
+        self.start, self.marks = start, marks
         self.superusers = superusers or Superusers({})
         self.dim = dim  # How a line is written that is beside the answers.
         self.noted: Set[bytes] = set()  # What was said once.
@@ -124,7 +125,7 @@ class Prompt:
     def show(self, unit: Unit, answer: Answer) -> None:
         """An answer below its line."""
         count = 0
-        for printed in self.superusers.rest(unit, marked(unit, answer.output.lines())):
+        for printed in self.superusers.rest(unit, marked(unit, answer.output.lines(), self.marks)):
             self.out(shown(printed) + b"\n")
             count += 1
         if not count and not is_refused(answer.messages) and unit.words:

@@ -10,10 +10,12 @@ import base64
 from collections import Counter
 from typing import Dict, Iterable, List, NamedTuple, Optional, Tuple
 
+from ..base.beside import of_mount
 from ..base.names import write_name
 from ..base.names import shown as shown_bytes
 from ..base.numbered import Numbered
 from ..model.label_answers import LabelAnswers
+from ..model.marks import TEXTS, alone
 from .tree import ABOVE, GONE, PageListing, PageTree
 
 ABSENT = b"00"  # In the place of a byte of `index`, which always grants the request for nothing.
@@ -52,6 +54,11 @@ def shown_name(name: bytes) -> str:
 
 def shown_lines(text: bytes) -> str:
     return "\n".join(map(shown, text.split(b"\n")))
+
+
+def texts_of(kinds: Iterable[bytes]) -> List[str]:
+    """What is said of files of these kinds."""
+    return [shown(TEXTS[kind]) for kind in kinds if kind in TEXTS]
 
 
 def packed(numbers: Iterable[int]) -> str:
@@ -205,6 +212,14 @@ class Builder:
         return {"count": len(self.order), "names": names, "name": packed(column), "depth": packed(self.depths()),
                 "kind": packed([now[number] for number in self.order]), "changed": changed}
 
+    def marks(self) -> Dict[str, object]:
+        """What is said of files beside their lists, by places: of some alone, and of some with all below, up to others of these."""
+        its, marked = self.tree.marks, self.tree.marked
+        paths = {place: marked[number] for place, number in enumerate(self.order) if number in marked} if marked else {}
+        return {"marks": {place: texts_of(its.own[path]) for place, path in paths.items() if path in its.own},
+                "mounts": {place: texts_of(of_mount(its.mounts[path])) for place, path in paths.items() if path in its.mounts},
+                "beside": list(map(shown, alone(its)))}
+
     def all_decisions(self) -> Tuple[List[Optional[Row]], Dict[int, Row]]:
         """The decisions of each list, as they are now; and by its number of each that had others before, or is no more
         there."""
@@ -220,5 +235,5 @@ class Builder:
         return {
             "title": title, "script": has_script, "alone": is_alone, "without": sorted(map(shown, left_out)),
             "whos": [[who.kind, shown(who.name)] for who in self.whos], "start": self.start, "files": files,
-            **self.tables.data(), "decisions": decisions, "before": before, "heads": [],
+            **self.tables.data(), "decisions": decisions, "before": before, "heads": [], **self.marks(),
         }

@@ -8,6 +8,7 @@ from typing import TYPE_CHECKING, Iterator, List, Optional
 from ..base.messages import Command, Failure, counted, parser_of
 from ..base.new_file import NewFile
 from ..model import overview, sources
+from ..model.marks import marks_of
 from ..model.records import File, Files
 from ..model.snapshot import read_snapshot
 from ..model.sources import Source
@@ -74,8 +75,8 @@ def page_over(command: Command, given: argparse.Namespace, source: Source) -> Op
     snapshot = read_snapshot(source.folder, needs_links=False)
     program = find_program(given.program)
     units = [unit for name in given.scripts for unit in read_text(name).units()]
-    overview.say_notices(command, source)
-    tree = PageTree()
+    overview.say_notices(command, source, is_alone=False)
+    tree = PageTree(marks_of(snapshot.folder))
     linked: Files = {}
     with Session(program, snapshot.folder) as session:
         labels = Labels()

@@ -103,6 +103,14 @@ function allInner() {
   return {now, before: data.script ? found(true) : now};
 }
 
+// What Linux looks at beside the list of a file: what is said of it alone or with all below it, and what is said of it in all.
+function ownMarks(file) { return [...(data.marks[file] ?? []), ...(data.mounts[file] ?? [])]; }
+function marksOf(file) {
+  let it = file;
+  while (it >= 0 && !data.mounts[it]) it = parents[it];
+  return [...(data.marks[file] ?? []), ...(data.mounts[it] ?? [])];
+}
+
 function isFolder(file) { return folderOfKind[kindOf[file]] === 1; }
 function isChanged(file) { return isOther[file] === 1; }
 function kindAt(file, isOld) { return (isOld ? kindBefore : kindOf)[file]; }

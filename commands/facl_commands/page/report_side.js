@@ -119,7 +119,7 @@ function drawSide() {
     box.append(button("back", "\u2190 back to the files", goBack), element("h2", {className: "name", textContent: pathOf(file, LONGEST)}),
       element("p", {className: "what"}, count + (changedText(file) ? ", " + changedText(file) : "") + ". " + (view.alongPaths ? "Along paths." : "Each file alone."),
         ...(view.search ? [" ", button("show", "show it in the tree", () => reveal(file))] : [])),
-      ...findingsOf(file), ...Object.keys(KINDS).flatMap(tableOf), listsOf(file), button("save-side", "save this table (TSV)", saveSide));
+      ...marksOf(file).map(text => element("p", {className: "mark", textContent: text})), ...findingsOf(file), ...Object.keys(KINDS).flatMap(tableOf), listsOf(file), button("save-side", "save this table (TSV)", saveSide));
   }
   side.replaceChildren(box);
   document.body.classList.toggle("chosen", file >= 0);

@@ -44,7 +44,10 @@ function openFirst(left) {
 // Opens the directories that have changed files below them.
 function openChanges() { for (let file = 0; file < files; file++) if (isFolder(file) && changes[file]) opens[file] = 1; }
 
-function groupOf(file) { return isChanged(file) ? kindBefore[file] + " " + kindOf[file] : kindOf[file]; }
+function groupOf(file) {
+  const kind = isChanged(file) ? kindBefore[file] + " " + kindOf[file] : kindOf[file];
+  return data.marks[file] || data.mounts[file] ? kind + " " + ownMarks(file) : kind;
+}
 
 // What is in a directory: directories, files, and files that are equal and changed alike as one item.
 function itemsOf(folder) {
@@ -138,6 +141,8 @@ function partsOf(row) {
   const own = row.group && changedText(file) ? row.group.length + " " + changedText(file) : changedText(file);
   const texts = [own, isFolder(file) && below ? numbered(below) + " changed below" : ""];
   if (texts.join("")) parts.push(element("span", {className: "changed", textContent: texts.filter(it => it).join(", ")}));
+  const marks = ownMarks(file).map(text => text.split(":")[0]);
+  if (marks.length) parts.push(element("span", {className: "mark", textContent: marks.join(", ")}));
   return parts;
 }
 

@@ -9,6 +9,7 @@ from typing import Dict, Iterable, Iterator, List, NamedTuple, Set, Tuple
 
 from ..base.names import is_below, read_name, sorting_key
 from ..base.numbered import Numbered
+from ..model.marks import NO_MARKS, Marks
 from ..model.records import is_of_directory, split_record
 from ..program.session import OutputSlice
 
@@ -48,9 +49,11 @@ class PageListing(NamedTuple):
 
 
 class PageTree:
-    """The files by number: their names, and what they are in."""
+    """The files by number: their names, and what they are in; and the paths of those of the first listing that have marks."""
 
-    def __init__(self) -> None:
+    def __init__(self, marks: Marks = NO_MARKS) -> None:
+        self.marks = marks
+        self.marked: Dict[int, bytes] = {}
         self.names: List[bytes] = []  # From the nearest recorded directory on.
         self.parents: List[int] = []
         self.numbers: Dict[Tuple[int, bytes], int] = {}  # Only where there is more than one listing.
@@ -83,7 +86,7 @@ class PageTree:
     def add_first(self, records: Iterable[ListedRecord], labels: Labels) -> PageListing:
         """The same of the first one, whose files are all new."""
         found = PageListing([], set())
-        above = Above()
+        above, paths = Above(), self.marks.own.keys() | self.marks.mounts.keys()
         for number, (path, is_directory, body) in enumerate(records):
             parent, name = above.place_of(path)
             above.add(number)
@@ -92,6 +95,8 @@ class PageTree:
             found.labels.append(labels.number(body))
             if is_directory:
                 found.directories.add(number)
+            if path in paths:
+                self.marked[number] = path
         found.directories.update(self.parents)
         found.directories.discard(ABOVE)
         self.in_order = len(self.names)

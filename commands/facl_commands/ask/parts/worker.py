@@ -13,6 +13,7 @@ from typing import Dict, List, NamedTuple, Optional, Sequence
 from ...base.messages import Command
 from ...base.names import read_name, script_word
 from ...model import overview, sources
+from ...model.marks import alone, marks_of, not_judged
 from ...model.people import rows_of
 from ...program.answering import answer_unit
 from ...program.protocol import FREE_FILE_LINE, LIST, is_refused, lacks_file
@@ -156,7 +157,7 @@ def answer(command: Command, session: Session, unit: Unit, shared: SharedFiles) 
 def head_of(folder: bytes, size: int) -> Head:
     found = overview.read_texts(folder)
     users, groups = ({row[0].decode("latin-1"): int(row[2]) for row in rows_of(rows)} for rows in (found.passwd, found.group))
-    unknown = [*overview.unknown(folder, found.dump), *overview.torn(found)]
+    unknown = [*overview.unknown(folder, found.dump), *overview.torn(found), *not_judged(folder), *alone(marks_of(folder))]
     return Head(folder, users, groups, unknown, list(overview.open_empty_masks(found.dump)), size)
 
 

@@ -6,6 +6,7 @@ from typing import Dict, List
 
 from ...base.names import shown, shown_path
 from ...model import sources
+from ...model.marks import marks_of
 from ...model.snapshot import read_snapshot
 from ...model.sources import Source
 from ...page.data import data_of, list_files
@@ -34,7 +35,7 @@ def fields_of(kind: KindOfFinding, found: List[FoundFile], is_whole: bool) -> Di
 
 def page_with(found: AuditReport, source: Source, program: str, given: argparse.Namespace) -> bytes:
     snapshot = read_snapshot(source.folder, needs_links=False)
-    tree, labels = PageTree(), Labels()
+    tree, labels = PageTree(marks_of(snapshot.folder)), Labels()
     with Session(program, snapshot.folder) as session:
         listing = tree.add(list_files(session, sources.find_tops(session, snapshot.folder)), labels)
     data = data_of(program, snapshot._replace(folder=source.shown), tree, [(listing, labels)], [], given)

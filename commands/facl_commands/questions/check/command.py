@@ -145,7 +145,7 @@ def body(command: Command, words: List[str]) -> int:
         raise Failure(b"--write prints rules: leave out --json and --tsv")
     with sources.opened(given) as source:
         folders = split_tree.check_all(source.folder)
-        overview.say_notices(command, source, has_masks=not given.quiet)
+        overview.say_notices(command, source, has_masks=not given.quiet, is_alone=not given.quiet)
         program = find_program(given.program)
         if given.write:
             if folders != [source.folder]:

@@ -12,6 +12,7 @@ from ...base.new_file import NewFile
 from ...model import choice, overview, sources
 from ...model.everybody import Everybody
 from ...model.gains import Gain, ask_gains
+from ...model.marks import alone, marks_of
 from ...model.people import rows_of as rows_of_text
 from ...model.records import name_of, path_of, records_in
 from ...program.session import OutputSlice, Session, find_program
@@ -223,8 +224,10 @@ def compare(command: Command, given: argparse.Namespace) -> Tuple[Compared, Opti
     check_hosts(old, new, given)
     for text in report.warnings(old, new):
         command.say(text)
+    beside = [list(alone(marks_of(state.folder))) for state in (old, new)]
     for state in (old, new):
-        overview.say_notices(command, sources.Source(state.folder, state.folder, False), has_masks=state is new)
+        overview.say_notices(command, sources.Source(state.folder, state.folder, False), has_masks=state is new,
+                             is_alone=state is new or beside[0] != beside[1])
     everybody = everybody_of(old, new)
     if old.is_split() or new.is_split():
         parts = OfParts(program, (old, new), everybody, given)
