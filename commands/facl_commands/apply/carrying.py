@@ -6,7 +6,7 @@ import signal
 from functools import partial
 from typing import Callable, Dict, Iterable, List, Optional, Set, Tuple
 
-from ..base import linux, workers
+from ..base import linux, live, workers
 from ..base.acl_bytes import Record
 from ..base.linux import Identity
 from ..base.live import NotFound, Opener, OpenFile, Seen
@@ -263,11 +263,21 @@ def fault_of(step: Callable[[Opener, bytes], None], opener: Opener, path: bytes)
         step(opener, path)
     except (NotFound, Mismatch) as error:
         return error.text
+    except PermissionError as error:
+        return fixed_now(opener, path) or reason(error)
     except OSError as error:
         return reason(error)
     except MemoryError:
         return b"memory ran out"
     return None
+
+
+def fixed_now(opener: Opener, path: bytes) -> Optional[bytes]:
+    """By which attribute nobody can change a file, where it has one."""
+    try:
+        return live.fixed(opener.look(path).attributes)
+    except (NotFound, OSError):
+        return None
 
 
 def change(file: OpenFile, now: Record, end: Record, is_directory: bool) -> None:

@@ -245,6 +245,8 @@ class Obstacles:
         with Opener() as opener:
             for path, seen in look.files.items():
                 fault = None if is_root else self.of_right(path, seen)
+                if not self.way.is_undo:  # Which takes back the other files.
+                    fault = fault or live.fixed(seen.attributes)
                 if fault is None and self.has_more(seen, self.way.end(path)):
                     fault = self.of_system(opener, path, seen)
                 if fault is not None:

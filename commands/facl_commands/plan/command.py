@@ -12,6 +12,7 @@ from ..base.names import live_path, number_of, write_user
 from ..model import label_answers, meta, overview, people, rights, sources
 from ..model.entries import read_record
 from ..model.gains import ask_gains
+from ..model.marks import marks_of, obstacles
 from ..model.records import ChangedPaths, Listing, compare, write_records
 from ..model.snapshot import Snapshot, read_snapshot
 from ..model.superuser import superusers_among
@@ -127,6 +128,16 @@ def warn_of_empty_masks(command: Command, changes: ChangedPaths, outcome: Outcom
         command.say(overview.warning_of(overview.EMPTY_MASKS, found))
 
 
+def warn_of_stuck(command: Command, stuck: Dict[bytes, bytes], changes: ChangedPaths, outcome: Outcome) -> None:
+    """Of files that nobody can change, make or remove, each with why."""
+    known = set(changes.changed)
+    changed, others = ([path for path in stuck if (path in known) is is_changed] for is_changed in (True, False))
+    for text, paths in ((b"files that nobody can change, so facl-apply will change none", changed),
+                        (b"files that nobody can make or remove, so by_hand will not", others)):
+        if paths:
+            command.say(overview.warning_of(text, list(map(outcome.name_of, paths))) + b", since " + stuck[paths[0]])
+
+
 def group_of(word: str) -> int:
     """The id of a group; digits are an id."""
     try:
@@ -232,8 +243,10 @@ def plan_over(command: Command, given: argparse.Namespace, source: sources.Sourc
     has_work = bool(changes.changed or changes.made or changes.removed or commands)
     is_shown = not say_refused(command, outcome, given.keep_going) and has_work
     written = name if is_shown and is_whole else None
+    stuck = obstacles(marks_of(snapshot.folder), changes)
     if is_shown:
         warn_of_empty_masks(command, changes, outcome)
+        warn_of_stuck(command, stuck, changes, outcome)
     if written is not None:
         check_inodes(snapshot, changes)
         files = plan_files(find_program(given.program), snapshot, scripts, outcome, changes)
@@ -241,7 +254,7 @@ def plan_over(command: Command, given: argparse.Namespace, source: sources.Sourc
         if kept is not None:
             command.say(b"the plan that was there is " + kept + b" now")
     if given.json:
-        for part in json_report(outcome, given.full, changes, commands, written):
+        for part in json_report(outcome, given.full, changes, commands, written, stuck):
             command.write(part)
     elif is_shown:
         if outcome.about is not meta.UNKNOWN:

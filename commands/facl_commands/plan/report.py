@@ -170,8 +170,8 @@ def message_json(it: Message) -> Dict[str, object]:
     return found if it.is_warning else {**found, "cause": texts(it.cause())}
 
 
-def json_report(outcome: Outcome, is_full: bool, changes: ChangedPaths, commands: List[bytes],
-                plan: Optional[bytes]) -> Iterator[bytes]:
+def json_report(outcome: Outcome, is_full: bool, changes: ChangedPaths, commands: List[bytes], plan: Optional[bytes],
+                stuck: Dict[bytes, bytes]) -> Iterator[bytes]:
     names = [texts(map(outcome.name_of, paths)) for paths in (changes.changed, changes.made, changes.removed)]
     report = {
         "snapshot": meta.fields_of(outcome.about),
@@ -180,6 +180,7 @@ def json_report(outcome: Outcome, is_full: bool, changes: ChangedPaths, commands
         "no_gain": [no_gain_json(outcome, it) for it in outcome.no_gain],
         "left_out": texts(sorted(outcome.kinds.left_out)),
         **dict(zip(("records", "made", "removed"), names)),
+        "stuck": [{"file": json_text(outcome.name_of(path)), "why": json_text(why)} for path, why in stuck.items()],
         "by_hand": texts(commands),
         "left_behind": [
             {"user": json_text(left.name), "uid": left.uid, "owned": len(left.owned), "named": len(left.named),
