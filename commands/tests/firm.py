@@ -77,7 +77,7 @@ class FirmCase(Case):
         """Writes a snapshot, and returns its folder."""
         os.makedirs(self.path(folder), 0o700, exist_ok=True)
         dump = "".join(record(name, files[name]) for name in in_order(list(files)))
-        for name, text in (("passwd", passwd), ("group", group), ("dump", dump), ("meta", META), ("links", "")):
+        for name, text in (("passwd", passwd), ("group", group), ("dump", dump), ("meta", META), ("links", ""), ("marks", "")):
             self.write(os.path.join(folder, name), text.encode())
             os.chmod(self.path(os.path.join(folder, name)), 0o600)
         return self.path(folder)

@@ -1,7 +1,8 @@
 "use strict";
 // Opens a page of facl-report with a stand-in for a browser's document, and prints what its side shows of each file, as JSON:
 // by path the kind, the right in letters, the names, the reason and what is below, of each line; first of the files alone, then
-// along their paths. For each user the tree has to say of each directory the same of what is below. With TEXT it searches for that, chooses the first file that is found, and prints what is shown then, as the page opens.
+// along their paths. For each user the tree has to say of each directory the same of what is below. With TEXT it searches for that, chooses the first file that is found, and prints what is shown then, as the page opens; `marks`
+// are that of its row, and those beside the tree.
 //
 // usage: node page.js PAGE [TEXT]
 const fs = require("fs");
@@ -100,7 +101,8 @@ function find(text) {
   byId("search").oninput();
   const name = partOf(tree.children[0], "name"), row = name.textContent;
   click(name);
-  return {row, rows: tree.children.length, last: tree.children.at(-1).textContent, count: byId("count").textContent, side: side()};
+  const marks = [partOf(tree.children[0], "mark")?.textContent ?? "", ...byId("side").all(isOf("mark")).map(it => it.textContent)];
+  return {row, rows: tree.children.length, last: tree.children.at(-1).textContent, count: byId("count").textContent, side: side(), marks};
 }
 
 if (process.argv.length > 3) console.log(JSON.stringify(find(process.argv[3])));

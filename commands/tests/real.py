@@ -67,8 +67,8 @@ class RealCase(Case):
         os.makedirs(self.path(folder), 0o700, exist_ok=True)
         links = b"\n".join(b"".join(name + b"\n" for name in its) for its in by_file.values() if len(its) > 1)
         meta = b"host %s\ndate 2026-11-27T03:10:00Z\nfolder %s\nfiles %d\n" % (os.uname().nodename.encode(), top, len(found))
-        texts = {"dump": dump, "inodes": b"\0".join(inodes) + b"\0", "links": links, "meta": meta, "passwd": b"ann:x:70001:70001::/:\n",
-                 "group": b"ann:x:70001:\n"}
+        texts = {"dump": dump, "inodes": b"\0".join(inodes) + b"\0", "links": links, "marks": b"", "meta": meta,
+                 "passwd": b"ann:x:70001:70001::/:\n", "group": b"ann:x:70001:\n"}
         for text, content in texts.items():
             self.write(os.path.join(folder, text), content)
 

@@ -43,6 +43,6 @@ class SmallTree(Case):
         names = sorted(records, key=lambda name: name.strip(b"/").split(b"/") if name != b"/" else [])
         dump = b"".join(b"# file: " + name + b"\n" + records[name] + b"\n" for name in names)
         os.makedirs(self.path("small"), 0o700, exist_ok=True)
-        for name, text in {"passwd": passwd, "group": group, "dump": dump, "links": links, "meta": META}.items():
+        for name, text in {"passwd": passwd, "group": group, "dump": dump, "links": links, "marks": b"", "meta": META}.items():
             self.write("small/" + name, text)
             os.chmod(self.path("small/" + name), 0o600)

@@ -34,7 +34,8 @@ from facl_commands.program.session import Session, find_program  # noqa: E402
 SHARE = os.fsencode(os.path.join(HERE, "snapshots", "share"))
 SCRIPT = b"who r srv/share/notes\nfrob\nsetfacl -d -m d:u:guest:r,u:guest:x srv/share/drafts\nmay guest r\nwho 'open\n\xff\ngetfacl -M - x\nindex"
 
-UNKNOWN = b"the directories above are not recorded, so they are taken as open; hard links are not known\n"
+UNKNOWN = (b"the directories above are not recorded, so they are taken as open; hard links, immutable files and read-only file systems "
+           b"are not known\n")
 
 
 def completer(folder: bytes = SHARE) -> completion.Completer:
@@ -224,6 +225,7 @@ other::r--
         self.expect(self.run_command("facl-ask", ["folder", "questions"]), 0, self.ANSWERS, wanted)
         self.expect(self.run_command("facl-ask", ["folder", "questions", "questions"]), 0, self.ANSWERS * 2, wanted)
         self.write("folder/links", b"")
+        self.write("folder/marks", b"")
         self.write("folder/dump", b"# file: /\n# owner: ines\n# group: staff\nuser::rwx\ngroup::r-x\nother::--x\n")
         self.expect(self.run_command("facl-ask", ["folder"], b"can ben .\n"), 0, b"--x r-- r-x\n")
 

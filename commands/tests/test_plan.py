@@ -566,7 +566,8 @@ class Owners(Case):
 class AnyDump(Case):
     """A folder with the texts of `getfacl -R`, as administrators keep them."""
 
-    OPEN = b"facl-plan: old: the directories above are not recorded, so they are taken as open; hard links are not known"
+    OPEN = (b"facl-plan: old: the directories above are not recorded, so they are taken as open; hard links, immutable files and "
+            b"read-only file systems are not known")
     RELATIVE = OPEN + b"; names do not start at the root of the file system, so no plan is written for facl-apply\n"
     RECORDS = (b"# file: %snotes\n# owner: ines\n# group: staff\nuser::rw-\nuser:mara:rw-\t\t\t#effective:r--\ngroup::r--\nmask::r--\nother::---\n\n"
                b"# file: %sdrafts\n# owner: mara\n# group: design\n# flags: -s-\nuser::rwx\ngroup::rwx\nother::---\n\n"

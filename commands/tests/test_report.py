@@ -147,7 +147,7 @@ class Report(Case):
         for words, name in (([demo], demo), (texts, texts[1])):
             done = self.run_command("facl-report", [*words, "edits"])
             self.assertEqual((done.status, done.messages), (0, b"facl-report: " + os.fsencode(name) + b": the directories above are not recorded, "
-                                                            b"so they are taken as open; hard links are not known\n"))
+                                                            b"so they are taken as open; hard links, immutable files and read-only file systems are not known\n"))
             data = read_data(done.out)
             self.assertEqual(data["title"], name)
             nodes = nodes_of(data)

@@ -18,14 +18,14 @@ from common import COMMANDS, Case, Done, restore_signals
 
 sys.path.insert(0, COMMANDS)
 
-from facl_commands.base import acl_bytes, names  # noqa: E402
+from facl_commands.base import acl_bytes, beside, names  # noqa: E402
 from facl_commands.base.accounts import is_person  # noqa: E402
 from facl_commands.page import columns as page_columns  # noqa: E402
 from facl_commands.plan import by_hand  # noqa: E402
 from test_each import PRINTER, names_of
 
 SNAPSHOT = os.path.join(COMMANDS, "facl-snapshot")
-FILES = ["dump", "group", "inodes", "links", "meta", "passwd"]
+FILES = ["dump", "group", "inodes", "links", "marks", "meta", "passwd"]
 # A find that does what find does, and then something in the folder of the test, where it looks for files to record.
 FIND = b"""\
 #!/bin/sh
@@ -75,6 +75,12 @@ ID = b"""\
 [ "$1" = -G ] || exec "$(PATH=${PATH#*:} && command -v id)" "$@"
 grep "^$3 " '%s/groups.all' | cut -d ' ' -f 2-
 """
+
+
+def without_marks(meta: List[List[bytes]]) -> List[List[bytes]]:
+    """The keys and values of meta without those of what counts beside lists, which depends on the file systems; test_marks.py has
+    these."""
+    return [it for it in meta if it[0] not in (beside.NAME, *beside.KINDS)]
 
 
 class SnapshotCase(Case):
@@ -192,7 +198,7 @@ class Written(SnapshotCase):
         self.assertTrue(int(before) <= taken <= time.time(), date)
         place = os.path.realpath(self.path("tree")).encode()
         above = place.count(b"/")
-        self.assertEqual(rest, [[b"version", b"0"], [b"folder", place], [b"folder", place + b"/x\\012y\\\\z\\015"],
+        self.assertEqual(without_marks(rest), [[b"version", b"0"], [b"folder", place], [b"folder", place + b"/x\\012y\\\\z\\015"],
                                 [b"excluded", b"0"], *self.numbers(1, 0, above + 6)])
         self.expect_status(self.snapshot("--version"), 0)
         self.assertEqual(self.snapshot("--version").out, b"facl-snapshot 0\n")
@@ -205,7 +211,7 @@ class Written(SnapshotCase):
             meta = self.meta("parts/%s/meta" % part)
             files = len(names_of(self.read("parts/%s/dump" % part)))
             number = [b"part", b"%s of %03d" % (part.encode(), len(parts))]
-            self.assertEqual(meta[4:], [[b"excluded", b"0"], *self.numbers(0, 0, files), number])
+            self.assertEqual(without_marks(meta[4:]), [[b"excluded", b"0"], *self.numbers(0, 0, files), number])
 
     def below_tree(self) -> List[bytes]:
         """The recorded names below tree."""
@@ -486,7 +492,7 @@ class People(SnapshotCase):
         assert found is not None, done.messages
         self.assertGreaterEqual(int(found[1]), 1200)
         self.assertNotIn(b"half", self.read("new/passwd"))
-        self.assertEqual(sorted(os.listdir(self.path("new"))), ["dump", "group", "inodes", "links", "meta", "passwd"])
+        self.assertEqual(sorted(os.listdir(self.path("new"))), ["dump", "group", "inodes", "links", "marks", "meta", "passwd"])
         self.write("more", b"".join(b"u%d\n" % number for number in range(71000, 71200)))
         self.expect_status(self.snapshot("--users", "more", "other", "tree"), 2, b"more: asking for its users took more than 4 seconds\n")
         self.expect_nothing_left()

@@ -106,6 +106,7 @@ class World:
             "inodes": b"boot x\0" + b"".join(b"1 %d %d.000000001 %s\0" % (node.inode, node.inode, name)
                                             for node, name in zip(nodes, names)),
             "links": b"\n".join(b"".join(shown_name(paths.of(node)) + b"\n" for node in its) for its in sets_of_names(nodes)),
+            "marks": b"",
             "meta": b"host srva\ndate 2026-11-27T03:10:00Z\nversion 0\nfolder /srv\nexcluded 0\nunread 0\nfiles %d\n" % len(nodes) + more,
         }
         os.makedirs(folder, 0o700)

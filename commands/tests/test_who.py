@@ -415,7 +415,8 @@ class OddNames(WhoCase):
         os.mkdir(self.path("odd"))
         body = b"\n# owner: 70001\n# group: 100\nuser::rwx\nuser:2001:r-x\ngroup::r-x\nmask::r-x\nother::---\n\n"
         names = [b"/", b"/d/", *(b"/d/" + write_name(name) for name in HOSTILE)]
-        for name, text in (("dump", b"".join(b"# file: " + it + body for it in names)), ("passwd", PASSWD), ("group", b"g h:x:100:\n"), ("links", b"")):
+        for name, text in (("dump", b"".join(b"# file: " + it + body for it in names)), ("passwd", PASSWD), ("group", b"g h:x:100:\n"),
+                           ("links", b""), ("marks", b"")):
             self.write("odd/" + name, text)
 
     def words_of_all(self) -> List[List[str]]:
@@ -519,12 +520,14 @@ class Words(WhoCase):
     def test_a_dump(self) -> None:
         names = ["--dump", "project/dump", "--passwd", "project/passwd", "--group", "project/group"]
         done = self.who("write", *names, "/srv/project")
-        self.expect(done, 0, self.who("write", "project").out, b"facl-who: project/dump: hard links are not known\n")
+        self.expect(done, 0, self.who("write", "project").out,
+                    b"facl-who: project/dump: hard links, immutable files and read-only file systems are not known\n")
         self.write("dump", b"# file: p\n# owner: 1001\n# group: 100\nuser::rwx\ngroup::r-x\nother::---\n\n")
         done = self.who("read", "--dump", "dump", *names[2:])
         self.expect(done, 0, b"USER  READ  FIRST READ  READ BY\nines     1  p           owner\nben      1  p           group staff\n"
                              b"mara     1  p           group staff\n",
-                    b"facl-who: dump: the directories above are not recorded, so they are taken as open; hard links are not known\n")
+                    b"facl-who: dump: the directories above are not recorded, so they are taken as open; hard links, immutable files and "
+                    b"read-only file systems are not known\n")
 
 
 class Signals(WhoCase):
