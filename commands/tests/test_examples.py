@@ -30,6 +30,7 @@ BLOCKS: Dict[str, str] = {
     "[d:] [u:]USER [:PERMS]      a named user, or the owner: u::PERMS": "a grammar; crates/acl_text_tests",
     "bytes of a FILE                      268,435,456": "a table; tools/check/sizes.py",
     "chown [-R] USER[:GROUP]|:GROUP FILE..": "synopses; test_owners.py",
+    "nobody may write anything at or below /srv/project/sealed.txt": "takes a file system with chattr; test_marks.py",
     "PATH=/usr/local/bin:/usr/bin:/bin": "a file of cron; test_lines_of_cron_and_systemd runs its command",
     'FACL_DAILY="--mail root --rules /etc/facl/rules /srv"': "a file of systemd; test_daily.py",
     "[Service]": "files of systemd; test_lines_of_cron_and_systemd runs their commands",

@@ -18,7 +18,7 @@ ATTRIBUTES = IMMUTABLE | APPEND_ONLY
 UNKNOWN = 1  # No attribute: the file system does not say whether a file has them.
 RENAME_NOREPLACE, RENAME_EXCHANGE = 1, 2
 NO_OVERLAY, OF_ONE, OF_SEVERAL = range(3)
-OVERLAY = 0x794C7630  # The kind of file system, as statfs(2) has it.
+OVERLAY, TMPFS = 0x794C7630, 0x01021994  # Kinds of file systems, as statfs(2) has them.
 # struct statx: the mask of what is known, attributes, names, owner, group, mode, inode, which attributes are known, birth in
 # seconds and nanoseconds, device, mount.
 STATX = struct.Struct("<I4xQIIIH2xQ16xQ16xqI44xIIQ")
@@ -69,11 +69,16 @@ class KeptBirths(Dict[Tuple[int, int], bool]):
 KEPT_BIRTHS = KeptBirths()
 
 
+def file_system_of(descriptor: int) -> int:
+    """The kind of the file system of an open file; 0 where that is not known."""
+    statfs = getattr(LIBRARY, "fstatfs", None)
+    return 0 if statfs is None or statfs(descriptor, BUFFER) != 0 else int.from_bytes(BUFFER.raw[:4], "little")
+
+
 def overlay_of(descriptor: int, device: int) -> int:
     """Whether an open file is on an overlay: OF_ONE keeps device and inode where a file is copied at its first change,
     but for one of several names; a file of OF_SEVERAL, whose layers are on several file systems, gets others."""
-    statfs = getattr(LIBRARY, "fstatfs", None)
-    if statfs is None or statfs(descriptor, BUFFER) != 0 or int.from_bytes(BUFFER.raw[:4], "little") != OVERLAY:
+    if file_system_of(descriptor) != OVERLAY:
         return NO_OVERLAY
     return OF_ONE if b"%d:%d" % (os.major(device), os.minor(device)) in overlays() else OF_SEVERAL
 

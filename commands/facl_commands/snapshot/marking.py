@@ -7,10 +7,10 @@ from __future__ import annotations
 
 import os
 import stat
-from typing import Dict, List, Tuple
+from typing import Dict, List, NamedTuple, Tuple
 
 from ..base import beside
-from ..base.linux import UNKNOWN, Beside, Mount
+from ..base.linux import TMPFS, UNKNOWN, Beside, Mount, file_system_of
 from ..base.live import OpenFile
 from .found_names import Node
 from .list_texts import shown_name
@@ -32,14 +32,22 @@ SAID = {
 }
 
 
-class KnownMounts(Dict[Mount, Tuple[bytes, Tuple[bytes, ...]]]):
-    """The mounts that were met: the word of each, and the kinds of its files."""
+class KnownMount(NamedTuple):
+    """A mount that was met."""
 
-    def of(self, mount: Mount, descriptor: int) -> Tuple[bytes, Tuple[bytes, ...]]:
+    word: bytes
+    kinds: Tuple[bytes, ...]  # Of its files.
+    has_no_attributes: bool  # Where it does not say which a file has: a tmpfs that says none cannot have any.
+
+
+class KnownMounts(Dict[Mount, KnownMount]):
+    """The mounts that were met."""
+
+    def of(self, mount: Mount, descriptor: int) -> KnownMount:
         """That of an open file."""
         if mount not in self:
             word = beside.word_of(descriptor)
-            self[mount] = word, beside.of_mount(word)
+            self[mount] = KnownMount(word, beside.of_mount(word), file_system_of(descriptor) == TMPFS)
         return self[mount]
 
 
@@ -54,12 +62,13 @@ class Marker:
     def add(self, node: Node, name: bytes, file: OpenFile, mode: int, its: Beside) -> None:
         """Adds a recorded file. A device, a FIFO and a socket can be written on a read-only file system too."""
         attributes, mount = its
-        node.mount, kinds = self.mounts.of(mount, file.descriptor)
+        node.mount, kinds, has_none = self.mounts.of(mount, file.descriptor)
         if kinds and not stat.S_ISREG(mode) and not stat.S_ISDIR(mode):
             node.mount, kinds = beside.PLAIN, ()
         if node.mount != mount_above(node):
             self.write(node.mount, name)
-        for kind in (*kinds, *self.of_attributes(attributes, name), *other_lists(file.name)):
+        own = () if attributes == UNKNOWN and has_none else self.of_attributes(attributes, name)
+        for kind in (*kinds, *own, *other_lists(file.name)):
             self.found[kind] += 1
             self.first.setdefault(kind, name)
 
