@@ -6,14 +6,17 @@ usage: tools/check/kernel.py PROGRAM [--users N] [--files N] [--seed N] [--recor
 As root: it makes a tree of N files (500) in a folder of its own, with lists, masks and closed directories, of N users
 (20) who need no account. facl-snapshot records it; facl-ask answers `may` and `may --reach`; facl-plan, as it judges by
 default, says who gains what by a script that grants at random. The kernel is asked by faccessat(2) as each user: of a
-file alone by its descriptor, along a path by its name; after facl-apply again. Files with an empty mask whose others
-have something are left out, and what is below them. --record writes what was found into docs/CHECKS.md.
+file alone by its descriptor, along a path by its name; after facl-apply again. Then some files are immutable, some append-only,
+and a directory is mounted read-only and noexec: the kernel has to grant what facl-ask answers, but for w and x there, and
+facl-who has to count so. Files with an empty mask whose others have something are left out, and what is below them. --record
+writes what was found into docs/CHECKS.md.
 
 The exit status is 1 where an answer differs, 2 where the words are others.
 """
 from __future__ import annotations
 
 import argparse
+import contextlib
 import ctypes
 import os
 import random
@@ -21,7 +24,7 @@ import shutil
 import subprocess
 import sys
 import tempfile
-from typing import Dict, Iterable, List, Set, Tuple
+from typing import Dict, Iterable, Iterator, List, Set, Tuple
 
 sys.dont_write_bytecode = True
 sys.path.insert(0, os.path.join(os.path.dirname(os.path.realpath(__file__)), "..", "lib"))
@@ -179,6 +182,57 @@ def compare_plan(world: World) -> Tuple[int, int]:
     return len(changed), len(odd)
 
 
+@contextlib.contextmanager
+def marked(world: World, attributes: Dict[str, List[str]], place: str) -> Iterator[None]:
+    """While it goes on, files have attributes of chattr, and a directory is mounted read-only and noexec."""
+    printed(["mount", "--bind", place, place])
+    try:
+        for attribute, files in attributes.items():
+            printed(["chattr", "+" + attribute, *files])
+        printed(["mount", "-o", "remount,bind,ro,noexec", place])
+        yield
+    finally:
+        printed(["umount", "-l", place])
+        for attribute, files in attributes.items():
+            printed(["chattr", "-" + attribute, *files])
+
+
+def counted(world: World, granted: Iterable[Answer]) -> Dict[str, Tuple[str, str]]:
+    """How many files each user may write along paths, and the first of them in path order."""
+    files: Dict[int, List[str]] = {}
+    for user, path, request in granted:
+        if request == 2:
+            files.setdefault(user, []).append(path)
+    return {f"k{user}": (str(len(its)), min(its, key=lambda path: path.split("/"))) for user, its in files.items()}
+
+
+def compare_marks(world: World) -> Tuple[int, int]:
+    """What the kernel grants beside what lists grant, where nobody can write or execute some files; and what facl-who counts."""
+    plain = sorted(world.kept() - {world.top})
+    chosen = world.chance.sample(plain, 60)
+    attributes = {"i": chosen[:40], "a": chosen[40:]}
+    place = max((it for it in plain if os.path.isdir(it)), key=lambda it: sum(path.startswith(it + "/") for path in plain))
+    mounted = {path for path in world.files if path == place or path.startswith(place + "/")}
+    unwritable, noexec = {*attributes["i"], *mounted}, {path for path in mounted if not os.path.isdir(path)}
+    with marked(world, attributes, place):
+        shutil.rmtree(world.snapshot)
+        world.command("facl-snapshot", "--program", world.program, world.snapshot, world.top)
+        kept, one, other = world.kept(), kernel(world), commands(world)
+        rows = world.command("facl-who", "--tsv", "write", world.snapshot, world.top).splitlines()[1:]
+    differ = 0
+    for view in VIEWS:
+        granted = {it for it in other[view] if not (it[2] & 2 and it[1] in unwritable or it[2] & 1 and it[1] in noexec)}
+        odd = {it for it in one[view] ^ granted if it[1] in kept}
+        print(f"nobody can write {len(unwritable)} files, {view}: {len(odd)} differ")
+        show_odd((*it, "granted by", "the kernel" if it in one[view] else "facl") for it in odd)
+        differ += len(odd)
+    named = {row.split("\t")[0]: tuple(row.split("\t")[1:3]) for row in rows}
+    wanted = counted(world, {it for it in other["along"] if it[1] not in unwritable})
+    wrong = {user for user in {*named, *wanted} if named.get(user) != wanted.get(user)}
+    show_odd((user, "is", named.get(user), "and not", wanted.get(user)) for user in wrong)
+    return 2 * world.users * len(kept) * 7, differ + len(wrong)
+
+
 def main() -> int:
     given = options_of(__doc__, files=500, users=20, seed=1).parse_args()
     if os.geteuid() != 0:
@@ -187,8 +241,10 @@ def main() -> int:
         os.chmod(work, 0o755)
         world = World(work, given)
         before, rows, after = compare(world, "before"), compare_plan(world), compare(world, "after facl-apply")
-    differ = before[1] + rows[1] + after[1]
-    amount = f"{before[0] + after[0]:,} answers, {given.users} users, {given.files} files, {rows[0]} changed pairs"
+        marks = compare_marks(world)
+    differ = before[1] + rows[1] + after[1] + marks[1]
+    amount = (f"{before[0] + after[0]:,} answers, {given.users} users, {given.files} files, {rows[0]} changed pairs; "
+              f"{marks[0]:,} where nobody can write some files")
     return conclude(given, amount, [f"{differ} differ"] if differ else [])
 
 

@@ -278,7 +278,8 @@ class Ways(Check):
             must(self.apply(), 2, said=b"is on a file system that is mounted read-only")
 
     def nobody_may(self, tree: Tree) -> None:
-        """A file of the plan is immutable, or can only be appended to: all is put back; at --undo all but that file."""
+        """A file of the plan is immutable, or can only be appended to: nothing is touched; at --undo all but that file is put
+        back."""
         planned = sorted(records_of(self.read("before.plan/new")))
         name = planned[len(planned) // 2]
         for flag in (b"i", b"a"):
@@ -286,12 +287,13 @@ class Ways(Check):
                 self.count("files that chattr does not take")
                 return
             try:
-                must(self.apply(), 1, said=b": Operation not permitted")
-                expect(tree.listing() == tree.first, f"chattr +{flag!r}: not put back")
+                must(self.apply(), 2, said=b"so nobody can change ")
+                expect(tree.listing() == tree.first, f"chattr +{flag!r}: touched")
                 must(run([b"chattr", b"-" + flag, b"--", name]), 0)
                 must(self.apply(), 0)
                 must(run([b"chattr", b"+" + flag, b"--", name]), 0)
-                must(self.apply(UNDO), 4, said=b" not as before")  # Each name of it is counted.
+                must(self.apply(UNDO), 4, said=b" not as before")  # Each name of it is counted,
+                must(self.apply(UNDO), 4, said=b"so nobody can change ")  # and it is said why.
             finally:
                 must(run([b"chattr", b"-" + flag, b"--", name]), 0)
             self.undo(tree)

@@ -30,7 +30,7 @@ from snapshot_races import (  # noqa: E402
 )
 
 NAMES = ("words targets replacing names links warnings rows kills chain streams packages trust private_groups "
-         "unreadable without_lists file_systems full_disk endless races").split()
+         "unreadable without_lists file_systems marks full_disk endless races").split()
 SNAPSHOT = os.fsdecode(os.path.join(COMMANDS, b"facl-snapshot"))
 NOBODY = 65534
 SIGNALS = [getattr(signal, "SIG" + name) for name in "HUP INT QUIT USR1 USR2 ALRM TERM KILL".split()]
@@ -44,7 +44,7 @@ SIZES = (8, 24, 48, 100, 200, 350, 500, 700, 900, 1100, 1300, 1500, 1700, 1900, 
 class Snapshots(Check):
     """Each part has a clean folder, in which it runs, with the folders closed, masks and odd in it."""
 
-    tools = ["getfacl", "setfacl", "getent", "setpriv", "dash", "bash"]
+    tools = ["getfacl", "setfacl", "getent", "setpriv", "dash", "bash", "chattr", "mkfs.ext4"]
     parts = {**dict.fromkeys(NAMES, 1), "kills": 15, "races": 40}
 
     def variables(self) -> Dict[str, str]:
@@ -349,6 +349,35 @@ class Snapshots(Check):
         with mounted(self.name("mount"), b"--bind", self.name("odd/-d")):
             self.took(0, "before mount odd/-d")
         expect(self.name("mount/") in self.lines("links"), "links lacks a folder that is mounted twice")
+
+    def check_marks(self, _seed: int) -> None:
+        """On ext4: immutable and append-only files, also where nothing of a file may be read or it is none to be opened; places
+        that are mounted read-only and noexec; and lists of Samba."""
+        self.make("marks/")
+        make(self.name("disk"))
+        self.shell("truncate -s 8M disk; mkfs.ext4 -q disk")
+        top = self.text("marks/")
+        with contextlib.ExitStack() as mounts:
+            mounts.enter_context(mounted(self.name("marks"), b"-o", b"loop", self.name("disk")))
+            self.make("marks/sealed/in", "marks/log", "marks/both", "marks/l\nf", "marks/ro/rw/file", "marks/ro/file", "marks/no/file", "marks/plain")
+            for name in ("plain", "sealed"):
+                os.setxattr(self.name("marks/" + name), b"security.NTACL", b"\4")
+            self.shell("""cd marks; rmdir lost+found; mkfifo ro/fifo; mknod ro/device c 1 3; chmod 0 both
+                chattr +i sealed both "$(printf 'l\nf')"; chattr +a log both""")
+            for below, how in (("ro", b"ro"), ("ro/rw", b"rw"), ("no", b"noexec")):
+                place = self.name("marks/" + below)
+                mounts.enter_context(mounted(place, b"--bind", place))
+                must(run([b"mount", b"-o", b"remount,bind," + how, place]), 0)
+            self.took(0, "--cross-file-systems before marks", f"immutable files, which nobody can write whatever lists say (see marks): 3, first: {top}both",
+                      f"append-only files, of which nobody can change what they have (see marks): 2, first: {top}both",
+                      f"files on read-only file systems, which nobody can write whatever lists say (see marks): 2, first: {top}ro/",
+                      f"files with a list of Samba (security.NTACL), by which Samba judges too, and facl does not: 2, first: {top}plain")
+            self.shell("""cd marks; chattr -i sealed both "$(printf 'l\nf')"; chattr -a log both""")
+        known = ["immutable both", "append-only both", "immutable l\\012f", "append-only log", "rw,noexec no/", "ro ro/", "rw ro/device", "rw ro/fifo",
+                 "rw ro/rw/", "immutable sealed/"]
+        found = [os.fsdecode(line).replace(top, "") for line in self.lines("marks")[:-1] if os.fsencode(top) in line]
+        expect(found == known, f"marks: {found}")
+        expect(b"samba-list 2" in self.lines("meta"), "meta does not count lists of Samba")
 
     def untrusted(self, name: str, text: str) -> None:
         """No snapshot is made there, nothing is recorded for it, and the message says why."""
