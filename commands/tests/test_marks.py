@@ -25,6 +25,7 @@ from facl_commands.model.records import ChangedPaths  # noqa: E402
 # Code that is added to recording.py: what a file has is by the end of its name, and each part of the tree may be a mount.
 FILE_SYSTEMS = """
 from ..base import beside
+from . import marking
 FOUND = %r
 of_system, place_of = linux.look_at, lambda descriptor: os.readlink(b"/proc/self/fd/%%d" %% descriptor)
 def mount_of(path: bytes) -> bytes:
@@ -34,6 +35,7 @@ def look_at(descriptor: int, name: bytes = b"") -> object:
     path = place_of(descriptor)
     return status, (FOUND.get(path.rpartition(b"/")[2], 0), (1, hash(mount_of(path))))
 linux.look_at = look_at
+marking.file_system_of = lambda descriptor: 0
 beside.word_of = lambda descriptor: FOUND.get(mount_of(place_of(descriptor)), b"rw")
 os.listxattr = lambda name: FOUND.get(os.readlink(name).rpartition(b"/")[2] + b"?", [])
 """
@@ -97,7 +99,7 @@ class Recorded(SnapshotCase):
                       + b"a/\n", done.messages)
         self.assertIn(b"files on noexec file systems, which nobody can run (see marks): 3, first: " + self.place + b"a/\n", done.messages)
         self.take({b"/tree": b"ro", b"/tree/a": b"ro"})
-        self.assertEqual(self.marks(), [b"ro "])
+        self.assertEqual(self.marks(), [b"ro ", b"rw a/fifo"])
 
     def test_parts(self) -> None:
         """Each part has what is above its files."""
@@ -135,11 +137,11 @@ class ReadMarks(unittest.TestCase):
             b"i": b"it is immutable", b"i/x": b"the folder above is immutable", b"a/x": b"the folder above is append-only",
             b"p/i": b"it is immutable", b"p/a": b"it is append-only", b"p/x": None, b"r/x": b"the folder above is on a read-only file system"})
         self.assertEqual([marks.keeps_out(path) for path in (b"i", b"a", b"p", b"r")],
-                         [b"it is immutable", None, None, b"it is on a read-only file system"])
+                         [b"immutable", None, None, b"on a read-only file system"])
         changes = ChangedPaths([b"i/x", b"p/a", b"p/i", b"r/x"], [b"a/new", b"i/new"], [b"a/x", b"p/x"])
         self.assertEqual(obstacles(marks, changes), {
             b"p/a": b"it is append-only", b"p/i": b"it is immutable", b"r/x": b"it is on a read-only file system",
-            b"i/new": b"it is immutable", b"a/x": b"the folder above is append-only"})
+            b"i/new": b"the folder above is immutable", b"a/x": b"the folder above is append-only"})
 
 
 class MarkedCase(Case):
@@ -256,6 +258,8 @@ class Who(MarkedCase):
         self.assertEqual(found["marked"], [{"file": SRV, "marks": ["immutable"]}, {"file": README, "marks": ["immutable"]}])
         self.assertEqual(found["unwritable"], {"immutable": 2, "on-read-only": 2})
         self.assertEqual(self.read_json("facl-who", "read", "project")["unwritable"], {})
+        self.assertEqual(self.read_json("facl-who", "--remove", SRV + "/notes.txt", "project", status=1)["since"], "the folder above is immutable")
+        self.assertEqual(self.read_json("facl-who", "--new-file", SRV, "mara", "project", status=1)["since"], "it is immutable")
 
     def test_what_is_not_known(self) -> None:
         """By a snapshot of an earlier facl."""

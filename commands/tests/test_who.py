@@ -20,7 +20,8 @@ from facl_commands.base.names import read_name, write_name  # noqa: E402
 # A schema: a type, a list of one kind, an object by its fields, or a choice.
 Schema = Union[type, None, List[Any], Dict[str, Any], Tuple[Any, ...]]
 SNAPSHOT = {"host": (str, None), "date": (str, None), "users_asked_for": (int, None)}
-HEAD = {"schema": str, "version": str, "snapshot": SNAPSHOT, "question": str, "along_paths": bool, "left_out": [str]}
+HEAD = {"schema": str, "version": str, "snapshot": SNAPSHOT, "question": str, "along_paths": bool, "left_out": [str],
+        "marked": [{"file": str, "marks": [str]}], "unwritable": {}}  # Here nothing is unwritable.
 MADE = {"kind": str, "owner": str, "group": str, "flags": (str, None), "entries": [str], "readers": [str], "writers": [str]}
 SCHEMAS: Dict[str, Dict[str, Any]] = {
     "rights": {"folders": [str], "users": [{"user": str, "rights": [{"right": str, "files": int, "first": str, "by": [str]}]}]},
@@ -28,8 +29,8 @@ SCHEMAS: Dict[str, Dict[str, Any]] = {
                                                      "enter": int, "files": int}]},
     "owner": {"user": str, "uid": int, "files": [{"file": str, "entries": [str]}]},
     "names": {"user": str, "uid": int, "files": [{"file": str, "entries": [str]}]},
-    "remove": {"file": str, "sticky": bool, "empty": bool, "users": [{"user": str, "as": (str, None), "by": [str]}]},
-    "new-file": {"folder": str, "user": str, "new": [MADE]},
+    "remove": {"file": str, "sticky": bool, "empty": bool, "since": (str, None), "users": [{"user": str, "as": (str, None), "by": [str]}]},
+    "new-file": {"folder": str, "user": str, "since": (str, None), "new": [MADE]},
 }
 # Files as others may name them, and users.
 HOSTILE = [b"a\nb", b"\x1b[31mred", b"tab\there", b"\xe9", "\u202ex".encode(), b"two  blanks ", b"-x", b"back\\slash", b"it's", b"#", b"c\rd",

@@ -61,9 +61,9 @@ class Marks:
         return None if own is None else b"it is " + about(own)
 
     def keeps_out(self, folder: bytes) -> Optional[bytes]:
-        """The same of why nobody can make a file in a folder."""
+        """The text of what a folder is, in which nobody can make a file."""
         kind = self.keeps(folder, NO_WRITING)
-        return None if kind is None else b"it is " + about(kind)
+        return None if kind is None else about(kind)
 
     def immutable(self, folders: List[bytes]) -> List[bytes]:
         """The immutable files at or below some folders."""
@@ -127,8 +127,9 @@ def not_judged(folder: bytes) -> Iterator[bytes]:
 
 def obstacles(marks: Marks, changes: ChangedPaths) -> Dict[bytes, bytes]:
     """The files that nobody can change, make or remove as edits want it, by path, each with why."""
-    kept = {path: marks.keeps(path) for path in changes.changed}
-    found = {path: b"it is " + about(kind) for path, kind in kept.items() if kind is not None}
-    names = {**{path: marks.keeps_out(parent_of(path)) for path in changes.made},
-             **{path: marks.keeps_name(path) for path in changes.removed}}
-    return {**found, **{path: text for path, text in names.items() if text is not None}}
+    changed = {path: marks.keeps(path) for path in changes.changed}
+    made = {path: marks.keeps_out(parent_of(path)) for path in changes.made}
+    removed = {path: marks.keeps_name(path) for path in changes.removed}
+    return {**{path: b"it is " + about(kind) for path, kind in changed.items() if kind is not None},
+            **{path: b"the folder above is " + text for path, text in made.items() if text is not None},
+            **{path: text for path, text in removed.items() if text is not None}}

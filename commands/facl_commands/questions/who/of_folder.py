@@ -77,7 +77,7 @@ def answer_remove(asker: Asker, path: bytes) -> WhoAnswer:
     notes += asker.beside(row[0] for row in rows)
     return WhoAnswer(
         "remove", Table(columns, rows),
-        {"file": json_text(name), "sticky": removed.is_sticky, "empty": not removed.is_full,
+        {"file": json_text(name), "sticky": removed.is_sticky, "empty": not removed.is_full, "since": json_text(why or b"") or None,
          "users": [{"user": json_text(asker.shown(user)), "as": json_text(roles[user] or b"") or None,
                     "by": [json_text(plain_entry(it)) for it in reasons.granting((user, folder), CHANGE)]} for user in kept]},
         b"nobody may remove " + name + since(why), [it for it in users if it not in kept], tuple(notes))
@@ -146,7 +146,8 @@ def answer_new_file(asker: Asker, folder: bytes, user: NamedUser) -> WhoAnswer:
     word = asker.word_of(user.shown)
     name = asker.name_of(folder)
     granted = b"".join(asker.lines_of(CAN, word, path_word(folder))).split(b" ")
-    why = asker.judged_by.keeps_out(folder)
+    kept_out = asker.judged_by.keeps_out(folder)
+    why = None if kept_out is None else b"it is " + kept_out
     is_allowed = b"-wx" in granted and why is None
     made = [make(asker, folder, word, kind) for kind in KINDS] if is_allowed else []
     umask = asker.given.umask.encode()
@@ -157,5 +158,6 @@ def answer_new_file(asker: Asker, folder: bytes, user: NamedUser) -> WhoAnswer:
     notes = [it.summary() for it in made] + asker.beside(user for it in made for user in it.readers + it.writers)
     return WhoAnswer(
         "new-file", Table([Column("NEW"), Column("LIST")], rows),
-        {"folder": json_text(name), "user": json_text(user.shown), "new": [it.as_object() for it in made]},
+        {"folder": json_text(name), "user": json_text(user.shown), "since": json_text(why or b"") or None,
+         "new": [it.as_object() for it in made]},
         user.shown + b" may make no file in " + name + since(why), left_out, (origin, *notes))
