@@ -150,7 +150,8 @@ UNKNOWN_TOOLS: List[Cause] = [
     row("setfattr", UNKNOWN, first("setfattr"), "The bytes of a list are put by setattr NAME=0xHEX FILE",
         lambda line: as_written("setattr {-n=-v} {file}")(line) if line.value(b"-v")[:2] == b"0x" else [],
         "setfattr -n " + LIST_WITHOUT_NAMES % " -v ", "setattr " + LIST_WITHOUT_NAMES % "="),
-    row("chattr", UNKNOWN, first("chattr"), "Attributes such as immutable are recorded, and no line changes them.", "", "chattr +i FILE"),
+    row("chattr", UNKNOWN, first("chattr"),
+        "Attributes such as immutable are recorded by facl-snapshot alone, and no line changes them.", "", "chattr +i FILE"),
     row("passwd", UNKNOWN, first("passwd chpasswd newgrp sg chage vipw vigr chsh chfn"),
         "Passwords, shells and sessions are not recorded. A membership is changed by gpasswd, a primary group by "
         "usermod -g.", "", "newgrp audit"),
