@@ -353,10 +353,10 @@ f' && rm folder gone && mkdir folder && mv d1 d && mv d2 d1 && mv d d2 && mv d3 
         before = os.umask(0)
         self.addCleanup(os.umask, before)
         self.expect_status(self.snapshot("new", "tree"), 0)
-        self.assertEqual(self.modes("new"), [0o700] + [0o600] * 6)
+        self.assertEqual(self.modes("new"), [0o700] + [0o600] * len(FILES))
         for group in {str(os.getgid()), *(it.gr_name for it in grp.getgrall() if it.gr_gid == os.getgid())}:
             self.expect_status(self.snapshot("--readers", group, "shared", "tree"), 0)
-            self.assertEqual(self.modes("shared"), [0o750] + [0o640] * 6)
+            self.assertEqual(self.modes("shared"), [0o750] + [0o640] * len(FILES))
             self.assertEqual({os.stat(self.path("shared/" + name)).st_gid for name in FILES}, {os.getgid()})
         self.expect_status(self.snapshot("--readers=no such group", "other", "tree"), 2, b"no such group: no such group")
         self.assertFalse(os.path.exists(self.path("other")))
