@@ -234,8 +234,8 @@ files: 1 with another owner, group, flags or list
     def test_no_answer_has_the_name_in_questions(self) -> None:
         self.edit("after/dump", (self.SRV % b"r-x", self.SRV % b"rwx"), (self.SHARE % b"---", self.SHARE % b"--x"))
         before = {name: self.read("before/" + name) for name in os.listdir(self.path("before"))}
-        for words in ([], ["--json"], ["--tsv", "--all-users", "--with-root"], ["--page", "page.html"]):
-            done = self.diff(*words)
+        for words in ("", "--json", "--tsv --all-users --with-root", "--page page.html"):
+            done = self.diff(*words.split())
             self.assertNotIn(b"facl-everybody", done.out + done.messages)
         self.assertNotIn(b"facl-everybody", self.read("page.html"))
         self.assertEqual({name: self.read("before/" + name) for name in os.listdir(self.path("before"))}, before)
