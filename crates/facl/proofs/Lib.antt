@@ -9,6 +9,7 @@ pub mod Parts
 pub mod PartsOfLines
 pub mod PartsOfQuestions
 pub mod Refusing
+pub mod SetupFaults
 pub mod ToolLines
 pub mod ToolParts
 pub mod ToolTable
