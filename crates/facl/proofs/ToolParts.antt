@@ -36,7 +36,7 @@ use Rattle.facl_tools.specs.Operands.{path_at, paths_from, name_meant}
 use Rattle.facl_tools.specs.Replies.{Reply, after, done, printed}
 use Rattle.facl_tools.specs.Setattr as setattr
 use Rattle.facl_tools.specs.Setfacl as setfacl_line
-use Rattle.facl_tools.specs.Setfacl.{records_or_fault, done_or_tested}
+use Rattle.facl_tools.specs.Setfacl.{records_or_fault, restored_or_tested}
 use Rattle.acl_rights.specs.Rows.{Verdict}
 use Rattle.facl.specs.Tools.{answered}
 use Rattle.facl_tools.specs.Useradd.{new_user}
@@ -68,7 +68,7 @@ files_refused files use_of = paths_refused files (paths_from 1 files) (reads_fil
 
 setfacl_refused : (s : State) (line : SetfaclLine) (text : List ℕ) → Refused (OfSetfacl s line text) (setfacl_line.answered s line text)
 setfacl_refused s (setfacl.Change line) text = change_refused s line text
-setfacl_refused s (setfacl.Restore test) text = text_refused (records_or_fault s.people text) (λ records. done_or_tested test s (commands.Restore records))
+setfacl_refused s (setfacl.Restore test) text = text_refused (records_or_fault s.people text) (restored_or_tested test s)
 
 edit_refused : (s : State) (recursive : Bool) (edit : Edit) (files : List Text)
     → Refused (OfPaths files (paths_from 1 files) (λ paths. done s (commands.Edit paths edit recursive))) (after (paths_from 1 files) (λ paths. done s (commands.Edit paths edit recursive)))

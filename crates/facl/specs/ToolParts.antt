@@ -23,7 +23,7 @@ use Rattle.facl_tools.specs.Load as load
 use Rattle.facl_tools.specs.Operands.{bad_operand, path_at, paths_from, name_meant}
 use Rattle.facl_tools.specs.Replies.{Reply, done}
 use Rattle.facl_tools.specs.Setattr as setattr
-use Rattle.facl_tools.specs.Setfacl.{entries_given, entries_of_line, both_at, edit_of, done_or_tested, records_or_fault}
+use Rattle.facl_tools.specs.Setfacl.{entries_given, entries_of_line, both_at, edit_of, edited_or_tested, records_or_fault, restored_or_tested}
 use Rattle.facl_tools.specs.Useradd.{new_user}
 use Rattle.facl_tools.specs.declared.chacl.Task.{Task}
 use Rattle.facl_tools.specs.declared.chacl.Task.TheVariants as tasks
@@ -190,7 +190,7 @@ OfTwoTextsAndFiles text other files use_of part fault = ⊥
 
 -- the entries of a line are put into the files of these paths
 abbrev pub entries_put : State → ChangeLine → ChangeEntries → List PathOf → Result Reply LineFault
-entries_put s line entries paths = done_or_tested line.test s (commands.Edit paths (edit_of line.flags entries) line.recursive)
+entries_put s line entries paths = edited_or_tested line.test s line.recursive paths (edit_of line.flags entries)
 
 -- of a line of setfacl(1) that changes lists
 abbrev pub OfChange : State → ChangeLine → List ℕ → Part → LineFault → Type 0
@@ -205,7 +205,7 @@ OfChange s line text part fault = ⊥
 -- of a line of setfacl(1)
 abbrev pub OfSetfacl : State → SetfaclLine → List ℕ → Part → LineFault → Type 0
 OfSetfacl s (setfacl.Change line) text = OfChange s line text
-OfSetfacl s (setfacl.Restore test) text = OfText (records_or_fault s.people text) (λ records. done_or_tested test s (commands.Restore records))
+OfSetfacl s (setfacl.Restore test) text = OfText (records_or_fault s.people text) (restored_or_tested test s)
 
 -- these files are edited
 abbrev pub OfEdit : State → Bool → Edit → List Text → Part → LineFault → Type 0

@@ -18,6 +18,7 @@ pub mod RoundTrips
 pub mod Setattr
 pub mod Setfacl
 pub mod SetfaclLine
+pub mod Tested
 pub mod Useradd
 pub mod Userdel
 pub mod Usermod

@@ -15,20 +15,19 @@ use Rattle.acl_text.specs.declared.record.DumpUse.TheVariants as uses
 use Rattle.acl_edit.specs.declared.edit.Edit.{Edit as FileEdit}
 use Rattle.acl_edit.specs.declared.edit.Edit.TheVariants as edits
 use Rattle.acl_people.specs.KnownPeople.{KnownPeople, naming_of}
-use Rattle.acl_tree.specs.Files.{Files}
+use Rattle.acl_names.specs.Paths.{PathOf}
+use Rattle.acl_tree.specs.EditCommand.{edited_tree}
+use Rattle.acl_tree.specs.Files.{Files, Recorded}
 use Rattle.acl_tree.specs.Found.{FoundFile, files_found}
-use Rattle.acl_tree.specs.Restoring.{paths_of}
-use Rattle.acl_tree.specs.State.{State}
-use Rattle.acl_tree.specs.Step.{step}
-use Rattle.acl_tree.specs.declared.command.Command.{Command}
-use Rattle.acl_tree.specs.declared.command.Command.TheVariants.{Chmod, Creat, Edit, Gpasswd, Load, Restore, Rm, Useradd, Userdel, Usermod}
+use Rattle.acl_tree.specs.Restoring.{paths_of, restored_tree}
+use Rattle.acl_tree.specs.State.{State, with_tree}
 use Rattle.acl_tree.specs.declared.fault.TreeFault.{TreeFault}
 use Rattle.facl_output.specs.Faults.{line_fault_of_tree}
 use Rattle.facl_output.specs.declared.fault.LineFault.{LineFault}
 use Rattle.facl_output.specs.declared.fault.LineFault.TheVariants as faults
 use Rattle.facl_output.specs.declared.fault.Source.TheVariants.{Entry, TextLine}
 use Rattle.facl_output.specs.TestListing.{test_listing}
-use Rattle.facl_tools.specs.Replies.{Reply, after, done, printed}
+use Rattle.facl_tools.specs.Replies.{Reply, after, printed, replied_tree}
 use Rattle.facl_tools.specs.Operands.{paths_from}
 use Rattle.facl_tools.specs.Lists.{at_source}
 use Rattle.facl_tools.specs.declared.setfacl.ChangeFlags.{ChangeFlags}
@@ -84,35 +83,26 @@ drops as_default entries = as_default && (has_default entries.remove || (has_def
 
 -- ---- what is done
 
--- the files of a command, as they are among these
-abbrev pub command_files : Command → Files → List FoundFile
-command_files (Edit paths e recursive) files = files_found recursive paths files
-command_files (Restore records) files = files_found false (paths_of records) files
-command_files (Load which bytes) files = []
-command_files (Chmod paths mode recursive) files = []
-command_files (Creat new) files = []
-command_files (Rm paths recursive) files = []
-command_files (Gpasswd user group change) files = []
-command_files (Usermod user group) files = []
-command_files (Useradd new) files = []
-command_files (Userdel user) files = []
-
 -- ids print as the names that these people have
 abbrev pub named_test_listing : KnownPeople → List FoundFile → List ℕ
 named_test_listing known files = test_listing (naming_of known) files
 
--- what `--test` prints of a command, from the files after it
-abbrev pub tested : Command → State → List ℕ
-tested command s = named_test_listing s.people (command_files command s.tree.files)
+-- what `--test` prints of a next state, or its fault: the lists of the line's files; the state stays
+abbrev pub tested : State → (Files → List FoundFile) → Result State TreeFault → Result Reply LineFault
+tested s files_of (Ok new) = Ok (printed s (named_test_listing new.people (files_of new.tree.files)))
+tested s files_of (Err fault) = Err (line_fault_of_tree fault)
 
--- with `--test` the state stays
-abbrev pub tested_or_fault : State → Command → Result State TreeFault → Result Reply LineFault
-tested_or_fault s command (Ok new) = Ok (printed s (tested command new))
-tested_or_fault s command (Err fault) = Err (line_fault_of_tree fault)
+-- a line makes this tree of the state's; with `--test` its files are printed, and the state stays
+abbrev pub done_or_tested : (test : Bool) → State → (Files → List FoundFile) → Result Recorded TreeFault → Result Reply LineFault
+done_or_tested test s files_of tree = if test then tested s files_of (with_tree s tree) else replied_tree s tree
 
--- a command is done, or tried out
-abbrev pub done_or_tested : Bool → State → Command → Result Reply LineFault
-done_or_tested test s command = if test then tested_or_fault s command (step s command) else done s command
+-- the files of these paths are edited, in a recursion also all below them
+abbrev pub edited_or_tested : (test : Bool) → State → Bool → List PathOf → FileEdit → Result Reply LineFault
+edited_or_tested test s recursive paths edit = done_or_tested test s (files_found recursive paths) (edited_tree recursive paths edit s.tree)
+
+-- the files of these records are restored
+abbrev pub restored_or_tested : (test : Bool) → State → List DumpRecord → Result Reply LineFault
+restored_or_tested test s records = done_or_tested test s (files_found false (paths_of records)) (restored_tree records s.tree)
 
 -- the same, with a warning
 abbrev pub with_warning_if : Bool → Result Reply LineFault → Result Reply LineFault
@@ -129,7 +119,7 @@ edit_of flags entries =
 abbrev pub change_files : State → ChangeLine → ChangeEntries → Result Reply LineFault
 change_files s line entries =
     after (paths_from 1 line.files)
-    (λ paths. with_warning_if (drops line.flags.as_default entries) (done_or_tested line.test s (Edit paths (edit_of line.flags entries) line.recursive)))
+    (λ paths. with_warning_if (drops line.flags.as_default entries) (edited_or_tested line.test s line.recursive paths (edit_of line.flags entries)))
 
 abbrev pub change_line : State → ChangeLine → List ℕ → Result Reply LineFault
 change_line s line text =
@@ -142,7 +132,7 @@ unfoldable pub records_or_fault : KnownPeople → List ℕ → Result (List Dump
 records_or_fault known text = at_source TextLine (dump_of (naming_of known) uses.Restore text)
 
 abbrev pub restore_line : State → Bool → List ℕ → Result Reply LineFault
-restore_line s test text = after (records_or_fault s.people text) (λ records. done_or_tested test s (Restore records))
+restore_line s test text = after (records_or_fault s.people text) (λ records. restored_or_tested test s records)
 
 -- ---- the line
 

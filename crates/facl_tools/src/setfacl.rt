@@ -1,6 +1,6 @@
 //! The tool setfacl(1): its words, the line that they give, and what it does.
 ghost use Rattle.facl_tools.specs.Replies.{Replies, Gives};
-ghost use Rattle.facl_tools.specs.Setfacl.{answered, change_files, change_line, done_or_tested, edit_of, records_or_fault, restore_line};
+ghost use Rattle.facl_tools.specs.Setfacl.{answered, change_files, change_line, edit_of, records_or_fault, restore_line, restored_or_tested};
 ghost use Rattle.std.specs.Prelude.{◌≡◌};
 ghost use Rattle.facl_tools.specs.SetfaclLine.{change_of, changes_entries, contradicts_itself, entries_from, flags_of, has_edit_flag, read, read_change, read_restore, replaces_lists};
 
@@ -92,7 +92,7 @@ fn restore_records(
     records: DumpRecords,
     is_test: bool,
 ) -> Result<Effect, LineFault>
-    ensures { Replies state.now result (done_or_tested is_test state.now (Command.Restore records)) }
+    ensures { Replies state.now result (restored_or_tested is_test state.now records) }
 {
     let command = Command::Restore { records };
     do_or_test(alloc, state, command, is_test)

@@ -2,7 +2,8 @@
 
 ghost use Rattle.std.specs.Prelude.{◌≡◌, false, None, Ok, IfOk};
 ghost use Rattle.facl_tools.specs.Replies.{Replies, Gives};
-ghost use Rattle.facl_tools.specs.Setfacl.{command_files, done_or_tested, tested, tested_or_fault};
+ghost use Rattle.facl_tools.specs.Setfacl.{named_test_listing};
+ghost use Rattle.facl_tools.specs.Tested.{command_done_or_tested, command_files, command_tested};
 ghost use Rattle.acl_tree.specs.Found.{files_found};
 ghost use Rattle.acl_tree.specs.Operands.{first_missing};
 ghost use Rattle.acl_tree.specs.Restoring.{paths_of};
@@ -101,7 +102,7 @@ fn listed(
     staged: &Staged,
 ) -> Result<Vec<u8>, LineFault>
     requires { step state.now command.now ≡ Ok staged.now.state }
-    ensures { Gives (λ out. out.items) result (Ok (tested command.now staged.now.state)) }
+    ensures { Gives (λ out. out.items) result (Ok (named_test_listing staged.now.state.people (command_files command.now staged.now.state.tree.files))) }
 {
     let files = files_after(alloc, state, command, staged)?;
     let mut out = Vec::new(alloc);
@@ -111,7 +112,7 @@ fn listed(
 
 /// What a command would leave of its files. The state stays.
 fn test(alloc: Global, state: &State, command: &Command<'_>) -> Result<Effect, LineFault>
-    ensures { Replies state.now result (tested_or_fault state.now command.now (step state.now command.now)) }
+    ensures { Replies state.now result (command_tested state.now command.now) }
 {
     let staged = state.prepare(alloc, command)?;
     let listed = listed(alloc, state, command, &staged);
@@ -126,7 +127,7 @@ pub(crate) fn do_or_test(
     command: Command<'_>,
     is_test: bool,
 ) -> Result<Effect, LineFault>
-    ensures { Replies state.now result (done_or_tested is_test state.now command.entry) }
+    ensures { Replies state.now result (command_done_or_tested is_test state.now command.entry) }
 {
     let outcome = if is_test {
         test(alloc, state, &command)

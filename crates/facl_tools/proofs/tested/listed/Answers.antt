@@ -1,5 +1,6 @@
 use Rattle.std.proofs.Common.{◌∙◌, ◌++◌, ap, sym, Ok}
-use Rattle.facl_tools.specs.Setfacl.{command_files, named_test_listing}
+use Rattle.facl_tools.specs.Setfacl.{named_test_listing}
+use Rattle.facl_tools.specs.Tested.{command_files}
 use Rattle.facl_tools.proofs.StillThere.{ok_is}
 use Rattle.facl_tools.proofs.tested.listed.Goals as goal
 
