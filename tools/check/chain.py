@@ -6,6 +6,7 @@ usage: tools/check/chain.py [--names | --text | --count] [--clause NAME].. [--st
 START is what one reads from; several are read as one:
   headline                 all clauses of facl::run, the default
   frame                    the same, where FRAME's definitions are words: tools, loading, messages, the check, costs
+  page                     of the frame, clause ok alone: what a run writes
   check                    acl(5)'s check
   setfacl, chmod, can ..   a tool: its syntax, its reader, and what its line does
   CRATE::FUNCTION          the clauses of a function, as acl_entry::granted, or of one of a type, a trait or a module, as
@@ -40,13 +41,14 @@ from memory_faults import Source  # noqa: E402
 from script import TOP, Failed, run  # noqa: E402
 
 HEADLINE = "facl::run"
+WRITES = "ok"
 CHECK = ("acl_entry.specs.Check.rights",)
 TOOLS = ("facl", "Tools")
 # What the frame of the headline takes as words: what a tool does and which tools load a text, what loading one does, the bytes of
 # messages, the check, and what lines cost.
 FRAME = ("facl.specs.Tools.tool_line", "facl.specs.Tools.tool_named", "facl.specs.Tools.loads",
          "facl_output.specs.Messages.message", "facl_output.specs.Messages.warning", "acl_entry.specs.Check.rights",
-         "acl_tree.specs.Loads.load", "acl_rights.specs.Costs.all_pairs", "acl_rights.specs.Costs.most_between")
+         "acl_tree.specs.Loads.load", "acl_rights.specs.Costs.all_pairs", "facl.specs.Counted.answered")
 
 
 class Counts(NamedTuple):
@@ -79,8 +81,8 @@ class Starts:
     def start(self, word: str, clauses: List[str]) -> Start:
         if word == "headline":
             return self.function(HEADLINE, clauses)
-        if word == "frame":
-            return self.function(HEADLINE, clauses)._replace(stops={*map(self.definition, FRAME)})
+        if word in ("frame", "page"):
+            return self.function(HEADLINE, clauses if word == "frame" else [WRITES])._replace(stops={*map(self.definition, FRAME)})
         if "::" in word:
             return self.function(word, clauses)
         if "." in word or word == "check":

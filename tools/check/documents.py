@@ -61,8 +61,9 @@ BLOCKS = {ARCHITECTURE: "graph", PROOFS: "index", READING: "chain"}
 READ = {
     "headline": "all clauses of `run`",
     "frame": "its frame: the same, without what tools, loading, messages, the check and costs are",
+    "page": "of the frame, clause `ok` alone: what a run writes, without what it costs",
     "check": "acl(5)'s check",
-    "frame check chmod": "the frame, the check and `chmod`",
+    "page check chmod": "what a run writes, the check and `chmod`",
     "chmod": "`chmod`", "rm": "`rm`", "userdel": "`userdel`", "gpasswd": "`gpasswd`", "creat": "`creat`", "can": "`can`",
     "setfacl": "`setfacl`",
 }

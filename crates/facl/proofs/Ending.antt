@@ -13,7 +13,7 @@ use Rattle.acl_rights.specs.Rows.{Verdict}
 use Rattle.acl_rights.specs.Costs.{all_pairs}
 use Rattle.acl_rights.specs.declared.indexed.States.{States}
 use Rattle.acl_rights.specs.States.{from_start}
-use Rattle.facl.specs.Units.{answered}
+use Rattle.facl.specs.Counted.{answered}
 use Rattle.facl.specs.Runs.{Devices, EndsBy}
 
 end_of_run : (fault : ScriptFault) (verdict : Verdict) (initial_state : Result State RunFault) (start : State) (states : States) (asked : ℕ) (old new : Devices)

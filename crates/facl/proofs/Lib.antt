@@ -1,3 +1,4 @@
+pub mod Bytes
 pub mod CommandFaults
 pub mod Ending
 pub mod FirstPart

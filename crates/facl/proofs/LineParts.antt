@@ -25,7 +25,8 @@ use Rattle.facl.specs.declared.tools.ToolLine.{ToolLine}
 use Rattle.facl.specs.LineParts.{LinePart, in_length, in_bytes, in_quotes, in_tool, in_text_end, in_text_lines, in_words, in_request, rank, place, HasWords}
 use Rattle.facl.specs.LineParts.{IsOfTool, line_read, IsRequestAtFault, IsAtFault, outcome, name_in, IsAnsweredByFirst}
 use Rattle.acl_rights.specs.declared.indexed.States.{States}
-use Rattle.facl.specs.Units.{is_silent, answered, answer_of, answer_of_words, reply, split, text_or_fault, tool_reply, words_of_line}
+use Rattle.facl.specs.Counted.{answered, answer_of, answer_of_words}
+use Rattle.facl.specs.Units.{is_silent, reply, split, text_or_fault, tool_reply, words_of_line}
 use Rattle.facl.proofs.HasWords.{has_a_word}
 use Rattle.facl.proofs.ToolLines.{tool_line_is}
 use Rattle.facl.proofs.Refusing.{not_silent}

@@ -8,7 +8,8 @@ use Rattle.facl_script.specs.Units.{ScriptUnit}
 use Rattle.facl_script.specs.Forms.{Text}
 use Rattle.facl_output.specs.declared.fault.LineFault.{LineFault}
 use Rattle.facl_output.specs.declared.fault.LineFault.TheVariants.{NoMemory}
-use Rattle.facl.specs.Units.{is_silent, words_of_line, refused, answer_of_words, unless_out_of_memory, answered_line, answered}
+use Rattle.facl.specs.Counted.{refused, answer_of_words, unless_out_of_memory, answered_line, answered}
+use Rattle.facl.specs.Units.{is_silent, words_of_line}
 
 -- a line for which memory ran out is refused, whatever its answer is
 pub lacks_memory : (ran_out : Bool) (number : ℕ) (w new : States) (a : Answer States) (asked asked' : ℕ) (out err : List ℕ)

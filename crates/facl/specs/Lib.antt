@@ -2,11 +2,14 @@ pub mod Below
 pub mod Can
 pub mod Changes
 pub mod CommandFaults
+pub mod Asking
 pub mod Costs
+pub mod Counted
 pub mod LineParts
 pub mod ToolParts
 pub mod FirstPart
 pub mod Gains
+pub mod Headline
 pub mod Index
 pub mod May
 pub mod Runs

@@ -16,7 +16,8 @@ use Rattle.facl.specs.Tools.{syntax_of, read_line, tool_named}
 use Rattle.facl.specs.declared.tools.Tool.{Tool}
 use Rattle.facl.specs.declared.tools.ToolLine.{ToolLine}
 use Rattle.acl_rights.specs.declared.indexed.States.{States}
-use Rattle.facl.specs.Units.{answered, answer_of, reply, text_or_fault, tool_word, words_of_line}
+use Rattle.facl.specs.Counted.{answered, answer_of}
+use Rattle.facl.specs.Units.{reply, text_or_fault, tool_word, words_of_line}
 
 -- ---- the parts of a line, and their order
 

@@ -1,23 +1,19 @@
--- What a run writes.
-use Rattle.std.specs.Prelude.{◌≡◌, ◌+◌, ◌≤◌, ℕ, Bool, true, false, List, Option, Result, Ok, Err, ◌⊎◌, length, IfSome}
+-- How a run ends by a fault: what was read and written, and what was asked of the judge. What a whole run writes is in
+-- Headline.
+use Rattle.std.specs.Prelude.{◌≡◌, ◌≤◌, ℕ, List, Option, Result, Ok, Err, ◌⊎◌, IfSome}
 use Rattle.acl_tree.specs.State.{State}
-use Rattle.facl_script.specs.Limits.{script_limit}
-use Rattle.facl_script.specs.Play.{session}
 use Rattle.facl_script.specs.Run.{StopsWith}
 use Rattle.facl_script.specs.Streams.{Streams, streams, moment}
-use Rattle.facl_script.specs.Write.{Writes}
 use Rattle.facl_script.specs.declared.fault.ScriptFault.{ScriptFault}
 use Rattle.facl_script.specs.declared.fault.ScriptFault.TheVariants as scripts
 use Rattle.facl_script.specs.TextWords.{line_asks}
 use Rattle.facl_output.specs.declared.fault.RunFault.{RunFault}
 use Rattle.facl_output.specs.declared.fault.RunFault.TheVariants.{Read, Write, Setup, ScriptTooLong, NoMemory}
-use Rattle.facl.specs.declared.status.Status.{Status}
-use Rattle.facl.specs.declared.status.Status.TheVariants.{Accepted, Refused}
 use Rattle.acl_rights.specs.Rows.{Verdict}
 use Rattle.acl_rights.specs.Costs.{all_pairs}
 use Rattle.acl_rights.specs.declared.indexed.States.{States}
 use Rattle.acl_rights.specs.States.{from_start}
-use Rattle.facl.specs.Units.{answered}
+use Rattle.facl.specs.Counted.{answered}
 
 -- what the reader has left, and what the two writers hold, where it is known
 pub record Devices : Type 0 where
@@ -26,26 +22,6 @@ pub record Devices : Type 0 where
 
 abbrev pub devices : (remaining out err : Option (List ℕ)) → Devices
 devices remaining out err = record { remaining = remaining; streams = streams out err }
-
--- a line was refused
-abbrev pub has_refused : Status → Bool
-has_refused Accepted = false
-has_refused Refused = true
-
--- The whole script was answered, for some units for which memory ran out: out and err grew by what they do in turn. No
--- more verdicts were asked for than on every user and every file at the start, and what each unit costs.
-pub record Answers (verdict : Verdict) (start : State) (script : List ℕ) (status : Status) (asked : ℕ) (old new : Streams) : Type 0 where
-  pub m : ℕ → Bool
-  pub within : length script ≤ script_limit
-  pub writes : Writes old new (session line_asks (answered verdict) m script (from_start start)).out (session line_asks (answered verdict) m script (from_start start)).err
-  pub status_is : has_refused status ≡ (session line_asks (answered verdict) m script (from_start start)).refused
-  pub asks : asked ≤ all_pairs start + (session line_asks (answered verdict) m script (from_start start)).cost
-
--- The run started at this state, and answered the whole script.
-pub record RunsTo (verdict : Verdict) (initial_state : Result State RunFault) (script : List ℕ) (status : Status) (asked : ℕ) (old new : Streams) : Type 0 where
-  pub start : State
-  pub starts : initial_state ≡ Ok start
-  pub answers : Answers verdict start script status asked old new
 
 -- nothing was read and nothing written
 pub record IsUntouched (old new : Devices) : Type 0 where

@@ -5,7 +5,7 @@ use Rattle.facl_script.specs.Run.{IsAnswer}
 use Rattle.facl.specs.declared.session.FaclSession.{FaclSession}
 use Rattle.acl_rights.specs.declared.indexed.States.{States}
 use Rattle.acl_rights.specs.States.{states_in}
-use Rattle.facl.specs.Units.{unless_out_of_memory}
+use Rattle.facl.specs.Counted.{unless_out_of_memory}
 
 abbrev pub states_of : {J : Type 0} → FaclSession J → States
 states_of f = states_in f.indexed_states

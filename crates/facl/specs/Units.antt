@@ -1,7 +1,6 @@
 -- What a unit of a script does: a line, with its text if it takes one.
 use Rattle.std.specs.Prelude.{ℕ, Bool, true, false, if◌then◌else◌, List, [], ◌∷◌, Option, None, Some, Result, Ok, Err}
 use Rattle.std.specs.Option.{option_map_or}
-use Rattle.facl_script.specs.Play.{Answer, quiet}
 use Rattle.facl_script.specs.Units.{ScriptUnit, UnitText, none, whole, too_long, unended}
 use Rattle.facl_script.specs.Words.{has_no_words, line_words}
 use Rattle.facl_script.specs.declared.words.SplitFault.{SplitFault}
@@ -16,7 +15,6 @@ use Rattle.acl_rights.specs.Rows.{Verdict}
 use Rattle.facl.specs.Tools.{loads, tool_line, tool_named}
 use Rattle.facl.specs.declared.tools.Tool.{Tool}
 use Rattle.acl_rights.specs.declared.indexed.States.{States}
-use Rattle.acl_rights.specs.Costs.{most_between}
 use Rattle.acl_rights.specs.States.{states_after}
 
 -- whether the tool of this name loads a text
@@ -65,20 +63,29 @@ abbrev pub reply : Verdict → States → UnitText → List Text → Result Repl
 reply verdict w text [] = Ok (printed w.now [])
 reply verdict w text (name ∷ words) = after (tool_or_fault name) (tool_reply verdict w text words)
 
--- a refused line leaves the states and costs nothing, and its message names its number, its tool and the fault
-abbrev pub refused : ℕ → Text → LineFault → States → Answer States
-refused number tool fault w = record { out = []; err = message number tool fault; state = w; refused = true; cost = 0 }
+-- what units write to out and to err, the states that they leave, and whether one of them was refused
+pub record UnitAnswer : Type 0 where
+  pub out : List ℕ
+  pub err : List ℕ
+  pub state : States
+  pub refused : Bool
+
+-- nothing is written, and nothing changes
+abbrev pub quiet : States → UnitAnswer
+quiet w = record { out = []; err = []; state = w; refused = false }
+
+-- a refused line leaves the states, and its message names its number, its tool and the fault
+abbrev pub refused : ℕ → Text → LineFault → States → UnitAnswer
+refused number tool fault w = record { out = []; err = message number tool fault; state = w; refused = true }
 
 -- an accepted line may warn of default entries that were dropped
 abbrev pub warning_if : Bool → ℕ → List ℕ
 warning_if warns number = if warns then warning number else []
 
--- an accepted line costs the verdicts that its change can have changed
-abbrev pub accepted : ℕ → (loads : Bool) → States → Reply → Answer States
-accepted number loads w r =
-    record { out = r.out; err = warning_if r.warns number; state = states_after loads w r.state; refused = false; cost = most_between w.now r.state r.user_change }
+abbrev pub accepted : ℕ → (loads : Bool) → States → Reply → UnitAnswer
+accepted number loads w r = record { out = r.out; err = warning_if r.warns number; state = states_after loads w r.state; refused = false }
 
-abbrev pub answer_of : ℕ → Text → States → Result Reply LineFault → Answer States
+abbrev pub answer_of : ℕ → Text → States → Result Reply LineFault → UnitAnswer
 answer_of number tool w (Ok r) = accepted number (loads_by_name tool) w r
 answer_of number tool w (Err fault) = refused number tool fault w
 
@@ -87,19 +94,15 @@ abbrev pub tool_word : List Text → Text
 tool_word [] = []
 tool_word (name ∷ words) = name
 
-abbrev pub answer_of_words : Verdict → ScriptUnit → States → Result (List Text) LineFault → Answer States
+abbrev pub answer_of_words : Verdict → ScriptUnit → States → Result (List Text) LineFault → UnitAnswer
 answer_of_words verdict u w (Ok words) = answer_of u.number (tool_word words) w (reply verdict w u.text words)
 answer_of_words verdict u w (Err fault) = refused u.number [] fault w
 
--- a line that runs out of memory is refused with that message; the verdicts for its change may have been asked for by
--- then
-abbrev pub unless_out_of_memory : Bool → ℕ → States → Answer States → Answer States
-unless_out_of_memory ran_out number w a = if ran_out then record (refused number [] NoMemory w) { cost = a.cost } else a
-
--- a line that is neither blank nor a comment is refused with its first fault, or does what it asks for
-abbrev pub answered_line : Verdict → Bool → ScriptUnit → States → Answer States
-answered_line verdict ran_out u w = unless_out_of_memory ran_out u.number w (answer_of_words verdict u w (words_of_line u.line))
+-- a line that is neither blank nor a comment is refused with its first fault, or does what it asks for; where memory runs
+-- out for it, it is refused with that message
+abbrev pub answered_line : Verdict → (ran_out : Bool) → ScriptUnit → States → UnitAnswer
+answered_line verdict ran_out u w = if ran_out then refused u.number [] NoMemory w else answer_of_words verdict u w (words_of_line u.line)
 
 -- what a unit does: nothing where its line is blank or a comment
-abbrev pub answered : Verdict → Bool → ScriptUnit → States → Answer States
+abbrev pub answered : Verdict → (ran_out : Bool) → ScriptUnit → States → UnitAnswer
 answered verdict ran_out u w = if is_silent u.line then quiet w else answered_line verdict ran_out u w

@@ -5,7 +5,9 @@ ghost use Rattle.std.specs.Io.KnownBytes.{IsAtEnd};
 ghost use Rattle.acl_entry.specs.Check.{rights};
 ghost use Rattle.facl_script.specs.Streams.{streams};
 ghost use Rattle.facl.specs.Setups.{initial_state};
-ghost use Rattle.facl.specs.Runs.{RunsTo, EndsBy, devices};
+ghost use Rattle.facl.specs.Asking.{RunsAsking};
+ghost use Rattle.facl.specs.Headline.{RunsTo};
+ghost use Rattle.facl.specs.Runs.{EndsBy, devices};
 
 use crate::session::{FaclSession, JudgedSession};
 use crate::setup::{Setup, initial_state};
@@ -36,7 +38,7 @@ pub fn run_from<J: Judge, R: Feed, O: Sink, E: Sink>(
     requires err { E.has_failed err.old ≡ false }
 
     ensures ok { IfOk result (λ status. IfSome (R.remaining reader.old) (λ script.
-        RunsTo J.verdict_of (Ok state) script status (J.asked_of judge.new)
+        RunsAsking J.verdict_of (Ok state) script status (J.asked_of judge.new)
         (streams (O.contents out.old) (E.contents err.old)) (streams (O.contents out.new) (E.contents err.new)))) }
     ensures fault { IfErr result (λ fault.
         EndsBy fault J.verdict_of (Ok state) (J.asked_of judge.new)
@@ -80,7 +82,7 @@ pub fn run_judged<J: Judge, R: Feed, O: Sink, E: Sink>(
     requires err { E.has_failed err.old ≡ false }
 
     ensures ok { IfOk result (λ status. IfSome (R.remaining reader.old) (λ script.
-        RunsTo J.verdict_of (initial_state setup.now) script status (J.asked_of judge.new)
+        RunsAsking J.verdict_of (initial_state setup.now) script status (J.asked_of judge.new)
         (streams (O.contents out.old) (E.contents err.old)) (streams (O.contents out.new) (E.contents err.new)))) }
     ensures fault { IfErr result (λ fault.
         EndsBy fault J.verdict_of (initial_state setup.now) (J.asked_of judge.new)
@@ -126,8 +128,8 @@ pub fn run<R: Feed, O: Sink, E: Sink>(
     requires out { O.has_failed out.old ≡ false }
     requires err { E.has_failed err.old ≡ false }
 
-    ensures ok { IfOk result (λ status. IfSome (R.remaining reader.old) (λ script. (asked : ℕ)
-        × RunsTo rights (initial_state setup.now) script status asked
+    ensures ok { IfOk result (λ status. IfSome (R.remaining reader.old) (λ script.
+        RunsTo rights (initial_state setup.now) script status
         (streams (O.contents out.old) (E.contents err.old)) (streams (O.contents out.new) (E.contents err.new)))) }
     ensures fault { IfErr result (λ fault. (asked : ℕ)
         × EndsBy fault rights (initial_state setup.now) asked

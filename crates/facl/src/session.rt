@@ -10,7 +10,8 @@ ghost use Rattle.acl_rights.specs.States.{IsPrepared, from_start};
 ghost use Rattle.facl_tools.specs.Replies.{reply_of};
 ghost use Rattle.facl.specs.Costs.{IsReady, IsReadyAfter};
 ghost use Rattle.facl.specs.Tools.{tool_named};
-ghost use Rattle.facl.specs.Units.{accepted, refused, words_of_line, answer_of, answer_of_words, reply, tool_reply, tool_word, warning_if, answered};
+ghost use Rattle.facl.specs.Counted.{accepted, refused, answer_of, answer_of_words, answered};
+ghost use Rattle.facl.specs.Units.{words_of_line, reply, tool_reply, tool_word, warning_if};
 ghost use Rattle.facl_script.specs.Run.{IsAnswer};
 ghost use Rattle.facl.specs.Sessions.{states_of, out_of, err_of, ran_out_of_memory, IsQuiet, Answers};
 

@@ -1,7 +1,7 @@
 //! How a run ends that answers its whole script.
 
 ghost use Rattle.std.specs.Prelude.{◌≡◌, if◌then◌else◌};
-ghost use Rattle.facl.specs.Runs.{has_refused};
+ghost use Rattle.facl.specs.Headline.{has_refused};
 
 /// How a run ends that answers its whole script.
 #[derive(Clone, Copy, Debug, PartialEq, Eq)]

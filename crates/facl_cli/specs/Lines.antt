@@ -3,7 +3,7 @@ use Rattle.std.specs.Prelude.{◌≡◌, ◌⊎◌, ℕ, Bool, true, false, List
 use Rattle.std.specs.Io.KnownBytes.{Appends}
 use Rattle.std.specs.declared.io.ErrorKind.{ErrorKind}
 use Rattle.std.specs.declared.io.ErrorKind.TheVariants.{OutOfMemory}
-use Rattle.facl.specs.Runs.{has_refused}
+use Rattle.facl.specs.Headline.{has_refused}
 use Rattle.facl.specs.declared.status.Status.{Status}
 use Rattle.facl.specs.facl_output.Messages.{run_fault_text}
 use Rattle.facl.specs.facl_output.declared.fault.RunFault.TheVariants.{Setup}

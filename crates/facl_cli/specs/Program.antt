@@ -3,7 +3,8 @@ use Rattle.std.specs.Prelude.{◌≡◌, ℕ, List, Option, None, Some, ⊤}
 use Rattle.acl_entry.specs.Check.{rights}
 use Rattle.facl.specs.facl_output.declared.fault.RunFault.{RunFault}
 use Rattle.facl_script.specs.Streams.{Streams}
-use Rattle.facl.specs.Runs.{Devices, EndsBy, IsUntouched, RunsTo}
+use Rattle.facl.specs.Headline.{RunsTo}
+use Rattle.facl.specs.Runs.{Devices, EndsBy, IsUntouched}
 use Rattle.facl.specs.Setups.{initial_state}
 use Rattle.facl.specs.declared.setup.Setup.{Setup}
 use Rattle.facl.specs.declared.status.Status.{Status}
@@ -36,8 +37,7 @@ IsUnloaded bytes_of words NoMemory = ⊤
 pub record Ran (bytes_of : List ℕ → Bytes) (words : List (List ℕ)) (script : List ℕ) (status : Status) (old new : Streams) : Type 0 where
   pub setup : Setup
   pub texts : HaveTexts bytes_of words (setup_texts setup)
-  pub asked : ℕ
-  pub runs : RunsTo rights (initial_state setup) script status asked old new
+  pub runs : RunsTo rights (initial_state setup) script status old new
 
 -- The texts of the files that the words name were there, and then the run ended by a fault.
 pub record Stopped (fault : RunFault) (bytes_of : List ℕ → Bytes) (words : List (List ℕ)) (old new : Devices) : Type 0 where

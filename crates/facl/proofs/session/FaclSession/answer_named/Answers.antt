@@ -3,7 +3,8 @@ use Rattle.facl_tools.specs.Replies.{after, or_fault}
 use Rattle.facl.specs.Tools.{tool_named}
 use Rattle.facl_output.specs.declared.fault.LineFault.TheVariants.{UnknownTool}
 use Rattle.facl.specs.Sessions.{states_of, Answers}
-use Rattle.facl.specs.Units.{answer_of, refused, tool_reply}
+use Rattle.facl.specs.Counted.{answer_of, refused}
+use Rattle.facl.specs.Units.{tool_reply}
 use Rattle.facl.proofs.session.FaclSession.answer_named.Goals as goal
 
 pub returns-in-None-clause-answer : goal.returns-in-None-clause-answer

@@ -1,7 +1,8 @@
 use Rattle.std.proofs.Common.{ap, map, string_bytes, subst}
 use Rattle.facl_tools.specs.Replies.{Replies}
 use Rattle.facl.specs.Sessions.{states_of, out_of, err_of, ran_out_of_memory}
-use Rattle.facl.specs.Units.{answer_of, tool_reply}
+use Rattle.facl.specs.Counted.{answer_of}
+use Rattle.facl.specs.Units.{tool_reply}
 use Rattle.facl.proofs.Refusing.{refused_as}
 use Rattle.facl.proofs.session.FaclSession.answer_tool.Goals as goal
 

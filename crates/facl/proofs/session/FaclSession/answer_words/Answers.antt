@@ -1,7 +1,8 @@
 use Rattle.std.proofs.Common.{rules, of_calls, arith, ◌≡◌, ◌∙◌, [], ◌∷◌, ◌-◌, false, length, map, string_bytes, take, drop, ap, subst, sym}
 use Rattle.std.proofs.lemmas.List.{nil_from_length, take_all, length-drop}
 use Rattle.facl_tools.specs.Replies.{reply_of, printed}
-use Rattle.facl.specs.Units.{accepted, answer_of, reply, tool_word}
+use Rattle.facl.specs.Counted.{accepted, answer_of}
+use Rattle.facl.specs.Units.{reply, tool_word}
 use Rattle.facl.proofs.ToolTable.{nothing_loads}
 use Rattle.facl.specs.Sessions.{states_of, Answers}
 use Rattle.facl.proofs.session.FaclSession.answer_words.Goals as goal

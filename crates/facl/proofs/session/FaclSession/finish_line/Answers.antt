@@ -3,7 +3,7 @@ use Rattle.facl_script.specs.Run.{IsAnswer}
 use Rattle.facl_output.specs.declared.fault.LineFault.TheVariants.{NoMemory}
 use Rattle.facl_tools.specs.Replies.{reply_of}
 use Rattle.facl.specs.Sessions.{states_of, out_of, err_of, ran_out_of_memory}
-use Rattle.facl.specs.Units.{accepted, refused, unless_out_of_memory}
+use Rattle.facl.specs.Counted.{accepted, refused, unless_out_of_memory}
 use Rattle.facl.proofs.Refusing.{lacks_memory}
 use Rattle.facl.proofs.session.FaclSession.finish_line.Goals as goal
 

@@ -2,7 +2,7 @@ use Rattle.std.proofs.Common.{◌∙◌, sym, subst, ap}
 use Rattle.facl_script.specs.Run.{IsAnswer}
 use Rattle.acl_rights.specs.States.{states_in}
 use Rattle.facl.specs.Sessions.{states_of, out_of, err_of, ran_out_of_memory}
-use Rattle.facl.specs.Units.{answered_line}
+use Rattle.facl.specs.Counted.{answered_line}
 use Rattle.facl.proofs.Refusing.{not_silent}
 use Rattle.facl.proofs.session.JudgedSessionFaclSessionSession.answer.Goals as goal
 
