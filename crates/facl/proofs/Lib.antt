@@ -4,6 +4,7 @@ pub mod Ending
 pub mod FirstPart
 pub mod HasWords
 pub mod LineParts
+pub mod MemorySaid
 pub mod NoPaths
 pub mod Outcomes
 pub mod Parts

@@ -11,6 +11,7 @@ pub mod FirstPart
 pub mod Gains
 pub mod Headline
 pub mod Index
+pub mod Laws
 pub mod May
 pub mod Runs
 pub mod Sessions

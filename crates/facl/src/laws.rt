@@ -1,8 +1,10 @@
-//! Why lines are refused: a law of the definitions, proved as the contract of a function that does nothing.
+//! Why lines are refused, and where memory ran out: laws of the definitions, each proved as the contract of a function that
+//! does nothing.
 
 ghost use Rattle.std.specs.Prelude.{◌≡◌, false};
 ghost use Rattle.facl_script.specs.Units.{ScriptUnit};
 ghost use Rattle.acl_rights.specs.Rows.{Verdict};
+ghost use Rattle.facl.specs.Laws.{NoMemoryIsSaid};
 ghost use Rattle.facl.specs.LineParts.{IsAnsweredByFirst};
 ghost use Rattle.acl_rights.specs.declared.indexed.States.{States};
 ghost use Rattle.facl.specs.Units.{is_silent};
@@ -13,4 +15,10 @@ ghost use Rattle.facl.specs.Units.{is_silent};
 /// refused exactly if one of them is at fault, and for the first of those in one order.
 pub fn lines_are_refused_for_their_first_fault()
     ensures { (verdict : Verdict) (w : States) (u : ScriptUnit) → is_silent u.line ≡ false → IsAnsweredByFirst verdict w u }
+{}
+
+/// Proof only: where no line of a session's messages ends in `: facl: no memory`, memory ran out for none of its lines: what
+/// it writes is then what the session writes for which memory never runs out.
+pub fn session_says_where_memory_ran_out()
+    ensures { NoMemoryIsSaid }
 {}

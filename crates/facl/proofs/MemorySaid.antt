@@ -1,0 +1,67 @@
+-- Where memory runs out for a line, the session says so.
+use Rattle.std.proofs.Common.{◌≡◌, ℕ, Bool, true, false, if◌then◌else◌, List, [], ◌∷◌, ◌++◌, Result, Ok, Err, refl, sym, ap, ◌∙◌, subst, append_assoc}
+use Rattle.std.specs.Prelude.{codes, decimal}
+use Rattle.acl_names.proofs.Basics.{err_is_not_ok}
+use Rattle.acl_rights.specs.Rows.{Verdict}
+use Rattle.acl_rights.specs.States.{from_start}
+use Rattle.acl_rights.specs.declared.indexed.States.{States}
+use Rattle.facl_output.specs.Messages.{message}
+use Rattle.facl_output.specs.declared.fault.LineFault.TheVariants.{NoMemory}
+use Rattle.facl_output.specs.declared.fault.RunFault.{RunFault}
+use Rattle.facl_script.specs.TextWords.{line_asks}
+use Rattle.facl_script.specs.Units.{ScriptUnit, units_of}
+use Rattle.facl.specs.Headline.{joined, play}
+use Rattle.facl.specs.Laws.{SaysNoMemory, NoMemoryIsSaid}
+use Rattle.facl.specs.Units.{UnitAnswer, answer_of_words, answered, is_silent, quiet, refused, words_of_line}
+
+says_in_front : (x y : List ℕ) → SaysNoMemory x → SaysNoMemory (x ++ y)
+says_in_front x y s =
+    record { before = s.before; after = s.after ++ y; is = ap (λ l. l ++ y) s.is ∙ append_assoc s.before (codes ": facl: no memory" ++ 10 ∷ s.after) y }
+
+says_behind : (x y : List ℕ) → SaysNoMemory y → SaysNoMemory (x ++ y)
+says_behind x y s =
+    record { before = x ++ s.before; after = s.after; is = ap (λ l. x ++ l) s.is ∙ sym (append_assoc x s.before (codes ": facl: no memory" ++ 10 ∷ s.after)) }
+
+message_says : (number : ℕ) → SaysNoMemory (message number [] NoMemory)
+unfolding message
+message_says number =
+    let reported = codes "facl" ++ codes ": " in
+    let text = codes "no memory" ++ 10 ∷ [] in
+    record {
+      before = codes "line " ++ decimal number;
+      after = [];
+      is = ap (λ l. codes "line " ++ l)
+          (ap (λ l. l ++ text) (append_assoc (decimal number) (codes ": ") reported) ∙ append_assoc (decimal number) (codes ": " ++ reported) text);
+    }
+
+module _ (verdict : Verdict) (m : ℕ → Bool) where
+  unit_says : (u : ScriptUnit) (w : States) → (SaysNoMemory (answered verdict (m u.number) u w).err → ⊥) → answered verdict (m u.number) u w ≡ answered verdict false u w
+  unit_says u w = by (is_silent u.line) (m u.number)
+    where
+      by : (silent ran_out : Bool)
+          → (SaysNoMemory (if silent then quiet w else (if ran_out then refused u.number [] NoMemory w else answer_of_words verdict u w (words_of_line u.line))).err → ⊥)
+          → (if silent then quiet w else (if ran_out then refused u.number [] NoMemory w else answer_of_words verdict u w (words_of_line u.line)))
+          ≡ (if silent then quiet w else answer_of_words verdict u w (words_of_line u.line))
+      by true ran_out none = refl
+      by false false none = refl
+      by false true none = absurd (none (message_says u.number))
+
+  units_say : (us : List ScriptUnit) (w : States) → (SaysNoMemory (play verdict m us w).err → ⊥) → play verdict m us w ≡ play verdict (λ _. false) us w
+  units_say [] w none = refl
+  units_say (u ∷ us) w none =
+      let a = answered verdict (m u.number) u w in
+      let rest = play verdict m us a.state in
+      ap (joined a) (units_say us a.state (λ says. none (says_behind a.err rest.err says)))
+      ∙ ap (λ (b : UnitAnswer). joined b (play verdict (λ _. false) us b.state)) (unit_says u w (λ says. none (says_in_front a.err rest.err says)))
+
+abbrev answer_or : UnitAnswer → Result UnitAnswer RunFault → UnitAnswer
+answer_or a (Ok b) = b
+answer_or a (Err fault) = a
+
+pub no_memory_is_said : NoMemoryIsSaid
+no_memory_is_said verdict (Err fault) script m session is none = absurd (err_is_not_ok fault session is)
+no_memory_is_said verdict (Ok start) script m session is none =
+    let us = units_of line_asks script in
+    let w = from_start start in
+    let same : play verdict m us w ≡ session = ap (answer_or session) is in
+    ap (λ a. Ok a) (sym (units_say verdict m us w (λ says. none (subst (λ (a : UnitAnswer). SaysNoMemory a.err) same says))) ∙ same)

@@ -1,0 +1,19 @@
+-- What is true of every session.
+use Rattle.std.specs.Prelude.{◌≡◌, ℕ, Bool, false, List, ◌∷◌, ◌++◌, codes, Result, Ok}
+use Rattle.acl_rights.specs.Rows.{Verdict}
+use Rattle.acl_tree.specs.State.{State}
+use Rattle.facl_output.specs.declared.fault.RunFault.{RunFault}
+use Rattle.facl.specs.Headline.{session_of}
+use Rattle.facl.specs.Units.{UnitAnswer}
+
+-- a line of these messages ends in `: facl: no memory`
+pub record SaysNoMemory (err : List ℕ) : Type 0 where
+  pub before : List ℕ
+  pub after : List ℕ
+  pub is : err ≡ before ++ (codes ": facl: no memory" ++ 10 ∷ after)
+
+-- a session that does not say so is the session of a machine whose memory never runs out
+abbrev pub NoMemoryIsSaid : Type 0
+NoMemoryIsSaid =
+    (verdict : Verdict) (setup : Result State RunFault) (script : List ℕ) (m : ℕ → Bool) (session : UnitAnswer) → session_of verdict setup script m ≡ Ok session
+    → (SaysNoMemory session.err → ⊥) → session_of verdict setup script (λ _. false) ≡ Ok session
