@@ -32,7 +32,7 @@ pub fn limits_are_as_defined()
 
 /// A valid access control list, seen by contracts as the map from keys to permission sets.
 ///
-/// It has the owner, the owning group and the others once each, no key twice, and a mask where it
+/// It has the owner, the owning group and the others once each, no key twice, and a mask if it
 /// has a named entry.
 #[derive(Drop)]
 pub struct Acl {
@@ -55,7 +55,7 @@ impl Model for Acl {
 }
 
 impl Acl {
-    /// The list of the three base entries that corresponds to the low nine bits of a mode.
+    /// Returns the list of the three base entries that corresponds to the low nine bits of a mode.
     ///
     /// # Errors
     ///
@@ -85,12 +85,12 @@ impl Acl {
         })
     }
 
-    /// The list of a sequence of entries, in any order.
+    /// Returns the list of a sequence of entries, in any order.
     ///
     /// # Errors
     ///
-    /// The first fault of the sequence, or that memory ran out, never for at most [`INLINE_ENTRIES`]
-    /// entries, and never where there are too many.
+    /// The first fault of the sequence, or that memory ran out, never for at most [`INLINE_ENTRIES`] entries, and
+    /// never if there are too many.
     pub fn from_entries(alloc: Global, entries: &[Entry]) -> Result<Acl, ListFault>
         ensures ok { IfOk result (λ acl. acl ≡ lists.map_of entries.now) }
         ensures no_fault { OnOk result (lists.fault entries.now ≡ None) }
@@ -111,7 +111,7 @@ impl Acl {
         Ok(Acl { entries: sorted })
     }
 
-    /// The same list again.
+    /// Copies the list.
     ///
     /// # Errors
     ///
@@ -125,21 +125,21 @@ impl Acl {
         })
     }
 
-    /// Whether both are one list.
+    /// Tells whether both are one list.
     pub fn same(&self, other: &Acl) -> bool
         ensures { IsTrue result ↔ (self.now ≡ other.now) }
     {
         self.entries() == other.entries()
     }
 
-    /// What the entry of this key has, if there is one.
+    /// Returns what the entry of this key has, if there is one.
     pub fn get(&self, key: Key) -> Option<Perm>
         ensures { result ≡ maps.get self.now key }
     {
         perm_of(&self.entries, &key)
     }
 
-    /// The entries in list order.
+    /// Returns the entries in list order.
     pub fn entries(&self) -> &[Entry]
         ensures all { result.now ≡ lists.entries self.now }
         ensures valid { IsValid self.now }
@@ -148,8 +148,8 @@ impl Acl {
         &self.entries
     }
 
-    /// What the entry of this key grants: its permissions, and of an entry of the group class those that the mask has
-    /// too, where there is one.
+    /// Returns what the entry of this key grants: its permissions, and of an entry of the group class those that the
+    /// mask has too, if there is one.
     pub fn effective(&self, key: Key) -> Option<Perm>
         ensures { result ≡ lists.effective self.now key }
     {
@@ -161,22 +161,22 @@ impl Acl {
         }
     }
 
-    /// The union of what the entries of the group class have, the mask apart: what a mask is
-    /// recalculated to, setfacl(1).
+    /// Returns the union of what the entries of the group class have, the mask apart: what a mask is recalculated to,
+    /// setfacl(1).
     pub fn class_union(&self) -> Perm
         ensures { result ≡ lists.class_union self.now }
     {
         class_union(&self.entries)
     }
 
-    /// Whether the list is minimal: the three base entries alone.
+    /// Tells whether the list is minimal: the three base entries alone.
     pub fn is_minimal(&self) -> bool
         ensures { result ≡ lists.is_minimal self.now }
     {
         has_base_alone(&self.entries)
     }
 
-    /// The nine permission bits that correspond: the owner, the mask or else the owning group, and the
+    /// Returns the nine permission bits that correspond: the owner, the mask or else the owning group, and the
     /// others.
     pub fn mode(&self) -> u16
         ensures { result ≡ lists.mode self.now }
@@ -220,7 +220,7 @@ impl Acl {
         set_mode(&mut self.entries, &group_key, owner, group, other);
     }
 
-    /// The list of these entries.
+    /// Returns the list of these entries.
     pub(crate) fn of_list(entries: SmallVec<Entry, INLINE_ENTRIES>) -> Acl
         requires { IsList entries.items }
         ensures { result ≡ lists.map_of entries.items }
@@ -228,7 +228,7 @@ impl Acl {
         Acl { entries }
     }
 
-    /// The key whose entry has the group digit of the mode.
+    /// Returns the key whose entry has the group digit of the mode.
     fn group_digit_key(&self) -> Key
         ensures { result ≡ lists.group_digit_key self.now }
     {
@@ -238,14 +238,14 @@ impl Acl {
         }
     }
 
-    /// What the entry has, or nothing.
+    /// Returns what the entry has, or nothing.
     pub(crate) fn perm_or_none(&self, key: &Key) -> Perm
         ensures { result ≡ lists.perm_at self.now key.now }
     {
         self.get(*key).unwrap_or(Perm::none())
     }
 
-    /// The entry's digit of the mode.
+    /// Returns the entry's digit of the mode.
     fn digit(&self, key: &Key) -> u16
         ensures is { result ≡ number (lists.perm_at self.now key.now) }
         ensures small { result < 8 }

@@ -32,42 +32,42 @@ impl Model for Requests {
 const SUBSETS: [u8; 8] = [0x01, 0x03, 0x05, 0x0f, 0x11, 0x33, 0x55, 0xff];
 
 impl Requests {
-    /// Whether the request is one of them.
+    /// Tells whether the request is one of them.
     pub fn has(self, request: Perm) -> bool
         ensures { result ≡ has self request }
     {
         self.0 >> request.number() & 1 == 1
     }
 
-    /// The byte whose bit i is set if request i is one of them.
+    /// Returns the byte whose bit i is set if request i is one of them.
     pub fn bits(self) -> u8
         ensures { result ≡ self }
     {
         self.0
     }
 
-    /// The requests of a byte whose bit i is set if request i is one of them.
+    /// Returns the requests of a byte whose bit i is set if request i is one of them.
     pub fn from_byte(byte: u8) -> Requests
         ensures { result ≡ byte }
     {
         Requests(byte)
     }
 
-    /// No request.
+    /// Returns the empty set.
     pub fn none() -> Requests
         ensures { result ≡ 0 }
     {
         Requests(0)
     }
 
-    /// The requests that a permission set contains.
+    /// Returns the requests that a permission set contains.
     pub fn within(perm: Perm) -> Requests
         ensures { result ≡ byte_of (contains perm) }
     {
         Requests(SUBSETS[perm.number() as usize])
     }
 
-    /// The requests of either.
+    /// Returns the requests of either.
     pub fn union(self, other: Requests) -> Requests
         ensures { result ≡ bit_or self other }
     {
@@ -75,12 +75,11 @@ impl Requests {
     }
 }
 
-/// The requests that the check of acl(5) grants a user on a file.
+/// Returns the requests that the check of acl(5) grants a user on a file.
 ///
-/// Each request is judged by the first case that applies: the owner, a named user, the groups (some
-/// single matching entry contains the request, and so does the mask), the others. Matching group
-/// entries are not added together, so `r` and `w` can each be granted without `rw`, and the empty
-/// request always is. It takes no memory.
+/// Each request is judged by the first case that applies: the owner, a named user, the groups (some single matching
+/// entry contains the request, and so does the mask), the others. Matching group entries are not added together, so
+/// `r` and `w` can each be granted without `rw`, and the empty request always is.
 pub fn granted(subject: &Subject, label: &Label) -> Requests
     ensures all { result ≡ rights subject.now label.now }
     ensures each { (q : Perms) → has result q ≡ check subject.now label.now q }
@@ -89,7 +88,7 @@ pub fn granted(subject: &Subject, label: &Label) -> Requests
     all_granted(subject, label)
 }
 
-/// The requests that are granted, by the first case that applies.
+/// Grants by the first case that applies.
 fn all_granted(subject: &Subject, label: &Label) -> Requests
     ensures { result ≡ rights subject.now label.now }
 {
@@ -106,7 +105,7 @@ fn all_granted(subject: &Subject, label: &Label) -> Requests
     }
 }
 
-/// The permissions, and where there is a mask those that it has too.
+/// Limits `perm` to the mask, if there is one.
 fn under(mask: &Option<Perm>, perm: Perm) -> Perm
     ensures { result ≡ masked_by mask.now perm }
 {
@@ -116,7 +115,7 @@ fn under(mask: &Option<Perm>, perm: Perm) -> Perm
     }
 }
 
-/// What the entries for the user's groups grant, each alone, if there is one.
+/// Returns what the entries for the user's groups grant, each alone, if there is one.
 fn by_groups(
     subject: &Subject,
     owning: Id,
@@ -139,7 +138,7 @@ fn by_groups(
 }
 
 impl Subject {
-    /// Whether an entry of the key is for one of the user's groups, where `owning` owns the file. Allocates nothing.
+    /// Tells whether an entry of the key is for one of the user's groups, where `owning` owns the file.
     pub fn matches(&self, owning: Id, key: &Key) -> bool
         ensures { result ≡ option_map_or (sets.contains self.now.groups) (group_of owning key.now) false }
     {

@@ -41,7 +41,7 @@ impl Model for Draft {
 }
 
 impl Draft {
-    /// A draft without entries. It takes no memory.
+    /// Returns a draft without entries.
     pub fn new(alloc: Global) -> Draft
         ensures { result ≡ maps.empty }
     {
@@ -50,7 +50,7 @@ impl Draft {
         }
     }
 
-    /// The entries of a list.
+    /// Returns the entries of a list.
     ///
     /// # Errors
     ///
@@ -64,19 +64,19 @@ impl Draft {
         })
     }
 
-    /// What the entry of this key has, if there is one.
+    /// Returns what the entry of this key has, if there is one.
     pub fn get(&self, key: Key) -> Option<Perm>
         ensures { result ≡ maps.get self.now key }
     {
         perm_of(&self.entries, &key)
     }
 
-    /// Puts an entry, over the one of its key if there is one.
+    /// Puts an entry, in place of the one of its key if there is one.
     ///
     /// # Errors
     ///
-    /// If memory runs out; the draft is then as it was. Never where the key is present, or where there are fewer
-    /// than [`INLINE_ENTRIES`] entries.
+    /// If memory runs out; the draft is then as it was. Never if the key is present, or if there are fewer than
+    /// [`INLINE_ENTRIES`] entries.
     pub fn insert(&mut self, key: Key, perm: Perm) -> Result<(), AllocError>
         ensures ok { OnOk result (self.new ≡ maps.insert self.old key perm) }
         ensures err { OnErr result (self.new ≡ self.old) }
@@ -92,7 +92,7 @@ impl Draft {
         Ok(())
     }
 
-    /// Takes the entry of the key out, if there is one.
+    /// Removes the entry of the key, if there is one.
     pub fn remove(&mut self, key: &Key)
         ensures { self.new ≡ maps.remove self.old key.now }
     {
@@ -101,7 +101,7 @@ impl Draft {
         }
     }
 
-    /// The entries in list order.
+    /// Returns the entries in list order.
     pub fn entries(&self) -> &[Entry]
         ensures all { result.now ≡ lists.entries self.now }
         ensures ids { HasIds result.now }
@@ -109,15 +109,15 @@ impl Draft {
         &self.entries
     }
 
-    /// The union of what the entries of the group class have, the mask apart: what a mask is
-    /// recalculated to, setfacl(1).
+    /// Returns the union of what the entries of the group class have, the mask apart: what a mask is recalculated to,
+    /// setfacl(1).
     pub fn class_union(&self) -> Perm
         ensures { result ≡ lists.class_union self.now }
     {
         class_union(&self.entries)
     }
 
-    /// The list of these entries. It takes no memory.
+    /// Returns the list of these entries, without an allocation.
     ///
     /// # Errors
     ///
@@ -134,7 +134,7 @@ impl Draft {
     }
 }
 
-/// Where the key is, or where it would go.
+/// Returns where the key is, or where it would go.
 pub(crate) fn place(entries: &[Entry], key: &Key) -> Result<usize, usize>
     requires { IsInOrder entries.now }
     ensures found { IfOk result (IsAt entries.now key.now) }
@@ -145,7 +145,7 @@ pub(crate) fn place(entries: &[Entry], key: &Key) -> Result<usize, usize>
     entries.binary_search_by_key(key, |entry| entry.key)
 }
 
-/// The permissions of the key's entry, if there is one.
+/// Returns the permissions of the key's entry, if there is one.
 pub(crate) fn perm_of(entries: &[Entry], key: &Key) -> Option<Perm>
     requires { IsInOrder entries.now }
     ensures { result ≡ maps.find key_cmp key.now (pairs entries.now) }
@@ -168,7 +168,7 @@ pub(crate) fn set_perm(entries: &mut [Entry], key: &Key, perm: Perm)
     }
 }
 
-/// The same, where each entry is put after the others: finds the first key that comes twice.
+/// Puts the entries in list order by inserting one after another, and so finds the first key that comes twice.
 fn one_by_one(
     alloc: Global,
     entries: &[Entry],
@@ -192,7 +192,7 @@ fn one_by_one(
     Ok(sorted)
 }
 
-/// Whether the key at a place is above the one before it, if there is one.
+/// Tells whether the key at a place is above the one before it, if there is one.
 fn rises_at(entries: &[Entry], at: usize) -> bool
     requires in_range { at < length entries.now }
     requires in_order { IsInOrder (take at entries.now) }
@@ -205,7 +205,7 @@ fn rises_at(entries: &[Entry], at: usize) -> bool
     before.order(entries[at].key) == Ordering::Less
 }
 
-/// Whether keys rise from entry to entry.
+/// Tells whether keys rise from entry to entry.
 fn rises(entries: &[Entry]) -> bool
     ensures in_order { result ≡ true → IsInOrder entries.now }
     ensures ids { result ≡ true → HasIds entries.now }
@@ -219,7 +219,7 @@ fn rises(entries: &[Entry]) -> bool
     true
 }
 
-/// A copy of entries, sorted by their keys where these do not rise.
+/// Copies entries, and sorts them unless their keys rise.
 fn sorted_copy(
     alloc: Global,
     entries: &[Entry],
@@ -236,7 +236,7 @@ fn sorted_copy(
     Ok(sorted)
 }
 
-/// The entries in list order, or the first key that comes twice.
+/// Returns the entries in list order, or the first key that comes twice.
 pub(crate) fn in_order(
     alloc: Global,
     entries: &[Entry],
@@ -258,7 +258,7 @@ pub(crate) fn in_order(
     }
 }
 
-/// Whether there is an entry of the key.
+/// Tells whether there is an entry of the key.
 pub(crate) fn has_entry(sorted: &[Entry], key: &Key) -> bool
     requires { IsInOrder sorted.now }
     ensures { result ≡ lists.is_among key.now (keys sorted.now) }
@@ -266,7 +266,7 @@ pub(crate) fn has_entry(sorted: &[Entry], key: &Key) -> bool
     perm_of(sorted, key).is_some()
 }
 
-/// The first base key without an entry.
+/// Returns the first base key without an entry.
 pub(crate) fn missing_base(sorted: &[Entry]) -> Option<Key>
     requires { IsInOrder sorted.now }
     ensures { result ≡ lists.missing_base (keys sorted.now) }
@@ -283,7 +283,7 @@ pub(crate) fn missing_base(sorted: &[Entry]) -> Option<Key>
     None
 }
 
-/// The first named entry, as a place from 1.
+/// Returns the first named entry, as a place from 1.
 fn first_named(entries: &[Entry]) -> Option<usize>
     requires { length entries.now ≤ MAX_ENTRIES }
     ensures { result ≡ position_from is_named 1 (keys entries.now) }
@@ -296,7 +296,7 @@ fn first_named(entries: &[Entry]) -> Option<usize>
     None
 }
 
-/// What is wrong with entries that are in list order.
+/// Returns what is wrong with entries that are in list order.
 pub(crate) fn fault_in_order(sorted: &[Entry]) -> Option<ListFault>
     requires { IsInOrder sorted.now }
     ensures { result ≡ lists.fault sorted.now }
@@ -313,7 +313,7 @@ pub(crate) fn fault_in_order(sorted: &[Entry]) -> Option<ListFault>
     }
 }
 
-/// The first named entry where there is no mask.
+/// Returns the first named entry if there is no mask.
 pub(crate) fn unmasked(entries: &[Entry], has_mask: bool) -> Option<usize>
     requires short { length entries.now ≤ MAX_ENTRIES }
     requires mask { has_mask ≡ lists.is_among Key.Mask (keys entries.now) }
@@ -325,7 +325,7 @@ pub(crate) fn unmasked(entries: &[Entry], has_mask: bool) -> Option<usize>
     first_named(entries)
 }
 
-/// The union of what the entries of the group class have, the mask apart.
+/// Returns the union of what the entries of the group class have, the mask apart.
 pub(crate) fn class_union(entries: &[Entry]) -> Perm
     ensures { result ≡ lists.union_all (map perm_of_entry (filter in_class entries.now)) }
 {
@@ -338,7 +338,7 @@ pub(crate) fn class_union(entries: &[Entry]) -> Perm
     all
 }
 
-/// Whether there are only base entries.
+/// Tells whether there are only base entries.
 pub(crate) fn has_base_alone(entries: &[Entry]) -> bool
     ensures { result ≡ list_all (λ e. is_base e.key) entries.now }
 {

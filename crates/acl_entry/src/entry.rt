@@ -35,7 +35,7 @@ impl Default for Entry {
 
 /// Why a sequence of entries is not a valid list: acl(5), "VALID ACLs". Places count from 1.
 ///
-/// Where several apply, a sequence is [`TooLong`](ListFault::TooLong) before all else, and then the
+/// If several apply, a sequence is [`TooLong`](ListFault::TooLong) before all else, and then the
 /// first variant of this enum is returned.
 #[derive(Clone, Copy, PartialEq, Eq, Debug)]
 pub enum ListFault {
@@ -95,7 +95,7 @@ impl Model for Id {
 }
 
 impl Id {
-    /// The id of a number, and `None` for [`NOBODY`].
+    /// Returns the id of a number, and `None` for [`NOBODY`].
     pub fn new(number: u32) -> Option<Id>
         ensures { SomeIff result (number < nobody) number }
     {
@@ -106,7 +106,7 @@ impl Id {
         }
     }
 
-    /// The id's number, at most 4294967294.
+    /// Returns the id's number, at most 4294967294.
     pub fn number(self) -> u32
         ensures is { result ≡ self }
         ensures small { self < nobody }
@@ -141,7 +141,7 @@ impl Key {
         self.cmp(&other)
     }
 
-    /// The id of the user or the group that is named, if one is.
+    /// Returns the id of the user or the group that is named, if one is.
     pub fn id(&self) -> Option<Id>
         ensures named { result ≡ named_id self.now }
         ensures bound { id_of self.now < nobody }
@@ -156,21 +156,21 @@ impl Key {
         }
     }
 
-    /// Whether a user or a group is named.
+    /// Tells whether a user or a group is named.
     pub fn is_named(&self) -> bool
         ensures { result ≡ is_named self.now }
     {
         matches!(self, Key::User(_) | Key::Group(_))
     }
 
-    /// Whether it is of the file group class: the owning group, a named user or a named group.
+    /// Tells whether it is of the file group class: the owning group, a named user or a named group.
     pub fn is_class(&self) -> bool
         ensures { result ≡ is_class self.now }
     {
         matches!(self, Key::User(_) | Key::OwningGroup | Key::Group(_))
     }
 
-    /// Whether each list has it: acl(5), "VALID ACLs".
+    /// Tells whether each list has it: acl(5), "VALID ACLs".
     pub fn is_base(&self) -> bool
         ensures { result ≡ is_base self.now }
     {
@@ -246,7 +246,7 @@ impl Perm {
     /// Execute alone. On a directory it is search.
     pub const EXECUTE: Perm = Perm { bits: PermBits(1) };
 
-    /// The set of a number from 0 to 7, and `None` above.
+    /// Returns the set of a number from 0 to 7, and `None` above.
     pub fn from_number(n: u8) -> Option<Perm>
         ensures { SomeIff result (n < 8) (perms.numbered n) }
     {
@@ -259,14 +259,14 @@ impl Perm {
         }
     }
 
-    /// The set's number, from 0 to 7.
+    /// Returns the set's number, from 0 to 7.
     pub fn number(self) -> u8
         ensures { result ≡ perms.number self }
     {
         self.bits.bits()
     }
 
-    /// The three bytes of `rwx`, with `-` for what is not in the set: acl(5), "ACL TEXT FORMS".
+    /// Returns the three bytes of `rwx`, with `-` for what is not in the set: acl(5), "ACL TEXT FORMS".
     pub fn text(self) -> [u8; 3]
         ensures { result ≡ perms.text self }
     {
@@ -289,14 +289,14 @@ impl Perm {
         ]
     }
 
-    /// Whether each permission of the other set is one of this set.
+    /// Tells whether each permission of the other set is one of this set.
     pub fn contains(self, other: Perm) -> bool
         ensures { result ≡ perms.contains self other }
     {
         self.bits.contains(other.bits)
     }
 
-    /// The permissions of either set.
+    /// Returns the permissions of either set.
     pub fn union(self, other: Perm) -> Perm
         ensures { result ≡ perms.union self other }
     {
@@ -305,7 +305,7 @@ impl Perm {
         }
     }
 
-    /// The permissions of both sets.
+    /// Returns the permissions of both sets.
     pub fn meet(self, other: Perm) -> Perm
         ensures { result ≡ perms.meet self other }
     {
@@ -314,14 +314,14 @@ impl Perm {
         }
     }
 
-    /// The empty set.
+    /// Returns the empty set.
     pub fn none() -> Perm
         ensures { result ≡ perms.none }
     {
         Perm { bits: PermBits(0) }
     }
 
-    /// The set whose number is the last digit of n in base 8.
+    /// Returns the set whose number is the last digit of n in base 8.
     pub(crate) fn last_digit(n: u16) -> Perm
         ensures { result ≡ perms.numbered n }
     {

@@ -40,7 +40,7 @@ impl Model for Subject {
 }
 
 impl Subject {
-    /// A user of these groups, which rise, each once.
+    /// Returns a user of these groups, which rise, each once.
     pub fn new(uid: Id, groups: Vec<Id>) -> Subject
         requires { IsStrictlyIncreasing groups.items }
         ensures { result ≡ record { uid = uid; groups = sets.from_list groups.items } }
@@ -48,11 +48,7 @@ impl Subject {
         Subject { uid, groups }
     }
 
-    /// A user of these groups, in any order and with repeats.
-    ///
-    /// # Errors
-    ///
-    /// If memory runs out.
+    /// Returns a user of these groups, in any order and with repeats.
     pub fn from_groups(alloc: Global, uid: Id, groups: &[Id]) -> Result<Subject, AllocError>
         ensures { IfOk result (λ subject. subject ≡ record { uid = uid; groups = sets.from_list groups.now }) }
     {
@@ -60,7 +56,7 @@ impl Subject {
         Ok(Subject::new(uid, rising))
     }
 
-    /// A copy. Fails only if memory runs out.
+    /// Copies the user's id and groups.
     pub fn try_clone(&self, alloc: Global) -> Result<Subject, AllocError>
         ensures { IfOk result (λ subject. subject ≡ self.now) }
     {
@@ -70,14 +66,14 @@ impl Subject {
         })
     }
 
-    /// The user's id.
+    /// Returns the user's id.
     pub fn uid(&self) -> Id
         ensures { result ≡ self.now.uid }
     {
         self.uid
     }
 
-    /// The user's groups, which rise, each once.
+    /// Returns the user's groups, which rise, each once.
     pub fn groups(&self) -> &[Id]
         ensures all { sets.from_list result.now ≡ self.now.groups }
         ensures rising { IsStrictlyIncreasing result.now }
@@ -85,7 +81,7 @@ impl Subject {
         &self.groups
     }
 
-    /// Whether the user is of the group.
+    /// Tells whether the user is of the group.
     pub fn is_of(&self, group: Id) -> bool
         ensures { result ≡ sets.contains self.now.groups group }
     {
@@ -93,7 +89,7 @@ impl Subject {
     }
 }
 
-/// Ids in rising order, each once. Fails only if memory runs out.
+/// Sorts `ids` and drops repeats.
 pub(crate) fn rising_ids(ids: Vec<Id>) -> Result<Vec<Id>, AllocError>
     ensures rising { IfOk result (λ rising. IsStrictlyIncreasing rising.items) }
     ensures set { IfOk result (λ rising. sets.from_list {R = nat_cmp} rising.items ≡ sets.from_list ids.items) }
@@ -106,13 +102,9 @@ pub(crate) fn rising_ids(ids: Vec<Id>) -> Result<Vec<Id>, AllocError>
 }
 
 impl Label {
-    /// The file's group, then the groups that entries name, in list order.
+    /// Returns the file's group, then the groups that entries name, in list order.
     ///
     /// What the check grants a user rests, of the user's groups, on these alone.
-    ///
-    /// # Errors
-    ///
-    /// If memory runs out.
     pub fn mentions(&self, alloc: Global) -> Result<Vec<Id>, AllocError>
         ensures { IfOk result (λ ids. ids.items ≡ mentions self.now) }
     {
@@ -126,7 +118,7 @@ impl Label {
         Ok(ids)
     }
 
-    /// Whether the label mentions one of the groups.
+    /// Tells whether the label mentions one of the groups.
     pub fn mentions_one_of(&self, groups: &[Id]) -> bool
         ensures { result ≡ meets (mentions self.now) groups.now }
     {

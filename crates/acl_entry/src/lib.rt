@@ -1,8 +1,11 @@
-//! Access control lists after acl(5) and POSIX.1e draft 17: permission sets, entries, valid lists,
-//! their correspondence with a file's mode, and the check of a request.
+//! Access control lists after acl(5) and POSIX.1e draft 17: permission sets, entries, valid lists, their
+//! correspondence with a file's mode, and the check of a request.
 //!
-//! A list is seen by contracts as a finite map from [`Key`] to [`Perm`], and is always valid. Text,
-//! edits of whole files and trees are in the crates above.
+//! Contracts see a list as a finite map from [`Key`] to [`Perm`], which is always valid. Text, edits of whole files
+//! and trees are in the crates above.
+//!
+//! A call whose only error is [`NoMemory`] fails only if memory runs out. A function that returns no `Result`
+//! allocates nothing.
 #![tactic(auto)]
 
 mod acl;
@@ -19,5 +22,5 @@ pub use entry::{Entry, Id, Key, ListFault, NOBODY, Perm};
 pub use label::{Label, Subject};
 pub use subject_groups::groups_of_one;
 
-/// What is returned where memory runs out: std's error under the name that the crates above use for it.
+/// The error that is returned if memory runs out: std's, under the name that the crates above use for it.
 pub type NoMemory = std::alloc::AllocError;

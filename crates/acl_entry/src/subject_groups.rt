@@ -1,4 +1,4 @@
-//! The groups that just one of two users has: those that a user joined or left, where the two are that user before and after.
+//! The groups that just one of two users has: those that a user joined or left, if the two are that user before and after.
 
 ghost use Rattle.std.specs.Prelude.{IfOk, OnOk};
 ghost use Rattle.acl_entry.specs.GroupsOfOne.{AddsOthers, AreMoved};
@@ -19,7 +19,7 @@ fn add_others(groups: &mut Vec<Id>, of: &Subject, but: &Subject) -> Result<(), A
     Ok(())
 }
 
-/// The groups that just one of two users has, rising. Fails only if memory runs out.
+/// Returns the groups that just one of two users has, rising.
 pub fn groups_of_one(
     alloc: Global,
     before: &Subject,
