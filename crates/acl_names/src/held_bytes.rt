@@ -40,7 +40,6 @@ impl Model for Bytes {
 }
 
 impl Bytes {
-    /// No bytes. Allocates nothing.
     pub(crate) fn new() -> Bytes
         ensures { result ≡ [] }
     {
@@ -49,7 +48,7 @@ impl Bytes {
         }
     }
 
-    /// No bytes, with room for `count`. Allocates nothing for at most `INLINE_BYTES`.
+    /// Returns no bytes, with room for `count`. Allocates nothing for at most `INLINE_BYTES`.
     pub(crate) fn with_capacity(alloc: Global, count: usize) -> Result<Bytes, AllocError>
         ensures { IfOk result (λ bytes. bytes ≡ []) }
     {
@@ -62,7 +61,7 @@ impl Bytes {
         })
     }
 
-    /// A copy of bytes. Allocates nothing for at most `INLINE_BYTES`.
+    /// Copies a slice. Allocates nothing for at most `INLINE_BYTES`.
     pub(crate) fn from_slice(alloc: Global, slice: &[u8]) -> Result<Bytes, AllocError>
         ensures { IfOk result (λ bytes. bytes ≡ slice.now) }
     {
@@ -76,7 +75,7 @@ impl Bytes {
         Ok(Bytes { form })
     }
 
-    /// The same bytes once more. Allocates nothing for few.
+    /// Copies the bytes. Allocates nothing for at most `INLINE_BYTES`.
     pub(crate) fn try_clone(&self, alloc: Global) -> Result<Bytes, AllocError>
         ensures { IfOk result (λ bytes. bytes ≡ self.now) }
     {
@@ -87,7 +86,6 @@ impl Bytes {
         Ok(Bytes { form })
     }
 
-    /// The bytes.
     #[inline]
     pub(crate) fn as_slice(&self) -> &[u8]
         ensures { result.now ≡ self.now }
@@ -98,7 +96,7 @@ impl Bytes {
         }
     }
 
-    /// Adds bytes and one more. Some may be left where memory runs out.
+    /// Adds the bytes `more`, then `end`. If memory runs out, some of them may have been added.
     pub(crate) fn add(&mut self, alloc: Global, more: &[u8], end: u8) -> Result<(), AllocError>
         ensures { OnOk result (self.new ≡ self.old ++ (more.now ++ end ∷ [])) }
     {
@@ -122,7 +120,6 @@ impl Bytes {
 }
 
 impl FewBytes {
-    /// No bytes.
     #[inline]
     fn new() -> FewBytes
         ensures none { few_in result ≡ [] }
@@ -135,7 +132,6 @@ impl FewBytes {
         }
     }
 
-    /// The bytes.
     #[inline]
     fn as_slice(&self) -> &[u8]
         requires { IsFew self.now }
@@ -144,7 +140,7 @@ impl FewBytes {
         &self.array[..usize::from(self.count)]
     }
 
-    /// Adds bytes, for which there is room.
+    /// Adds `more`, for which there is room.
     #[inline]
     fn put(&mut self, more: &[u8])
         requires few { IsFew self.old }
@@ -159,7 +155,7 @@ impl FewBytes {
     }
 }
 
-/// Writes bytes over those from a place on.
+/// Writes `more` over the bytes from `at` on.
 #[inline]
 fn copy_in(bytes: &mut [u8], at: usize, more: &[u8])
     requires { at + length more.now ≤ length bytes.old }
@@ -169,7 +165,7 @@ fn copy_in(bytes: &mut [u8], at: usize, more: &[u8])
     bytes[at..at + more.len()].copy_from_slice(more);
 }
 
-/// Bytes, then others and one more, in one allocation.
+/// Joins `front`, `more` and `end` in one allocation.
 fn joined(alloc: Global, front: &[u8], more: &[u8], end: u8) -> Result<Vec<u8>, AllocError>
     ensures { IfOk result (λ bytes. bytes.items ≡ front.now ++ (more.now ++ end ∷ [])) }
 {

@@ -9,7 +9,7 @@ ghost use Rattle.acl_names.specs.Paths.{path_text};
 
 use std::alloc::AllocError;
 
-/// Whether no byte is written as an escape in paths.
+/// Tells whether no byte is written as an escape in paths.
 pub(crate) fn is_plain(bytes: &[u8]) -> bool
     ensures { result ≡ true → list_any is_escaped_in_paths bytes.now ≡ false }
 {
@@ -56,7 +56,7 @@ fn put_slashes(bytes: &mut [u8])
     }
 }
 
-/// A `/` for a NUL byte, and any other byte as it is.
+/// Returns `/` for a NUL byte, and any other byte as it is.
 #[inline]
 fn with_slash(b: u8) -> u8
     ensures { result ≡ with_slash b }

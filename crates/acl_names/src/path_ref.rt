@@ -11,7 +11,7 @@ use crate::path::Path;
 use std::cmp::Ordering;
 use std::marker::Model;
 
-/// A borrowed path, or the first components of one. Its calls allocate nothing.
+/// A borrowed path, or the first components of one.
 #[derive(Debug, Drop)]
 pub struct PathRef<'a> {
     form: RefForm<'a>,
@@ -35,7 +35,7 @@ impl<'a> Model for PathRef<'a> {
 }
 
 impl<'a> PathRef<'a> {
-    /// The path of these components.
+    /// Returns the path of these components.
     #[inline]
     pub(crate) fn of_parts(parts: &'a [Vec<u8>]) -> PathRef<'a>
         requires { IsTrue (list_all is_component (map (λ v. v.items) parts.now)) }
@@ -46,7 +46,7 @@ impl<'a> PathRef<'a> {
         }
     }
 
-    /// The path of components in one list of bytes.
+    /// Returns the path of components in one list of bytes.
     #[inline]
     pub(crate) fn of_packed(bytes: &'a [u8]) -> PathRef<'a>
         requires { IsPacked bytes.now }
@@ -57,14 +57,14 @@ impl<'a> PathRef<'a> {
         }
     }
 
-    /// The same once more.
+    /// Copies the reference.
     fn again(&self) -> PathRef<'a>
         ensures { result ≡ self.now }
     {
         PathRef { form: self.form }
     }
 
-    /// The components, from the root on.
+    /// Returns the components, from the root on.
     pub fn components(&self) -> Components<'a>
         ensures all { result ≡ self.now }
         ensures valid { IsTrue (list_all is_component self.now) }
@@ -75,7 +75,7 @@ impl<'a> PathRef<'a> {
         }
     }
 
-    /// Whether it is the root.
+    /// Tells whether it is the root.
     pub fn is_root(&self) -> bool
         ensures { result ≡ (length self.now == 0) }
     {
@@ -93,7 +93,7 @@ impl<'a> PathRef<'a> {
         }
     }
 
-    /// Whether it is a path or is below it.
+    /// Tells whether it is a path or is below it.
     #[inline]
     pub fn is_within(&self, top: &Path) -> bool
         ensures { result ≡ encloses top.now self.now }
@@ -104,7 +104,7 @@ impl<'a> PathRef<'a> {
         }
     }
 
-    /// Whether a path is this one or is below it.
+    /// Tells whether a path is this one or is below it.
     fn encloses(&self, path: &Path) -> bool
         ensures { result ≡ encloses self.now path.now }
     {
@@ -114,7 +114,7 @@ impl<'a> PathRef<'a> {
         }
     }
 
-    /// The path without its last component: the root is its own parent.
+    /// Returns the path without its last component: the root is its own parent.
     pub fn parent(&self) -> PathRef<'a>
         ensures { result ≡ parent self.now }
     {
@@ -124,7 +124,7 @@ impl<'a> PathRef<'a> {
         }
     }
 
-    /// The path without some of the last components, up to eight, that another path does not begin with too.
+    /// Drops up to eight of the last components with which `other` does not begin too.
     fn without_others(&self, other: &Path) -> PathRef<'a>
         ensures { common result other.now ≡ common self.now other.now }
     {
@@ -138,7 +138,7 @@ impl<'a> PathRef<'a> {
         top
     }
 
-    /// The path without as many of the last components as these are.
+    /// Drops as many of the last components as `last` has.
     fn without_last(&self, last: Components<'_>) -> PathRef<'a>
         ensures { result ≡ take (length self.now - length last.entry) self.now }
     {
@@ -150,7 +150,7 @@ impl<'a> PathRef<'a> {
         top
     }
 
-    /// The components with which two paths begin, as far as they are the same. Where all but a few are, the paths are
+    /// Returns the longest common prefix of both paths. If all but a few components are the same, the paths are
     /// compared at once, else one component after another.
     pub fn common(&self, other: &Path) -> PathRef<'a>
         ensures { result ≡ common self.now other.now }
@@ -163,7 +163,6 @@ impl<'a> PathRef<'a> {
     }
 }
 
-/// All parts but the last.
 fn all_but_last(parts: &[Vec<u8>]) -> &[Vec<u8>]
     ensures { result.now ≡ take (length parts.now - 1) parts.now }
 {
