@@ -1,4 +1,4 @@
-//! The nearest entry above a path, found by search.
+//! The nearest ancestor of a path that has an entry, found by binary search.
 
 ghost use Rattle.std.specs.Prelude.{◌≡◌, option_map};
 ghost use Rattle.path_map.specs.Entries.{seen};
@@ -8,8 +8,8 @@ use crate::map::PathMap;
 use acl_names::Path;
 
 impl<V: Copy> PathMap<V> {
-    /// The nearest entry above a path, if there is one: the last entry up to its parent, or else one above what they have in
-    /// common. That is a search for each entry between. Allocates nothing.
+    /// Returns the entry of the nearest ancestor of a path, if there is one. It searches for the last entry up to the
+    /// parent, then, while that is no ancestor, for the last entry up to the longest common prefix.
     pub fn nearest_above(&self, path: &Path) -> Option<(&Path, V)>
         ensures { option_map seen result ≡ nearest_above path.now self.now }
     {

@@ -1,4 +1,4 @@
-//! A map made of entries that come in path order: their paths are moved into it.
+//! Builds a map from entries in path order; their paths are moved into it.
 
 ghost use Rattle.std.specs.Prelude.{◌≡◌, ◌++◌, ◌<◌, [], ◌∷◌, length, List, IfOk, OnOk, OnErr, is_ok, if◌then◌else◌};
 ghost use Rattle.std.specs.List.{zip};
@@ -14,7 +14,7 @@ use std::marker::Model;
 use std::mem;
 use std::rc::Rc;
 
-/// A map in the making, of entries that come in path order: those so far. Their paths are moved into it.
+/// A map under construction: the entries so far, in path order.
 #[derive(Drop)]
 pub struct PathMapBuilder<V: Copy> {
     chunks: Vec<Rc<Chunk<V>>>,
@@ -95,7 +95,7 @@ fn push_both<V: Copy>(
 }
 
 impl<V: Copy> PathMapBuilder<V> {
-    /// No entries so far. Allocates nothing.
+    /// Returns a builder without entries.
     pub fn new(alloc: Global) -> PathMapBuilder<V>
         ensures { result ≡ [] }
     {
@@ -106,8 +106,7 @@ impl<V: Copy> PathMapBuilder<V> {
         }
     }
 
-    /// Adds an entry, whose path is after those of all entries so far. Fails only if memory runs out; entries may then
-    /// be missing.
+    /// Adds an entry, whose path is after those of all entries so far. If memory runs out, entries may be missing.
     pub fn push(&mut self, alloc: Global, path: Path, value: V) -> Result<(), AllocError>
         requires { IsInOrder (self.old ++ (path, value) ∷ []) }
         ensures { OnOk result (self.new ≡ self.old ++ (path, value) ∷ []) }
@@ -117,7 +116,7 @@ impl<V: Copy> PathMapBuilder<V> {
         Ok(())
     }
 
-    /// The map of the entries. Fails only if memory runs out.
+    /// Returns the map of the entries.
     pub fn finish(self, alloc: Global) -> Result<PathMap<V>, AllocError>
         ensures { IfOk result (λ map. map ≡ self) }
     {

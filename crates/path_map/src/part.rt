@@ -17,20 +17,19 @@ pub(crate) trait Part<V> {
     /// The entries.
     ghost entries_of: { Self → List (PathOf × V) };
 
-    /// The first path.
     fn first(&self) -> &Path
         ensures some { 0 < length (entries_of self.now) }
         ensures path { (d : PathOf × V) → result.now ≡ (slice_index_or (entries_of self.now) 0 d).0 };
 
-    /// The value of a path.
+    /// Returns the value of a path.
     fn get(&self, path: &Path) -> Option<V>
         ensures { result ≡ find path_cmp path.now (entries_of self.now) };
 
-    /// The last entry that is not after a path.
+    /// Returns the last entry up to a path.
     fn up_to(&self, path: &PathRef<'_>) -> Option<(&Path, V)>
         ensures { option_map seen result ≡ up_to path.now (entries_of self.now) };
 
-    /// How many entries there are.
+    /// Returns how many entries there are.
     fn len(&self) -> usize
         ensures { IsCount result (length (entries_of self.now)) };
 
@@ -44,7 +43,7 @@ pub(crate) trait Part<V> {
         ensures { OnOk result (new.new.items ≡ new.old.items ++ found (map seen asked.now) (entries_of self.now)) };
 }
 
-/// How many entries are before a path.
+/// Returns how many entries are before a path.
 pub(crate) fn start<V>(all: &[(&Path, V)], path: &Path) -> usize
     requires { IsInOrder (map seen all.now) }
     ensures { IsStart (map seen all.now) path.now result }
@@ -52,14 +51,14 @@ pub(crate) fn start<V>(all: &[(&Path, V)], path: &Path) -> usize
     all.partition_point(|entry| path.order(entry.0).is_gt())
 }
 
-/// How many parts begin at a path or before it.
+/// Returns how many parts begin at a path or before it.
 pub(crate) fn count_up_to<V, P: Part<V>>(parts: &[Rc<P>], path: &Path) -> usize
     ensures { IsCountUpTo (λ c. P.entries_of c.value) parts.now path.now result }
 {
     count_up_to_borrowed(parts, &path.borrowed())
 }
 
-/// How many parts begin at a borrowed path or before it.
+/// Returns how many parts begin at a borrowed path or before it.
 fn count_up_to_borrowed<V, P: Part<V>>(parts: &[Rc<P>], path: &PathRef<'_>) -> usize
     ensures { IsCountUpTo (λ c. P.entries_of c.value) parts.now path.now result }
 {
@@ -75,7 +74,7 @@ fn count_up_to_borrowed<V, P: Part<V>>(parts: &[Rc<P>], path: &PathRef<'_>) -> u
     low
 }
 
-/// The value of a path, found in the last part that begins at it or before it.
+/// Returns the value of a path, found in the last part that begins at it or before it.
 pub(crate) fn value_in<V, P: Part<V>>(parts: &[Rc<P>], path: &Path) -> Option<V>
     requires { IsInOrder (entries_of_parts P.entries_of parts.now) }
     ensures { result ≡ find path_cmp path.now (entries_of_parts P.entries_of parts.now) }
@@ -84,7 +83,7 @@ pub(crate) fn value_in<V, P: Part<V>>(parts: &[Rc<P>], path: &Path) -> Option<V>
     parts[at].get(path)
 }
 
-/// The last entry that is not after a path: it is in the last part that begins at the path or before it.
+/// Returns the last entry up to a path: it is in the last part that begins at the path or before it.
 pub(crate) fn last_up_to<'a, V, P: Part<V>>(
     parts: &'a [Rc<P>],
     path: &PathRef<'_>,
@@ -96,7 +95,7 @@ pub(crate) fn last_up_to<'a, V, P: Part<V>>(
     parts[at].up_to(path)
 }
 
-/// How many entries the parts have.
+/// Returns how many entries the parts have.
 pub(crate) fn count_entries<V, P: Part<V>>(parts: &[Rc<P>]) -> usize
     ensures { IsCount result (length (entries_of_parts P.entries_of parts.now)) }
 {
@@ -109,14 +108,14 @@ pub(crate) fn count_entries<V, P: Part<V>>(parts: &[Rc<P>]) -> usize
     count
 }
 
-/// Whether a path is before another one, at it or below it.
+/// Tells whether a path is before another one, at it or below it.
 pub(crate) fn is_passed(top: &Path, path: &Path) -> bool
     ensures { result ≡ is_passed top.now path.now }
 {
     top.order(path).is_gt() || path.is_within(top)
 }
 
-/// How many parts begin before a path, at it or below it.
+/// Returns how many parts begin before a path, at it or below it.
 pub(crate) fn count_passed<V, P: Part<V>>(parts: &[Rc<P>], top: &Path) -> usize
     ensures { ArePassed (λ c. P.entries_of c.value) parts.now top.now result }
 {
@@ -133,7 +132,7 @@ pub(crate) fn count_passed<V, P: Part<V>>(parts: &[Rc<P>], top: &Path) -> usize
     low
 }
 
-/// Adds no value for each path.
+/// Adds `None` for each path.
 pub(crate) fn push_none<V: Copy, W>(
     new: &mut Vec<Option<V>>,
     asked: &[(&Path, W)],
@@ -146,8 +145,8 @@ pub(crate) fn push_none<V: Copy, W>(
     Ok(())
 }
 
-/// Adds the values of paths that are in path order: each half of the parts is searched for the paths that it may have, down to
-/// one part.
+/// Adds the values of paths that are in path order: each half of the parts is searched for the paths that it may
+/// have, down to one part.
 pub(crate) fn push_found_in<V: Copy, W, P: Part<V>>(
     new: &mut Vec<Option<V>>,
     parts: &[Rc<P>],

@@ -1,4 +1,4 @@
-//! Maps of the same paths with other values: they share all paths.
+//! Replaces values: the new map shares all paths.
 
 ghost use Rattle.std.specs.Prelude.{◌≡◌, ◌++◌, ◌+◌, ◌<◌, [], ◌∷◌, length, IfOk, OnOk, map, take};
 ghost use Rattle.std.specs.FinMap.{find};
@@ -17,9 +17,10 @@ use acl_names::Path;
 use std::alloc::{AllocError, Global};
 use std::rc::Rc;
 
-/// A part whose values can be changed, while its paths stay.
+/// A part whose values can be replaced, while its paths stay.
 pub(crate) trait Remap<V: Copy>: Part<V> + Sized + Drop {
-    /// The part with the values that some of its paths have among others. What each of these paths had is added.
+    /// Returns the part with the values of `puts` at the paths that it has, and adds to `was` what each of these
+    /// paths had.
     fn replaced(
         &self,
         alloc: Global,
@@ -31,8 +32,7 @@ pub(crate) trait Remap<V: Copy>: Part<V> + Sized + Drop {
         ensures was { IfOk result (λ _. was.new.items ≡ was.old.items ++ found (map seen puts.now) (Self.entries_of self.now)) };
 }
 
-/// Adds the values up to the path of an entry, with its value in the place of one at that path, which is added to those
-/// that were there.
+/// Adds the values up to `path`, with `value` in place of the one at that path, which is added to `was`.
 fn replace_next<V: Copy>(
     new: &mut Vec<V>,
     was: &mut Vec<Option<V>>,
@@ -55,7 +55,7 @@ fn replace_next<V: Copy>(
     Ok(before + 1)
 }
 
-/// The values of entries, where some paths have others. What each of these paths had is added.
+/// Replaces the values at the paths of `puts`, and adds to `was` what each of these paths had.
 fn values_replaced<V: Copy>(
     alloc: Global,
     was: &mut Vec<Option<V>>,
@@ -76,8 +76,8 @@ fn values_replaced<V: Copy>(
     Ok(new)
 }
 
-/// Adds parts with the values that some of their paths have among others, and what each of these paths had. Where
-/// there are no others the parts are shared; else each half is changed by itself, down to one part.
+/// Adds parts with the values of `puts`, and to `was` what each of these paths had. If `puts` is empty the parts are
+/// shared; else each half is changed by itself, down to one part.
 fn push_replaced<V: Copy, P: Remap<V>>(
     alloc: Global,
     new: &mut Vec<Rc<P>>,
@@ -139,9 +139,9 @@ impl<V: Copy, P: Remap<V>> Remap<V> for Branch<V, P> {
 }
 
 impl<V: Copy> PathMap<V> {
-    /// The map with the values that some of its paths have among others, which are in path order, and for each of these
-    /// paths the value that it had: `None` for a path that the map has not, which is passed over. This map stays as it
-    /// is, and both share all paths. Fails only if memory runs out.
+    /// Replaces the values at the paths of `puts`, which are in path order, and returns for each of these paths the
+    /// value that it had: `None` for a path without an entry, which is skipped. This map stays as it is, and both
+    /// share all paths.
     pub fn replaced(
         &self,
         alloc: Global,
@@ -157,7 +157,7 @@ impl<V: Copy> PathMap<V> {
         Ok((PathMap::of(new), was))
     }
 
-    /// The map of `replaced` alone. Fails only if memory runs out.
+    /// Returns the map of `replaced` alone.
     pub fn with_values(&self, alloc: Global, puts: &[(&Path, V)]) -> Result<PathMap<V>, AllocError>
         requires { IsInOrder (map seen puts.now) }
         ensures { IfOk result (λ new. new ≡ with_values (map seen puts.now) self.now) }

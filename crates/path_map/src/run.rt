@@ -1,4 +1,4 @@
-//! Entries that follow one another, borrowed: their paths, and as many values.
+//! A slice of entries: their paths, and as many values.
 
 ghost use Rattle.std.specs.Prelude.{◌≡◌, ◌<◌, ◌≤◌, ◌==◌, length, List, [], ◌∷◌, slice_index_or, option_map, take, drop, map};
 ghost use Rattle.std.specs.List.{zip};
@@ -14,7 +14,6 @@ use acl_names::{Path, PathRef};
 use std::cmp::Ordering;
 use std::marker::Model;
 
-/// What is at a place.
 fn item<T>(items: &[T], at: usize) -> &T
     requires { at < length items.now }
     ensures { (d : T) → result.now ≡ slice_index_or items.now at d }
@@ -22,7 +21,7 @@ fn item<T>(items: &[T], at: usize) -> &T
     &items[at]
 }
 
-/// Entries that follow one another: their paths, and as many values.
+/// A slice of entries: their paths, and as many values.
 #[derive(Drop)]
 pub(crate) struct Run<'a, V> {
     paths: &'a [Path],
@@ -38,7 +37,6 @@ impl<'a, V> Model for Run<'a, V> {
 }
 
 impl<'a, V> Run<'a, V> {
-    /// The entries of these paths and values.
     pub fn new(paths: &'a [Path], values: &'a [V]) -> Run<'a, V>
         requires { length values.now ≡ length paths.now }
         ensures { result ≡ zip paths.now values.now }
@@ -46,21 +44,21 @@ impl<'a, V> Run<'a, V> {
         Run { paths, values }
     }
 
-    /// How many entries there are.
+    /// Returns how many entries there are.
     pub fn len(&self) -> usize
         ensures { result ≡ length self.now }
     {
         self.paths.len()
     }
 
-    /// Whether there is none.
+    /// Tells whether there is no entry.
     pub fn is_empty(&self) -> bool
         ensures { result ≡ (length self.now == 0) }
     {
         self.paths.is_empty()
     }
 
-    /// The first `count` entries.
+    /// Returns the first `count` entries.
     pub fn front(&self, count: usize) -> Run<'a, V>
         requires { count ≤ length self.now }
         ensures { result ≡ take count self.now }
@@ -71,7 +69,7 @@ impl<'a, V> Run<'a, V> {
         }
     }
 
-    /// The entries after the first `count`.
+    /// Returns the entries after the first `count`.
     pub fn back(&self, count: usize) -> Run<'a, V>
         requires { count ≤ length self.now }
         ensures { result ≡ drop count self.now }
@@ -82,14 +80,14 @@ impl<'a, V> Run<'a, V> {
         }
     }
 
-    /// The values.
+    /// Returns the values.
     pub fn values(&self) -> &'a [V]
         ensures { result.now ≡ map (λ e. e.1) self.now }
     {
         self.values
     }
 
-    /// The path of an entry.
+    /// Returns the path of an entry.
     pub fn path(&self, at: usize) -> &'a Path
         requires { at < length self.now }
         ensures { (d : PathOf × V) → result.now ≡ (slice_index_or self.now at d).0 }
@@ -97,7 +95,7 @@ impl<'a, V> Run<'a, V> {
         item(self.paths, at)
     }
 
-    /// How many entries are before a path.
+    /// Counts the entries before a path, by binary search.
     pub fn start(&self, path: &Path) -> usize
         requires { IsInOrder self.now }
         ensures { IsStart self.now path.now result }
@@ -106,7 +104,7 @@ impl<'a, V> Run<'a, V> {
             .partition_point(|other| path.order(other).is_gt())
     }
 
-    /// How many entries are not after a path.
+    /// Counts the entries up to a path, by binary search.
     fn end(&self, path: &PathRef<'_>) -> usize
         requires { IsInOrder self.now }
         ensures { IsCountUpTo (λ e. e ∷ []) self.now path.now result }
@@ -128,7 +126,7 @@ impl<'a, V> Run<'a, V> {
 }
 
 impl<'a, V: Copy> Run<'a, V> {
-    /// The value of a path.
+    /// Returns the value of a path.
     pub fn get(&self, path: &Path) -> Option<V>
         requires { IsInOrder self.now }
         ensures { result ≡ find path_cmp path.now self.now }
@@ -144,8 +142,8 @@ impl<'a, V: Copy> Run<'a, V> {
         }
     }
 
-    /// How many entries are before a path, and its value, if it has one. The places that are looked at first double, so
-    /// where few are, few are looked at.
+    /// Returns how many entries are before a path, and its value, if it has one. Galloping search: an entry near the
+    /// front is found in few steps.
     pub fn find_near(&self, path: &Path) -> (usize, Option<V>)
         requires { IsInOrder self.now }
         ensures start { IsStart self.now path.now result.0 }
@@ -166,7 +164,7 @@ impl<'a, V: Copy> Run<'a, V> {
         (low, None)
     }
 
-    /// The last entry that is not after a path.
+    /// Returns the last entry up to a path.
     pub fn up_to(&self, path: &PathRef<'_>) -> Option<(&'a Path, V)>
         requires { IsInOrder self.now }
         ensures { option_map seen result ≡ up_to path.now self.now }
@@ -175,7 +173,6 @@ impl<'a, V: Copy> Run<'a, V> {
         Some(self.at(at))
     }
 
-    /// An entry.
     pub fn at(&self, at: usize) -> (&'a Path, V)
         requires { at < length self.now }
         ensures { (d : PathOf × V) → seen result ≡ slice_index_or self.now at d }
@@ -191,7 +188,6 @@ impl<'a, V: Copy> Iterator for Run<'a, V> {
 
     ghost remaining = { item_count (λ entries. entries) };
 
-    /// The next entry.
     fn next(&mut self) -> Option<(&'a Path, V)> {
         let [path, paths @ ..] = self.paths else {
             return None;
