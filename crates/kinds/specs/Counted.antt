@@ -4,7 +4,7 @@ use Rattle.kinds.specs.Kinds.{KindsOf, node_at, count_at, IsNode}
 use Rattle.kinds.specs.Numbered.{Numbers, paths_with, AreUsed}
 use Rattle.kinds.specs.Inner.{Extends, found_if, found_with, pending_at}
 
--- one path more has a number, if any, of those that are counted
+-- the count of a number, if any, grows by one path, if the number is counted
 pub record CountsOne (old : List ℕ) (number : Option ℕ) (new : List ℕ) : Type 0 where
   pub long : length new ≡ length old
   pub counts : (n : ℕ) → n < length old → get_or new n 0 ≡ get_or old n 0 + found_if n number

@@ -34,7 +34,7 @@ pub record AddsAll {N : Type 0} (old : KindsOf N) (puts : List (PathOf × N)) (n
   pub used : AreUsed new entries
   pub made : entries_by new entries ≡ puts
 
--- paths that were looked up have their numbers no longer
+-- the paths that were found are taken from the counts of their numbers
 pub record ReleasesAll {N : Type 0} (old : KindsOf N) (found : List (Option ℕ)) (new : KindsOf N) : Type 0 where
   pub nodes : (n : ℕ) → 0 < count_at new n → node_at new n ≡ node_at old n
   pub counts : (n : ℕ) → count_at new n ≡ count_at old n - found_with n found
@@ -49,12 +49,12 @@ pub record HasNumber {N : Type 0} (old : KindsOf N) (x : N) (at : ℕ) (new : Ki
 abbrev pub pending_at : ℕ → ℕ → ℕ → ℕ
 pending_at n last pending = if n == last then pending else 0
 
--- one path more has a number: `count` of its paths are not counted, where `pending` paths of the last number were not
+-- a further path has a number: `count` of its paths are not counted, if `pending` paths of the last number were not
 pub record CountsRun {N : Type 0} (old : KindsOf N) (last pending number : ℕ) (new : KindsOf N) (count : ℕ) : Type 0 where
   pub nodes : (n : ℕ) → node_at new n ≡ node_at old n
   pub counts : (n : ℕ) → count_at new n + pending_at n number count ≡ (count_at old n + pending_at n last pending) + one_if n number
 
--- a number for one path more: `count` of the paths that got it are not counted, where `pending` paths of the last number were not
+-- a number for a further path: `count` of the paths that got it are not counted, if `pending` paths of the last number were not
 pub record GivesNumber {N : Type 0} (old : KindsOf N) (last pending : ℕ) (x : N) (number : ℕ) (new : KindsOf N) (count : ℕ) : Type 0 where
   pub between : KindsOf N
   pub has : HasNumber old x number between
@@ -68,14 +68,14 @@ pub record AddsBut {N : Type 0} (old : KindsOf N) (puts : List (PathOf × N)) (n
   pub made : entries_by new entries ≡ puts
   pub there : 0 < pending → IsNode new last
 
--- one path that was looked up has its number no longer: `count` of the paths that lost it are still counted, where `pending`
--- paths of the last number were
+-- a path that was found is taken from the count of its number: `count` of the paths that lost it are still counted, if
+-- `pending` paths of the last number were
 pub record ReleasesRun {N : Type 0} (old : KindsOf N) (last pending : ℕ) (found : Option ℕ) (new : KindsOf N) (number count : ℕ) : Type 0 where
   pub nodes : (n : ℕ) → 0 < count_at new n → node_at new n ≡ node_at old n
   pub fewer : (n : ℕ) → count_at new n ≤ count_at old n
   pub counts : (n : ℕ) → count_at new n - pending_at n number count ≡ (count_at old n - pending_at n last pending) - found_if n found
 
--- paths that were looked up have their numbers no longer, of which some are counted still
+-- the paths that were found are taken from the counts of their numbers, but for some that are still counted
 pub record ReleasesBut {N : Type 0} (old : KindsOf N) (found : List (Option ℕ)) (new : KindsOf N) (last pending : ℕ) : Type 0 where
   pub nodes : (n : ℕ) → 0 < count_at new n → node_at new n ≡ node_at old n
   pub counts : (n : ℕ) → count_at new n - pending_at n last pending ≡ count_at old n - found_with n found

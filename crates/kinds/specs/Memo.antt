@@ -25,7 +25,7 @@ abbrev pub edit_each : {N F : Type 0} → NodeEdit N F → List (PathOf × N) �
 edit_each edit [] = Ok []
 edit_each edit (e ∷ es) = and_others e.0 (edit e.1) (edit_each edit es)
 
--- how many paths had a number before the edit, and have it after it, of those that were seen
+-- how many of the edited paths had a number before the edit, and have it after it
 abbrev pub met_before : ℕ → List Met → ℕ
 met_before n [] = 0
 met_before n (m ∷ ms) = (if m.old == n then m.count else 0) + met_before n ms
@@ -34,7 +34,7 @@ abbrev pub met_after : ℕ → List Met → ℕ
 met_after n [] = 0
 met_after n (m ∷ ms) = (if m.new == n then m.count else 0) + met_after n ms
 
--- whether a number is what an edit made of one that was seen
+-- whether a number is the result of one that was edited
 abbrev pub is_new : ℕ → List Met → Bool
 is_new n [] = false
 is_new n (m ∷ ms) = (m.new == n) || is_new n ms
@@ -65,7 +65,7 @@ abbrev pub EditsOneMore : {N F : Type 0} → NodeEdit N F → PathOf × ℕ → 
 EditsOneMore {N} edit e k met puts k' met' puts' =
     (before : KindsOf N) (done : Numbers) → IsNode before e.1 → AreEdited edit before done k met puts → AreEdited edit before (done ++ e ∷ []) k' met' puts'
 
--- a number that was seen is at a place
+-- a number that was edited is at a place
 pub record IsMetAt (met : List Met) (number at : ℕ) : Type 0 where
   pub within : at < length met
   pub is : (d : Met) → (get_or met at d).old ≡ number
@@ -76,17 +76,17 @@ pub record EditsOne {N F : Type 0} (edit : NodeEdit N F) (k : KindsOf N) (n : �
   pub is : node_at k n ≡ Some node
   pub makes : edit node ≡ Ok edited
 
--- one file more has the number at a place, and gets this number
+-- the count at a place grows by one path, which gets the number there
 pub record CountsAgain (at : ℕ) (old new : List Met) (given : ℕ) : Type 0 where
   pub met : (d : Met) → new ≡ slice_set old at (record (get_or old at d) { count = (get_or old at d).count + 1 })
   pub number : (d : Met) → given ≡ (get_or old at d).new
 
--- the paths of numbers that were seen have their new numbers too
+-- the edited paths are added to the counts of their new numbers
 pub record GrantsMet {N : Type 0} (old : KindsOf N) (met : List Met) (new : KindsOf N) : Type 0 where
   pub nodes : (n : ℕ) → node_at new n ≡ node_at old n
   pub counts : (n : ℕ) → count_at new n ≡ count_at old n + met_after n met
 
--- and no longer their old ones
+-- the edited paths are taken from the counts of their old numbers
 pub record ReleasesMet {N : Type 0} (old : KindsOf N) (met : List Met) (new : KindsOf N) : Type 0 where
   pub nodes : (n : ℕ) → 0 < count_at new n → node_at new n ≡ node_at old n
   pub counts : (n : ℕ) → count_at new n ≡ count_at old n - met_before n met

@@ -35,7 +35,7 @@ by_place numbers es = map (λ e. (e.0, get_or numbers e.1 0)) es
 
 -- ---- for inner functions
 
--- each node of a list has a number; no path more is counted
+-- each node of a list has a number; no path is counted
 pub record AddsNodes {N : Type 0} (old : KindsOf N) (nodes : List (Option N)) (numbers : List ℕ) (new : KindsOf N) : Type 0 where
   pub extends : Extends old new
   pub counts : (n : ℕ) → count_at new n ≡ count_at old n

@@ -1,4 +1,4 @@
-//! The nearest entry above a path.
+//! The nearest ancestor of a path that has an entry.
 
 ghost use Rattle.std.specs.Prelude.{◌≡◌, option_map};
 ghost use Rattle.path_map.specs.Below.{nearest_above};
@@ -9,7 +9,7 @@ use crate::map::KindMap;
 use acl_names::Path;
 
 impl<N> KindMap<N> {
-    /// The nearest entry above a path, if there is one: a search for each entry between. Allocates nothing.
+    /// Returns the entry of the nearest ancestor of a path, if there is one: a search for each entry between.
     pub fn nearest_above(&self, path: &Path) -> Option<(&Path, &N)>
         ensures { option_map borrowed result ≡ nearest_above path.now (entries_in self.now) }
     {

@@ -1,4 +1,4 @@
-//! A map built of entries that come in path order: nodes that are the same get one number.
+//! Builds a map from entries in path order: equal nodes get one number.
 
 ghost use Rattle.std.specs.Prelude.{◌≡◌, ◌++◌, ◌∷◌, [], IfOk};
 ghost use Rattle.path_map.specs.Entries.{IsInOrder};
@@ -12,7 +12,7 @@ use path_map::PathMapBuilder;
 use std::alloc::{AllocError, Global};
 use std::marker::Model;
 
-/// A map that is being built: its entries so far, which come in path order.
+/// A map under construction: the entries so far, in path order.
 #[derive(Drop)]
 pub struct KindMapBuilder<N> {
     numbering: Numbering<N>,
@@ -33,7 +33,7 @@ impl<N> Model for KindMapBuilder<N> {
 }
 
 impl<N> KindMapBuilder<N> {
-    /// No entries. Allocates nothing.
+    /// Returns a builder without entries.
     pub fn new(alloc: Global) -> KindMapBuilder<N>
         ensures { result ≡ [] }
     {
@@ -45,8 +45,7 @@ impl<N> KindMapBuilder<N> {
 }
 
 impl<N: Drop> KindMapBuilder<N> {
-    /// An entry more, which is the last in path order; path and node are moved into the map. Fails only if memory, or the
-    /// numbers, run out.
+    /// Adds an entry, which is the last in path order; path and node are moved into the map.
     pub fn push<L: Likeness<N>>(
         self,
         alloc: Global,
@@ -66,7 +65,7 @@ impl<N: Drop> KindMapBuilder<N> {
         Ok(KindMapBuilder { numbering, numbers })
     }
 
-    /// The map of the entries. Fails only if memory runs out, or if paths are more than can be counted.
+    /// Returns the map of the entries.
     pub fn finish(self, alloc: Global) -> Result<KindMap<N>, AllocError>
         ensures { IfOk result (λ map. entries_in map ≡ self) }
     {

@@ -1,4 +1,4 @@
-//! Nodes of some numbers that become others.
+//! Replaces the nodes of some numbers.
 
 ghost use Rattle.std.specs.Prelude.{◌≡◌, ◌+◌, ◌++◌, ◌∷◌, ◌<◌, ◌≤◌, ◌^◌, [], ℕ, List, length, option_map, IfOk, MatchOption};
 ghost use Rattle.std.specs.Option.{option_map_or};
@@ -11,7 +11,7 @@ use crate::map::KindMap;
 use std::alloc::{AllocError, Global};
 use std::rc::Rc;
 
-/// Makes of a node another one. That counts in a state at most once, as a verdict of a judge.
+/// Changes nodes. Each change counts in a state at most once, as a verdict of a judge.
 pub trait NodeChange<N, S> {
     /// What a node becomes.
     ghost changed: { Self → N → N };
@@ -19,7 +19,7 @@ pub trait NodeChange<N, S> {
     /// What was counted.
     ghost counted: { S → ℕ };
 
-    /// What a node becomes, if that is another node. Fails only if memory runs out.
+    /// Returns what a node becomes, if that is another node.
     fn change(&self, alloc: Global, state: &mut S, node: &N) -> Result<Option<N>, AllocError>
         requires room { counted state.old + 1 < 2 ^ 64 }
         ensures node { IfOk result (λ new. option_map_or (λ x. x) new node.now ≡ changed self.now node.now) }
@@ -27,7 +27,7 @@ pub trait NodeChange<N, S> {
 }
 
 impl<N: Drop> Kinds<N> {
-    /// The slot of a number with what its node becomes, if that is another node.
+    /// Returns the slot of a number with what its node becomes, if that is another node.
     fn changed_slot<S, C: NodeChange<N, S>>(
         &self,
         alloc: Global,
@@ -55,8 +55,8 @@ impl<N: Drop> Kinds<N> {
         }))
     }
 
-    /// Slots with that of a number changed, if its node becomes another one: then the number is added to `changed`. All other
-    /// slots are shared.
+    /// Changes the slot of a number, if its node becomes another one: then the number is added to `changed`. All
+    /// other slots are shared.
     fn slots_changed<S, C: NodeChange<N, S>>(
         &self,
         alloc: Global,
@@ -82,8 +82,8 @@ impl<N: Drop> Kinds<N> {
         Ok(slots)
     }
 
-    /// For some numbers what their nodes become, and the numbers of the nodes that became others; the slots of all others are
-    /// shared. Fails only if memory runs out.
+    /// Changes the nodes of `numbers`, and returns the numbers of the nodes that became others; the slots of all
+    /// others are shared.
     pub(crate) fn changed_at<S, C: NodeChange<N, S>>(
         &self,
         alloc: Global,
@@ -107,8 +107,8 @@ impl<N: Drop> Kinds<N> {
 }
 
 impl<N: Drop> KindMap<N> {
-    /// The map of the same paths with what the nodes of some numbers become, and the numbers of the nodes that became others.
-    /// Both maps share the paths, their numbers and all other nodes. Fails only if memory runs out.
+    /// Changes the nodes of `numbers`, and returns the numbers of the nodes that became others. Both maps share the
+    /// paths, their numbers and all other nodes.
     pub(crate) fn changed_at<S, C: NodeChange<N, S>>(
         &self,
         alloc: Global,

@@ -1,4 +1,4 @@
-//! Counts of paths by number, for many paths at once.
+//! Counts paths by number, many paths at once.
 
 ghost use Rattle.std.specs.Prelude.{IfOk, OnOk, map};
 ghost use Rattle.path_map.specs.Entries.{seen};
@@ -10,8 +10,7 @@ use crate::numbering::{Numbering, grant_each};
 use acl_names::Path;
 use std::alloc::{AllocError, Global};
 
-/// One path more has a number, if any, of those that are counted. Fails where they are more than can be counted, as where
-/// memory runs out.
+/// Adds one to the count of a number that `counts` has; no number adds nothing.
 fn count_one(counts: &mut Vec<usize>, number: Option<usize>) -> Result<(), AllocError>
     ensures { OnOk result (CountsOne counts.old.items number counts.new.items) }
 {
@@ -58,7 +57,7 @@ pub(crate) fn counts_of(
     Ok(counts)
 }
 
-/// Paths that have numbers are counted, by runs of one number.
+/// Adds the paths of `entries` to the counts of their numbers, by runs of one number.
 fn count_runs<N: Drop>(
     alloc: Global,
     kinds: Kinds<N>,
@@ -75,7 +74,7 @@ fn count_runs<N: Drop>(
     Ok(kinds)
 }
 
-/// Paths that have numbers are counted, where each number gets its paths at once.
+/// Adds the paths of `entries` to the counts of their numbers, each number's paths at once.
 fn count_each<N: Drop>(
     alloc: Global,
     kinds: Kinds<N>,
@@ -89,7 +88,8 @@ fn count_each<N: Drop>(
     Ok(kinds)
 }
 
-/// Paths that have numbers are counted. Where they are as many as the numbers, each number gets its paths at once.
+/// Adds the paths of `entries` to the counts of their numbers. If there are as many paths as numbers, each number
+/// gets its paths at once.
 pub(crate) fn count_entries<N: Drop>(
     alloc: Global,
     kinds: Kinds<N>,

@@ -1,4 +1,4 @@
-//! Edits of entries by their numbers: what an edit makes of a number is computed once.
+//! Edits entries by their numbers: each number is edited once, and the result kept in a memo.
 
 ghost use Rattle.std.specs.Prelude.{◌≡◌, ◌<◌, ◌++◌, ◌∷◌, [], ℕ, None, Ok, map, get_or, option_map, IfOk, IfSome, OnOk, length};
 ghost use Rattle.std.specs.List.{AllByRecursion};
@@ -49,12 +49,12 @@ pub trait KindEdit<N> {
 
     ghost edited: { Self → NodeEdit N Self.Fault };
 
-    /// The node after the edit.
+    /// Returns the node after the edit.
     fn edited(&self, alloc: Global, node: &N) -> Result<N, Stop<Self::Fault>>
         ensures { GivesOr (λ x. x) result (edited self.now node.now) };
 }
 
-/// The node of an entry edited, or the fault with its path.
+/// Edits the node of an entry, or returns the fault with its path.
 fn edit_one<N: Drop, E: KindEdit<N>>(
     alloc: Global,
     kinds: &Kinds<N>,
@@ -72,7 +72,7 @@ fn edit_one<N: Drop, E: KindEdit<N>>(
     }
 }
 
-/// Counts one path more for the number at a place of those that were seen, and puts its entry. Returns the new number.
+/// Counts a further path for the number at the place `at` of the memo, and puts its entry. Returns the new number.
 fn put_again<'a>(
     memo: &mut Memo,
     puts: &mut Vec<(&'a Path, usize)>,
@@ -89,7 +89,8 @@ fn put_again<'a>(
     Ok(new)
 }
 
-/// Keeps what an edit made of a number that was not seen before, and puts the entry of the path that has it.
+/// Records the result `new` for the number `old`, which the memo does not have yet, and puts the entry of the path
+/// that has it.
 fn put_first<'a, N>(
     kinds: &Kinds<N>,
     memo: &mut Memo,
@@ -108,7 +109,7 @@ fn put_first<'a, N>(
     memo.note(old, new)
 }
 
-/// One entry more edited: its number, if it was seen, or else its node.
+/// Edits one entry: takes the result from the memo, or else edits its node.
 fn edit_entry<'a, N: Drop, E: KindEdit<N>>(
     alloc: Global,
     kinds: Kinds<N>,
@@ -132,7 +133,8 @@ fn edit_entry<'a, N: Drop, E: KindEdit<N>>(
     Ok(kinds)
 }
 
-/// What an edit made of entries: the nodes with those that were added, the numbers that were seen, and the entries.
+/// What an edit of entries leaves: the nodes with those that were added, the memo, and the entries with their new
+/// numbers.
 #[derive(Drop)]
 struct EditedNumbers<'a, N> {
     kinds: Kinds<N>,
@@ -140,7 +142,7 @@ struct EditedNumbers<'a, N> {
     puts: Vec<(&'a Path, usize)>,
 }
 
-/// Entries edited, each of their numbers once; or the first fault.
+/// Edits entries, each of their numbers once; or returns the first fault.
 fn edit_entries<'a, N: Drop, E: KindEdit<N>>(
     alloc: Global,
     kinds: Kinds<N>,
@@ -167,7 +169,7 @@ pub struct EditedMap<'a, N> {
     pub entries: Vec<(&'a Path, usize)>,
 }
 
-/// The node of a number edited, if a path has the number.
+/// Edits the node of a number, if a path has the number.
 fn edit_used<N: Drop, E: KindEdit<N>>(
     alloc: Global,
     map: &KindMap<N>,
@@ -185,7 +187,7 @@ fn edit_used<N: Drop, E: KindEdit<N>>(
     }
 }
 
-/// The nodes that paths have edited, each at the place of its number; or a fault of one of them.
+/// Edits the nodes that paths have, each at the place of its number; or returns the fault of one of them.
 fn edit_nodes<N: Drop, E: KindEdit<N>>(
     alloc: Global,
     map: &KindMap<N>,
@@ -204,7 +206,7 @@ fn edit_nodes<N: Drop, E: KindEdit<N>>(
 }
 
 impl<N: Drop> KindMap<N> {
-    /// The map with each of its entries edited, or a fault of one of them: paths keep their numbers, which get other nodes. Each
+    /// Edits each entry, or returns the fault of one of them: paths keep their numbers, which get other nodes. Each
     /// number is edited once, and no path is read. This map stays as it is.
     pub fn edited_all<E: KindEdit<N>>(
         &self,
@@ -223,8 +225,8 @@ impl<N: Drop> KindMap<N> {
 }
 
 impl<N: Drop> KindMap<N> {
-    /// The map with some of its entries edited, and these; or the fault of the first for which the edit fails, with its
-    /// path. This map stays as it is, and both share all paths. Each number is edited once.
+    /// Edits some entries, and returns these too; or the fault of the first for which the edit fails, with its path.
+    /// This map stays as it is, and both share all paths. Each number is edited once.
     pub fn edited<'a, E: KindEdit<N>>(
         &self,
         alloc: Global,

@@ -1,4 +1,4 @@
-//! Look-ups of entries by paths that mostly follow one another in path order.
+//! A finder: looks up entries by paths that mostly follow one another in path order.
 
 ghost use Rattle.std.specs.Prelude.{◌≡◌, option_and_then};
 ghost use Rattle.std.specs.Option.{option_copied};
@@ -13,7 +13,7 @@ use acl_names::Path;
 use path_map::Finder;
 use std::marker::Model;
 
-/// The node of a number, if there is one.
+/// Returns the node of a number, if there is one.
 fn node_of<N>(kinds: &Kinds<N>, number: Option<usize>) -> Option<&N>
     ensures { option_copied result ≡ option_and_then (node_at kinds.now) number }
 {
@@ -23,7 +23,7 @@ fn node_of<N>(kinds: &Kinds<N>, number: Option<usize>) -> Option<&N>
     }
 }
 
-/// A look-up of entries.
+/// Looks up entries by path.
 #[derive(Drop)]
 pub struct KindsFinder<'a, N> {
     numbers: Finder<'a, usize>,
@@ -43,7 +43,6 @@ impl<'a, N> Model for KindsFinder<'a, N> {
 }
 
 impl<'a, N> KindsFinder<'a, N> {
-    /// A look-up of the entries of these numbers, which have nodes.
     fn new(numbers: Finder<'a, usize>, kinds: &'a Kinds<N>) -> KindsFinder<'a, N>
         requires { AreUsed kinds.now numbers }
         ensures { result ≡ entries_by kinds.now numbers.entry }
@@ -51,7 +50,7 @@ impl<'a, N> KindsFinder<'a, N> {
         KindsFinder { numbers, kinds }
     }
 
-    /// The node of a path, if it has one. Allocates nothing.
+    /// Returns the node of a path, if it has one.
     pub fn get(&mut self, path: &Path) -> Option<&'a N>
         ensures same { self.new ≡ self.old }
         ensures found { option_copied result ≡ find path_cmp path.now self.old }
@@ -62,7 +61,7 @@ impl<'a, N> KindsFinder<'a, N> {
 }
 
 impl<N> KindMap<N> {
-    /// A look-up of entries. Allocates nothing.
+    /// Returns a finder, which has not searched yet.
     pub fn finder(&self) -> KindsFinder<'_, N>
         ensures { result ≡ entries_in self.now }
     {

@@ -1,4 +1,4 @@
-//! Nodes of numbers that paths have, and maps of the same paths with other nodes, one for each number.
+//! Nodes by the numbers that paths have, and maps of the same paths with other nodes, one for each number.
 
 ghost use Rattle.std.specs.Prelude.{◌≡◌, length, option_map, IfOk, IfSome};
 ghost use Rattle.kinds.specs.Kinds.{node_at, count_at};
@@ -14,7 +14,7 @@ use std::alloc::{AllocError, Global};
 use std::rc::Rc;
 
 impl<N: Drop> Slot<N> {
-    /// The node, shared, if there is one.
+    /// Shares the node, if there is one.
     fn shared_node(&self) -> Result<Option<Rc<N>>, AllocError>
         ensures { IfOk result (λ some. option_map (λ r. r.value) some ≡ self.now.0) }
     {
@@ -23,7 +23,7 @@ impl<N: Drop> Slot<N> {
 }
 
 impl<N: Drop> Kinds<N> {
-    /// The node of a number, shared, if it has one. Fails only if memory runs out.
+    /// Shares the node of a number, if it has one.
     pub(crate) fn shared_node(&self, number: usize) -> Result<Option<Rc<N>>, AllocError>
         ensures { IfOk result (λ some. option_map (λ r. r.value) some ≡ node_at self.now number) }
     {
@@ -35,7 +35,8 @@ impl<N: Drop> Kinds<N> {
 }
 
 impl<N> Kinds<N> {
-    /// The slot of a number with this node, if a path has the number; else a slot that is free where this one is.
+    /// Returns the slot of a number with this node, if a path has the number; else a slot that is free if this one
+    /// is.
     fn slot_with<M: Drop>(&self, number: usize, node: Option<Rc<M>>) -> Slot<M>
         ensures { result ≡ (renewed_if (λ x. x) (option_map (λ r. r.value) node) (count_at self.now number), count_at self.now number) }
     {
@@ -54,7 +55,7 @@ impl<N> Kinds<N> {
         }
     }
 
-    /// For each number that paths have the node at its place, with the same counts. Fails only if memory runs out.
+    /// Gives each number that paths have the node at its place, with the same counts.
     pub(crate) fn with_nodes<M: Drop>(
         &self,
         alloc: Global,
@@ -74,7 +75,7 @@ impl<N> Kinds<N> {
 }
 
 impl<N> KindMap<N> {
-    /// How many numbers there are, with those that are free. Allocates nothing.
+    /// Returns how many numbers there are, free ones included.
     pub fn numbers_len(&self) -> usize
         ensures { result ≡ length self.now.0.0 }
     {
@@ -83,7 +84,7 @@ impl<N> KindMap<N> {
 }
 
 impl<N: Drop> KindMap<N> {
-    /// The node of a number, shared, if a path has the number. Fails only if memory runs out.
+    /// Shares the node of a number, if a path has the number.
     pub fn shared_node(&self, number: usize) -> Result<Option<Rc<N>>, AllocError>
         ensures node { IfOk result (λ some. option_map (λ r. r.value) some ≡ used_at self.now.0 number) }
         ensures entry { IfOk result (λ some. IfSome some (λ node. IsOfEntry node.value (entries_in self.now))) }
@@ -94,8 +95,8 @@ impl<N: Drop> KindMap<N> {
         }
     }
 
-    /// The map of the same paths with other nodes, one for each number. Both maps share the paths and their numbers. Fails
-    /// only if memory runs out.
+    /// Returns the map of the same paths with other nodes, one for each number. Both maps share the paths and their
+    /// numbers.
     pub fn with_nodes<M: Drop>(
         &self,
         alloc: Global,

@@ -1,4 +1,4 @@
-//! A walk over the entries of a map by kinds.
+//! The iterator over the entries of a map by kinds.
 
 ghost use Rattle.std.specs.Prelude.{◌≡◌, List, option_map};
 ghost use Rattle.std.specs.Iterator.{YieldsFirstBy, item_count};
@@ -12,7 +12,7 @@ use acl_names::Path;
 use path_map::Entries;
 use std::marker::Model;
 
-/// A cursor over the entries of a map: those that are still to come, in path order.
+/// An iterator over the entries of a map in path order.
 #[derive(Drop)]
 pub struct KindsIter<'a, N> {
     rest: Entries<'a, usize>,
@@ -34,7 +34,6 @@ impl<'a, N> Iterator for KindsIter<'a, N> {
 
     ghost remaining = { item_count (λ entries. entries) };
 
-    /// The next entry in path order. Allocates nothing.
     fn next(&mut self) -> Option<(&'a Path, &'a N)> {
         let Some(entry) = self.rest.next() else {
             return None;
@@ -45,7 +44,6 @@ impl<'a, N> Iterator for KindsIter<'a, N> {
 }
 
 impl<'a, N> KindsIter<'a, N> {
-    /// The entries of these numbers, which have nodes.
     pub(crate) fn new(rest: Entries<'a, usize>, kinds: &'a Kinds<N>) -> KindsIter<'a, N>
         requires { AreUsed kinds.now rest }
         ensures { result ≡ entries_by kinds.now rest.entry }
@@ -53,7 +51,7 @@ impl<'a, N> KindsIter<'a, N> {
         KindsIter { rest, kinds }
     }
 
-    /// The path of the entry that `next` would return. Allocates nothing.
+    /// Returns the path of the entry that `next` would return.
     pub fn peek(&self) -> Option<&'a Path>
         ensures { option_map (λ p. p.now) result ≡ option_map (λ e. e.0) (first self.now) }
     {

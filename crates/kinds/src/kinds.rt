@@ -1,4 +1,4 @@
-//! Nodes by numbers, and how many files have each.
+//! Nodes by numbers, with the count of the paths of each, and a free list of numbers.
 
 ghost use Rattle.std.specs.Prelude.{◌≡◌, ◌+◌, ◌-◌, ◌<◌, ◌≤◌, ◌^◌, [], ℕ, List, Option, Some, None, true, length, IfOk, OnOk, option_map, slice_get, slice_set, IfSome};
 ghost use Rattle.std.specs.Option.{option_copied};
@@ -13,7 +13,7 @@ use std::clone::Clone;
 use std::marker::Model;
 use std::rc::Rc;
 
-/// The node of a number, if it has one, and the count of its files; for a free number the next one that is free.
+/// The node of a number, if it has one, with the count of its paths; a free number has the next one of the free list.
 #[derive(Drop)]
 pub(crate) struct Slot<N> {
     pub(crate) node: Option<Rc<N>>,
@@ -27,7 +27,7 @@ impl<N> Model for Slot<N> {
     ghost view = { λ s. (option_map (λ r. r.value) s.node, s.count) };
 }
 
-/// A pointer more to a node, if there is one.
+/// Shares a node, if there is one.
 pub(crate) fn shared<N: Drop>(node: &Option<Rc<N>>) -> Result<Option<Rc<N>>, AllocError>
     ensures { IfOk result (λ same. option_map (λ r. r.value) same ≡ option_map (λ r. r.value) node.now) }
 {
@@ -57,11 +57,11 @@ impl Same for usize {
     ghost same = { λ x y h. h };
 }
 
-/// The number that no slot has.
+/// The end of the free list: no slot has this number.
 pub(crate) const NONE: usize = usize::MAX;
 
-/// For each number a node and the count of its files. A copy shares all nodes. Numbers that are given back are given again:
-/// each free slot has the number of the next one.
+/// For each number a node and the count of its paths. A copy shares all nodes. Numbers that are given back are in a
+/// free list, and given again.
 #[derive(Drop)]
 pub struct Kinds<N> {
     pub(crate) slots: SharedList<Slot<N>>,
@@ -75,7 +75,7 @@ impl<N> Model for Kinds<N> {
 }
 
 impl<N> Kinds<N> {
-    /// No numbers.
+    /// Returns an empty list of nodes.
     pub fn new(alloc: Global) -> Kinds<N>
         ensures { result ≡ ([], []) }
     {
@@ -85,7 +85,7 @@ impl<N> Kinds<N> {
         }
     }
 
-    /// The node of a number, if it has one. Allocates nothing.
+    /// Returns the node of a number, if it has one.
     pub fn get(&self, number: usize) -> Option<&N>
         ensures { option_copied result ≡ node_at self.now number }
     {
@@ -95,7 +95,7 @@ impl<N> Kinds<N> {
         }
     }
 
-    /// How many numbers there are, with those that are free. Allocates nothing.
+    /// Returns how many numbers there are, free ones included.
     pub(crate) fn len(&self) -> usize
         ensures nodes { result ≡ length self.now.0 }
         ensures counts { result ≡ length self.now.1 }
@@ -103,14 +103,14 @@ impl<N> Kinds<N> {
         self.slots.len()
     }
 
-    /// How many paths have a number. Allocates nothing.
+    /// Returns how many paths have a number.
     pub fn count(&self, number: usize) -> usize
         ensures { result ≡ count_at self.now number }
     {
         count_in(&self.slots, number)
     }
 
-    /// The node of a number that has one. Allocates nothing.
+    /// Returns the node of a number that has one.
     pub fn node(&self, number: usize) -> &N
         requires { IsNode self.now number }
         ensures { node_at self.now number ≡ Some result.now }
@@ -123,7 +123,7 @@ impl<N> Kinds<N> {
 }
 
 impl<N> Slot<N> {
-    /// The node, if there is one.
+    /// Returns the node, if there is one.
     fn node(&self) -> Option<&N>
         ensures { option_copied result ≡ self.now.0 }
     {
@@ -133,7 +133,6 @@ impl<N> Slot<N> {
         }
     }
 
-    /// The count of the files.
     fn count(&self) -> usize
         ensures { result ≡ self.now.1 }
     {
@@ -142,7 +141,7 @@ impl<N> Slot<N> {
 }
 
 impl<N: Drop> Slot<N> {
-    /// The same node with this count.
+    /// Returns the slot with this count.
     fn with_count(&self, count: usize) -> Result<Slot<N>, AllocError>
         ensures { IfOk result (λ new. new ≡ (self.now.0, count)) }
     {
@@ -155,7 +154,7 @@ impl<N: Drop> Slot<N> {
 }
 
 impl<N: Drop> Kinds<N> {
-    /// A copy, which shares all nodes. Fails only if memory runs out.
+    /// Copies the nodes and counts; both share all nodes.
     pub fn share(&self) -> Result<Kinds<N>, AllocError>
         ensures { IfOk result (λ same. same ≡ self.now) }
     {
@@ -165,7 +164,7 @@ impl<N: Drop> Kinds<N> {
         })
     }
 
-    /// A node more, with a number that no file has. Fails only if memory, or the numbers, run out.
+    /// Adds a node, with a number that no path has.
     pub fn add(self, alloc: Global, node: Rc<N>) -> Result<(Kinds<N>, usize), AllocError>
         ensures { IfOk result (λ new. Adds self node.value new.1 new.0) }
     {
@@ -186,7 +185,7 @@ impl<N: Drop> Kinds<N> {
         Ok((kinds, number))
     }
 
-    /// Counts `more` files more for a number. Fails only if memory runs out, or if they are more than can be counted.
+    /// Adds `more` to the number's count of paths.
     pub fn grant(self, number: usize, more: usize) -> Result<Kinds<N>, AllocError>
         requires { IsNode self number }
         ensures { IfOk result (λ new. Grants self number more new) }
@@ -199,8 +198,7 @@ impl<N: Drop> Kinds<N> {
         Ok(Kinds { slots, free })
     }
 
-    /// Counts `fewer` files fewer for a number; where there are no more, its node is gone, and it is free. Fails only if memory
-    /// runs out.
+    /// Takes `fewer` from the number's count of paths; at 0 its node is dropped, and the number is free.
     pub fn release(self, number: usize, fewer: usize) -> Result<Kinds<N>, AllocError>
         ensures { IfOk result (λ new. Releases self number fewer new) }
     {
@@ -224,7 +222,8 @@ impl<N: Drop> Kinds<N> {
 }
 
 impl<N> Kinds<N> {
-    /// The slot of a number with what its node becomes, if a path has it; else a slot that is free where this one is.
+    /// Returns the slot of a number with what its node becomes, if a path has it; else a slot that is free if this
+    /// one is.
     fn renewed_slot<M: Drop, S, R: Renewal<N, M, S>>(
         &self,
         alloc: Global,
@@ -255,7 +254,7 @@ impl<N> Kinds<N> {
         }
     }
 
-    /// The number after a free one.
+    /// Returns the number after a free one in the free list.
     pub(crate) fn next_of(&self, number: usize) -> usize {
         match self.slots.get(number) {
             Some(slot) => slot.next,
@@ -263,7 +262,7 @@ impl<N> Kinds<N> {
         }
     }
 
-    /// For each number that paths have what its node becomes, with the same counts. Fails only if memory runs out.
+    /// Renews the node of each number that paths have, with the same counts.
     pub(crate) fn renewed<M: Drop, S, R: Renewal<N, M, S>>(
         &self,
         alloc: Global,
@@ -287,7 +286,7 @@ impl<N> Kinds<N> {
     }
 }
 
-/// The number after a free one.
+/// Returns the number after a free one in the free list.
 fn next_free<N>(slots: &SharedList<Slot<N>>, free: usize) -> Option<usize>
     ensures { IfSome result (λ _. slice_get slots.now free ≡ Some (None, 0)) }
 {
@@ -298,7 +297,6 @@ fn next_free<N>(slots: &SharedList<Slot<N>>, free: usize) -> Option<usize>
     Some(slot.next)
 }
 
-/// The count of a number.
 fn count_in<N>(slots: &SharedList<Slot<N>>, number: usize) -> usize
     ensures { result ≡ count_at (kinds_of slots.now) number }
 {
@@ -308,7 +306,7 @@ fn count_in<N>(slots: &SharedList<Slot<N>>, number: usize) -> usize
     }
 }
 
-/// Slots where a number has this count.
+/// Gives a number this count.
 fn slots_with_count<N: Drop>(
     slots: SharedList<Slot<N>>,
     number: usize,

@@ -24,8 +24,8 @@ use std::alloc::{AllocError, Global};
 use std::marker::Model;
 use std::rc::Rc;
 
-/// A map from paths to nodes: for each path a number, for each number a node and the count of its paths. Contracts see
-/// both; what a caller has of it are its entries, by [`entries_in`].
+/// A map from paths to nodes: for each path a number, for each number a node and the count of its paths. Contracts
+/// see both; a caller sees the entries, by [`entries_in`].
 #[derive(Drop)]
 pub struct KindMap<N> {
     kinds: Rc<Kinds<N>>,
@@ -43,7 +43,7 @@ impl<N> Model for KindMap<N> {
 }
 
 impl<N> KindMap<N> {
-    /// The nodes by their numbers.
+    /// Returns the nodes by their numbers.
     pub fn kinds(&self) -> &Kinds<N>
         ensures all { result.now ≡ self.now.0 }
         ensures sound { AreSound self.now.0 self.now.1 }
@@ -51,7 +51,7 @@ impl<N> KindMap<N> {
         &self.kinds
     }
 
-    /// The paths with their numbers.
+    /// Returns the paths with their numbers.
     pub fn numbers(&self) -> &PathMap<usize>
         ensures all { result.now ≡ self.now.1 }
         ensures sound { AreSound self.now.0 self.now.1 }
@@ -66,7 +66,7 @@ impl<N> KindMap<N> {
         let _numbers = self.numbers();
     }
 
-    /// How many entries there are. Allocates nothing.
+    /// Returns how many entries there are.
     pub fn len(&self) -> usize
         requires few { length (entries_in self.now) < 18446744073709551616 }
         ensures { result ≡ length (entries_in self.now) }
@@ -74,7 +74,7 @@ impl<N> KindMap<N> {
         self.numbers().len()
     }
 
-    /// The node of a path, if it has one. Allocates nothing.
+    /// Returns the node of a path, if it has one.
     pub fn get(&self, path: &Path) -> Option<&N>
         ensures { option_copied result ≡ find path_cmp path.now (entries_in self.now) }
     {
@@ -84,7 +84,7 @@ impl<N> KindMap<N> {
         }
     }
 
-    /// The node of a number, if a path has it. Allocates nothing.
+    /// Returns the node of a number, if a path has it.
     pub fn used(&self, number: usize) -> Option<&N>
         ensures node { IfSome result (λ node. node_at self.now.0 number ≡ Some node.now) }
         ensures entry { IfSome result (λ node. IsOfEntry node.now (entries_in self.now)) }
@@ -100,28 +100,28 @@ impl<N> KindMap<N> {
         }
     }
 
-    /// The entries in path order. Allocates nothing.
+    /// Iterates over the entries in path order.
     pub fn iter(&self) -> KindsIter<'_, N>
         ensures { result ≡ entries_in self.now }
     {
         KindsIter::new(self.numbers().iter(), self.kinds())
     }
 
-    /// The entries that are not before a path. Allocates nothing.
+    /// Iterates over the entries from a path on.
     pub fn from(&self, path: &Path) -> KindsIter<'_, N>
         ensures { result ≡ from path.now (entries_in self.now) }
     {
         KindsIter::new(self.numbers().from(path), self.kinds())
     }
 
-    /// The paths at or below a path, each with its number. Allocates nothing.
+    /// Returns the paths at or below a path, each with its number.
     pub fn paths_within<'a, 'p>(&'a self, path: &'p Path) -> Within<'a, 'p, usize>
         ensures { map (λ e. e.0) result ≡ map (λ e. e.0) (within path.now (entries_in self.now)) }
     {
         self.numbers().within(path)
     }
 
-    /// Whether there is an entry at or below a path. Allocates nothing.
+    /// Tells whether there is an entry at or below a path.
     pub fn has_within(&self, path: &Path) -> bool
         ensures { result ≡ list_any (λ e. encloses path.now e.0) (entries_in self.now) }
     {
@@ -130,7 +130,7 @@ impl<N> KindMap<N> {
 }
 
 impl<N: Drop> KindMap<N> {
-    /// No entries. Fails only if memory runs out.
+    /// Returns an empty map.
     pub fn new(alloc: Global) -> Result<KindMap<N>, AllocError>
         ensures { IfOk result (λ map. entries_in map ≡ []) }
     {
@@ -140,7 +140,7 @@ impl<N: Drop> KindMap<N> {
         })
     }
 
-    /// The map of these numbers and their nodes. Fails only if memory runs out.
+    /// Returns the map of these numbers and their nodes.
     pub fn of(
         alloc: Global,
         kinds: Kinds<N>,
@@ -155,7 +155,7 @@ impl<N: Drop> KindMap<N> {
         })
     }
 
-    /// A copy that shares the entries. Fails only if memory runs out.
+    /// Copies the map; both share the entries.
     pub fn share(&self) -> Result<KindMap<N>, AllocError>
         ensures { IfOk result (λ same. same ≡ self.now) }
     {
@@ -165,8 +165,8 @@ impl<N: Drop> KindMap<N> {
         })
     }
 
-    /// The map without the paths of some entries, in path order, and the numbers that these had: all other numbers are as
-    /// before. This map stays as it is. Fails only if memory runs out.
+    /// Removes the paths of `gone`, which are in path order, and returns the numbers that these had: all other
+    /// numbers are as before. This map stays as it is.
     pub fn without_found<W>(
         &self,
         alloc: Global,
@@ -185,8 +185,7 @@ impl<N: Drop> KindMap<N> {
         Ok((map, found))
     }
 
-    /// The map without the paths of some entries, in path order. This map stays as it is. Fails only if memory runs
-    /// out.
+    /// Removes the paths of `gone`, which are in path order. This map stays as it is.
     pub fn without_all<W>(
         &self,
         alloc: Global,

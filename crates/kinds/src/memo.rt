@@ -1,4 +1,4 @@
-//! What an edit made of numbers: each number is edited once.
+//! The memo of an edit: each number is edited once.
 
 ghost use Rattle.std.specs.Prelude.{◌≡◌, true, ◌+◌, ◌<◌, ◌++◌, ◌∷◌, [], IfOk, IfSome, OnOk, length, get_or, slice_set};
 ghost use Rattle.std.specs.List.{AllByRecursion};
@@ -9,7 +9,7 @@ use crate::kinds::Kinds;
 use std::alloc::{AllocError, Global};
 use std::collections::BTreeMap;
 
-/// What an edit made of a number, and how many paths have it.
+/// A number that was edited, its result, and how many of the edited paths have it.
 #[derive(Clone, Copy)]
 pub struct Met {
     pub old: usize,
@@ -17,17 +17,17 @@ pub struct Met {
     pub count: usize,
 }
 
-/// Numbers that an edit saw, and where each may be found.
+/// The numbers that were edited, with an index of their places.
 #[derive(Drop)]
 pub struct Memo {
     pub met: Vec<Met>,
-    /// The place of the number that was seen last.
+    /// The place of the number of the last entry.
     pub last: usize,
     places: BTreeMap<usize, usize>,
 }
 
 impl Memo {
-    /// Nothing was seen.
+    /// Returns an empty memo.
     pub fn new(alloc: Global) -> Memo
         ensures { result.met.items ≡ [] }
     {
@@ -38,7 +38,7 @@ impl Memo {
         }
     }
 
-    /// The place of a number, if it was seen: mostly that of the one before it.
+    /// Returns the place of a number, if it was edited: `last` is tried first.
     pub fn place(&self, number: usize) -> Option<usize>
         ensures { IfSome result (λ at. IsMetAt self.now.met.items number at) }
     {
@@ -52,14 +52,14 @@ impl Memo {
         None
     }
 
-    /// Whether a number was seen at a place.
+    /// Tells whether `number` is the one at the place `at`.
     fn has_at(&self, at: usize, number: usize) -> bool
         ensures { result ≡ true → IsMetAt self.now.met.items number at }
     {
         at < self.met.len() && self.met[at].old == number
     }
 
-    /// Keeps what an edit made of a number that was not seen before, which a path has.
+    /// Records the result `new` of the number `old`, which the memo does not have yet, for one path.
     pub fn note(&mut self, old: usize, new: usize) -> Result<(), AllocError>
         ensures { OnOk result (self.new.met.items ≡ self.old.met.items ++ record { old = old; new = new; count = 1 } ∷ []) }
     {
@@ -67,7 +67,7 @@ impl Memo {
         self.note_alone(old, new)
     }
 
-    /// Notes what an edit made of a number that no other path has, so that it is not looked for again.
+    /// Records the result without an entry in `places`: no other path has this number.
     pub(crate) fn note_alone(&mut self, old: usize, new: usize) -> Result<(), AllocError>
         ensures { OnOk result (self.new.met.items ≡ self.old.met.items ++ record { old = old; new = new; count = 1 } ∷ []) }
     {
@@ -77,7 +77,7 @@ impl Memo {
     }
 }
 
-/// One path more has the number at a place. Fails where they are more than can be counted, as where memory runs out.
+/// Adds one to the count of paths at a place, and returns the result there.
 pub(crate) fn count_again(met: &mut Vec<Met>, at: usize) -> Result<usize, AllocError>
     requires { at < length met.old.items }
     ensures { IfOk result (λ number. CountsAgain at met.old.items met.new.items number) }
@@ -94,7 +94,7 @@ pub(crate) fn count_again(met: &mut Vec<Met>, at: usize) -> Result<usize, AllocE
     Ok(one.new)
 }
 
-/// The paths of numbers that were seen have their new numbers too.
+/// Adds the edited paths to the counts of their new numbers.
 fn grant_met<N: Drop>(kinds: Kinds<N>, met: &[Met]) -> Result<Kinds<N>, AllocError>
     requires { AllByRecursion (λ m. IsNode kinds m.new) met.now }
     ensures { IfOk result (λ new. GrantsMet kinds met.now new) }
@@ -106,7 +106,7 @@ fn grant_met<N: Drop>(kinds: Kinds<N>, met: &[Met]) -> Result<Kinds<N>, AllocErr
     Ok(kinds)
 }
 
-/// The paths of numbers that were seen have their old numbers no longer.
+/// Takes the edited paths from the counts of their old numbers.
 fn release_met<N: Drop>(kinds: Kinds<N>, met: &[Met]) -> Result<Kinds<N>, AllocError>
     ensures { IfOk result (λ new. ReleasesMet kinds met.now new) }
 {
@@ -117,8 +117,8 @@ fn release_met<N: Drop>(kinds: Kinds<N>, met: &[Met]) -> Result<Kinds<N>, AllocE
     Ok(kinds)
 }
 
-/// The paths of numbers that were seen have their new numbers. All are given before any is taken back, so that a number that
-/// an edit keeps in use is not free in between.
+/// Gives the edited paths their new numbers. All are counted before any is taken back, so that a number that an edit
+/// keeps in use is not free in between.
 pub(crate) fn settle<N: Drop>(kinds: Kinds<N>, met: &[Met]) -> Result<Kinds<N>, AllocError>
     requires { AllByRecursion (λ m. IsNode kinds m.new) met.now }
     ensures { IfOk result (λ new. Moves kinds met.now new) }

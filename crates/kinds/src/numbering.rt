@@ -1,4 +1,4 @@
-//! Numbers for nodes that come in turn: nodes that are the same get one number.
+//! Numbers nodes that come one after another: equal nodes get one number.
 
 ghost use Rattle.std.specs.Prelude.{◌≡◌, ◌<◌, true, Some, IfOk, IfSome};
 ghost use Rattle.kinds.specs.Kinds.{node_at, IsNode, Grants};
@@ -12,15 +12,15 @@ use std::rc::Rc;
 
 /// How nodes are compared.
 pub trait Likeness<N> {
-    /// A mark of a node. Nodes that are the same have one mark, and others seldom do.
+    /// Returns a hash of a node: equal nodes have the same one, and others seldom do.
     fn mark(&self, node: &N) -> u64;
 
-    /// Whether both are the same.
+    /// Tells whether both are the same.
     fn is_same(&self, one: &N, other: &N) -> bool
         ensures { result ≡ true → one.now ≡ other.now };
 }
 
-/// The numbers that were given, by the marks of their nodes: none until two nodes differ.
+/// The numbers that were given, by the hashes of their nodes: none until two nodes differ.
 #[derive(Drop)]
 struct Marks {
     numbers: BTreeMap<u64, usize>,
@@ -28,24 +28,24 @@ struct Marks {
     missed: usize,
 }
 
-/// How many nodes in a row may be missed before only one in [`SELDOM`] is looked up.
-const MAX_MISSED: usize = 64;
+/// After this many misses in a row only one node in [`SAMPLING_INTERVAL`] is looked up.
+const MISSES_BEFORE_SAMPLING: usize = 64;
 
-/// See [`MAX_MISSED`].
-const SELDOM: usize = 32;
+/// See [`MISSES_BEFORE_SAMPLING`].
+const SAMPLING_INTERVAL: usize = 32;
 
-/// Nodes by numbers, where the paths that got the number given last are not counted yet.
+/// Nodes by numbers. The paths of the current run of `last` are not counted yet.
 #[derive(Drop)]
 pub(crate) struct Numbering<N> {
     pub(crate) kinds: Kinds<N>,
     marks: Marks,
     /// The number that was given last.
     pub(crate) last: usize,
-    /// How many paths got it, one after another, or 1 where paths are counted later: none before the first one.
+    /// Length of the current run of `last`; 0 before the first path. It is 1 if paths are counted later.
     pub(crate) pending: usize,
 }
 
-/// A number, if its node is the same.
+/// Returns the number, if its node is the same.
 fn number_if<N, L: Likeness<N>>(
     kinds: &Kinds<N>,
     number: usize,
@@ -62,7 +62,7 @@ fn number_if<N, L: Likeness<N>>(
     }
 }
 
-/// The number of a mark, if its node is the same.
+/// Returns the number of a hash, if its node is the same.
 fn number_marked<N, L: Likeness<N>>(
     kinds: &Kinds<N>,
     marks: &Marks,
@@ -92,7 +92,7 @@ fn note_first<N, L: Likeness<N>>(
     Ok(())
 }
 
-/// A new number for a node. No path is counted.
+/// Gives a node a new number, without a path.
 fn number_new<N: Drop>(
     alloc: Global,
     kinds: Kinds<N>,
@@ -105,7 +105,7 @@ fn number_new<N: Drop>(
     Ok((kinds, at))
 }
 
-/// The number of a node by its mark, or a new one, which is kept. No path is counted.
+/// Numbers a node, without a path: finds it by its hash, or adds and keeps it.
 fn number_noted<N: Drop, L: Likeness<N>>(
     alloc: Global,
     kinds: Kinds<N>,
@@ -126,13 +126,13 @@ fn number_noted<N: Drop, L: Likeness<N>>(
     Ok((kinds, at))
 }
 
-/// Whether the next node is looked for: where many in a row were not found, only one of some is.
+/// Tells whether the next node is looked up: always, or one in [`SAMPLING_INTERVAL`] after many misses.
 fn is_looked_for(marks: &Marks) -> bool {
-    marks.missed < MAX_MISSED || marks.missed % SELDOM == 0
+    marks.missed < MISSES_BEFORE_SAMPLING || marks.missed % SAMPLING_INTERVAL == 0
 }
 
-/// Finds the number of a node: `last`, the one that was given last, to `pending` paths; or one by its mark; or a new one.
-/// Counts no path.
+/// Numbers a node, without a path: with `last`, which `pending` paths in a row got, if the nodes are equal; or by its
+/// hash; or with a new number.
 fn number_for<N: Drop, L: Likeness<N>>(
     alloc: Global,
     kinds: Kinds<N>,
@@ -158,7 +158,7 @@ fn number_for<N: Drop, L: Likeness<N>>(
     number_noted(alloc, kinds, marks, node, likeness)
 }
 
-/// Counts `more` paths more for a number, if `more` is not 0.
+/// Adds `more` to the number's count of paths, if it is not 0.
 fn grant_if<N: Drop>(kinds: Kinds<N>, number: usize, more: usize) -> Result<Kinds<N>, AllocError>
     requires { 0 < more → IsNode kinds number }
     ensures { IfOk result (λ new. Grants kinds number more new) }
@@ -169,7 +169,7 @@ fn grant_if<N: Drop>(kinds: Kinds<N>, number: usize, more: usize) -> Result<Kind
     kinds.grant(number, more)
 }
 
-/// Counts, for each number, as many paths more as `counts` has at the place of the number.
+/// Adds to each number's count of paths what `counts` has at its place.
 pub(crate) fn grant_each<N: Drop>(kinds: Kinds<N>, counts: &[usize]) -> Result<Kinds<N>, AllocError>
     requires { AreNodes kinds counts.now }
     ensures { IfOk result (λ new. GrantsEach kinds counts.now new) }
@@ -200,7 +200,7 @@ fn count_run<N: Drop>(
 }
 
 impl<N> Numbering<N> {
-    /// Nodes by numbers, none of which was given.
+    /// Starts from these nodes, with no number given.
     pub(crate) fn new(alloc: Global, kinds: Kinds<N>) -> Numbering<N>
         ensures kinds { result.kinds ≡ kinds }
         ensures last { result.last ≡ 0 }
@@ -219,8 +219,8 @@ impl<N> Numbering<N> {
 }
 
 impl<N: Drop> Numbering<N> {
-    /// A number for the node of one path more: that of a node that is the same, if it was given, or else a new one, to which
-    /// the node is moved.
+    /// Numbers the node of a further path: an equal node that was numbered before, or else a new one, to which the
+    /// node is moved.
     pub(crate) fn give<L: Likeness<N>>(
         self,
         alloc: Global,
@@ -246,8 +246,8 @@ impl<N: Drop> Numbering<N> {
         })
     }
 
-    /// A number for a node: that of a node that is the same, if it was given, or else a new one, to which the node is moved.
-    /// No path is counted.
+    /// Numbers a node, without a path: an equal node that was numbered before, or else a new one, to which the node
+    /// is moved.
     pub(crate) fn number<L: Likeness<N>>(
         self,
         alloc: Global,
@@ -271,7 +271,7 @@ impl<N: Drop> Numbering<N> {
         })
     }
 
-    /// The nodes.
+    /// Returns the nodes.
     pub(crate) fn into_kinds(self) -> Kinds<N>
         ensures { result ≡ self.kinds }
     {
@@ -284,7 +284,7 @@ impl<N: Drop> Numbering<N> {
         kinds
     }
 
-    /// One path more has a number that has a node.
+    /// Counts a further path for a number that has a node.
     pub(crate) fn give_at(self, number: usize) -> Result<Numbering<N>, AllocError>
         requires { 0 < self.pending → IsNode self.kinds self.last }
         ensures run { IfOk result (λ new. CountsRun self.kinds self.last self.pending number new.kinds new.pending) }
@@ -305,7 +305,7 @@ impl<N: Drop> Numbering<N> {
         })
     }
 
-    /// The nodes, all of whose paths are counted.
+    /// Returns the nodes, all of whose paths are counted.
     pub(crate) fn counted(self) -> Result<Kinds<N>, AllocError>
         requires { 0 < self.pending → IsNode self.kinds self.last }
         ensures { IfOk result (λ kinds. Grants self.kinds self.last self.pending kinds) }

@@ -12,7 +12,7 @@ use acl_names::Path;
 use path_map::PathMap;
 use std::alloc::{AllocError, Global};
 
-/// Whether the node of a number passes a test, if it has one.
+/// Tells whether a number has a node that passes the test.
 fn passes<N, T: KindTest<N>>(kinds: &Kinds<N>, test: &T, number: usize) -> bool
     ensures { result ≡ passed (T.passes test.now) (node_at kinds.now number) }
 {
@@ -22,7 +22,7 @@ fn passes<N, T: KindTest<N>>(kinds: &Kinds<N>, test: &T, number: usize) -> bool
     }
 }
 
-/// How many paths have a number, if its node passes a test.
+/// Returns how many paths have a number, if its node passes a test.
 fn count_passing<N, T: KindTest<N>>(kinds: &Kinds<N>, test: &T, number: usize) -> usize
     ensures { result ≡ count_passed (T.passes test.now) kinds.now number }
 {
@@ -33,7 +33,7 @@ fn count_passing<N, T: KindTest<N>>(kinds: &Kinds<N>, test: &T, number: usize) -
     }
 }
 
-/// For each number whether its node passes a test.
+/// Tests the node of each number.
 fn table_of<N, T: KindTest<N>>(
     alloc: Global,
     kinds: &Kinds<N>,
@@ -48,14 +48,14 @@ fn table_of<N, T: KindTest<N>>(
     Ok(table)
 }
 
-/// What a table has for a number.
+/// Returns what a table has for a number.
 fn is_set(table: &[bool], number: usize) -> bool
     ensures { result ≡ get_or table.now number false }
 {
     number < table.len() && table[number]
 }
 
-/// The paths with numbers that a table has, in path order.
+/// Returns the paths with numbers that a table has, in path order.
 fn paths_of<'a>(
     alloc: Global,
     numbers: &'a PathMap<usize>,
@@ -74,7 +74,7 @@ fn paths_of<'a>(
 }
 
 impl<N> KindMap<N> {
-    /// The paths whose nodes pass a test, in path order: each kind is tested once. Fails only if memory runs out.
+    /// Returns the paths whose nodes pass a test, in path order: each kind is tested once.
     pub fn paths_where<T: KindTest<N>>(
         &self,
         alloc: Global,
@@ -85,8 +85,7 @@ impl<N> KindMap<N> {
         let table = table_of(alloc, self.kinds(), test)?;
         paths_of(alloc, self.numbers(), &table)
     }
-    /// How many paths have nodes that pass a test: each kind is tested once, and no path is passed. Fails, as if memory ran
-    /// out, if they are more than can be counted.
+    /// Counts the paths whose nodes pass a test: each kind is tested once, and no path is visited.
     pub fn count_where<T: KindTest<N>>(&self, test: &T) -> Result<usize, AllocError>
         ensures { IfOk result (λ count. count ≡ count_by (λ e. T.passes test.now e.1) (entries_in self.now)) }
     {

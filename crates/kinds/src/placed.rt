@@ -1,4 +1,4 @@
-//! Entries put among those of a map, whose nodes are at places of a list: each of these nodes gets one number.
+//! Puts entries whose nodes are at places of a list: each of these nodes gets one number.
 
 ghost use Rattle.std.specs.Prelude.{◌≡◌, ◌<◌, ◌++◌, ◌∷◌, [], Option, Some, List, ℕ, false, length, map, get_or, IfOk};
 ghost use Rattle.path_map.specs.Entries.{IsInOrder, seen};
@@ -16,14 +16,14 @@ use acl_names::Path;
 use std::alloc::{AllocError, Global};
 use std::rc::Rc;
 
-/// A node that is given for entries: a new one, or the one that a number has.
+/// A node to be put: a new one, or the one that a number has.
 #[derive(Drop)]
 pub enum GivenNode<N> {
     New(Rc<N>),
     Known(usize),
 }
 
-/// A map with entries put, the numbers of their nodes, and those that their paths had.
+/// A map after entries were put, the numbers of their nodes, and those that their paths had.
 #[derive(Drop)]
 pub struct PlacedMap<N> {
     pub map: KindMap<N>,
@@ -31,7 +31,7 @@ pub struct PlacedMap<N> {
     pub found: Vec<Option<usize>>,
 }
 
-/// The number of a node that is given; a new one is added. Fails only if memory, or the numbers, run out.
+/// Returns the number of a node; a new one is added.
 fn add_node<N: Drop>(
     alloc: Global,
     kinds: Kinds<N>,
@@ -49,7 +49,7 @@ fn add_node<N: Drop>(
     }
 }
 
-/// Numbers for nodes that are given.
+/// Returns the numbers of nodes; new ones are added.
 fn add_nodes<N: Drop>(
     alloc: Global,
     kinds: Kinds<N>,
@@ -67,7 +67,6 @@ fn add_nodes<N: Drop>(
     Ok((kinds, numbers))
 }
 
-/// The number at a place.
 fn number_at(numbers: &[usize], place: usize) -> usize
     requires { place < length numbers.now }
     ensures { result ≡ get_or numbers.now place 0 }
@@ -75,7 +74,7 @@ fn number_at(numbers: &[usize], place: usize) -> usize
     numbers[place]
 }
 
-/// Entries with the numbers at their places.
+/// Returns entries with the numbers at their places.
 fn entries_numbered<'a>(
     alloc: Global,
     numbers: &[usize],
@@ -92,10 +91,10 @@ fn entries_numbered<'a>(
 }
 
 impl<N: Drop> KindMap<N> {
-    /// The map with entries put, which are in path order and whose nodes are at places of a list; all entries of a place have
-    /// one kind, which may be one that paths of the map have. The numbers of the nodes are returned too, and those that the
-    /// paths had: all other numbers are as before. This map stays as it is, and where each path is there already both share
-    /// all paths. Fails only if memory, or the numbers, run out, or if paths are more than can be counted.
+    /// Puts `entries`, sorted by path. Each names its node by an index into `nodes`; entries with one index share one
+    /// kind, which may be one that paths of the map have. Returns the numbers of the nodes too, and those that the
+    /// paths had; all other numbers are as before. This map stays as it is, and if each path is there already both
+    /// share all paths.
     pub fn put_placed(
         &self,
         alloc: Global,

@@ -1,4 +1,4 @@
-//! Entries put among those of a map: of those that are put, nodes that are the same get one number.
+//! Puts entries among those of a map: equal new nodes get one number.
 
 ghost use Rattle.std.specs.Prelude.{◌≡◌, ◌<◌, ◌++◌, ◌∷◌, [], ℕ, Some, true, false, is_some, map, IfOk};
 ghost use Rattle.std.specs.List.{AllByRecursion};
@@ -20,7 +20,7 @@ use path_map::PathMap;
 use std::alloc::{AllocError, Global};
 use std::marker::Model;
 
-/// Entries that are to be put among those of a map: the entries of the map, and those to be put.
+/// The entries of a map, and those that are to be put among them.
 #[derive(Drop)]
 pub struct KindPuts<'a, N> {
     before: &'a KindMap<N>,
@@ -42,7 +42,7 @@ impl<'a, N> Model for KindPuts<'a, N> {
     ghost invariant = { λ p. AddsUncounted p.before.now.0 p.numbering.kinds (map seen p.entries.items) };
 }
 
-/// Whether each path that was looked up was found.
+/// Tells whether each path that was looked up was found.
 fn are_found(found: &[Option<usize>]) -> bool
     ensures { result ≡ true → AllByRecursion (λ o. is_some o ≡ true) found.now }
 {
@@ -54,7 +54,7 @@ fn are_found(found: &[Option<usize>]) -> bool
     true
 }
 
-/// Whether the first of some entries has a number already.
+/// Tells whether the first of some entries has a number already.
 fn has_first(numbers: &PathMap<usize>, entries: &[(&Path, usize)]) -> bool {
     match entries {
         [first, ..] => numbers.get(first.0).is_some(),
@@ -62,7 +62,7 @@ fn has_first(numbers: &PathMap<usize>, entries: &[(&Path, usize)]) -> bool {
     }
 }
 
-/// Numbers with others put, of which some may be of new paths; and the numbers that their paths had.
+/// Puts entries, of which some may be of new paths; and returns the numbers that their paths had.
 fn numbers_put(
     alloc: Global,
     numbers: &PathMap<usize>,
@@ -77,7 +77,7 @@ fn numbers_put(
     Ok((new, found))
 }
 
-/// Numbers with others put, and the numbers that their paths had. Where each path is there already, both share all paths.
+/// Puts entries, and returns the numbers that their paths had. If each path is there already, both share all paths.
 pub(crate) fn numbers_with(
     alloc: Global,
     numbers: &PathMap<usize>,
@@ -97,8 +97,8 @@ pub(crate) fn numbers_with(
     numbers_put(alloc, numbers, entries)
 }
 
-/// A map with entries put by their numbers, of which none is counted; and the numbers that their paths had. Where each path is
-/// there already, both share all paths.
+/// Puts entries by their numbers, which are not counted yet, and returns the numbers that their paths had. If each
+/// path is there already, both share all paths.
 pub(crate) fn put_numbered<N: Drop>(
     alloc: Global,
     before: &KindMap<N>,
@@ -120,7 +120,7 @@ pub(crate) fn put_numbered<N: Drop>(
 }
 
 impl<'a, N: Drop> KindPuts<'a, N> {
-    /// Nothing to be put among the entries of a map. Fails only if memory runs out.
+    /// Returns the map, with nothing to be put.
     pub fn new(alloc: Global, map: &'a KindMap<N>) -> Result<KindPuts<'a, N>, AllocError>
         ensures { IfOk result (λ puts. puts ≡ (entries_in map.now, [])) }
     {
@@ -132,7 +132,7 @@ impl<'a, N: Drop> KindPuts<'a, N> {
         })
     }
 
-    /// An entry more to be put; its node is moved. Fails only if memory, or the numbers, run out.
+    /// Adds an entry to be put; its node is moved.
     pub fn push<L: Likeness<N>>(
         self,
         alloc: Global,
@@ -156,8 +156,8 @@ impl<'a, N: Drop> KindPuts<'a, N> {
         })
     }
 
-    /// The map with the entries put, which are in path order. The map that it is made of stays as it is, and where each
-    /// path is there already both share all paths. Fails only if memory runs out, or if paths are more than can be counted.
+    /// Puts the entries, which are in path order. The first map stays as it is, and if each path is there already
+    /// both share all paths.
     pub fn finish(self, alloc: Global) -> Result<KindMap<N>, AllocError>
         requires { IsInOrder self.1 }
         ensures { IfOk result (λ new. entries_in new ≡ put_all self.entry.1 self.entry.0) }

@@ -1,4 +1,4 @@
-//! Paths that have their numbers no longer.
+//! Takes paths from the counts of their numbers.
 
 ghost use Rattle.std.specs.Prelude.{IfOk};
 ghost use Rattle.kinds.specs.Kinds.{Releases};
@@ -9,7 +9,7 @@ use crate::counted::counts_found;
 use crate::kinds::Kinds;
 use std::alloc::{AllocError, Global};
 
-/// Counts `fewer` paths fewer for a number, if `fewer` is not 0.
+/// Takes `fewer` from the number's count of paths, if it is not 0.
 fn release_if<N: Drop>(kinds: Kinds<N>, number: usize, fewer: usize) -> Result<Kinds<N>, AllocError>
     ensures { IfOk result (λ new. Releases kinds number fewer new) }
 {
@@ -19,8 +19,8 @@ fn release_if<N: Drop>(kinds: Kinds<N>, number: usize, fewer: usize) -> Result<K
     kinds.release(number, fewer)
 }
 
-/// Takes the number of a path away that was looked up, after a run of `pending` paths of the number `last` that are still
-/// counted. Returns the number of the run that follows, and how many of its paths are still counted.
+/// Takes one path off the count of its number, if it was found. Runs of one number are kept in `pending` and
+/// subtracted at once: `last` is the number of the run before. Returns the number of the current run and its length.
 fn release_run<N: Drop>(
     kinds: Kinds<N>,
     last: usize,
@@ -39,7 +39,7 @@ fn release_run<N: Drop>(
     Ok((kinds, number, 1))
 }
 
-/// Paths that were looked up have their numbers no longer, by runs of one number.
+/// Takes the paths that were found from the counts of their numbers, by runs of one number.
 fn release_runs<N: Drop>(kinds: Kinds<N>, found: &[Option<usize>]) -> Result<Kinds<N>, AllocError>
     ensures { IfOk result (λ new. ReleasesAll kinds found.now new) }
 {
@@ -56,7 +56,7 @@ fn release_runs<N: Drop>(kinds: Kinds<N>, found: &[Option<usize>]) -> Result<Kin
     Ok(kinds)
 }
 
-/// Takes each number away from as many paths as `counts` has at the place of the number.
+/// Takes from each number's count of paths what `counts` has at its place.
 fn release_each<N: Drop>(kinds: Kinds<N>, counts: &[usize]) -> Result<Kinds<N>, AllocError>
     ensures { IfOk result (λ new. ReleasesEach kinds counts.now new) }
 {
@@ -67,8 +67,8 @@ fn release_each<N: Drop>(kinds: Kinds<N>, counts: &[usize]) -> Result<Kinds<N>, 
     Ok(kinds)
 }
 
-/// Paths that were looked up have their numbers no longer. Where they are as many as the numbers, each number loses its
-/// paths at once.
+/// Takes the paths that were found from the counts of their numbers. If there are as many paths as numbers, each
+/// number loses its paths at once.
 pub(crate) fn release_all<N: Drop>(
     alloc: Global,
     kinds: Kinds<N>,

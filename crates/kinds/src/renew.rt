@@ -7,7 +7,7 @@ ghost use Rattle.kinds.specs.Renewed.{renewed, weight_of, Renews};
 use crate::map::KindMap;
 use std::alloc::{AllocError, Global};
 
-/// Makes of each node another one. What that takes counts in a state, as the verdicts of a judge.
+/// Makes another node of each node. What that takes counts in a state, as the verdicts of a judge.
 pub trait Renewal<N, M, S> {
     /// What a node becomes.
     ghost renewed: { Self → N → M };
@@ -21,7 +21,7 @@ pub trait Renewal<N, M, S> {
     /// Whether just this counts; else it may be less.
     ghost is_exact: { Bool };
 
-    /// Makes what a node becomes, which `paths` paths have. Fails only if memory runs out.
+    /// Makes what a node of `paths` paths becomes.
     fn renew(&self, alloc: Global, state: &mut S, node: &N, paths: usize) -> Result<M, AllocError>
         requires some { 0 < paths }
         requires room { counted state.old + paths * weight self.now node.now < 2 ^ 64 }
@@ -35,14 +35,13 @@ pub trait KindTest<N> {
     /// Whether a node passes.
     ghost passes: { Self → N → Bool };
 
-    /// Whether a node passes. Allocates nothing.
+    /// Tells whether a node passes.
     fn passes(&self, node: &N) -> bool
         ensures { result ≡ passes self.now node.now };
 }
 
 impl<N: Drop> KindMap<N> {
-    /// The map of the same paths with what their nodes become. Each kind is renewed once, and both maps share the paths
-    /// and their numbers. Fails only if memory runs out.
+    /// Renews each kind once. Both maps share the paths and their numbers.
     pub fn renewed<M: Drop, S, R: Renewal<N, M, S>>(
         &self,
         alloc: Global,

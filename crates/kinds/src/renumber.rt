@@ -1,4 +1,4 @@
-//! Another node for a number, and other numbers for the paths of a map.
+//! Other nodes for numbers, and other numbers for the paths of a map.
 
 ghost use Rattle.std.specs.Prelude.{◌≡◌, ℕ, false, IfOk, map};
 ghost use Rattle.path_map.specs.Entries.{IsInOrder, seen, found};
@@ -19,7 +19,7 @@ use std::alloc::{AllocError, Global};
 use std::rc::Rc;
 
 impl<N: Drop> Kinds<N> {
-    /// Gives another node to a number that has one; its paths keep the number. Fails only if memory runs out.
+    /// Replaces the node of a number that has one; its paths keep the number.
     pub fn with_node(self, number: usize, node: Rc<N>) -> Result<Kinds<N>, AllocError>
         requires { IsNode self number }
         ensures { IfOk result (λ new. Replaces self node.value number new) }
@@ -35,7 +35,7 @@ impl<N: Drop> Kinds<N> {
     }
 }
 
-/// Numbers without the paths that are gone, and then with others put; and the numbers that the paths had: those that are gone,
+/// Removes the paths of `gone`, then puts `puts`; and returns the numbers that the paths had: those that are gone,
 /// and then those that are put and are not gone.
 fn numbers_merged(
     alloc: Global,
@@ -56,8 +56,8 @@ fn numbers_merged(
 }
 
 impl<N: Drop> KindMap<N> {
-    /// The map of the paths of another one with their own numbers, whose nodes have no paths so far: each number gets its
-    /// paths. Both maps share the paths. Fails only if memory runs out, or if paths are more than can be counted.
+    /// Returns the map of the paths of another one with the numbers of `entries`, whose nodes have no paths so far:
+    /// each number gets its paths. Both maps share the paths.
     pub fn renumbered(
         alloc: Global,
         paths: &PathMap<usize>,
@@ -76,10 +76,9 @@ impl<N: Drop> KindMap<N> {
         Ok(map)
     }
 
-    /// The map where some paths have other numbers, which are counted, and others are gone, and the numbers that the paths had:
-    /// those that are gone, and then those that are put and are not gone. Both lists are in path order, and a path in both is put.
-    /// Of `kinds` some nodes are others than before and some were added, but none is gone. This map stays as it is. Fails only if
-    /// memory runs out, or if paths are more than can be counted.
+    /// Puts `puts`, whose numbers are counted, removes `gone`, and returns the numbers that the paths had: those that
+    /// are gone, and then those that are put and are not gone. Both lists are in path order, and a path in both is
+    /// put. `kinds` may have other nodes at some numbers and some more, but lacks none. This map stays as it is.
     pub(crate) fn put_found(
         &self,
         alloc: Global,

@@ -19,18 +19,17 @@ use crate::renew::Renewal;
 use std::alloc::{AllocError, Global};
 use std::marker::Model;
 
-/// What has tags, numbers by which it is found.
+/// Values with tags: numbers by which they are found.
 pub trait Tagged {
-    /// The tags. One may be there more than once.
+    /// The tags, in which one may repeat.
     ghost tags_of: { Self → List ℕ };
 
-    /// Adds the tags. Fails only if memory runs out.
+    /// Adds the tags.
     fn push_tags(&self, alloc: Global, new: &mut Vec<usize>) -> Result<(), AllocError>
         ensures { OnOk result (new.new.items ≡ new.old.items ++ tags_of self.now) };
 }
 
-/// A map by kinds, and for each tag the numbers of the nodes that have it, of those numbers that paths have. To a contract it
-/// is the map.
+/// A map by kinds, and for each tag the numbers that paths have and whose nodes have it. To a contract it is the map.
 #[derive(Drop)]
 pub struct TaggedMap<N: Tagged> {
     map: KindMap<N>,
@@ -48,7 +47,7 @@ impl<N: Tagged> Model for TaggedMap<N> {
     ghost invariant = { λ t. AreTagsOf N.tags_of t.map.0 t.pairs };
 }
 
-/// `numbers` in rising order, each once. Allocates nothing.
+/// Sorts numbers and drops repeats.
 pub fn rising_numbers(numbers: Vec<usize>) -> Vec<usize>
     ensures rising { IsStrictlyIncreasing result.items }
     ensures same { (n : ℕ) → is_one n result.items ≡ is_one n numbers.items }
@@ -59,7 +58,7 @@ pub fn rising_numbers(numbers: Vec<usize>) -> Vec<usize>
     rising
 }
 
-/// The numbers before one.
+/// Returns the numbers below `end`.
 fn numbers_before(alloc: Global, end: usize) -> Result<Vec<usize>, AllocError>
     ensures { IfOk result (λ numbers. (n : ℕ) → n < end → is_one n numbers.items ≡ true) }
 {
@@ -80,7 +79,7 @@ fn push_if(new: &mut Vec<usize>, found: Option<usize>) -> Result<(), AllocError>
     Ok(())
 }
 
-/// Adds the numbers that were found. Fails only if memory runs out.
+/// Adds the numbers that were found.
 pub fn push_found(new: &mut Vec<usize>, found: &[Option<usize>]) -> Result<(), AllocError>
     ensures { OnOk result (new.new.items ≡ new.old.items ++ numbers_found found.now) }
 {
@@ -90,7 +89,7 @@ pub fn push_found(new: &mut Vec<usize>, found: &[Option<usize>]) -> Result<(), A
     Ok(())
 }
 
-/// The tags of the node of a number, if a path has the number.
+/// Returns the tags of the node of a number, if a path has the number.
 fn tags_at<N: Tagged>(
     alloc: Global,
     map: &KindMap<N>,
@@ -115,7 +114,7 @@ fn push_pairs(pairs: &mut Vec<Pair>, tags: &[usize], number: usize) -> Result<()
     Ok(())
 }
 
-/// Adds the pairs of a number that a set loses as the tags of the number's node change, and those that it gets.
+/// Adds the pairs of a number that a set loses, and those that it gets, as the tags of the number's node change.
 fn push_changed<N: Tagged>(
     alloc: Global,
     gone: &mut Vec<Pair>,
@@ -137,7 +136,7 @@ fn push_changed<N: Tagged>(
     Ok(())
 }
 
-/// The pairs that a set loses as the tags of the nodes of some numbers change, and those that it gets.
+/// Returns the pairs that a set loses, and those that it gets, as the tags of the nodes of `numbers` change.
 fn changed_pairs<N: Tagged>(
     alloc: Global,
     before: &KindMap<N>,
@@ -154,7 +153,7 @@ fn changed_pairs<N: Tagged>(
     Ok((gone, new))
 }
 
-/// How many paths have some numbers. Fails, as if memory ran out, if they are more than can be counted.
+/// Counts the paths that have one of `numbers`.
 fn paths_of<N>(kinds: &Kinds<N>, numbers: &[usize]) -> Result<usize, AllocError>
     ensures { IfOk result (λ count. count ≡ sum_by (count_at kinds.now) numbers.now) }
 {
@@ -169,21 +168,20 @@ fn paths_of<N>(kinds: &Kinds<N>, numbers: &[usize]) -> Result<usize, AllocError>
 }
 
 impl<N: Tagged> TaggedMap<N> {
-    /// The map.
+    /// Returns the map.
     pub fn map(&self) -> &KindMap<N>
         ensures { result.now ≡ self.now }
     {
         &self.map
     }
 
-    /// The pairs of a tag and a number.
     fn pairs(&self) -> &PairSet
         ensures { AreTagsOf N.tags_of self.now.0 result.now }
     {
         &self.pairs
     }
 
-    /// The numbers that paths have and whose nodes have one of some tags, rising. Fails only if memory, or the numbers, run out.
+    /// Returns the numbers that paths have and whose nodes have one of `tags`, rising.
     pub fn numbers_tagged(&self, alloc: Global, tags: &[usize]) -> Result<Vec<usize>, AllocError>
         ensures rising { IfOk result (λ numbers. IsStrictlyIncreasing numbers.items) }
         ensures exact { IfOk result (λ numbers. (n : ℕ) → is_one n numbers.items ≡ meets (tags_at N.tags_of self.now.0 n) tags.now) }
@@ -196,7 +194,7 @@ impl<N: Tagged> TaggedMap<N> {
         Ok(rising_numbers(numbers))
     }
 
-    /// How many paths have nodes with one of some tags. Fails only if memory, or the numbers, run out.
+    /// Counts the paths whose nodes have one of `tags`.
     pub fn paths_tagged(&self, alloc: Global, tags: &[usize]) -> Result<usize, AllocError>
         ensures { IfOk result (λ count. count ≡ count_by (λ e. meets (N.tags_of e.1) tags.now) (entries_in self.now)) }
     {
@@ -208,7 +206,7 @@ impl<N: Tagged> TaggedMap<N> {
 }
 
 impl<N> KindMap<N> {
-    /// How many paths have one of some numbers, which rise. Fails, as if memory ran out, if they are more than can be counted.
+    /// Counts the paths that have one of `numbers`, which rise.
     pub fn paths_numbered(&self, numbers: &[usize]) -> Result<usize, AllocError>
         requires { IsStrictlyIncreasing numbers.now }
         ensures { IfOk result (λ count. count ≡ count_by (λ e. is_one e.1 numbers.now) self.now.1) }
@@ -220,7 +218,7 @@ impl<N> KindMap<N> {
 }
 
 impl<N: Tagged + Drop> TaggedMap<N> {
-    /// No entries. Fails only if memory runs out.
+    /// Returns an empty map.
     pub fn new(alloc: Global) -> Result<TaggedMap<N>, AllocError>
         ensures { IfOk result (λ map. entries_in map ≡ []) }
     {
@@ -230,7 +228,7 @@ impl<N: Tagged + Drop> TaggedMap<N> {
         Ok(TaggedMap { map, pairs })
     }
 
-    /// A map with its tags: one sort. Fails only if memory, or the numbers, run out.
+    /// Adds the tags of a map: one sort.
     pub fn of(alloc: Global, map: KindMap<N>) -> Result<TaggedMap<N>, AllocError>
         ensures { IfOk result (λ new. new ≡ map) }
     {
@@ -239,7 +237,7 @@ impl<N: Tagged + Drop> TaggedMap<N> {
         Ok(new)
     }
 
-    /// A copy that shares the entries. Fails only if memory runs out.
+    /// Copies the map; both share the entries.
     pub fn share(&self) -> Result<TaggedMap<N>, AllocError>
         ensures { IfOk result (λ same. same ≡ self.now) }
     {
@@ -249,8 +247,7 @@ impl<N: Tagged + Drop> TaggedMap<N> {
         })
     }
 
-    /// A map in place of this one, where the tags of nodes may differ at some numbers alone. Only these are compared. Fails only
-    /// if memory, or the numbers, run out.
+    /// Replaces the map by one whose tags may differ only at `numbers`. Only these are compared.
     pub(crate) fn after_tags(
         &self,
         alloc: Global,
@@ -267,8 +264,7 @@ impl<N: Tagged + Drop> TaggedMap<N> {
         Ok(TaggedMap { map, pairs })
     }
 
-    /// A map in place of this one, whose nodes may differ at some numbers alone. Only the tags of these are compared. Fails
-    /// only if memory, or the numbers, run out.
+    /// Replaces the map by one whose nodes may differ only at `numbers`. Only the tags of these are compared.
     pub fn after(
         &self,
         alloc: Global,
@@ -282,7 +278,7 @@ impl<N: Tagged + Drop> TaggedMap<N> {
         Ok(new)
     }
 
-    /// A map in place of this one. The tags are compared number by number. Fails only if memory, or the numbers, run out.
+    /// Replaces the map. The tags are compared number by number.
     pub fn replaced(&self, alloc: Global, map: KindMap<N>) -> Result<TaggedMap<N>, AllocError>
         ensures { IfOk result (λ new. new ≡ map) }
     {
@@ -292,7 +288,7 @@ impl<N: Tagged + Drop> TaggedMap<N> {
         Ok(new)
     }
 
-    /// A map in place of this one, where each number has the same tags: both share these. Fails only if memory runs out.
+    /// Replaces the map by one in which each number has the same tags: both share these.
     pub fn with_same_tags(&self, map: KindMap<N>) -> Result<TaggedMap<N>, AllocError>
         requires { (n : ℕ) → tags_at N.tags_of map.0 n ≡ tags_at N.tags_of self.now.0 n }
         ensures { IfOk result (λ new. new ≡ map) }
@@ -301,7 +297,7 @@ impl<N: Tagged + Drop> TaggedMap<N> {
         Ok(TaggedMap { map, pairs })
     }
 
-    /// The map of the same paths with what their nodes become, which have the same tags. Fails only if memory runs out.
+    /// Renews each kind once; the tags stay.
     pub fn renewed<S, R: Renewal<N, N, S>>(
         &self,
         alloc: Global,
@@ -320,9 +316,9 @@ impl<N: Tagged + Drop> TaggedMap<N> {
         Ok(TaggedMap { map, pairs })
     }
 
-    /// The map of the same paths with what the nodes that have one of some tags become, which have the same tags; how many
-    /// nodes were fetched for that; and the numbers of those that became others, rising. All other nodes are shared, and none
-    /// without one of the tags is looked at. Fails only if memory, or the numbers, run out.
+    /// Changes the nodes that have one of `tags`, which keep their tags. Returns also how many nodes were fetched for
+    /// that, and the numbers of those that became others, rising. All other nodes are shared, and none without one of
+    /// the tags is looked at.
     pub fn with_tagged<S, C: NodeChange<N, S>>(
         &self,
         alloc: Global,

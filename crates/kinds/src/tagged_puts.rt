@@ -1,4 +1,4 @@
-//! A map with tags where some paths have other numbers, and others are gone.
+//! A map with tags after some paths got other numbers, and others were removed.
 
 ghost use Rattle.std.specs.Prelude.{◌≡◌, ℕ, IfOk, map};
 ghost use Rattle.path_map.specs.Entries.{IsInOrder, seen};
@@ -12,7 +12,6 @@ use crate::tagged::{Tagged, TaggedMap, push_found};
 use acl_names::Path;
 use std::alloc::{AllocError, Global};
 
-/// The numbers of some paths.
 fn numbers_of(alloc: Global, entries: &[(&Path, usize)]) -> Result<Vec<usize>, AllocError>
     ensures { IfOk result (λ numbers. numbers.items ≡ map (λ e. e.1) entries.now) }
 {
@@ -24,9 +23,8 @@ fn numbers_of(alloc: Global, entries: &[(&Path, usize)]) -> Result<Vec<usize>, A
 }
 
 impl<N: Tagged + Drop> TaggedMap<N> {
-    /// The map of [`KindMap::put_found`], where a number that had a node has one, with the same tags unless it is one of `others`.
-    /// Only the tags of these and of the numbers that paths got or lost are compared. Fails only if memory, or the numbers, run
-    /// out, or if paths are more than can be counted.
+    /// Returns the map of [`KindMap::put_found`], in which a number that had a node has one, with the same tags
+    /// unless it is one of `others`. Only the tags of these and of the numbers that paths got or lost are compared.
     pub fn put_counted(
         &self,
         alloc: Global,

@@ -15,7 +15,7 @@ use path_map::PathMap;
 use std::alloc::{AllocError, Global};
 
 impl<N: Tagged> TaggedMap<N> {
-    /// The nodes by their numbers.
+    /// Returns the nodes by their numbers.
     pub fn kinds(&self) -> &Kinds<N>
         ensures all { result.now ≡ self.now.0 }
         ensures sound { AreSound self.now.0 self.now.1 }
@@ -23,7 +23,7 @@ impl<N: Tagged> TaggedMap<N> {
         self.map().kinds()
     }
 
-    /// The paths with their numbers.
+    /// Returns the paths with their numbers.
     pub fn numbers(&self) -> &PathMap<usize>
         ensures all { result.now ≡ self.now.1 }
         ensures sound { AreSound self.now.0 self.now.1 }
@@ -38,7 +38,7 @@ impl<N: Tagged> TaggedMap<N> {
         self.map().order_law();
     }
 
-    /// How many entries there are. Allocates nothing.
+    /// Returns how many entries there are.
     pub fn len(&self) -> usize
         requires few { length (entries_in self.now) < 18446744073709551616 }
         ensures { result ≡ length (entries_in self.now) }
@@ -46,14 +46,14 @@ impl<N: Tagged> TaggedMap<N> {
         self.map().len()
     }
 
-    /// The node of a path, if it has one. Allocates nothing.
+    /// Returns the node of a path, if it has one.
     pub fn get(&self, path: &Path) -> Option<&N>
         ensures { option_copied result ≡ find path_cmp path.now (entries_in self.now) }
     {
         self.map().get(path)
     }
 
-    /// The paths whose nodes pass a test, in path order: each kind is tested once. Fails only if memory runs out.
+    /// Returns the paths whose nodes pass a test, in path order: each kind is tested once.
     pub fn paths_where<T: KindTest<N>>(
         &self,
         alloc: Global,

@@ -30,7 +30,6 @@ impl<P: Part> Model for Branch<P> {
 }
 
 impl<P: Part> Branch<P> {
-    /// The branch of these parts.
     pub fn new(parts: Vec<Rc<P>>) -> Branch<P>
         requires rising { AreRising (pairs_in P.pairs_of parts.items) }
         requires some { 0 < length parts.items }
@@ -40,7 +39,6 @@ impl<P: Part> Branch<P> {
         Branch { parts }
     }
 
-    /// The parts.
     fn parts(&self) -> &[Rc<P>]
         ensures all { pairs_in P.pairs_of result.now ≡ self.now }
         ensures rising { AreRising self.now }

@@ -1,4 +1,4 @@
-//! New parts: pairs are cut into chunks, chunks into branches, and these into branches.
+//! Builds parts: pairs are cut into chunks, chunks into branches, and these into branches.
 
 ghost use Rattle.std.specs.Prelude.{◌≡◌, ◌++◌, ◌<◌, ◌≤◌, length, OnOk, IfOk};
 ghost use Rattle.kinds.specs.PairSets.{AreRising};
@@ -11,7 +11,7 @@ use crate::pairs::part::Part;
 use std::alloc::{AllocError, Global};
 use std::rc::Rc;
 
-/// The length of pieces of equal lengths, as few as can be where none is longer than a limit.
+/// Returns the length of equal pieces of `count` items: as few pieces as possible, none longer than `limit`.
 fn piece_length(count: usize, limit: usize) -> usize
     requires { 0 < limit }
     ensures some { 0 < result }
@@ -32,7 +32,6 @@ fn chunk_of(alloc: Global, pairs: &[Pair]) -> Result<Rc<Chunk>, AllocError>
     Ok(Rc::new(alloc, Chunk::new(Vec::from_slice(alloc, pairs)?))?)
 }
 
-/// Parts as one branch.
 fn branch_of<P: Part>(alloc: Global, parts: &[Rc<P>]) -> Result<Rc<Branch<P>>, AllocError>
     requires rising { AreRising (pairs_in P.pairs_of parts.now) }
     requires some { 0 < length parts.now }

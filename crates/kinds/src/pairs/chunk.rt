@@ -30,7 +30,6 @@ impl Model for Chunk {
 }
 
 impl Chunk {
-    /// The chunk of these pairs.
     pub fn new(pairs: Vec<Pair>) -> Chunk
         requires rising { AreRising pairs.items }
         requires some { 0 < length pairs.items }
@@ -40,7 +39,6 @@ impl Chunk {
         Chunk { pairs }
     }
 
-    /// The pairs.
     fn pairs(&self) -> &[Pair]
         ensures all { result.now ≡ self.now }
         ensures rising { AreRising self.now }
@@ -60,7 +58,7 @@ fn push_put(new: &mut Vec<Pair>, change: &Change) -> Result<(), AllocError>
     Ok(())
 }
 
-/// Pairs with some put and others taken out.
+/// Puts and removes pairs.
 pub(crate) fn changed_pairs(
     alloc: Global,
     pairs: &[Pair],

@@ -14,7 +14,7 @@ pub struct Pair {
     pub second: u32,
 }
 
-/// A pair that is put into a set, or taken out of it.
+/// A pair that is put into a set, or removed.
 #[derive(Clone, Copy)]
 pub struct Change {
     pub pair: Pair,
@@ -23,7 +23,7 @@ pub struct Change {
 }
 
 impl Pair {
-    /// The pair of two numbers. Fails, as if memory ran out, if one of them has more than 32 bits.
+    /// Makes a pair of two numbers. Fails, as if memory ran out, if one of them has more than 32 bits.
     pub fn of(first: usize, second: usize) -> Result<Pair, AllocError>
         ensures { IfOk result (λ pair. pair ≡ record { first = first; second = second }) }
     {
@@ -33,7 +33,7 @@ impl Pair {
         Ok(Pair { first, second })
     }
 
-    /// Whether the pair is before another one.
+    /// Tells whether the pair is before another one.
     pub fn is_before(&self, other: &Pair) -> bool
         ensures { result ≡ is_before self.now other.now }
     {
@@ -41,7 +41,7 @@ impl Pair {
     }
 }
 
-/// Pairs in order, each once.
+/// Sorts pairs and drops repeats.
 pub(crate) fn rising(pairs: Vec<Pair>) -> Vec<Pair>
     ensures rising { AreRising result.items }
     ensures same { (p : Pair) → has p result.items ≡ has p pairs.items }
@@ -52,7 +52,7 @@ pub(crate) fn rising(pairs: Vec<Pair>) -> Vec<Pair>
     rising
 }
 
-/// Changes that put pairs into a set, or take them out.
+/// Makes changes that put pairs into a set, or remove them.
 pub(crate) fn changes_of(
     alloc: Global,
     pairs: &[Pair],
@@ -70,7 +70,7 @@ pub(crate) fn changes_of(
     Ok(changes)
 }
 
-/// The pairs before a pair, and those after it.
+/// Splits pairs into those before a pair and those after it.
 pub(crate) fn split_around<'a>(pairs: &'a [Pair], pair: &Pair) -> (&'a [Pair], &'a [Pair])
     requires { AreRising pairs.now }
     ensures before { result.0.now ≡ filter (λ p. is_before p pair.now) pairs.now }
@@ -81,7 +81,7 @@ pub(crate) fn split_around<'a>(pairs: &'a [Pair], pair: &Pair) -> (&'a [Pair], &
     (pairs.split_at(before).0, pairs.split_at(up_to).1)
 }
 
-/// The changes of pairs before a pair, and the others.
+/// Splits changes into those of pairs before a pair and the others.
 pub(crate) fn split_changes<'a>(changes: &'a [Change], pair: &Pair) -> (&'a [Change], &'a [Change])
     requires { AreRising (pairs_named changes.now) }
     ensures { AreSplit pair.now result.0.now result.1.now changes.now }

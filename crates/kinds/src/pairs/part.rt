@@ -14,7 +14,6 @@ pub(crate) trait Part: Drop + Sized {
     /// The pairs.
     ghost pairs_of: { Self → List Pair };
 
-    /// The first pair.
     fn first(&self) -> Pair
         ensures { take 1 (pairs_of self.now) ≡ result ∷ [] };
 
@@ -22,7 +21,7 @@ pub(crate) trait Part: Drop + Sized {
     fn push_seconds(&self, new: &mut Vec<usize>, first: u32) -> Result<(), AllocError>
         ensures { OnOk result (new.new.items ≡ new.old.items ++ seconds_of first (pairs_of self.now)) };
 
-    /// Adds the part with some pairs put and others taken out, as new parts.
+    /// Adds the part with some pairs put and others removed, as new parts.
     fn push_changed(
         &self,
         alloc: Global,
@@ -34,7 +33,7 @@ pub(crate) trait Part: Drop + Sized {
             ≡ pairs_in Self.pairs_of new.old.items ++ changed changes.now (Self.pairs_of self.now)) };
 }
 
-/// Two halves of parts, and the first pair of the second half.
+/// Cuts parts in two halves, and returns the first pair of the second half too.
 fn halves<P: Part>(parts: &[Rc<P>]) -> (&[Rc<P>], &[Rc<P>], Pair)
     requires several { 2 ≤ length parts.now }
     requires rising { AreRising (pairs_in P.pairs_of parts.now) }
@@ -86,7 +85,7 @@ fn share_all<P: Part>(new: &mut Vec<Rc<P>>, parts: &[Rc<P>]) -> Result<(), Alloc
     Ok(())
 }
 
-/// Adds parts with some pairs put and others taken out. Parts without a change are shared.
+/// Adds parts with some pairs put and others removed. Parts without a change are shared.
 pub(crate) fn push_changed_in<P: Part>(
     alloc: Global,
     new: &mut Vec<Rc<P>>,

@@ -32,7 +32,7 @@ impl Model for PairSet {
 }
 
 impl PairSet {
-    /// No pairs. Allocates nothing.
+    /// Returns an empty set.
     pub fn new(alloc: Global) -> PairSet
         ensures { result ≡ [] }
     {
@@ -41,7 +41,7 @@ impl PairSet {
         }
     }
 
-    /// The pairs, by branches.
+    /// Returns the pairs, by branches.
     fn tops(&self) -> &[Rc<Top>]
         ensures all { pairs_in (λ b. b) result.now ≡ self.now }
         ensures rising { AreRising self.now }
@@ -49,7 +49,7 @@ impl PairSet {
         &self.tops
     }
 
-    /// The set of some pairs, which rise. Fails only if memory runs out.
+    /// Returns the set of some pairs, which rise.
     fn from_sorted(alloc: Global, pairs: &[Pair]) -> Result<PairSet, AllocError>
         requires { AreRising pairs.now }
         ensures { IfOk result (λ set. set ≡ pairs.now) }
@@ -63,7 +63,7 @@ impl PairSet {
         Ok(PairSet { tops })
     }
 
-    /// A copy, which shares all pairs. Fails only if memory runs out.
+    /// Copies the set; both share all pairs.
     pub fn share(&self) -> Result<PairSet, AllocError>
         ensures { IfOk result (λ set. set ≡ self.now) }
     {
@@ -72,8 +72,8 @@ impl PairSet {
         })
     }
 
-    /// Adds the second numbers of the pairs with a first one. Fails only if memory, or the numbers, run out: no pair has a
-    /// number of more than 32 bits.
+    /// Adds the second numbers of the pairs whose first one is `first`. Fails, as if memory ran out, if `first` has
+    /// more than 32 bits.
     pub fn push_seconds(&self, new: &mut Vec<usize>, first: usize) -> Result<(), AllocError>
         ensures { OnOk result (new.new.items ≡ new.old.items ++ seconds_of first self.now) }
     {
@@ -83,7 +83,7 @@ impl PairSet {
         push_seconds_in(new, self.tops(), first)
     }
 
-    /// The set with some pairs put and others taken out, by their list.
+    /// Puts and removes pairs, by their list.
     fn changed(&self, alloc: Global, changes: &[Change]) -> Result<PairSet, AllocError>
         requires { AreRising (pairs_named changes.now) }
         ensures { IfOk result (λ set. set ≡ changed changes.now self.now) }
@@ -98,8 +98,7 @@ impl PairSet {
         Ok(PairSet { tops: new })
     }
 
-    /// The set with some pairs put, or taken out. This set stays as it is. Only the branches and chunks of these pairs are
-    /// copied. Fails only if memory runs out.
+    /// Puts pairs, or removes them. This set stays as it is. Only the branches and chunks of these pairs are copied.
     pub fn with_pairs(
         &self,
         alloc: Global,
