@@ -61,7 +61,7 @@ pub record Stays (old new : PathClass) : Type 0 where
 abbrev pub Grows : (old new : ClassKinds) → Type 0
 Grows old new = (n : ℕ) (c : PathClass) → node_at old n ≡ Some c → (d : PathClass) × ((node_at new n ≡ Some d) × Stays c d)
 
--- all classes stay, those that are right stay so, and no path more is counted
+-- all classes stay, those that are right stay so, and no path is counted
 pub record Widens (rows : KindsOf LabelRow) (old new : ClassKinds) : Type 0 where
   pub grows : Grows old new
   pub right : (n : ℕ) → IsRightAt rows old n → IsRightAt rows new n

@@ -48,7 +48,7 @@ pub record WalksTop (rows : KindsOf LabelRow) (files : Numbers) (over : Option �
   pub added : more ≡ made ++ own
   pub walked : AreWalked rows (within top files) over first k own
 
--- the paths inside have classes, made of those of the paths outside; no path more is counted
+-- the paths inside have classes, found by those of the paths outside; no path is counted
 pub record AreFound (rows : Kept LabelRow) (tops : List PathOf) (out : Numbers) (first k : ClassKinds) (made : Numbers) : Type 0 where
   pub widens : Widens rows.0 first k
   pub kinds : map (λ e. (e.0, kind_at k e.1)) made ≡ inside tops rows.1

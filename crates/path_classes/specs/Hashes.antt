@@ -1,4 +1,4 @@
--- Numbers that are made of others, by which what differs is looked up.
+-- Hashes of numbers.
 use Rattle.std.specs.Prelude.{ℕ, ◌*◌, ◌^◌, ◌%◌, bit_xor}
 use Rattle.std.specs.Int.{rotate_left}
 use mir.Syntax.{w64}

@@ -125,7 +125,7 @@ pub record AreRenewed (rows : KindsOf LabelRow) (before k : ClassKinds) : Type 0
   pub shapes : (n : ℕ) → shape_at k n ≡ shape_at before n
   pub fresh : (n : ℕ) (c : PathClass) → 0 < count_at k n → node_at k n ≡ Some c → IsFresh rows k c
 
--- one number more is marked
+-- a further number is marked
 abbrev pub Marks : List Bool → ℕ → List Bool → Type 0
 Marks old n new = (m : ℕ) → get_or new m false ≡ (if m == n then true else get_or old m false)
 

@@ -13,7 +13,7 @@ use acl_names::Path;
 use kinds::KindTest;
 use std::alloc::{AllocError, Global};
 
-/// The places of the users whose verdicts contain a request. Fails only if memory runs out.
+/// Returns the places of the users whose verdicts contain `request`.
 pub fn granted_users(
     alloc: Global,
     cells: &[Requests],
@@ -30,7 +30,7 @@ pub fn granted_users(
     Ok(users)
 }
 
-/// Whether a row grants a user a request.
+/// Tells whether a row grants a user a request.
 pub(crate) fn row_grants(row: &Cells, user: usize, request: Perm) -> bool
     ensures { result ≡ grants request user row.now }
 {
@@ -40,7 +40,7 @@ pub(crate) fn row_grants(row: &Cells, user: usize, request: Perm) -> bool
     }
 }
 
-/// Rows that grant a user a request.
+/// The test that a row grants a user a request.
 #[derive(Drop)]
 struct Granting {
     user: usize,
@@ -56,8 +56,8 @@ impl KindTest<LabelRow> for Granting {
 }
 
 impl ClassedRows {
-    /// The paths of the files on which a user is granted a request, in path order: each kind is looked at once. Fails only if
-    /// memory runs out.
+    /// Returns the paths of the files on which a user is granted a request, in path order: each kind is looked at
+    /// once.
     pub fn granted_paths(
         &self,
         alloc: Global,

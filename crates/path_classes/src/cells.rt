@@ -20,8 +20,7 @@ impl Model for Cells {
     ghost view = { λ c. c.requests.value.items };
 }
 
-/// Whether two rows of verdicts are the same. The loop does not end early, so that it compares many at a time. Allocates
-/// nothing.
+/// Compares two rows of verdicts. The loop does not end early, so that it compares many at a time.
 pub fn same_row(some: &[Requests], others: &[Requests]) -> bool
     ensures { (result ≡ true) ↔ (some.now ≡ others.now) }
 {
@@ -44,7 +43,7 @@ impl Clone for Cells {
 }
 
 impl Cells {
-    /// These verdicts. Fails only if memory runs out.
+    /// Shares verdicts.
     pub fn new(alloc: Global, requests: Vec<Requests>) -> Result<Cells, AllocError>
         ensures { IfOk result (λ cells. cells ≡ requests.items) }
     {
@@ -53,7 +52,7 @@ impl Cells {
         })
     }
 
-    /// These verdicts; where others are the same, they are shared. Fails only if memory runs out.
+    /// Shares verdicts: with `other`, if they are the same.
     pub fn new_or_shared(
         alloc: Global,
         requests: Vec<Requests>,
@@ -71,7 +70,7 @@ impl Cells {
         Ok(new)
     }
 
-    /// The same verdicts, in shared memory. Fails only if memory runs out.
+    /// Copies the row; both share the verdicts.
     pub fn share(&self) -> Result<Cells, AllocError>
         ensures { IfOk result (λ cells. cells ≡ self.now) }
     {
@@ -80,19 +79,19 @@ impl Cells {
         })
     }
 
-    /// Whether these are the same verdicts in shared memory. Nothing is known where they are not. Allocates nothing.
+    /// Tells whether both rows share their verdicts. If they do not, these may still be the same.
     pub fn shares(&self, other: &Cells) -> bool {
         Rc::ptr_eq(&self.requests, &other.requests)
     }
 
-    /// The verdicts, one for each user.
+    /// Returns the verdicts, one for each user.
     pub fn as_slice(&self) -> &[Requests]
         ensures { result.now ≡ self.now }
     {
         &self.requests
     }
 
-    /// What a user may do. Allocates nothing.
+    /// Returns what a user may do.
     pub fn get(&self, user: usize) -> Option<Requests>
         ensures { result ≡ slice_get self.now user }
     {
@@ -103,7 +102,7 @@ impl Cells {
     }
 }
 
-/// The request to search.
+/// Returns the request to search.
 pub fn search() -> Perm
     ensures { result ≡ execute }
 {

@@ -1,4 +1,4 @@
-//! How many files may have other answers along their paths, where their classes were found again.
+//! How many files may have other answers along their paths, after their classes were found again.
 
 ghost use Rattle.std.specs.Prelude.{◌≡◌, ◌<◌, ◌≤◌, ℕ, suc, Some, None, true, length, map, IfOk, OnOk, IfSome, if◌then◌else◌};
 ghost use Rattle.std.specs.Option.{option_copied};
@@ -20,7 +20,8 @@ use kinds::{KindMap, Kinds};
 use std::alloc::{AllocError, Global};
 use std::collections::BTreeMap;
 
-/// Whether files of a class before have the same answers as files of a class now, by the classes' numbers.
+/// The cached result for two classes, by their numbers: whether files of the class `was` before have the same answers
+/// as files of the class `is` now.
 #[derive(Clone, Copy)]
 pub(crate) struct Comparison {
     pub(crate) was: usize,
@@ -28,19 +29,19 @@ pub(crate) struct Comparison {
     pub(crate) is_same: bool,
 }
 
-/// Pairs of classes that were compared: the last one, and all by a key.
+/// A cache of comparisons: the last one, and all by a hash of the two classes.
 #[derive(Drop)]
 pub(crate) struct Comparisons {
     pub(crate) last: Option<Comparison>,
     pub(crate) all: BTreeMap<u64, Comparison>,
 }
 
-/// A key of two classes. If two pairs have the same key, the first is compared again.
+/// Hashes two classes. If two pairs have the same hash, the first is compared again.
 fn key(was: usize, is: usize) -> u64 {
     (was as u64).wrapping_mul(1 << 32).wrapping_add(is as u64)
 }
 
-/// Whether two labels have the same row.
+/// Tells whether two labels have the same row.
 fn has_same_row(old: &Kinds<LabelRow>, rows: &Kinds<LabelRow>, was: usize, is: usize) -> bool
     ensures { result ≡ true → SameRow old.now rows.now was is }
 {
@@ -53,7 +54,7 @@ fn has_same_row(old: &Kinds<LabelRow>, rows: &Kinds<LabelRow>, was: usize, is: u
     }
 }
 
-/// Who can search down to a class, where it keeps that.
+/// Returns who can search down to a class, if the class keeps that.
 fn kept_search(classes: &Kinds<PathClass>, number: usize) -> Option<&Searchers>
     ensures { option_copied result ≡ kept_search (node_at classes.now number) }
 {
@@ -66,7 +67,7 @@ fn kept_search(classes: &Kinds<PathClass>, number: usize) -> Option<&Searchers>
     }
 }
 
-/// Whether the same users can search down to two classes, where both keep that.
+/// Tells whether the same users can search down to two classes, which both keep that.
 fn has_same_search(
     before: &Kinds<PathClass>,
     after: &Kinds<PathClass>,
@@ -84,7 +85,7 @@ fn has_same_search(
     }
 }
 
-/// Whether the same users get through two classes above, if there are any.
+/// Tells whether the same users get through the two parent classes, if there are any.
 fn has_same_above(
     before: &Kinds<PathClass>,
     after: &Kinds<PathClass>,
@@ -102,7 +103,7 @@ fn has_same_above(
     }
 }
 
-/// Whether files of a class before have the same answers as files of a class now.
+/// Tells whether files of the class `was` before have the same answers as files of the class `is` now.
 fn has_same_reach(
     old: &Kinds<LabelRow>,
     before: &Kinds<PathClass>,
@@ -125,7 +126,7 @@ fn has_same_reach(
     }
 }
 
-/// What was found for a pair of classes, if it is of this pair.
+/// Returns the cached result, if it is for this pair of classes.
 fn found_for(found: Option<Comparison>, was: usize, is: usize) -> Option<Comparison>
     ensures same { IfSome result (λ c. found ≡ Some c) }
     ensures pair { IfSome result (λ c. (c.was ≡ was) × (c.is ≡ is)) }
@@ -139,7 +140,6 @@ fn found_for(found: Option<Comparison>, was: usize, is: usize) -> Option<Compari
 }
 
 impl Comparisons {
-    /// None. Allocates nothing.
     fn new(alloc: Global) -> Comparisons
         ensures last { result.last ≡ None }
         ensures all { (key : ℕ) → get nat_cmp result.all key ≡ None }
@@ -150,7 +150,7 @@ impl Comparisons {
         }
     }
 
-    /// What is kept for a key.
+    /// Returns the cached result of a hash.
     fn at(&self, key: u64) -> Option<Comparison>
         ensures { result ≡ get nat_cmp self.now.all key }
     {
@@ -160,8 +160,8 @@ impl Comparisons {
         }
     }
 
-    /// Whether files of a class before have the same answers as files of a class now: pairs of classes are compared once. Fails
-    /// only if memory runs out.
+    /// Tells whether files of the class `was` before have the same answers as files of the class `is` now: pairs of
+    /// classes are compared once.
     fn are_same(
         &mut self,
         old: &Kinds<LabelRow>,
@@ -190,7 +190,7 @@ impl Comparisons {
         Ok(is_same)
     }
 
-    /// Whether a file that had a class, if any, has the same answers with a class now. Fails only if memory runs out.
+    /// Tells whether a file of the class `was`, if it had one, has the same answers with the class `is`.
     fn is_same(
         &mut self,
         old: &Kinds<LabelRow>,
@@ -211,7 +211,7 @@ impl Comparisons {
     }
 }
 
-/// A count and one more, unless answers are the same.
+/// Adds 1 to `count`, unless answers are the same.
 fn count_unless(count: usize, is_same: bool) -> usize
     requires { count < 18446744073709551615 }
     ensures { result ≡ (if is_same then count else suc count) }
@@ -219,8 +219,8 @@ fn count_unless(count: usize, is_same: bool) -> usize
     if is_same { count } else { count + 1 }
 }
 
-/// At most how many of some files have other answers than before: those that had no class, and those whose class before has
-/// other answers than their class now. Fails only if memory runs out.
+/// Counts the files that may have other answers than before: those that had no class, and those whose class before
+/// has other answers than their class now.
 pub(crate) fn changed_answers(
     alloc: Global,
     old: &KindMap<LabelRow>,

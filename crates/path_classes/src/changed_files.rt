@@ -1,4 +1,4 @@
-//! Classes where some files have other labels, or are new, and others are gone.
+//! Classes after some files got other labels or are new, and others are gone.
 
 ghost use Rattle.std.specs.Prelude.{◌≤◌, ◌++◌, length, map, IfOk};
 ghost use Rattle.path_map.specs.Entries.{IsInOrder, seen};
@@ -15,8 +15,8 @@ use acl_names::Path;
 use kinds::{KindMap, TaggedMap};
 use std::alloc::{AllocError, Global};
 
-/// The classes found again at or below the files that changed and those that are gone, and how many files there may have other
-/// answers by that. Fails only if memory, or the numbers, run out.
+/// Finds the classes at or below the changed and the gone files again, and counts the files there that may have other
+/// answers by that.
 fn found_again<V, W>(
     alloc: Global,
     old: &KindMap<LabelRow>,
@@ -40,8 +40,8 @@ fn found_again<V, W>(
     Ok(new)
 }
 
-/// The classes where some files changed and others are gone, and how many files at or below these may have other answers by that:
-/// one file alone gets its label in place where it can. Fails only if memory, or the numbers, run out.
+/// Returns the classes after some files changed and others are gone, and how many files at or below these may have
+/// other answers by that: one file alone gets its label in place if it can.
 pub(crate) fn classes_with_files<V, W>(
     alloc: Global,
     old: &KindMap<LabelRow>,

@@ -1,4 +1,4 @@
-//! Classes by their numbers, while files come in path order.
+//! Finds classes for files that come in path order.
 
 ghost use Rattle.std.specs.Prelude.{◌≡◌, [], IfOk, IfSome, Some};
 ghost use Rattle.std.specs.Option.{option_copied};
@@ -15,8 +15,9 @@ use kinds::{Kinds, push_found};
 use std::alloc::{AllocError, Global};
 use std::rc::Rc;
 
-/// The classes so far; the numbers of those that the walk met, which are right; the numbers of those below which it looked for
-/// other classes, and which may keep who can search since then; and hints at the places of those that are known.
+/// The classes so far; the numbers of those that the walk found, which are right; the numbers of those below which it
+/// searched for other classes, and which may keep who can search since then; and hints at the places of those that
+/// are known.
 #[derive(Drop)]
 pub(crate) struct ClassBuilder {
     pub(crate) classes: Kinds<PathClass>,
@@ -25,7 +26,7 @@ pub(crate) struct ClassBuilder {
     hints: ClassHints,
 }
 
-/// The number at a place, if it is that of the class of a label below a class; with the place.
+/// Returns the number at a place, if it is that of the class of the key (`above`, `kind`); with the place.
 fn known_at(
     classes: &Kinds<PathClass>,
     known: &[usize],
@@ -43,7 +44,7 @@ fn known_at(
     }
 }
 
-/// The class of a label below a class, if it is found; with its place.
+/// Returns the class of the key (`above`, `kind`), if it is found; with its place.
 fn known_class(
     classes: &Kinds<PathClass>,
     known: &[usize],
@@ -62,7 +63,7 @@ fn known_class(
     known_at(classes, known, place, above, kind)
 }
 
-/// Who gets through the class above, if there is one.
+/// Returns who gets through the class `above`, if there is one.
 pub(crate) fn search_of(classes: &Kinds<PathClass>, above: Option<usize>) -> Option<&Searchers>
     requires { AboveKeeps classes.now above }
     ensures { option_copied result ≡ search_above classes.now above }
@@ -79,7 +80,7 @@ pub(crate) fn search_of(classes: &Kinds<PathClass>, above: Option<usize>) -> Opt
     }
 }
 
-/// A class with who can search down to it.
+/// Adds to a class who can search down to it.
 fn with_search(
     alloc: Global,
     rows: &Kinds<LabelRow>,
@@ -100,7 +101,7 @@ fn with_search(
     })
 }
 
-/// The classes, where one of them keeps who can search down to it.
+/// Returns the classes, of which that of `number` keeps who can search down to it.
 fn keeping(
     alloc: Global,
     rows: &Kinds<LabelRow>,
@@ -119,7 +120,7 @@ fn keeping(
     classes.with_node(number, new)
 }
 
-/// The classes, where the one above, if there is one, keeps who can search down to it.
+/// Returns the classes, of which `above`, if there is one, keeps who can search down to it.
 fn above_keeping(
     alloc: Global,
     rows: &Kinds<LabelRow>,
@@ -135,8 +136,7 @@ fn above_keeping(
     }
 }
 
-/// How many directories are above a file right below a class, or below none. Fails where they are more than can be counted,
-/// as where memory runs out.
+/// Returns how many directories are above a file right below a class, or below none.
 fn depth_below(classes: &Kinds<PathClass>, above: Option<usize>) -> Result<usize, AllocError>
     requires { IsThere classes.now above }
     ensures { IfOk result (λ depth. depth ≡ depth_below classes.now above) }
@@ -150,7 +150,7 @@ fn depth_below(classes: &Kinds<PathClass>, above: Option<usize>) -> Result<usize
     Ok(depth)
 }
 
-/// The classes with one more.
+/// Adds the class of the key (`above`, `kind`).
 fn added(
     alloc: Global,
     rows: &Kinds<LabelRow>,
@@ -173,7 +173,7 @@ fn added(
     classes.add(alloc, class)
 }
 
-/// The class of a label below a class that the walk has not met: one that paths outside have, or a new one.
+/// Returns the class of a key that the walk has not found yet: one that paths outside have, or a new one.
 fn kept_or_added(
     alloc: Global,
     rows: &Kinds<LabelRow>,
@@ -195,7 +195,7 @@ fn kept_or_added(
 }
 
 impl ClassBuilder {
-    /// Classes, of which none can be found. Allocates nothing.
+    /// Starts from these classes, of which none can be found.
     pub fn new(alloc: Global, classes: Kinds<PathClass>) -> ClassBuilder
         ensures classes { result.classes ≡ classes }
         ensures known { result.known.items ≡ [] }
@@ -209,8 +209,7 @@ impl ClassBuilder {
         }
     }
 
-    /// The class of a label below a class: one that is known, one that paths outside have, or a new one. Fails only if memory, or
-    /// the numbers, run out.
+    /// Returns the class of the key (`above`, `kind`): one that is known, one that paths outside have, or a new one.
     pub fn class_of(
         self,
         alloc: Global,
@@ -256,7 +255,7 @@ impl ClassBuilder {
         Ok((more, class))
     }
 
-    /// The classes, and the numbers of those below which a class was looked for.
+    /// Returns the classes, and the numbers of those below which a class was searched for.
     pub fn into_parts(self) -> (Kinds<PathClass>, Vec<usize>)
         ensures classes { result.0 ≡ self.classes }
         ensures begun { result.1.items ≡ self.begun.items }

@@ -1,5 +1,5 @@
-//! Files counted by their classes: the counts that are kept say how many files have each, so that files are passed only until
-//! each class is met.
+//! Counts files by classes: the counts of the classes say how many files have each, so the walk over the files ends
+//! as soon as each class was seen.
 
 ghost use Rattle.std.specs.Prelude.{◌≡◌, ◌<◌, ◌≤◌, ◌∷◌, [], ℕ, None, Some, map, slice_get, option_map, IfOk, OnOk, IfSome};
 ghost use Rattle.std.specs.List.{AllByRecursion};
@@ -18,7 +18,7 @@ use crate::numbered_files::NumberedFiles;
 use acl_names::Path;
 use std::alloc::{AllocError, Global};
 
-/// Files that have a class.
+/// The files of a class.
 #[derive(Clone, Copy)]
 pub struct ClassFiles<'a> {
     /// The number of the class.
@@ -29,7 +29,7 @@ pub struct ClassFiles<'a> {
     pub first: &'a Path,
 }
 
-/// The first number from `number` on that files have and that is not met; `end` if there is none below it.
+/// Returns the first number from `number` on that files have and that was not seen; `end` if there is none below it.
 fn next_unmet(files: &NumberedFiles<'_>, met: &MetRows, number: usize, end: usize) -> usize
     requires { AreMetBelow files.now met.now.places.items number }
     ensures { AreMetBelow files.now met.now.places.items result }
@@ -41,7 +41,7 @@ fn next_unmet(files: &NumberedFiles<'_>, met: &MetRows, number: usize, end: usiz
     number
 }
 
-/// Counts all files that have the number of the first of those left, if it is not met yet.
+/// Counts all files that have the number of the current file, if that was not seen yet.
 fn meet<'a>(
     files: &NumberedFiles<'a>,
     met: &mut MetRows,
@@ -70,7 +70,7 @@ fn meet<'a>(
     Ok(())
 }
 
-/// The first of the files that are left, as long as a number below `end` is not met.
+/// Returns the current file, as long as a number below `end` was not seen.
 fn next_file<'a>(files: &NumberedFiles<'a>, unmet: usize, end: usize) -> Option<(&'a Path, usize)>
     ensures row { IfSome result (λ e. HasRow files.now.rows files.now.classes e.1) }
     ensures next { IsNextFile (option_map seen result) files.now.left unmet end }
@@ -78,7 +78,7 @@ fn next_file<'a>(files: &NumberedFiles<'a>, unmet: usize, end: usize) -> Option<
     if unmet < end { files.first() } else { None }
 }
 
-/// All files by their classes. Passes files until each number below `end` is met.
+/// Returns all files by their classes. Walks over files until each number below `end` was seen.
 fn meet_all<'a>(
     alloc: Global,
     files: &mut NumberedFiles<'a>,
@@ -103,7 +103,7 @@ fn meet_all<'a>(
 }
 
 impl ClassedRows {
-    /// All files by their classes: how many files have each, and the first of them. Fails only if memory runs out.
+    /// Returns all files by their classes: how many files have each, and the first of them.
     pub fn counted_classes(
         &self,
         alloc: Global,

@@ -1,10 +1,10 @@
-//! Where the class of a label below a class may be: its place among those that are known. Nothing rests on these hints:
-//! callers compare what they find there.
+//! A cache from a key (the class of the parent directory, the label's number) to the place of its class. Correctness
+//! does not depend on it: callers compare what they find there.
 
 use std::alloc::{AllocError, Global};
 use std::collections::BTreeMap;
 
-/// A key of a label below a class. If two pairs have the same key, the first is not found again.
+/// Hashes a key. If two keys have the same hash, the first is not found again.
 fn key(above: Option<usize>, kind: usize) -> u64 {
     let above = match above {
         Some(class) => (class as u64).wrapping_add(1),
@@ -13,17 +13,16 @@ fn key(above: Option<usize>, kind: usize) -> u64 {
     above.wrapping_mul(1 << 32).wrapping_add(kind as u64)
 }
 
-/// Places of classes by their label and the class above.
+/// The places of classes by their keys.
 #[derive(Drop)]
 pub(crate) struct ClassHints {
-    /// 1 more than the place of the class of a label that was found last, at the label's number modulo the length, which grows
-    /// with the classes that are known; 0 where there is none.
+    /// 1 more than the place of the class of a label that was found last, at the label's number modulo the length,
+    /// which grows with the known classes; 0 if there is none.
     last: Vec<usize>,
     all: BTreeMap<u64, usize>,
 }
 
 impl ClassHints {
-    /// None. Allocates nothing.
     pub fn new(alloc: Global) -> ClassHints {
         ClassHints {
             last: Vec::new(alloc),
@@ -31,7 +30,7 @@ impl ClassHints {
         }
     }
 
-    /// The place of the class of a label that was found last.
+    /// Returns the place of the class of a label that was found last.
     pub fn last(&self, kind: usize) -> Option<usize> {
         let slot = kind.checked_rem(self.last.len())?;
         match self.last.get(slot) {
@@ -40,7 +39,7 @@ impl ClassHints {
         }
     }
 
-    /// The place of the class of a label below a class.
+    /// Returns the place of the class of a key.
     pub fn place(&self, above: Option<usize>, kind: usize) -> Option<usize> {
         match self.all.get(&key(above, kind)) {
             Some(place) => Some(*place),
@@ -48,7 +47,7 @@ impl ClassHints {
         }
     }
 
-    /// Keeps the place of the class of a label that was found last.
+    /// Records the place of the class of a label that was found last.
     pub fn set_last(&mut self, kind: usize, place: usize) -> Result<(), AllocError> {
         if place >= self.last.len() {
             let len = place.saturating_add(1).saturating_mul(2).max(16);
@@ -63,7 +62,7 @@ impl ClassHints {
         Ok(())
     }
 
-    /// Adds the place of the class of a label below a class, which was found last.
+    /// Adds the place of the class of a key, which was found last.
     pub fn add(
         &mut self,
         above: Option<usize>,

@@ -1,5 +1,5 @@
-//! Tags of classes: a class is found by the class above, by this and its label, and by its label alone if it keeps who can search
-//! down to it.
+//! Tags of classes: a class is found by the class above, by a hash of its key (this class and its label), and by its
+//! label alone if it keeps who can search down to it.
 
 ghost use Rattle.std.specs.Prelude.{◌≡◌, ◌++◌, map, is_some, IfOk, OnOk};
 ghost use Rattle.path_classes.specs.ClassTags.{label_tag, below_tag, search_tags, above_tags, pair_hash, pair_tag, class_tags};
@@ -10,7 +10,8 @@ use crate::searchers::Searchers;
 use kinds::Tagged;
 use std::alloc::{AllocError, Global};
 
-/// The tag of the classes of a label that keep who can search down to them. Fails, as if memory ran out, if it is too large.
+/// Returns the tag of the classes of a label that keep who can search down to them. Fails, as if memory ran out, if
+/// it is too large.
 pub(crate) fn label_tag(kind: usize) -> Result<usize, AllocError>
     ensures { IfOk result (λ tag. tag ≡ label_tag kind) }
 {
@@ -20,7 +21,7 @@ pub(crate) fn label_tag(kind: usize) -> Result<usize, AllocError>
     }
 }
 
-/// The tag of the classes right below a class. Fails, as if memory ran out, if it is too large.
+/// Returns the tag of the classes right below a class. Fails, as if memory ran out, if it is too large.
 pub(crate) fn below_tag(above: usize) -> Result<usize, AllocError>
     ensures { IfOk result (λ tag. tag ≡ below_tag above) }
 {
@@ -31,7 +32,7 @@ pub(crate) fn below_tag(above: usize) -> Result<usize, AllocError>
     }
 }
 
-/// A hash of a label and a class above.
+/// Hashes a label and the class above.
 fn pair_hash(above: Option<usize>, kind: usize) -> u64
     ensures { result ≡ pair_hash above kind }
 {
@@ -42,7 +43,7 @@ fn pair_hash(above: Option<usize>, kind: usize) -> u64
     }
 }
 
-/// The tag of the classes of a label below a class. Others may have it too.
+/// Returns the tag of the class of a key. Others may have it too.
 pub(crate) fn pair_tag(above: Option<usize>, kind: usize) -> usize
     ensures { result ≡ pair_tag above kind }
 {
@@ -50,7 +51,7 @@ pub(crate) fn pair_tag(above: Option<usize>, kind: usize) -> usize
     3 * hash + 2
 }
 
-/// Adds the tag of a label, if a class keeps who can search.
+/// Adds the tag of a label, if the class keeps who can search.
 fn push_label(
     new: &mut Vec<usize>,
     search: &Option<Searchers>,
@@ -64,7 +65,7 @@ fn push_label(
     Ok(())
 }
 
-/// Adds the tag of a class above, if there is one.
+/// Adds the tag of the class above, if there is one.
 fn push_above(new: &mut Vec<usize>, above: Option<usize>) -> Result<(), AllocError>
     ensures { OnOk result (new.new.items ≡ new.old.items ++ above_tags above) }
 {
@@ -74,7 +75,6 @@ fn push_above(new: &mut Vec<usize>, above: Option<usize>) -> Result<(), AllocErr
     Ok(())
 }
 
-/// The tags of some labels.
 pub(crate) fn label_tags(alloc: Global, labels: &[usize]) -> Result<Vec<usize>, AllocError>
     ensures { IfOk result (λ tags. tags.items ≡ map label_tag labels.now) }
 {
@@ -88,7 +88,6 @@ pub(crate) fn label_tags(alloc: Global, labels: &[usize]) -> Result<Vec<usize>, 
 impl Tagged for PathClass {
     ghost tags_of = { λ class. class_tags (is_some class.search) class.above class.kind };
 
-    /// Adds the tags.
     fn push_tags(&self, alloc: Global, new: &mut Vec<usize>) -> Result<(), AllocError> {
         new.push(pair_tag(self.above, self.kind))?;
         push_label(new, &self.search, self.kind)?;

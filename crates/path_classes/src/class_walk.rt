@@ -1,5 +1,5 @@
-//! A walk over files in path order that gives them classes: a file's class is found by its label and by the class of the
-//! nearest recorded directory above.
+//! A walk over files in path order that finds their classes: by the file's label and the class of the nearest
+//! recorded directory above, which a stack of ancestors has.
 
 ghost use Rattle.std.specs.Prelude.{◌≡◌, ◌≤◌, ◌++◌, ◌∷◌, [], map, length, take, is_ok, IfOk, if◌then◌else◌};
 ghost use Rattle.std.specs.Option.{option_or};
@@ -18,7 +18,7 @@ use kinds::Kinds;
 use path_map::Within;
 use std::alloc::{AllocError, Global};
 
-/// The class of the last of the first `depth` files; where there is none, a given one.
+/// Returns the class of the last of the first `depth` files of a stack; `over` if there is none.
 fn last_class(files: &[(&Path, usize)], depth: usize, over: Option<usize>) -> Option<usize>
     requires { depth ≤ length files.now }
     ensures { result ≡ option_or (last_of (take depth (map seen files.now))) over }
@@ -29,7 +29,7 @@ fn last_class(files: &[(&Path, usize)], depth: usize, over: Option<usize>) -> Op
     }
 }
 
-/// Puts a file in the place of those after the first `depth`.
+/// Puts a file on a stack in place of those after the first `depth`.
 fn put<'a>(
     files: &mut Vec<(&'a Path, usize)>,
     depth: usize,
@@ -44,8 +44,8 @@ fn put<'a>(
     Ok(())
 }
 
-/// The classes of the files at or below a path, in one pass: those with no recorded directory of these above them are right
-/// below a given class, or below none. Fails only if memory runs out.
+/// Returns the classes of the files at or below a path, in one pass: those whose ancestors are not among these files
+/// are right below the class `over`, or below none.
 pub(crate) fn walk<'a, 'p>(
     alloc: Global,
     rows: &Kinds<LabelRow>,

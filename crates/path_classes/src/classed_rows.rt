@@ -43,7 +43,7 @@ impl Model for ClassedRows {
 }
 
 impl ClassedRows {
-    /// No files. Fails only if memory runs out.
+    /// Returns the rows of no files.
     pub fn none(alloc: Global) -> Result<ClassedRows, AllocError>
         ensures { IfOk result (λ none. entries_in none ≡ []) }
     {
@@ -52,7 +52,7 @@ impl ClassedRows {
         Ok(none)
     }
 
-    /// These rows, with the classes of their files: one pass over these. Fails only if memory, or the numbers, run out.
+    /// Finds the classes of the files of these rows, in one pass.
     pub fn of(alloc: Global, rows: TaggedMap<LabelRow>) -> Result<ClassedRows, AllocError>
         ensures { IfOk result (λ new. new ≡ rows) }
     {
@@ -61,7 +61,7 @@ impl ClassedRows {
         Ok(ClassedRows { rows, classes })
     }
 
-    /// A copy that shares rows and classes. Fails only if memory runs out.
+    /// Copies the rows; both share rows and classes.
     pub fn share(&self) -> Result<ClassedRows, AllocError>
         ensures { IfOk result (λ same. same ≡ self.now) }
     {
@@ -70,23 +70,22 @@ impl ClassedRows {
         Ok(ClassedRows { rows, classes })
     }
 
-    /// The rows.
+    /// Returns the rows.
     pub fn rows(&self) -> &TaggedMap<LabelRow>
         ensures { result.now ≡ self.now }
     {
         &self.rows
     }
 
-    /// The path classes of the files.
+    /// Returns the path classes of the files.
     pub(crate) fn classes(&self) -> &TaggedMap<PathClass>
         ensures { AreClasses self.now result.now }
     {
         &self.classes
     }
 
-    /// Other rows of the same files, whose labels have the same numbers: those of `labels`, which rise, alone have other rows.
-    /// The number is that of the files whose answers along their paths were found again. Fails only if memory, or the numbers,
-    /// run out.
+    /// Replaces the rows of the same files, whose labels keep their numbers: only those of `labels`, which rise, have
+    /// other rows. Returns also how many files' answers along their paths were found again.
     pub fn with_rows(
         &self,
         alloc: Global,
@@ -106,7 +105,7 @@ impl ClassedRows {
         Ok((ClassedRows { rows, classes }, count))
     }
 
-    /// Other rows of the same files, whose labels have the same numbers. Fails only if memory, or the numbers, run out.
+    /// Replaces the rows of the same files, whose labels keep their numbers.
     pub fn with_all_rows(
         &self,
         alloc: Global,
@@ -121,8 +120,8 @@ impl ClassedRows {
         Ok(ClassedRows { rows, classes })
     }
 
-    /// The rows of `with_all_rows`, with the number of the files whose labels have other verdicts, or above which others can
-    /// search. Fails only if memory, or the numbers, run out.
+    /// Returns the rows of `with_all_rows`, and how many files have labels with other verdicts, or lie right below a
+    /// class to which others can search.
     pub fn with_counted_rows(
         &self,
         alloc: Global,
@@ -140,9 +139,9 @@ impl ClassedRows {
         Ok((ClassedRows { rows, classes }, count))
     }
 
-    /// Rows where some files have other labels, or are new, and others are gone: the paths of both are in path order. All other
-    /// files keep their labels' numbers. The number is that of the files whose answers along their paths were found again.
-    /// Fails only if memory, or the numbers, run out.
+    /// Returns the rows after some files got other labels, or are new, and others are gone: the paths of both are in
+    /// path order. All other files keep their labels' numbers. Returns also how many files' answers along their paths
+    /// were found again.
     pub fn with_files<V, W>(
         &self,
         alloc: Global,

@@ -1,4 +1,4 @@
-//! The classes of the files at or below some paths, the tops, where all other files keep theirs.
+//! The classes of the files at or below some paths, the tops, while all other files keep theirs.
 
 ghost use Rattle.std.specs.Prelude.{◌≡◌, ◌≤◌, ◌++◌, ◌∷◌, [], not, is_none, length, map, filter, IfOk, OnOk, if◌then◌else◌};
 ghost use Rattle.path_map.specs.Entries.{IsInOrder, seen};
@@ -20,7 +20,7 @@ use kinds::{KindMap, Kinds, TaggedMap};
 use path_map::{PathMap, Within};
 use std::alloc::{AllocError, Global};
 
-/// The class of the nearest recorded path above a path, if there is one.
+/// Returns the class of the nearest recorded ancestor of a path, if there is one.
 fn class_over(classes: &PathMap<usize>, path: &Path) -> Option<usize>
     ensures { result ≡ class_above path.now classes.now }
 {
@@ -57,9 +57,9 @@ fn walk_top<'a>(
     Ok(next)
 }
 
-/// The classes of the files at or below some tops, of which none is below another one, beside the classes that were there;
-/// these files with their classes, in path order; and the numbers of the classes that were there and may be others now. Of the
-/// classes that were there those can be found that paths outside have. Fails only if memory, or the numbers, run out.
+/// Returns the classes of the files at or below `tops`, of which none is below another one, beside the classes that
+/// were there; these files with their classes, in path order; and the numbers of the classes that were there and may
+/// be others now. Of the classes that were there those can be found that paths outside have.
 fn classes_within<'a>(
     alloc: Global,
     rows: &'a KindMap<LabelRow>,
@@ -88,7 +88,6 @@ fn classes_within<'a>(
     Ok((classes, made, begun))
 }
 
-/// Adds the files of a walk.
 fn push_all<'a, 'p>(
     all: &mut Vec<(&'a Path, usize)>,
     files: Within<'a, 'p, usize>,
@@ -102,7 +101,7 @@ fn push_all<'a, 'p>(
     Ok(())
 }
 
-/// The files at or below some tops, in path order.
+/// Returns the files at or below some tops, in path order.
 fn files_within<'a>(
     alloc: Global,
     files: &'a PathMap<usize>,
@@ -120,7 +119,7 @@ fn files_within<'a>(
     Ok(all)
 }
 
-/// Adds a file that was looked up, if it was not found.
+/// Adds a file that was looked up, unless it was found.
 fn push_unless<'a>(
     gone: &mut Vec<(&'a Path, usize)>,
     file: (&'a Path, usize),
@@ -137,7 +136,7 @@ fn push_unless<'a>(
     }
 }
 
-/// The files that are not among others, of some that are in path order.
+/// Returns those of `files` that are not among `others`; both are in path order.
 fn gone_of<'a>(
     alloc: Global,
     others: &PathMap<usize>,
@@ -154,7 +153,7 @@ fn gone_of<'a>(
     Ok(gone)
 }
 
-/// What `classes_within` finds, and the files inside that are gone.
+/// Returns what `classes_within` finds, and the files inside that are gone.
 fn found_within<'a>(
     alloc: Global,
     rows: &'a KindMap<LabelRow>,
@@ -185,8 +184,8 @@ fn found_within<'a>(
     Ok((classes, made, begun, gone))
 }
 
-/// The classes of all files, where those outside of some tops keep theirs: none of the tops is below another one. The number is
-/// that of the files inside that may have other answers than before. Fails only if memory, or the numbers, run out.
+/// Returns the classes of all files, of which those outside of `tops` keep theirs: none of the tops is below another
+/// one. Returns also how many of the files inside may have other answers than before.
 pub(crate) fn classes_after(
     alloc: Global,
     old: &KindMap<LabelRow>,

@@ -1,4 +1,4 @@
-//! Files by classes, one after another: all files of a class have the same row of verdicts, alone, or along paths where each
+//! Iterates over files by classes: all files of a class have the same row of verdicts, alone, or along paths if each
 //! directory above has to grant search.
 
 ghost use Rattle.std.specs.Prelude.{◌≡◌, [], true, slice_get, option_map, option_and_then, IfOk, OnErr};
@@ -18,8 +18,8 @@ use acl_names::Path;
 use std::alloc::{AllocError, Global};
 use std::marker::Model;
 
-/// A cursor over files with their classes: those that are still to come, in path order. To a contract it is the rows of the
-/// classes so far, and the rows of these files. The row of a class is made where it is taken: none is kept.
+/// An iterator over files with their classes, in path order. To a contract it is the rows of the classes so far, and
+/// the rows of the files that are left. The row of a class is made when it is taken: none is kept.
 #[derive(Drop)]
 pub struct FileClasses<'a> {
     pub(crate) files: NumberedFiles<'a>,
@@ -40,7 +40,7 @@ impl<'a> Model for FileClasses<'a> {
 }
 
 impl<'a> FileClasses<'a> {
-    /// The next file in path order with its class. After an error the file is still to come. Fails only if memory runs out.
+    /// Returns the next file in path order with its class. After an error the file comes again.
     pub fn next(&mut self, alloc: Global) -> Result<Option<(&'a Path, usize)>, AllocError>
         ensures file { IfOk result (λ found. TakesFile self.old (option_map seen found) self.new) }
         ensures same { OnErr result (self.new.1 ≡ self.old.1) }
@@ -54,22 +54,22 @@ impl<'a> FileClasses<'a> {
         Ok(Some((path, class)))
     }
 
-    /// Compares no classes from now on, so that files may be of different classes where these have the same row: for a question
-    /// that looks at one verdict of each class. Allocates nothing.
+    /// Compares no classes from now on, so that files may be of different classes although these have the same row:
+    /// for a question that looks at one verdict of each class.
     pub fn keep_apart(&mut self)
         ensures { self.new ≡ self.old }
     {
         self.met.keep_apart();
     }
 
-    /// The path of the file that `next` would return. Allocates nothing.
+    /// Returns the path of the file that `next` would return.
     pub fn path(&self) -> Option<&'a Path>
         ensures { option_map (λ path. path.now) result ≡ option_map (λ row. row.0) (first self.now.1) }
     {
         self.files.path()
     }
 
-    /// Whether a class has the row that a class of other files has, where that is seen without the rows. Allocates nothing.
+    /// Tells whether a class has the row that a class of other files has, as far as that is seen without the rows.
     pub fn has_row_of(&self, class: usize, others: &FileClasses<'_>, other: usize) -> bool
         ensures { result ≡ true → slice_get self.now.0 class ≡ slice_get others.now.0 other }
     {
@@ -82,7 +82,7 @@ impl<'a> FileClasses<'a> {
         }
     }
 
-    /// What the user at a place may do with the files of a class, if both are there. Makes no row. Allocates nothing.
+    /// Returns what the user at a place may do with the files of a class, if both are there. Makes no row.
     pub fn cell(&self, class: usize, user: usize) -> Option<Requests>
         ensures { result ≡ option_and_then (λ row. slice_get row user) (slice_get self.now.0 class) }
     {
@@ -92,8 +92,8 @@ impl<'a> FileClasses<'a> {
         }
     }
 
-    /// The row of a class, if there is one: what each user may do with its files, in the order of the users. It shares that of
-    /// a label where nobody is kept out above. Fails only if memory runs out.
+    /// Returns the row of a class, if there is one: what each user may do with its files, in the order of the users.
+    /// It shares that of a label if nobody is kept out above.
     pub fn row(&self, alloc: Global, class: usize) -> Result<Option<Cells>, AllocError>
         ensures { IfOk result (λ row. row ≡ slice_get self.now.0 class) }
     {
@@ -105,8 +105,8 @@ impl<'a> FileClasses<'a> {
 }
 
 impl ClassedRows {
-    /// All files with their classes: of their rows, or of what is left of these where each directory above has to grant
-    /// search. Allocates nothing.
+    /// Iterates over all files with their classes: by their rows, or by what is left of these if each directory above
+    /// has to grant search.
     pub fn file_classes(&self, alloc: Global, along: bool) -> FileClasses<'_>
         ensures { result ≡ ([], rows_along along (rows_at (entries_in self.now))) }
     {
@@ -116,7 +116,7 @@ impl ClassedRows {
         }
     }
 
-    /// The files that are not before a path with their classes, as [`ClassedRows::file_classes`] has them. Allocates nothing.
+    /// Iterates over the files from a path on, as [`ClassedRows::file_classes`] does.
     pub fn file_classes_from(&self, alloc: Global, along: bool, top: &Path) -> FileClasses<'_>
         ensures { result ≡ ([], from top.now (rows_along along (rows_at (entries_in self.now)))) }
     {

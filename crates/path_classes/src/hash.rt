@@ -1,12 +1,12 @@
-//! A number that is made of others, by which what differs is looked up.
+//! A hash of numbers.
 
 ghost use Rattle.std.specs.Prelude.{◌≡◌};
 ghost use Rattle.path_classes.specs.Hashes.{mixed};
 
-/// Some odd number whose bits have no order: the golden ratio's, as hashes use it.
+/// An odd multiplier without a pattern in its bits: the golden ratio's.
 const SPREAD: u64 = 0x9E37_79B9_7F4A_7C15;
 
-/// A hash with a number worked into it.
+/// Works a number into a hash.
 #[tactic(auto, unfolding(crate::specs::Hashes::mixed))]
 pub fn mixed(hash: u64, number: u64) -> u64
     ensures { result ≡ mixed hash number }

@@ -1,4 +1,4 @@
-//! The classes that paths outside of some tops have: files inside can have them too.
+//! The classes that paths outside of some tops have: files inside can get them too.
 
 ghost use Rattle.std.specs.Prelude.{◌≡◌, ◌+◌, ◌-◌, ◌<◌, ◌≤◌, [], ℕ, true, map, IfOk, IfSome};
 ghost use Rattle.path_map.specs.Entries.{seen};
@@ -20,7 +20,6 @@ pub(crate) struct KeptClasses {
     pub(crate) outside: Kinds<PathClass>,
 }
 
-/// Whether two classes above are the same.
 fn is_same_class(some: Option<usize>, other: Option<usize>) -> bool
     ensures { result ≡ true → some ≡ other }
 {
@@ -33,7 +32,7 @@ fn is_same_class(some: Option<usize>, other: Option<usize>) -> bool
     }
 }
 
-/// Whether a number is that of the class of a label below a class.
+/// Tells whether a number is that of the class of the key (`above`, `kind`).
 pub(crate) fn is_class_of(
     classes: &Kinds<PathClass>,
     number: usize,
@@ -48,7 +47,7 @@ pub(crate) fn is_class_of(
     }
 }
 
-/// The counts where some paths have a number no longer, if any.
+/// Takes `fewer` from the number's count of paths, if it is not 0.
 fn release_if(
     kinds: Kinds<PathClass>,
     number: usize,
@@ -62,8 +61,8 @@ fn release_if(
     kinds.release(number, fewer)
 }
 
-/// The counts where one path more has a number no longer, after a run of paths of one number that are counted still; and how many
-/// are, of this number.
+/// Takes one path off the number's count. Runs of one number are kept in `pending` and subtracted at once: `last` is
+/// the number of the run before. Returns the length of the current run.
 fn release_run(
     kinds: Kinds<PathClass>,
     last: usize,
@@ -81,7 +80,7 @@ fn release_run(
     Ok((kinds, 1))
 }
 
-/// The counts without those of some paths: at once for those of a run that have one number.
+/// Takes the paths of `entries` from the counts: at once for those of a run that have one number.
 fn without_paths(
     kinds: Kinds<PathClass>,
     entries: &[(&Path, usize)],
@@ -101,7 +100,6 @@ fn without_paths(
 }
 
 impl KeptClasses {
-    /// No classes. Fails only if memory runs out.
     pub fn none(alloc: Global) -> Result<KeptClasses, AllocError>
         ensures { IfOk result (λ none. none.outside ≡ ([], [])) }
     {
@@ -111,7 +109,7 @@ impl KeptClasses {
         })
     }
 
-    /// The classes of all paths but some. Fails only if memory runs out.
+    /// Returns the classes of all paths but those of `inside`.
     pub fn of(
         classes: &TaggedMap<PathClass>,
         inside: &[(&Path, usize)],
@@ -125,7 +123,7 @@ impl KeptClasses {
         })
     }
 
-    /// Whether a number is that of the class of a label below a class, and paths outside have it.
+    /// Tells whether a number is that of the class of a key, and paths outside have it.
     fn is_kept(
         &self,
         classes: &Kinds<PathClass>,
@@ -139,8 +137,7 @@ impl KeptClasses {
         Ok(count > 0 && is_class_of(classes, number, above, kind))
     }
 
-    /// The class of a label below a class, if paths outside have it: it is found by its tag. Fails only if memory, or the
-    /// numbers, run out.
+    /// Returns the class of a key, if paths outside have it: it is found by its tag.
     pub fn find(
         &self,
         alloc: Global,

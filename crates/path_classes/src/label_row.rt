@@ -15,7 +15,7 @@ pub struct LabelRow {
     pub row: Cells,
 }
 
-/// Adds the numbers of groups. Fails only if memory runs out.
+/// Adds the numbers of groups.
 pub fn push_groups(new: &mut Vec<usize>, ids: &[Id]) -> Result<(), AllocError>
     ensures { OnOk result (new.new.items ≡ new.old.items ++ ids.now) }
 {

@@ -15,14 +15,14 @@ use acl_entry::Requests;
 use kinds::Kinds;
 use std::alloc::{AllocError, Global};
 
-/// A verdict, or nothing where the user does not get through.
+/// Returns the verdict, or nothing if the user does not get through.
 fn where_through(through: bool, cell: Requests) -> Requests
     ensures { result ≡ (if through then cell else 0) }
 {
     if through { cell } else { Requests::none() }
 }
 
-/// Leaves nothing to users who do not get through. The loop always writes, so that it writes many at a time.
+/// Clears the verdicts of users who do not get through. The loop always writes, so that it writes many at a time.
 fn leave_to(through: &[bool], cells: &mut [Requests])
     ensures { cells.new ≡ left_to through.now cells.old }
 {
@@ -32,7 +32,7 @@ fn leave_to(through: &[bool], cells: &mut [Requests])
     }
 }
 
-/// The verdicts of those who get through from above, and nothing for others, who may have no place in `above`.
+/// Copies the verdicts of those who get through from above, and nothing for others, who may have no place in `above`.
 fn left_row_below(
     alloc: Global,
     above: &Searchers,
@@ -49,7 +49,7 @@ fn left_row_below(
     Ok(new)
 }
 
-/// The verdicts of those who get through from above, and nothing for others.
+/// Copies the verdicts of those who get through from above, and nothing for others.
 fn left_row(
     alloc: Global,
     above: Option<&Searchers>,
@@ -65,7 +65,7 @@ fn left_row(
     Ok(new)
 }
 
-/// What a path class leaves of the row of its label.
+/// Returns what a path class leaves of the row of its label.
 pub(crate) fn class_row(
     alloc: Global,
     labels: &Kinds<LabelRow>,
@@ -81,7 +81,8 @@ pub(crate) fn class_row(
     left_row(alloc, above, row.as_slice())
 }
 
-/// Whether a user gets through the class above, if there is one: nobody does where it does not keep who can search.
+/// Tells whether a user gets through the class above, if there is one: nobody does if it does not keep who can
+/// search.
 pub(crate) fn passes_above(classes: &Kinds<PathClass>, above: Option<usize>, user: usize) -> bool
     ensures { result ≡ gets_through (search_above classes.now above) user }
 {
@@ -97,7 +98,7 @@ pub(crate) fn passes_above(classes: &Kinds<PathClass>, above: Option<usize>, use
     }
 }
 
-/// The verdict on a user in the row of a label, if both are there.
+/// Returns the verdict on a user in the row of a label, if both are there.
 pub(crate) fn label_cell(labels: &Kinds<LabelRow>, number: usize, user: usize) -> Option<Requests>
     ensures { result ≡ slice_get (label_row labels.now number) user }
 {
@@ -107,7 +108,8 @@ pub(crate) fn label_cell(labels: &Kinds<LabelRow>, number: usize, user: usize) -
     }
 }
 
-/// What a path class leaves of the verdict on a user in the row of its label, if both are there. Makes no row.
+/// Returns what a path class leaves of the verdict on a user in the row of its label, if both are there. Makes no
+/// row.
 pub(crate) fn class_cell(
     labels: &Kinds<LabelRow>,
     classes: &Kinds<PathClass>,

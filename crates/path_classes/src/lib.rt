@@ -17,15 +17,15 @@
 //! So a user may do with `b/g` along its path what the row of label 2 grants, if class 1 has the user; else nothing. That is two
 //! look-ups, whatever the depth.
 //!
-//! - A directory that alone has its class gets another label in place: nothing below it moves. Below one that shares its class
-//!   each file gets the class of its label below the class above, which may be one that files elsewhere have.
-//! - Where rows change, the classes of their labels are renewed: who can search is found again for each, and for those right
-//!   below one that changes. Classes are found by tags: the class above, a hash of this and their label, and the label of those
-//!   that say who can search. Where all rows change, each class is searched again once, after the one above it.
-//! - How many files' answers were found again is counted by the counts of classes.
+//! - If a directory alone has its class, it gets another label in place: nothing below it moves. Below one that shares its
+//!   class each file gets the class of its label and of the class above, which may be one that files elsewhere have.
+//! - If rows change, the classes of their labels are renewed: who can search is found again for each, and for those right
+//!   below one that changes. Classes are found by tags: the class above, a hash of this and their label, and the label of
+//!   those that say who can search. If all rows change, each class is searched again once, after the one above it.
+//! - How many files' answers were found again is the sum of the counts of classes.
 //!
-//! Rows of verdicts; labels with their rows; who can search down to a place; classes, and how lines on files, memberships and
-//! users change them; and the answers along paths: of a file, of all files to a user, of files by classes of equal rows.
+//! A call whose only error is `AllocError` fails only if memory runs out, or if a number or a count would be too large. A
+//! function that returns no `Result` allocates nothing.
 #![tactic(auto)]
 
 mod answers;

@@ -1,5 +1,5 @@
-//! How many files may have other answers where the rows of all labels may be others: by marks of labels and of classes, and by
-//! the counts of classes.
+//! How many files may have other answers if the rows of all labels may be others: by marks of labels and of classes,
+//! and by the counts of classes.
 
 ghost use Rattle.std.specs.Prelude.{◌≡◌, ◌≤◌, ℕ, true, false, length, get_or, IfOk};
 ghost use Rattle.std.specs.Option.{option_copied, option_map_or, unwrap_or};
@@ -14,7 +14,7 @@ use crate::searchers::Searchers;
 use kinds::{KindMap, KindTest, Kinds, TaggedMap};
 use std::alloc::{AllocError, Global};
 
-/// Whether a label is there before and after, with the same verdicts. Allocates nothing.
+/// Tells whether a label is there before and after, with the same verdicts.
 fn has_same_verdicts(old: &Kinds<LabelRow>, rows: &Kinds<LabelRow>, label: usize) -> bool
     ensures { result ≡ true → verdicts_at rows.now label ≡ verdicts_at old.now label }
 {
@@ -27,7 +27,7 @@ fn has_same_verdicts(old: &Kinds<LabelRow>, rows: &Kinds<LabelRow>, label: usize
     same_row(old.row.as_slice(), new.row.as_slice())
 }
 
-/// For each number of a label whether its verdicts are others.
+/// Tells for each number of a label whether its verdicts are others.
 fn changed_verdicts(
     alloc: Global,
     old: &KindMap<LabelRow>,
@@ -44,7 +44,7 @@ fn changed_verdicts(
     Ok(marks)
 }
 
-/// Who can search down to a class, if it keeps that.
+/// Returns who can search down to a class, if the class keeps that.
 fn search_of(classes: &Kinds<PathClass>, number: usize) -> Option<&Searchers>
     ensures { option_copied result ≡ kept_search (node_at classes.now number) }
 {
@@ -57,7 +57,7 @@ fn search_of(classes: &Kinds<PathClass>, number: usize) -> Option<&Searchers>
     }
 }
 
-/// Whether the same users can search down to a class before and after.
+/// Tells whether the same users can search down to a class before and after.
 fn has_same_search(before: &Kinds<PathClass>, after: &Kinds<PathClass>, number: usize) -> bool
     ensures { result ≡ true → search_at after.now number ≡ search_at before.now number }
 {
@@ -70,7 +70,7 @@ fn has_same_search(before: &Kinds<PathClass>, after: &Kinds<PathClass>, number: 
     }
 }
 
-/// For each number of a class whether other users can search down to it.
+/// Tells for each number of a class whether other users can search down to it.
 fn changed_searches(
     alloc: Global,
     before: &KindMap<PathClass>,
@@ -87,7 +87,7 @@ fn changed_searches(
     Ok(marks)
 }
 
-/// Whether a number is marked, or has no mark.
+/// Tells whether a number is marked, or has no mark.
 fn is_marked(marks: &[bool], number: usize) -> bool
     ensures { result ≡ get_or marks.now number true }
 {
@@ -97,7 +97,7 @@ fn is_marked(marks: &[bool], number: usize) -> bool
     }
 }
 
-/// Whether the class above is marked, if there is one.
+/// Tells whether the class above is marked, if there is one.
 fn is_marked_above(marks: &[bool], above: Option<usize>) -> bool
     ensures { result ≡ option_map_or (λ a. get_or marks.now a true) above false }
 {
@@ -107,7 +107,7 @@ fn is_marked_above(marks: &[bool], above: Option<usize>) -> bool
     }
 }
 
-/// Classes whose label is marked, or the class above.
+/// The test that a class has a marked label, or a marked class above.
 #[derive(Drop)]
 struct MarkedClasses<'a> {
     labels: &'a [bool],
@@ -124,9 +124,8 @@ impl KindTest<PathClass> for MarkedClasses<'_> {
     }
 }
 
-/// How many files have a label with other verdicts, or are right below a class to which others can search, where paths keep the
-/// numbers of their labels and classes: all others have the answers that they had. Fails only if memory, or the numbers, run
-/// out.
+/// Counts the files that have a label with other verdicts, or are right below a class to which others can search, if
+/// paths keep the numbers of their labels and classes: all others have the answers that they had.
 pub(crate) fn changed_count(
     alloc: Global,
     old: &KindMap<LabelRow>,

@@ -1,4 +1,4 @@
-//! Rows of numbers that were met: of each row a number by which it is found again, so that no row is kept.
+//! The rows of the numbers that were seen: each row is found by a number that has it, so that no row is kept.
 
 ghost use Rattle.std.specs.Prelude.{◌≡◌, ◌==◌, ℕ, [], None, Some, get_or, slice_get, IfOk, IfSome, OnOk, OnErr, if◌then◌else◌};
 ghost use Rattle.path_classes.specs.Classes.{KeepRows};
@@ -9,7 +9,7 @@ use crate::numbered_files::NumberedFiles;
 use crate::row_hints::RowHints;
 use std::alloc::{AllocError, Global};
 
-/// Of each row that was met the first number that has it, and for each number that was met the place of its row.
+/// For each row the first number seen that has it, and for each number seen the place of its row.
 #[derive(Drop)]
 pub(crate) struct MetRows {
     pub(crate) places: Vec<Option<usize>>,
@@ -17,7 +17,6 @@ pub(crate) struct MetRows {
     hints: RowHints,
 }
 
-/// What a table has for a number.
 fn entry(table: &[Option<usize>], number: usize) -> Option<usize>
     ensures { result ≡ get_or table.now number None }
 {
@@ -27,7 +26,7 @@ fn entry(table: &[Option<usize>], number: usize) -> Option<usize>
     }
 }
 
-/// Puts a value into a table, which gets longer where it has no room.
+/// Puts a value into a table, which grows if it has no room.
 fn put(table: &mut Vec<Option<usize>>, number: usize, value: usize) -> Result<(), AllocError>
     ensures put { OnOk result ((n : ℕ) → get_or table.new.items n None ≡ (if n == number then Some value else get_or table.old.items n None)) }
     ensures same { OnErr result ((n : ℕ) → get_or table.new.items n None ≡ get_or table.old.items n None) }
@@ -40,7 +39,6 @@ fn put(table: &mut Vec<Option<usize>>, number: usize, value: usize) -> Result<()
 }
 
 impl MetRows {
-    /// None. Allocates nothing.
     pub fn new(alloc: Global) -> MetRows
         ensures places { result.places.items ≡ [] }
         ensures numbers { result.numbers.items ≡ [] }
@@ -52,7 +50,7 @@ impl MetRows {
         }
     }
 
-    /// Gives each number that is met from now on a place of its own, also where another one has its row.
+    /// Gives each number that is seen from now on a place of its own, even if another one has its row.
     pub fn keep_apart(&mut self)
         ensures places { self.new.places ≡ self.old.places }
         ensures numbers { self.new.numbers ≡ self.old.numbers }
@@ -60,7 +58,7 @@ impl MetRows {
         self.hints.keep_apart();
     }
 
-    /// A number that has the row at a place, if there is one. Allocates nothing.
+    /// Returns a number that has the row at a place, if there is one.
     pub fn number(&self, place: usize) -> Option<usize>
         ensures { result ≡ slice_get self.now.numbers.items place }
     {
@@ -70,14 +68,14 @@ impl MetRows {
         }
     }
 
-    /// Whether a number was met. Allocates nothing.
+    /// Tells whether a number was seen.
     pub fn is_met(&self, number: usize) -> bool
         ensures { result ≡ is_met self.now.places.items number }
     {
         entry(&self.places, number).is_some()
     }
 
-    /// The place of a row that a number has, if a hint leads there.
+    /// Returns the place of a row that a number has, if a hint leads there.
     fn same_place(
         &self,
         files: &NumberedFiles<'_>,
@@ -95,7 +93,7 @@ impl MetRows {
         }
     }
 
-    /// A place with the row of a number that was not met: that of a number of the same row, or a new one.
+    /// Returns a place for the row of a number that was not seen: that of a number with the same row, or a new one.
     fn new_place(&mut self, files: &NumberedFiles<'_>, number: usize) -> Result<usize, AllocError>
         requires row { HasRow files.now.rows files.now.classes number }
         requires met { AreMet files.now self.old.places.items self.old.numbers.items }
@@ -114,7 +112,7 @@ impl MetRows {
         Ok(place)
     }
 
-    /// The place of the row of a number, which is met from now on. Fails only if memory runs out.
+    /// Returns the place of the row of a number, which counts as seen from now on.
     pub fn place_of(
         &mut self,
         files: &NumberedFiles<'_>,

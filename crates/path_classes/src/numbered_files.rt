@@ -1,4 +1,4 @@
-//! Files with the numbers by which their rows are found, one after another: those of labels, or along paths those of path
+//! Iterates over files with the numbers by which their rows are found: those of labels, or along paths those of path
 //! classes.
 
 ghost use Rattle.std.specs.Prelude.{◌≡◌, ◌<◌, true, drop, option_map, slice_get, IfOk, IfSome};
@@ -26,7 +26,7 @@ use path_map::{Entries, PathMap};
 use std::alloc::{AllocError, Global};
 use std::marker::Model;
 
-/// A cursor over files with their numbers: those that are still to come, in path order.
+/// An iterator over files with their numbers, in path order.
 #[derive(Drop)]
 pub(crate) struct NumberedFiles<'a> {
     labels: &'a Kinds<LabelRow>,
@@ -49,7 +49,7 @@ impl<'a> Model for NumberedFiles<'a> {
     ghost invariant = { λ f. HaveRows f.labels.now (option_map (λ k. k.now) f.classes) (numbers_left f.first f.rest) };
 }
 
-/// The row of a label, shared.
+/// Returns the row of a label, shared.
 fn shared_row(labels: &Kinds<LabelRow>, number: usize) -> Result<Cells, AllocError>
     requires { IsNode labels.now number }
     ensures { IfOk result (λ row. row ≡ label_row labels.now number) }
@@ -57,7 +57,7 @@ fn shared_row(labels: &Kinds<LabelRow>, number: usize) -> Result<Cells, AllocErr
     labels.node(number).row.share()
 }
 
-/// What a path class leaves of the row of its label: shared with that row, where all of it is left.
+/// Returns what a path class leaves of the row of its label: shared with that row, if all of it is left.
 fn left_or_shared(
     alloc: Global,
     labels: &Kinds<LabelRow>,
@@ -73,7 +73,6 @@ fn left_or_shared(
 }
 
 impl<'a> NumberedFiles<'a> {
-    /// Files of a map of numbers.
     fn new(
         labels: &'a Kinds<LabelRow>,
         classes: Option<&'a Kinds<PathClass>>,
@@ -92,7 +91,7 @@ impl<'a> NumberedFiles<'a> {
         }
     }
 
-    /// The first of the files, with its number. Allocates nothing.
+    /// Returns the current file, with its number.
     pub fn first(&self) -> Option<(&'a Path, usize)>
         ensures first { option_map seen result ≡ first self.now.left }
         ensures row { IfSome result (λ e. HasRow self.now.rows self.now.classes e.1) }
@@ -100,7 +99,7 @@ impl<'a> NumberedFiles<'a> {
         self.first
     }
 
-    /// The path of the first of the files. Allocates nothing.
+    /// Returns the path of the current file.
     pub fn path(&self) -> Option<&'a Path>
         ensures { option_map (λ path. path.now) result ≡ option_map (λ row. row.0) (first (rows_left self.now)) }
     {
@@ -110,7 +109,7 @@ impl<'a> NumberedFiles<'a> {
         }
     }
 
-    /// Goes on to the file after the first. Allocates nothing.
+    /// Goes on to the next file.
     pub fn advance(&mut self)
         ensures { self.new ≡ record self.old { left = drop 1 self.old.left } }
     {
@@ -119,7 +118,7 @@ impl<'a> NumberedFiles<'a> {
         }
     }
 
-    /// The number of the label of a number's files.
+    /// Returns the number of the label of a number's files.
     pub fn label(&self, number: usize) -> usize {
         let Some(classes) = self.classes else {
             return number;
@@ -130,17 +129,18 @@ impl<'a> NumberedFiles<'a> {
         }
     }
 
-    /// The path class of the nearest recorded directory above a number's files, where the numbers are those of path classes.
+    /// Returns the path class of the nearest recorded directory above a number's files, if the numbers are those of
+    /// path classes.
     pub fn above(&self, number: usize) -> Option<usize> {
         self.classes?.get(number)?.above
     }
 
-    /// Whether the numbers are those of path classes.
+    /// Tells whether the numbers are those of path classes.
     pub fn are_classes(&self) -> bool {
         self.classes.is_some()
     }
 
-    /// A hash of who gets through a path class.
+    /// Returns a hash of who gets through a path class.
     pub fn searchers_hash(&self, above: usize) -> u64 {
         let Some(classes) = self.classes else {
             return 0;
@@ -151,7 +151,7 @@ impl<'a> NumberedFiles<'a> {
         }
     }
 
-    /// Whether two numbers have the same row, where that is seen without the rows. Allocates nothing.
+    /// Tells whether two numbers have the same row, as far as that is seen without the rows.
     pub fn is_same_row(&self, number: usize, other: usize) -> bool
         ensures { result ≡ true → row_at self.now number ≡ row_at self.now other }
     {
@@ -161,8 +161,8 @@ impl<'a> NumberedFiles<'a> {
         }
     }
 
-    /// Whether a number of these files has the row that a number of others has, where that is seen without the rows. Allocates
-    /// nothing.
+    /// Tells whether a number of these files has the row that a number of others has, as far as that is seen without
+    /// the rows.
     pub fn has_row_of(&self, number: usize, others: &NumberedFiles<'_>, other: usize) -> bool
         ensures { result ≡ true → row_at self.now number ≡ row_at others.now other }
     {
@@ -185,7 +185,7 @@ impl<'a> NumberedFiles<'a> {
         }
     }
 
-    /// How many of all files have a number. Allocates nothing.
+    /// Returns how many of all files have a number.
     pub fn count(&self, number: usize) -> usize
         ensures { result ≡ files_with self.now number }
     {
@@ -195,7 +195,7 @@ impl<'a> NumberedFiles<'a> {
         }
     }
 
-    /// The verdict on a user in the row of a number, if both are there. Makes no row. Allocates nothing.
+    /// Returns the verdict on a user in the row of a number, if both are there. Makes no row.
     pub fn cell(&self, number: usize, user: usize) -> Option<Requests>
         ensures { result ≡ slice_get (row_at self.now number) user }
     {
@@ -205,7 +205,7 @@ impl<'a> NumberedFiles<'a> {
         }
     }
 
-    /// The row of a number: shared with that of a label, where both are the same. Fails only if memory runs out.
+    /// Returns the row of a number: shared with that of a label, if both are the same.
     pub fn row(&self, alloc: Global, number: usize) -> Result<Cells, AllocError>
         requires { HasRow self.now.rows self.now.classes number }
         ensures { IfOk result (λ row. row ≡ row_at self.now number) }
@@ -218,8 +218,8 @@ impl<'a> NumberedFiles<'a> {
 }
 
 impl ClassedRows {
-    /// The numbers by which files' rows are found, alone or along paths; the path classes, if the numbers are theirs; and a
-    /// number above all of these.
+    /// Returns the numbers by which files' rows are found, alone or along paths; the path classes, if the numbers are
+    /// theirs; and a number above all of these.
     fn file_numbers(&self, along: bool) -> (&PathMap<usize>, Option<&Kinds<PathClass>>, usize)
         ensures numbers { AreNumbers along self.now (option_map (λ k. k.now) result.1) result.0.now }
         ensures end { AllByRecursion (λ e. e.1 < result.2) result.0.now }
@@ -235,7 +235,7 @@ impl ClassedRows {
         (classes.numbers(), Some(classes.kinds()), end)
     }
 
-    /// All files with their numbers. Allocates nothing.
+    /// Iterates over all files with their numbers.
     pub(crate) fn numbered_files(&self, along: bool) -> NumberedFiles<'_>
         ensures { rows_left result ≡ rows_along along (rows_at (entries_in self.now)) }
     {
@@ -243,7 +243,7 @@ impl ClassedRows {
         files
     }
 
-    /// All files with their numbers, and a number above all of these. Allocates nothing.
+    /// Iterates over all files with their numbers, and returns a number above all of these.
     pub(crate) fn all_numbered(&self, along: bool) -> (NumberedFiles<'_>, usize)
         ensures rows { rows_left result.0 ≡ rows_along along (rows_at (entries_in self.now)) }
         ensures all { AreAll result.0 }
@@ -254,7 +254,7 @@ impl ClassedRows {
         (files, end)
     }
 
-    /// The files that are not before a path, with their numbers. Allocates nothing.
+    /// Iterates over the files from a path on, with their numbers.
     pub(crate) fn numbered_files_from(&self, along: bool, top: &Path) -> NumberedFiles<'_>
         ensures { rows_left result ≡ from top.now (rows_along along (rows_at (entries_in self.now))) }
     {

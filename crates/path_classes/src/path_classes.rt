@@ -12,7 +12,6 @@ use acl_names::Path;
 use kinds::{KindMap, Kinds};
 use std::alloc::{AllocError, Global};
 
-/// The path above all others.
 fn root(alloc: Global) -> Path
     ensures { result ≡ [] }
 {
@@ -22,7 +21,7 @@ fn root(alloc: Global) -> Path
     }
 }
 
-/// The classes of all files. Fails only if memory runs out.
+/// Finds the classes of all files.
 pub(crate) fn classes_of(
     alloc: Global,
     rows: &KindMap<LabelRow>,

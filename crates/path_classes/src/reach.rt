@@ -11,8 +11,8 @@ use acl_entry::Requests;
 use acl_names::Path;
 
 impl ClassedRows {
-    /// What the user at a place may do with a file where each recorded directory above the file lets the user search; else
-    /// nothing. `None` where there is no such file or user. One look-up, whatever the depth. Allocates nothing.
+    /// Returns what the user at a place may do with a file if each recorded directory above the file lets the user
+    /// search; else nothing. `None` if there is no such file or user. One look-up, whatever the depth.
     pub fn reach(&self, user: usize, path: &Path) -> Option<Requests>
         ensures { result ≡ reached_at (rows_at (entries_in self.now)) user path.now }
     {

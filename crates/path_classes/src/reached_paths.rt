@@ -1,4 +1,4 @@
-//! On which files a user is granted a request, where each directory above has to grant search.
+//! On which files a user is granted a request, if each directory above has to grant search.
 
 ghost use Rattle.std.specs.Prelude.{◌≡◌, map, IfOk};
 ghost use Rattle.kinds.specs.Numbered.{entries_in};
@@ -17,7 +17,7 @@ use acl_names::Path;
 use kinds::{KindTest, Kinds};
 use std::alloc::{AllocError, Global};
 
-/// Path classes whose files grant a user a request, where each directory above has to grant search.
+/// The test that the files of a path class grant a user a request, if each directory above has to grant search.
 #[derive(Drop)]
 struct Reached<'a> {
     labels: &'a Kinds<LabelRow>,
@@ -41,8 +41,8 @@ impl<'a> KindTest<PathClass> for Reached<'a> {
 }
 
 impl ClassedRows {
-    /// The paths of the files on which a user is granted a request and each of whose recorded directories above grants the
-    /// user search, in path order: each path class is looked at once. Fails only if memory runs out.
+    /// Returns the paths of the files on which a user is granted a request and each of whose recorded directories
+    /// above grants the user search, in path order: each path class is looked at once.
     pub fn reached_paths(
         &self,
         alloc: Global,

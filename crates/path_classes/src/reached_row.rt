@@ -1,4 +1,4 @@
-//! What users may do with a file where each directory above has to grant search.
+//! What users may do with a file, if each directory above has to grant search.
 
 ghost use Rattle.std.specs.Prelude.{◌≡◌, IfOk, option_map};
 ghost use Rattle.std.specs.FinMap.{find};
@@ -14,8 +14,8 @@ use acl_names::Path;
 use std::alloc::{AllocError, Global};
 
 impl ClassedRows {
-    /// What each user may do with a file where each recorded directory above it lets the user search; `None` where there
-    /// is no such file. Fails only if memory runs out.
+    /// Returns what each user may do with a file if each recorded directory above it lets the user search; `None` if
+    /// there is no such file.
     pub fn reached_row(
         &self,
         alloc: Global,

@@ -1,4 +1,5 @@
-//! A file of another label, where its class is its own: the class gets the label, and all files below keep theirs.
+//! Gives a file another label in place, if its class is its own: the class gets the label, and all files below keep
+//! theirs.
 
 ghost use Rattle.std.specs.Prelude.{◌≡◌, ◌≤◌, ◌∷◌, ◌++◌, [], length, map, IfOk, IfSome};
 ghost use Rattle.path_map.specs.Entries.{seen};
@@ -16,8 +17,7 @@ use acl_names::Path;
 use kinds::{KindMap, TaggedMap};
 use std::alloc::{AllocError, Global};
 
-/// The class of a file, if no other file has it and some lie right below the file. Fails only if memory, or the numbers, run
-/// out.
+/// Returns the class of a file, if no other file has it and some lie right below the file.
 fn own_class(
     alloc: Global,
     classes: &TaggedMap<PathClass>,
@@ -38,9 +38,9 @@ fn own_class(
     Ok(Some(number))
 }
 
-/// The classes where one file has another label, and how many files may have other answers by that: the file, and those right
-/// below a class to which others can search now. `None` if the file was not there, if other files have its class, or if
-/// nothing lies right below it. Fails only if memory, or the numbers, run out.
+/// Returns the classes after one file got another label, and how many files may have other answers by that: the file,
+/// and those right below a class to which others can search now. `None` if the file was not there, if other files
+/// have its class, or if nothing lies right below it.
 pub(crate) fn relabelled_file(
     alloc: Global,
     old: &KindMap<LabelRow>,
@@ -74,7 +74,7 @@ pub(crate) fn relabelled_file(
     Ok(Some((classes, count)))
 }
 
-/// The same where some files changed and others are gone: `None` also if these are not one that changed.
+/// Calls `relabelled_file` if exactly one file changed and none is gone; else returns `None`.
 pub(crate) fn relabelled_alone<V, W>(
     alloc: Global,
     old: &KindMap<LabelRow>,

@@ -1,5 +1,5 @@
-//! Who can search down to classes, where the rows of their labels changed: found class by class, and then below each that
-//! changes.
+//! Who can search down to classes, after the rows of their labels changed: found class by class, and then below each
+//! that changes.
 
 ghost use Rattle.std.specs.Prelude.{◌≡◌, [], ◌∷◌, ℕ, List, false, IfOk, MatchOption};
 ghost use Rattle.acl_names.specs.Paths.{PathOf};
@@ -17,21 +17,21 @@ use kinds::{KindMap, Kinds, TaggedMap};
 use std::alloc::{AllocError, Global};
 use std::rc::Rc;
 
-/// Classes where who can search was found again, and the numbers of those that changed.
+/// The classes after who can search was found again, and the numbers of those that changed.
 #[derive(Drop)]
 pub(crate) struct RenewedSearches {
     pub(crate) classes: Kinds<PathClass>,
     pub(crate) changed: Vec<usize>,
 }
 
-/// The numbers of classes that wait to be renewed, and of those that changed.
+/// The numbers of the classes that wait to be renewed, and of those that changed.
 #[derive(Drop)]
 struct Queue {
     waiting: Vec<usize>,
     changed: Vec<usize>,
 }
 
-/// Who can search down to a class, by the class above and the row of the label.
+/// Returns who can search down to a class, by the class above and the row of the label.
 fn searchers_of(
     alloc: Global,
     rows: &Kinds<LabelRow>,
@@ -47,7 +47,7 @@ fn searchers_of(
     Ok(search)
 }
 
-/// A class with who can search down to it found again, if that is kept and others can.
+/// Finds again who can search down to a class, if the class keeps that; `None` if the same users can.
 pub(crate) fn searched_again(
     alloc: Global,
     rows: &Kinds<LabelRow>,
@@ -75,7 +75,7 @@ pub(crate) fn searched_again(
     }))
 }
 
-/// Makes again who can search down to the class of a number; if others can, the classes right below it wait.
+/// Finds again who can search down to the class of a number; if others can, the classes right below it wait.
 fn renew_one(
     alloc: Global,
     rows: &Kinds<LabelRow>,
@@ -100,8 +100,8 @@ fn renew_one(
     Ok(classes)
 }
 
-/// Makes again who can search down to some classes of paths, and to those right below each that changes by that, and so on:
-/// so a class that changes has paths only where those of `waiting` are, or below these. Fails only if memory runs out.
+/// Finds again who can search down to the classes of `waiting`, and to those right below each that changes by that,
+/// and so on: so a class that changes has paths only at or below those of `waiting`.
 pub(crate) fn renewed_searches(
     alloc: Global,
     rows: &Kinds<LabelRow>,
@@ -128,7 +128,7 @@ pub(crate) fn renewed_searches(
     Ok(RenewedSearches { classes, changed })
 }
 
-/// The classes of the same paths, where other users can search down to some. Fails only if memory runs out.
+/// Returns the classes of the same paths, to some of which other users can search.
 pub(crate) fn with_searches(
     alloc: Global,
     before: &TaggedMap<PathClass>,
@@ -144,8 +144,8 @@ pub(crate) fn with_searches(
     Ok(new)
 }
 
-/// The classes of the same paths for rows of which some are others, and the numbers of the classes that changed: who can search
-/// is found again for the classes that wait, which are all those of the labels whose rows changed. Fails only if memory runs out.
+/// Returns the classes of the same paths after some rows changed, and the numbers of the classes that changed: who
+/// can search is found again for the classes that wait, which are all those of the labels whose rows changed.
 pub(crate) fn renewed_classes(
     alloc: Global,
     rows: &KindMap<LabelRow>,
@@ -166,7 +166,7 @@ pub(crate) fn renewed_classes(
     Ok((new, changed))
 }
 
-/// Who can search down to a class, shared, if that is kept.
+/// Shares who can search down to a class, if that is kept.
 fn shared_search(search: &Option<Searchers>) -> Result<Option<Searchers>, AllocError>
     ensures { IfOk result (λ same. same ≡ search.now) }
 {
@@ -176,7 +176,6 @@ fn shared_search(search: &Option<Searchers>) -> Result<Option<Searchers>, AllocE
     }
 }
 
-/// A list of one number.
 fn one_number(alloc: Global, number: usize) -> Result<Vec<usize>, AllocError>
     ensures { IfOk result (λ numbers. numbers.items ≡ number ∷ []) }
 {
@@ -185,7 +184,7 @@ fn one_number(alloc: Global, number: usize) -> Result<Vec<usize>, AllocError>
     Ok(numbers)
 }
 
-/// The classes, where that of a number has another label.
+/// Gives the class of a number another label.
 fn with_kind(
     alloc: Global,
     before: &TaggedMap<PathClass>,
@@ -211,8 +210,8 @@ fn with_kind(
     Ok(map)
 }
 
-/// The classes of the same paths, where those of one class have another label: its number stays, and nothing below moves. And
-/// the numbers of the classes to which others can search now. Fails only if memory, or the numbers, run out.
+/// Returns the classes of the same paths after those of one class got another label: its number stays, and nothing
+/// below moves. Returns also the numbers of the classes to which others can search now.
 pub(crate) fn relabelled_classes(
     alloc: Global,
     rows: &KindMap<LabelRow>,

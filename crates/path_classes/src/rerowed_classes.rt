@@ -1,4 +1,4 @@
-//! Classes of the same paths, where the rows of labels are others, and how many files may have other answers by that.
+//! The classes of the same paths after the rows of labels changed, and how many files may have other answers by that.
 
 ghost use Rattle.std.specs.Prelude.{◌≡◌, ◌≤◌, ◌++◌, ◌∷◌, ◌&&◌, [], ℕ, List, false, not, length, map, count_by, IfOk, OnOk, if◌then◌else◌};
 ghost use Rattle.std.specs.List.Sorted.{IsStrictlyIncreasing};
@@ -22,7 +22,7 @@ use crate::tagged_classes::classes_of_labels;
 use kinds::{KindMap, Kinds, TaggedMap, rising_numbers};
 use std::alloc::{AllocError, Global};
 
-/// Adds the tags of the classes right below some.
+/// Adds the tags of the classes right below those of `above`.
 fn push_below_tags(tags: &mut Vec<usize>, above: &[usize]) -> Result<(), AllocError>
     ensures { OnOk result (tags.new.items ≡ tags.old.items ++ map below_tag above.now) }
 {
@@ -32,7 +32,7 @@ fn push_below_tags(tags: &mut Vec<usize>, above: &[usize]) -> Result<(), AllocEr
     Ok(())
 }
 
-/// The classes of paths right below some classes, rising.
+/// Returns the classes of paths right below those of `above`, rising.
 fn classes_below_some(
     alloc: Global,
     classes: &TaggedMap<PathClass>,
@@ -46,7 +46,7 @@ fn classes_below_some(
     Ok(numbers)
 }
 
-/// The number of the label of a class; 0 if there is none. Allocates nothing.
+/// Returns the number of the label of a class; 0 if there is none.
 fn kind_of(classes: &Kinds<PathClass>, number: usize) -> usize
     ensures { result ≡ kind_at classes.now number }
 {
@@ -56,7 +56,7 @@ fn kind_of(classes: &Kinds<PathClass>, number: usize) -> usize
     }
 }
 
-/// Whether the label of a class is among some, which rise. Allocates nothing.
+/// Tells whether the label of a class is one of `labels`, which rise.
 fn has_label(classes: &Kinds<PathClass>, labels: &[usize], number: usize) -> bool
     requires { IsStrictlyIncreasing labels.now }
     ensures { result ≡ is_one (kind_at classes.now number) labels.now }
@@ -65,7 +65,7 @@ fn has_label(classes: &Kinds<PathClass>, labels: &[usize], number: usize) -> boo
     labels.binary_search(&kind).is_ok()
 }
 
-/// Adds a class, unless its label is among some, which rise.
+/// Adds a class, unless its label is one of `labels`, which rise.
 fn push_unless(
     left: &mut Vec<usize>,
     classes: &Kinds<PathClass>,
@@ -82,7 +82,7 @@ fn push_unless(
     Ok(())
 }
 
-/// Those of some classes whose labels are not among some, which rise; rising.
+/// Returns those of `numbers` whose labels are not among `labels`, which rise; rising.
 fn without_labels(
     alloc: Global,
     classes: &Kinds<PathClass>,
@@ -100,8 +100,8 @@ fn without_labels(
     Ok(rising_numbers(left))
 }
 
-/// How many paths have one of some labels, which rise, or a class right below one of `above`: each path counts once. Classes of
-/// the labels are not looked at.
+/// Counts the paths that have one of `labels`, which rise, or a class right below one of `above`: each path counts
+/// once. Classes of the labels are not looked at.
 fn touched_paths(
     alloc: Global,
     rows: &KindMap<LabelRow>,
@@ -123,8 +123,8 @@ fn touched_paths(
     Ok(count)
 }
 
-/// How many paths have a class right below one of some: each path counts once. They are counted class by class, so that only
-/// the classes above are sorted.
+/// Counts the paths that have a class right below one of `above`: each path counts once. They are counted class by
+/// class, so that only the classes above are sorted.
 pub(crate) fn paths_below(
     alloc: Global,
     classes: &TaggedMap<PathClass>,
@@ -145,9 +145,9 @@ pub(crate) fn paths_below(
     Ok(count)
 }
 
-/// The classes of the same paths, where the verdicts on some labels, which rise, are others. And how many files have one of
-/// these labels, or are right below a class to which others can search now: all others have the answers that they had. Classes
-/// are looked at by their tags alone. Fails only if memory, or the numbers, run out.
+/// Returns the classes of the same paths after the verdicts on `labels`, which rise, changed. Counts also the files
+/// that have one of these labels, or are right below a class to which others can search now: all others have the
+/// answers that they had. Classes are looked at by their tags alone.
 pub(crate) fn rerowed_classes(
     alloc: Global,
     old: &KindMap<LabelRow>,
@@ -174,7 +174,7 @@ pub(crate) fn rerowed_classes(
     Ok((classes, count))
 }
 
-/// Whether a number that paths have is that of a class that keeps who can search down to it. Allocates nothing.
+/// Tells whether paths have a number, and its class keeps who can search down to it.
 fn keeps_search(classes: &KindMap<PathClass>, number: usize) -> bool
     ensures { result ≡ is_searched (used_at classes.now.0 number) }
 {
@@ -185,7 +185,7 @@ fn keeps_search(classes: &KindMap<PathClass>, number: usize) -> bool
     }
 }
 
-/// The classes of paths that keep who can search down to them. Fails only if memory runs out.
+/// Returns the classes of paths that keep who can search down to them.
 fn searched_classes(alloc: Global, classes: &KindMap<PathClass>) -> Result<Vec<usize>, AllocError>
     ensures { IfOk result (λ numbers. AreSearched classes.now.0 numbers.items) }
 {
@@ -198,7 +198,7 @@ fn searched_classes(alloc: Global, classes: &KindMap<PathClass>) -> Result<Vec<u
     Ok(numbers)
 }
 
-/// The classes of the same paths, where all rows may be others. Fails only if memory, or the numbers, run out.
+/// Returns the classes of the same paths after all rows may have changed.
 pub(crate) fn all_rerowed_classes(
     alloc: Global,
     old: &KindMap<LabelRow>,

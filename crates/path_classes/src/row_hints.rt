@@ -1,22 +1,23 @@
-//! Where a row may be that a number has. Nothing rests on these hints: callers compare what they find there.
+//! A cache from a hash to the place of a row. Correctness does not depend on it: callers compare what they find
+//! there.
 
 use crate::hash::mixed;
 use crate::numbered_files::NumberedFiles;
 use std::alloc::{AllocError, Global};
 
-/// Places of rows by a hash of their label and of who gets through from above.
+/// The places of rows by a hash of their label and of who gets through from above.
 #[derive(Drop)]
 pub(crate) struct RowHints {
-    /// Whether numbers are apart, also where their rows are the same: nothing is hashed and kept then.
+    /// Whether each number has a place of its own, even if rows are the same: nothing is hashed and kept then.
     are_apart: bool,
-    /// For each path class above that was met, the hash of who can search down to it.
+    /// For each class above that was seen, the hash of who can search down to it.
     searchers: Vec<Option<u64>>,
-    /// 1 more than the place of a row, at its hash modulo the length, which grows with the places; 0 where there is none.
+    /// 1 more than the place of a row, at its hash modulo the length, which grows with the places; 0 if there is
+    /// none.
     places: Vec<usize>,
 }
 
 impl RowHints {
-    /// None. Allocates nothing.
     pub fn new(alloc: Global) -> RowHints {
         RowHints {
             are_apart: false,
@@ -25,12 +26,12 @@ impl RowHints {
         }
     }
 
-    /// Keeps numbers apart from now on, also where their rows are the same.
+    /// Gives each number a place of its own from now on, even if rows are the same.
     pub fn keep_apart(&mut self) {
         self.are_apart = true;
     }
 
-    /// The hash of who gets through a path class: found once for each. Fails only if memory runs out.
+    /// Returns the hash of who gets through a path class: computed once for each.
     fn searchers_hash(
         &mut self,
         files: &NumberedFiles<'_>,
@@ -50,8 +51,8 @@ impl RowHints {
         Ok(hash)
     }
 
-    /// The hash of a number's row: of its label and of who gets through from above. None where numbers are apart, as
-    /// those of labels are, of which no two are compared. Fails only if memory runs out.
+    /// Hashes a number's row: its label and who gets through from above. `None` if numbers are apart, and for those
+    /// of labels, of which no two are compared.
     pub fn hash(
         &mut self,
         files: &NumberedFiles<'_>,
@@ -67,7 +68,7 @@ impl RowHints {
         }
     }
 
-    /// The place of a row of a hash, if one is kept.
+    /// Returns the place of a row of a hash, if one is kept.
     pub fn place(&self, hash: Option<u64>) -> Option<usize> {
         let slot = (hash? as usize).checked_rem(self.places.len())?;
         match self.places.get(slot) {
@@ -76,7 +77,7 @@ impl RowHints {
         }
     }
 
-    /// Keeps the place of a row of a hash, if it has one, in place of what its slot had. Fails only if memory runs out.
+    /// Keeps the place of a row of a hash, if it has one, and drops what its slot had.
     pub fn put(&mut self, hash: Option<u64>, place: usize) -> Result<(), AllocError> {
         let Some(hash) = hash else {
             return Ok(());

@@ -12,7 +12,7 @@ use crate::path_class::PathClass;
 use crate::searchers::Searchers;
 use kinds::Kinds;
 
-/// Who gets through a class above, if there is one that keeps it.
+/// Returns who gets through the class above, if there is one that keeps it.
 pub(crate) fn kept_search(classes: &Kinds<PathClass>, above: Option<usize>) -> Option<&Searchers>
     ensures { IfSome result (λ search. search_above classes.now above ≡ Some search.now) }
 {
@@ -22,7 +22,7 @@ pub(crate) fn kept_search(classes: &Kinds<PathClass>, above: Option<usize>) -> O
     }
 }
 
-/// Whether the same users get through two classes above, where none may be above. Compares the users, not the classes.
+/// Tells whether the same users get through the two classes above, if any. Compares the users, not the classes.
 fn is_same_search(
     classes: &Kinds<PathClass>,
     above: Option<usize>,
@@ -40,7 +40,7 @@ fn is_same_search(
     }
 }
 
-/// Whether two classes are of one label, and the same users get through above. Allocates nothing.
+/// Tells whether two classes are of one label, and the same users get through above.
 pub(crate) fn is_same_row(classes: &Kinds<PathClass>, number: usize, other: usize) -> bool
     ensures { result ≡ true → (rows : KindsOf LabelRow) → class_row rows classes.now number ≡ class_row rows classes.now other }
 {
@@ -56,7 +56,7 @@ pub(crate) fn is_same_row(classes: &Kinds<PathClass>, number: usize, other: usiz
     }
 }
 
-/// Whether two labels of two states are there, with the same verdicts. Allocates nothing.
+/// Tells whether two labels of two states are there, with the same verdicts.
 pub(crate) fn has_same_cells(
     labels: &Kinds<LabelRow>,
     label: usize,
@@ -74,8 +74,8 @@ pub(crate) fn has_same_cells(
     same_row(row.row.as_slice(), other.row.as_slice())
 }
 
-/// Whether two classes of two states are of labels with the same verdicts, and the same users get through above. Allocates
-/// nothing.
+/// Tells whether two classes of two states are of labels with the same verdicts, and the same users get through
+/// above.
 pub(crate) fn leaves_same_row(
     labels: &Kinds<LabelRow>,
     classes: &Kinds<PathClass>,

@@ -1,4 +1,5 @@
-//! Who can search down to classes, where all rows may be others: each class is searched again once, after the one above it.
+//! Who can search down to classes after all rows may have changed: each class is searched again once, after the one
+//! above it.
 
 ghost use Rattle.std.specs.Prelude.{◌≡◌, get_or, false, IfOk, IfSome, OnOk};
 ghost use Rattle.kinds.specs.Kinds.{node_at};
@@ -11,17 +12,16 @@ use kinds::{Kinds, TaggedMap};
 use std::alloc::{AllocError, Global};
 use std::rc::Rc;
 
-/// How many times the number of a class may come up, on average.
-const MOST_PASSES: usize = 8;
+/// How often a class may be tried, on average, before the search gives up.
+const MAX_PASSES: usize = 8;
 
-/// Whether a number is marked.
 fn is_marked(marks: &[bool], number: usize) -> bool
     ensures { result ≡ get_or marks.now number false }
 {
     number < marks.len() && marks[number]
 }
 
-/// Whether the number of the class above is marked, if there is one.
+/// Tells whether the class above is marked, if there is one.
 fn is_marked_above(marks: &[bool], above: Option<usize>) -> bool
     ensures { result ≡ is_marked_above marks.now above }
 {
@@ -31,7 +31,7 @@ fn is_marked_above(marks: &[bool], above: Option<usize>) -> bool
     }
 }
 
-/// Whether the number of a class is not marked, and that of the class above is.
+/// Tells whether a class is not marked, and the class above is.
 fn is_next(classes: &Kinds<PathClass>, marks: &[bool], number: usize) -> bool
     ensures { result ≡ is_next marks.now number (node_at classes.now number) }
 {
@@ -41,7 +41,6 @@ fn is_next(classes: &Kinds<PathClass>, marks: &[bool], number: usize) -> bool
     }
 }
 
-/// Marks a number.
 fn mark(marks: &mut Vec<bool>, number: usize) -> Result<(), AllocError>
     ensures { OnOk result (Marks marks.old.items number marks.new.items) }
 {
@@ -52,8 +51,7 @@ fn mark(marks: &mut Vec<bool>, number: usize) -> Result<(), AllocError>
     Ok(())
 }
 
-/// Searches the class of a number again and marks the number, if that of the class above is marked; else it waits after the
-/// others.
+/// Searches the class of a number again and marks the number, if the class above is marked; else puts it off.
 fn search_next(
     alloc: Global,
     rows: &Kinds<LabelRow>,
@@ -79,9 +77,8 @@ fn search_next(
     Ok(new)
 }
 
-/// Classes where each that keeps who can search is searched again once, after the one above it; `searched` has their numbers,
-/// each of which comes up once where they rise from above to below. None if they come up too often. Fails only if memory runs
-/// out.
+/// Searches each class of `searched` again once, after the one above it; none is put off if the numbers rise from
+/// above to below. `None` if they are put off too often.
 pub(crate) fn searched_once(
     alloc: Global,
     rows: &Kinds<LabelRow>,
@@ -92,7 +89,7 @@ pub(crate) fn searched_once(
     requires searched { AreSearched before.now.0 searched.now }
     ensures { IfOk result (λ found. IfSome found (AreRenewed rows.now before.now.0)) }
 {
-    let most = searched.len().saturating_mul(MOST_PASSES);
+    let most = searched.len().saturating_mul(MAX_PASSES);
     let mut waiting = Vec::new(alloc);
     waiting.extend_from_slice(searched)?;
     let mut marks = Vec::new(alloc);

@@ -26,14 +26,13 @@ impl Model for Searchers {
 }
 
 impl Searchers {
-    /// For each user whether the user gets through.
     pub(crate) fn as_slice(&self) -> &[bool]
         ensures { result.now ≡ self.now }
     {
         &self.users
     }
 
-    /// Whether a user gets through. Allocates nothing.
+    /// Tells whether a user gets through.
     pub fn has(&self, user: usize) -> bool
         ensures { result ≡ get_or self.now user false }
     {
@@ -41,7 +40,7 @@ impl Searchers {
         user < users.len() && users[user]
     }
 
-    /// The same users, in shared memory. Fails only if memory runs out.
+    /// Copies the set; both share the users.
     pub fn share(&self) -> Result<Searchers, AllocError>
         ensures { IfOk result (λ same. same ≡ self.now) }
     {
@@ -50,7 +49,6 @@ impl Searchers {
         })
     }
 
-    /// A hash of these users. Allocates nothing.
     pub(crate) fn hash(&self) -> u64 {
         let mut hash = 0;
         for user in self.as_slice() {
@@ -59,14 +57,14 @@ impl Searchers {
         hash
     }
 
-    /// Whether these are the same users. Allocates nothing.
+    /// Tells whether these are the same users.
     pub(crate) fn is_same(&self, other: &Searchers) -> bool
         ensures { result ≡ true → self.now ≡ other.now }
     {
         is_same(self.as_slice(), other.as_slice())
     }
 
-    /// These users, shared with those of another place where both are the same. Fails only if memory runs out.
+    /// Shares users: with those of another place, if both are the same.
     fn new_or_shared(
         alloc: Global,
         users: Vec<bool>,
@@ -85,7 +83,7 @@ impl Searchers {
     }
 }
 
-/// Whether two sets of users are the same.
+/// Compares two sets of users.
 fn is_same(some: &[bool], others: &[bool]) -> bool
     ensures { result ≡ true → some.now ≡ others.now }
 {
@@ -99,14 +97,13 @@ fn is_same(some: &[bool], others: &[bool]) -> bool
     is_same
 }
 
-/// Whether a verdict grants search.
 fn grants_search(cell: Requests) -> bool
     ensures { result ≡ has cell execute }
 {
     cell.has(search())
 }
 
-/// Leaves out users to whom a row does not grant search. The loop does not branch, so that it writes many at a time.
+/// Removes users to whom a row does not grant search. The loop does not branch, so that it writes many at a time.
 fn keep_searches(cells: &[Requests], users: &mut [bool])
     ensures { users.new ≡ searches_kept cells.now users.old }
 {
@@ -116,7 +113,7 @@ fn keep_searches(cells: &[Requests], users: &mut [bool])
     }
 }
 
-/// Which of the first `count` users get through from above: all, if nothing is above.
+/// Returns which of the first `count` users get through from above: all, if nothing is above.
 fn through_from(
     alloc: Global,
     above: Option<&Searchers>,
@@ -134,8 +131,8 @@ fn through_from(
     Ok(users)
 }
 
-/// Which users get through from above and can search by a row: shared with those from above, where they are the same. Fails
-/// only if memory runs out.
+/// Returns which users get through from above and can search by a row: shared with those from above, if they are the
+/// same.
 pub(crate) fn searchers_below(
     alloc: Global,
     above: Option<&Searchers>,

@@ -1,4 +1,4 @@
-//! A stack of the directories above a path, while paths are walked in their order.
+//! A stack of the ancestors of a path, while paths are walked in their order.
 
 ghost use Rattle.std.specs.Prelude.{◌≡◌, ◌≤◌, length, map, take};
 ghost use Rattle.std.specs.Option.{option_copied};
@@ -7,7 +7,7 @@ ghost use Rattle.path_classes.specs.Walks.{last_of, AllBefore, IsLeftAbove};
 
 use acl_names::Path;
 
-/// How many entries of a stack are left when those that are not above a path are taken off its end. Allocates nothing.
+/// Returns how many entries of a stack stay after those that are not ancestors of a path are popped.
 pub(crate) fn depth_above<T>(stack: &[(&Path, T)], path: &Path) -> usize
     requires before { AllBefore path.now (map seen stack.now) }
     ensures most { result ≤ length stack.now }
@@ -23,7 +23,7 @@ pub(crate) fn depth_above<T>(stack: &[(&Path, T)], path: &Path) -> usize
     depth
 }
 
-/// What is known at the last entry of a stack. Allocates nothing.
+/// Returns what is known at the top of a stack.
 pub(crate) fn last<'a, T>(stack: &'a [(&Path, T)]) -> Option<&'a T>
     ensures { option_copied result ≡ last_of (map seen stack.now) }
 {

@@ -11,7 +11,7 @@ use crate::path_class::PathClass;
 use kinds::TaggedMap;
 use std::alloc::{AllocError, Global};
 
-/// The classes of paths right below a class. Fails only if memory, or the numbers, run out.
+/// Returns the classes of paths right below a class.
 pub(crate) fn classes_below(
     alloc: Global,
     classes: &TaggedMap<PathClass>,
@@ -24,8 +24,7 @@ pub(crate) fn classes_below(
     Ok(numbers)
 }
 
-/// The classes of paths that have one of some labels and keep who can search down to them, rising. Fails only if memory, or the
-/// numbers, run out.
+/// Returns the classes of paths that have one of `labels` and keep who can search down to them, rising.
 pub(crate) fn classes_of_labels(
     alloc: Global,
     classes: &TaggedMap<PathClass>,

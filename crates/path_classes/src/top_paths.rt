@@ -9,7 +9,7 @@ ghost use Rattle.path_classes.specs.Tops.{AreBefore, is_in_two, is_in_last, IsNe
 use acl_names::Path;
 use std::alloc::{AllocError, Global};
 
-/// The first path of what is left of two lists, and where what is left after it begins in both.
+/// Returns the first of the next paths of two lists, and the place after it in both.
 fn next_path<'a, V, W>(
     changed: &[(&'a Path, V)],
     gone: &[(&'a Path, W)],
@@ -35,7 +35,7 @@ fn next_path<'a, V, W>(
     }
 }
 
-/// Whether a path is at or below the last of some.
+/// Tells whether a path is at or below the last top.
 fn is_in_last(tops: &[&Path], path: &Path) -> bool
     ensures { result ≡ is_in_last (paths_seen tops.now) path.now }
 {
@@ -45,7 +45,7 @@ fn is_in_last(tops: &[&Path], path: &Path) -> bool
     }
 }
 
-/// Adds a path that none of the tops is after, unless it is at or below one of them.
+/// Adds a path that comes after all tops, unless it is at or below one of them.
 fn push_top<'a>(tops: &mut Vec<&'a Path>, path: &'a Path) -> Result<(), AllocError>
     requires tops { AreTops (paths_seen tops.old.items) }
     requires after { AreBefore (paths_seen tops.old.items) path.now }
@@ -58,7 +58,7 @@ fn push_top<'a>(tops: &mut Vec<&'a Path>, path: &'a Path) -> Result<(), AllocErr
     Ok(())
 }
 
-/// The paths of two lists that are below none of the others, in path order. Fails only if memory runs out.
+/// Merges the paths of two lists, without those below another one, in path order.
 pub fn tops_of<'a, V, W>(
     alloc: Global,
     changed: &[(&'a Path, V)],
