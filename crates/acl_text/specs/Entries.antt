@@ -77,7 +77,7 @@ module _ (naming : Naming) where
   key_of tags.Mask word = Ok keys.Mask
   key_of tags.Other word = Ok keys.Other
 
-  -- what the fields of an entry mean; its faults are looked for in the order of their kinds
+  -- what the fields of an entry mean; of its faults the first in the order of their kinds is returned
   abbrev pub entry_from : Rules → ℕ → List (List ℕ) → Result Spec FaultKind
   entry_from rules at fields = do
     row ← or_fault (tagged rules (default_of fields)) BadTag

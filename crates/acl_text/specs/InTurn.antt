@@ -31,7 +31,7 @@ read_each_from judge at state (p ∷ ps) = at_place at (judge at state p) (λ mo
 abbrev pub read_each : {S P : Type 0} → (ℕ → S → P → Result S FaultKind) → S → List P → Result S TextFault
 read_each judge start ps = read_each_from judge 1 start ps
 
--- Goes on with the value, unless there is a fault. So faults are looked for in this order, and the first is returned; of
+-- Goes on with the value, unless there is a fault. So the first fault in this order is returned; of
 -- one piece that is the order of their kinds, and the lowest.
 infixl 10 ◌>>=◌
 abbrev pub ◌>>=◌ : {A B F : Type 0} → Result A F → (A → Result B F) → Result B F

@@ -12,7 +12,7 @@ use acl_names::Path;
 use std::alloc::{AllocError, Global};
 use std::cmp::Ordering;
 
-/// Whether no two of the records have one path. It takes one walk where they come in path order.
+/// Tells whether no two of the records have one path. It takes one walk if they come in path order.
 pub(crate) fn are_apart(alloc: Global, records: &[DumpRecord]) -> Result<bool, AllocError>
     ensures { IfOk result (λ apart. (apart ≡ true) ↔ IsDistinct same_path (paths records.now)) }
 {
@@ -24,7 +24,6 @@ pub(crate) fn are_apart(alloc: Global, records: &[DumpRecord]) -> Result<bool, A
     Ok(rise(&paths))
 }
 
-/// References to the paths, in the order of the records.
 fn paths_of<'a>(alloc: Global, records: &'a [DumpRecord]) -> Result<Vec<&'a Path>, AllocError>
     ensures { IfOk result (λ all. map (λ p. p.now) all.items ≡ paths records.now) }
 {
@@ -35,7 +34,7 @@ fn paths_of<'a>(alloc: Global, records: &'a [DumpRecord]) -> Result<Vec<&'a Path
     Ok(all)
 }
 
-/// Whether each path comes after the one before it.
+/// Tells whether each path comes after the one before it.
 fn rise(all: &[&Path]) -> bool
     ensures { (result ≡ true) ↔ IsStrictlySortedBy path_cmp (map (λ p. p.now) all.now) }
 {

@@ -26,7 +26,7 @@ const MASK: u16 = 16;
 
 const OTHER: u16 = 32;
 
-/// The tag of a key.
+/// Returns the tag of a key.
 pub(crate) fn tag_of(key: &Key) -> u16
     ensures { result ≡ tag_of key.now }
 {
@@ -40,8 +40,8 @@ pub(crate) fn tag_of(key: &Key) -> u16
     }
 }
 
-/// The key of a tag and an id: `None` where there is no such tag, or where a user or a group is to be named
-/// and the id is 4294967295. An entry that names nobody may have any id.
+/// Returns the key of a tag and an id: `None` if there is no such tag, or if a user or a group is to be named and the
+/// id is 4294967295. An entry that names nobody may have any id.
 pub(crate) fn key_of(tag: u16, id: u32) -> Option<Key>
     ensures { result ≡ key_of tag id }
 {
@@ -56,7 +56,7 @@ pub(crate) fn key_of(tag: u16, id: u32) -> Option<Key>
     }
 }
 
-/// What is written for a key's id.
+/// Returns the id that is written for a key.
 pub(crate) fn written_id(key: &Key) -> u32
     ensures { result ≡ written_id key.now }
 {

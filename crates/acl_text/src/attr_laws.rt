@@ -2,9 +2,9 @@
 
 ghost use Rattle.acl_text.specs.AttrLaws.{AttributeEncodesItsEntries, AttributeFaultIsFirst};
 
-/// Proof only: an attribute is read as a list exactly where, after the number 2, each eight bytes are an entry: a tag,
-/// permissions of three bits, and the id that the tag names, if it names one; where the tags never fall, no
-/// key comes twice, there are at most 4,096 entries, and the entries are the list, which is valid.
+/// Proof only: an attribute is read as a list exactly if, after the number 2, each eight bytes are an entry: a tag,
+/// permissions of three bits, and the id that the tag names, if it names one; where the tags never fall, no key comes
+/// twice, there are at most 4,096 entries, and the entries are the list, which is valid.
 pub fn attribute_encodes_its_entries()
     ensures { AttributeEncodesItsEntries }
 {}

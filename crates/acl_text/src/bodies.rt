@@ -1,4 +1,4 @@
-//! The bodies that were read.
+//! A hash table of the bodies that were read.
 
 ghost use Rattle.std.specs.Prelude.{◌≡◌, ◌++◌, ◌⊎◌, IfSome, IfOk};
 ghost use Rattle.acl_text.specs.declared.bodies.Known.{Known};
@@ -11,25 +11,27 @@ use std::alloc::{AllocError, Global};
 /// The most bodies that are kept.
 const MAX_BODIES: usize = 16384;
 
-/// How many bytes of a dump let one more body be kept.
+/// The bytes of a dump for each place of the table.
 const BYTES_PER_BODY: usize = 256;
 
-/// How many bodies in a row may be missed before only one in [`SELDOM`] is looked up.
-const MAX_MISSED: usize = 64;
+/// After this many misses in a row only one body in [`SAMPLING_INTERVAL`] is looked up.
+const MISSES_BEFORE_SAMPLING: usize = 64;
 
-/// See [`MAX_MISSED`].
-const SELDOM: usize = 32;
+/// See [`MISSES_BEFORE_SAMPLING`].
+const SAMPLING_INTERVAL: usize = 32;
 
-/// How many bodies in a row may be none of those found last, before these are no longer tried first.
+/// After this many bodies in a row that are not one of the recent ones, these are no longer tried first.
 const MAX_STRAYED: usize = 8;
 
-/// How many bytes of a body are enough to look for it. A body of lists that getfacl(1) writes has seldom fewer.
+/// How many bytes of a body its front has, by which it is looked up. A body of lists that getfacl(1) writes has
+/// seldom fewer.
 const FRONT: usize = 56;
 
-/// Marks are taken to places by their rest of this: a division of 32 bits takes less time than one of 64.
+/// Hashes are reduced modulo this before they are taken to places: a division of 32 bits takes less time than one of
+/// 64.
 const PLACED_BY: u64 = 1 << 32;
 
-/// What a mark is multiplied by, so that it spreads.
+/// An odd multiplier that spreads the bits of a hash.
 const SPREAD: u64 = 0x9e37_79b9_7f4a_7c15;
 
 /// A body, and the place of a record that was read from it.
@@ -40,26 +42,27 @@ pub(crate) struct Known<'a> {
     pub place: usize,
 }
 
-/// Bodies, each where its mark says: one that comes later takes the place of an earlier one.
+/// A hash table of bodies: a later one replaces an earlier one at its place.
 #[derive(Drop)]
 pub(crate) struct Bodies<'a> {
     kept: Vec<Option<Known<'a>>>,
-    /// Where a body is whose front has the mark of the place: the one of them that was looked for last.
+    /// By the hash of its front, the place of the body that was looked up last.
     fronts: Vec<usize>,
-    /// Where the bodies are that were looked for last.
+    /// The places of the bodies that were looked up last.
     recent: [usize; 4],
-    /// How many bodies, one after another, were not one of these.
+    /// How many bodies in a row were not one of these.
     strayed: usize,
-    /// How many bodies were not looked for or not found since the last one that was.
+    /// How many bodies in a row were not found, or not looked up.
     pub missed: usize,
 }
 
-/// A mark with a word of the bytes worked into it.
+/// Works a word into a hash.
 fn mixed(mark: u64, word: u64) -> u64 {
     (mark ^ word).wrapping_mul(SPREAD).rotate_left(29)
 }
 
-/// A number of bytes that are the same; it is a hint alone. Two marks take turns, so that neither waits for the one before.
+/// Hashes bytes. Only a hint: callers compare the bytes. Two hashes take turns, so that neither waits for the one
+/// before.
 pub(crate) fn mark_of(bytes: &[u8]) -> u64 {
     let mut mark = SPREAD;
     let mut next = 0;
@@ -74,7 +77,7 @@ pub(crate) fn mark_of(bytes: &[u8]) -> u64 {
     mark_of_last(mixed(mark, next), bytes)
 }
 
-/// A mark with the last bytes worked into it.
+/// Works the last bytes into a hash.
 fn mark_of_last(mark: u64, bytes: &[u8]) -> u64 {
     match bytes {
         [.., a, b, c, d, e, f, g, h] => {
@@ -85,7 +88,7 @@ fn mark_of_last(mark: u64, bytes: &[u8]) -> u64 {
     }
 }
 
-/// A mark with each byte worked into it.
+/// Works each byte into a hash.
 fn mark_of_few(mark: u64, bytes: &[u8]) -> u64 {
     let mut mark = mark;
     for byte in bytes {
@@ -95,7 +98,7 @@ fn mark_of_few(mark: u64, bytes: &[u8]) -> u64 {
 }
 
 impl<'a> Bodies<'a> {
-    /// No bodies yet, of a dump of this many bytes.
+    /// Returns an empty table for a dump of `bytes` bytes.
     pub(crate) fn new(alloc: Global, bytes: usize) -> Result<Bodies<'a>, AllocError>
         ensures { IfOk result (λ bodies. (k : Known) → IsAmong bodies k → ⊥) }
     {
@@ -115,8 +118,8 @@ impl<'a> Bodies<'a> {
         })
     }
 
-    /// The body with which a text begins, if it is one of those that were looked for last or is found by its front, and what comes
-    /// after it.
+    /// Returns the body with which a text begins, and the rest of the text, if it is a recent one or is found by its
+    /// front.
     pub(crate) fn first_known(&self, text: &'a [u8]) -> Option<(Known<'a>, &'a [u8])>
         ensures { IfSome result (λ found. (IsAmong self.now found.0) × ((text.now ≡ found.0.body.bytes.now ++ found.1.now) × Ends found.1.now)) }
     {
@@ -126,7 +129,7 @@ impl<'a> Bodies<'a> {
         }
     }
 
-    /// The body with which a text begins, if it is one of those that were looked for last, and what comes after it.
+    /// Returns the body with which a text begins, and the rest of the text, if it is a recent one.
     fn first_recent(&self, text: &'a [u8]) -> Option<(Known<'a>, &'a [u8])>
         ensures { IfSome result (λ found. (IsAmong self.now found.0) × ((text.now ≡ found.0.body.bytes.now ++ found.1.now) × Ends found.1.now)) }
     {
@@ -141,25 +144,25 @@ impl<'a> Bodies<'a> {
         None
     }
 
-    /// The body with which a text begins, if it is the one that is found by its front, and what comes after it. Where few come
-    /// again, it is not looked for.
+    /// Returns the body with which a text begins, and the rest of the text, if it is found by its front. After many
+    /// misses nothing is looked up.
     fn first_by_front(&self, text: &'a [u8]) -> Option<(Known<'a>, &'a [u8])>
         ensures { IfSome result (λ found. (IsAmong self.now found.0) × ((text.now ≡ found.0.body.bytes.now ++ found.1.now) × Ends found.1.now)) }
     {
-        if self.missed >= MAX_MISSED {
+        if self.missed >= MISSES_BEFORE_SAMPLING {
             return None;
         }
         let at = self.fronts.get(self.front_of(text)?)?;
         self.first(*at, text)
     }
 
-    /// Where the place of a body is noted that begins as a text does. `None` where the text is short.
+    /// Returns the place of a text's front in `fronts`; `None` if the text is short.
     fn front_of(&self, text: &[u8]) -> Option<usize> {
         let front = text.get(..FRONT)?;
         Some(self.place_of(mark_of(front)))
     }
 
-    /// Notes where the body is of these bytes, which was looked for.
+    /// Records the place of a body by its front.
     fn note_front(&mut self, bytes: &[u8], at: usize)
         ensures { self.new.kept ≡ self.old.kept }
     {
@@ -171,7 +174,7 @@ impl<'a> Bodies<'a> {
         }
     }
 
-    /// The body at a place, if a text begins with it, and what comes after it.
+    /// Returns the body at a place, and the rest of the text, if the text begins with it.
     fn first(&self, at: usize, text: &'a [u8]) -> Option<(Known<'a>, &'a [u8])>
         ensures { IfSome result (λ found. (IsAmong self.now found.0) × ((text.now ≡ found.0.body.bytes.now ++ found.1.now) × Ends found.1.now)) }
     {
@@ -182,7 +185,7 @@ impl<'a> Bodies<'a> {
         Some((*known, after))
     }
 
-    /// Notes where the body is that was looked for.
+    /// Records the place of a body that was looked up.
     fn note(&mut self, at: usize)
         ensures { self.new.kept ≡ self.old.kept }
     {
@@ -195,15 +198,15 @@ impl<'a> Bodies<'a> {
         self.strayed = self.strayed.saturating_add(1);
     }
 
-    /// Whether the next body is looked for: where few come again, that is not worth its time.
+    /// Tells whether the next body is looked up: after many misses that is seldom worth its time.
     pub(crate) fn is_next_looked_for(&mut self) -> bool
         ensures { (k : Known) → IsAmong self.new k → IsAmong self.old k }
     {
         self.missed = self.missed.wrapping_add(1);
-        self.missed < MAX_MISSED || self.missed % SELDOM == 0
+        self.missed < MISSES_BEFORE_SAMPLING || self.missed % SAMPLING_INTERVAL == 0
     }
 
-    /// The body of these bytes.
+    /// Finds the body of these bytes by its hash.
     pub(crate) fn find(&mut self, mark: u64, bytes: &[u8]) -> Option<Known<'a>>
         ensures known { IfSome result (λ k. (IsAmong self.old k) × (k.body.bytes.now ≡ bytes.now)) }
         ensures same { (k : Known) → IsAmong self.new k → IsAmong self.old k }
@@ -222,7 +225,6 @@ impl<'a> Bodies<'a> {
         Some(known)
     }
 
-    /// Keeps a body.
     pub(crate) fn keep(&mut self, known: Known<'a>)
         ensures { (k : Known) → IsAmong self.new k → IsAmong self.old k ⊎ (k ≡ known.entry) }
     {
@@ -234,7 +236,7 @@ impl<'a> Bodies<'a> {
         self.note_front(known.body.bytes, at);
     }
 
-    /// Where a body of this mark is kept.
+    /// Returns the place of a hash.
     fn place_of(&self, mark: u64) -> usize {
         let most = self.kept.len() as u64;
         if most == 0 {

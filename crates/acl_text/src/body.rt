@@ -15,7 +15,7 @@ pub(crate) struct Body<'a> {
     pub lines: usize,
 }
 
-/// Whether a line begins a record.
+/// Tells whether a line begins a record.
 fn begins_one(line: &[u8]) -> bool
     ensures { result ≡ begins_one line.now }
 {
@@ -25,15 +25,15 @@ fn begins_one(line: &[u8]) -> bool
     }
 }
 
-/// Whether a text is empty or begins with a line that begins a record.
+/// Tells whether a text is empty or begins with a line that begins a record.
 fn ends_record(text: &[u8]) -> bool
     ensures { SaysEnds result text.now }
 {
     text.is_empty() || begins_one(text)
 }
 
-/// The lines of a text before the first that begins a record, and what comes after them. `None` where one of them has no
-/// newline.
+/// Returns the lines of a text before the first that begins a record, and what comes after them. `None` if one of
+/// them has no newline.
 pub(crate) fn first_body(text: &[u8]) -> Option<(Body, &[u8])>
     ensures { IfSome result (λ parts. IsCut text.now parts.0.bytes.now parts.0.lines parts.1.now) }
 {
@@ -50,7 +50,7 @@ pub(crate) fn first_body(text: &[u8]) -> Option<(Body, &[u8])>
     Some((Body { bytes, lines }, rest))
 }
 
-/// What comes after a body with which a text begins. `None` where more of the text belongs to the same record.
+/// Returns what comes after a body with which a text begins. `None` if more of the text belongs to the same record.
 pub(crate) fn after_body<'a>(body: &[u8], text: &'a [u8]) -> Option<&'a [u8]>
     ensures { IfSome result (λ after. (text.now ≡ body.now ++ after.now) × Ends after.now) }
 {

@@ -13,7 +13,7 @@ use crate::shared::Shared;
 use acl_entry::{Acl, Entry, ListFault};
 use std::alloc::{AllocError, Global};
 
-/// The list of a record's entries, or its fault.
+/// Returns the list of a record's entries, or its fault.
 fn list_of(
     alloc: Global,
     at: usize,
@@ -35,7 +35,7 @@ fn list_of(
     }
 }
 
-/// The default list of a record's entries; `None` without entries.
+/// Returns the default list of a record's entries; `None` without entries.
 fn default_list_of(
     alloc: Global,
     at: usize,
@@ -49,7 +49,7 @@ fn default_list_of(
     Ok(Some(list_of(alloc, at, Which::Default, entries)?))
 }
 
-/// Whether the record has the headers that its use needs.
+/// Tells whether the record has the headers that its use needs.
 fn has_headers(dump_use: DumpUse, draft: &RecordDraft) -> bool
     ensures { result ≡ has_headers dump_use draft.now }
 {
@@ -59,7 +59,7 @@ fn has_headers(dump_use: DumpUse, draft: &RecordDraft) -> bool
     }
 }
 
-/// The access list and the default list of a record, or what it lacks as a whole, at its `file:` line.
+/// Returns the access list and the default list of a record, or what it lacks as a whole, at its `file:` line.
 fn lists_of(
     alloc: Global,
     dump_use: DumpUse,
@@ -79,7 +79,7 @@ fn lists_of(
     Ok((access, dacl))
 }
 
-/// The record that has these lists, and all else of its lines.
+/// Returns the record that has these lists, and all else of its lines.
 fn record_with(draft: RecordDraft, access: Shared<Acl>, dacl: Option<Shared<Acl>>) -> DumpRecord
     ensures { result ≡ record_with draft access dacl }
 {
@@ -95,7 +95,7 @@ fn record_with(draft: RecordDraft, access: Shared<Acl>, dacl: Option<Shared<Acl>
     }
 }
 
-/// The record of all its lines, or what it lacks as a whole, at its `file:` line.
+/// Returns the record of all its lines, or what it lacks as a whole, at its `file:` line.
 pub(crate) fn record_of(
     alloc: Global,
     dump_use: DumpUse,
@@ -107,7 +107,7 @@ pub(crate) fn record_of(
     Ok(record_with(draft, access, dacl))
 }
 
-/// Adds a record to the others, and its path to those that are watched.
+/// Adds a record to the others, and its path to `seen`, if that is kept.
 fn push_record(
     alloc: Global,
     records: &mut Vec<DumpRecord>,

@@ -15,19 +15,18 @@ use std::alloc::Global;
 #[derive(Drop)]
 struct Reading {
     entries: Draft,
-    /// The tag of the last entry, and 0 where there is none.
+    /// The tag of the last entry, and 0 if there is none.
     last_tag: u16,
 }
 
-/// The list that an attribute contains.
+/// Returns the list that an attribute contains.
 ///
 /// # Errors
 ///
-/// `BadAttr` at 0 where it does not begin with the number 2 in four bytes; else at the number of the first
-/// faulty entry, counted from 1: one of fewer than eight bytes, one beyond the 4,096th, one whose tag is
-/// unknown or below the tag before it, whose permissions are above 7, which names the id 4294967295, or whose
-/// key came before; else, where a base entry or the mask is missing, at the number of entries plus one. Or
-/// `NoMemory`.
+/// `BadAttr` at 0 if it does not begin with the number 2 in four bytes; else at the number of the first faulty
+/// entry, counted from 1: one of fewer than eight bytes, one beyond the 4,096th, one whose tag is unknown or below
+/// the tag before it, whose permissions are above 7, which names the id 4294967295, or whose key came before; else,
+/// if a base entry or the mask is missing, at the number of entries plus one. Or `NoMemory`.
 pub fn decode_attr(alloc: Global, bytes: &[u8]) -> Result<Acl, TextFault>
     ensures { Gives (λ acl. acl) result (attr_of bytes.now) }
 {
@@ -37,14 +36,14 @@ pub fn decode_attr(alloc: Global, bytes: &[u8]) -> Result<Acl, TextFault>
     read_list(alloc, &bytes[HEAD_BYTES..])
 }
 
-/// Whether the bytes begin with the number 2.
+/// Tells whether the bytes begin with the number 2.
 fn has_head(bytes: &[u8]) -> bool
     ensures { result ≡ has_head bytes.now }
 {
     bytes.len() >= HEAD_BYTES && LittleEndian::read_u32(bytes) == VERSION
 }
 
-/// The fault of the entry at a place.
+/// Returns the fault of the entry at a place.
 fn bad_attr(at: usize) -> TextFault
     ensures { result ≡ bad_attr at }
 {
@@ -54,7 +53,7 @@ fn bad_attr(at: usize) -> TextFault
     }
 }
 
-/// The list of the entries after the head.
+/// Returns the list of the entries after the head.
 fn read_list(alloc: Global, bytes: &[u8]) -> Result<Acl, TextFault>
     ensures { Gives (λ acl. acl) result (list_in bytes.now) }
 {
@@ -65,7 +64,7 @@ fn read_list(alloc: Global, bytes: &[u8]) -> Result<Acl, TextFault>
     }
 }
 
-/// How many entries the bytes are, the last one perhaps cut short.
+/// Returns how many entries the bytes are, the last one perhaps cut short.
 fn entry_count(bytes: &[u8]) -> usize
     ensures count { result ≡ length (entries_in bytes.now) }
     ensures within { result ≤ length bytes.now }
@@ -73,7 +72,6 @@ fn entry_count(bytes: &[u8]) -> usize
     bytes.len().div_ceil(ENTRY_BYTES)
 }
 
-/// Reads the entries in turn.
 fn read_entries(alloc: Global, bytes: &[u8]) -> Result<Reading, TextFault>
     ensures { Gives (λ reading. reading) result (read_each one_entry start (entries_in bytes.now)) }
 {
@@ -92,7 +90,7 @@ fn read_entries(alloc: Global, bytes: &[u8]) -> Result<Reading, TextFault>
     Ok(reading)
 }
 
-/// The bytes of the first entry, and those after it.
+/// Returns the bytes of the first entry, and those after it.
 fn first_entry(bytes: &[u8]) -> (&[u8], &[u8])
     requires { 0 < length bytes.now }
     ensures entries { entries_in bytes.now ≡ result.0.now ∷ entries_in result.1.now }
@@ -131,7 +129,7 @@ fn read_entry(reading: &mut Reading, at: usize, bytes: &[u8]) -> Result<(), Text
     Ok(())
 }
 
-/// The permission set of a number below 8.
+/// Returns the permission set of a number below 8.
 fn perm_of(number: u16) -> Option<Perm>
     ensures { result ≡ perm_of number }
 {
@@ -141,7 +139,7 @@ fn perm_of(number: u16) -> Option<Perm>
     Perm::from_number(number as u8)
 }
 
-/// Whether there is an entry of the key.
+/// Tells whether there is an entry of the key.
 fn has_entry(entries: &Draft, key: &Key) -> bool
     ensures { result ≡ maps.contains_key entries.now key.now }
 {

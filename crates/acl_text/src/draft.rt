@@ -34,7 +34,6 @@ impl Model for EntryLines {
 }
 
 impl EntryLines {
-    /// No entries.
     fn new(alloc: Global) -> EntryLines
         ensures { result ≡ [] }
     {
@@ -43,7 +42,6 @@ impl EntryLines {
         }
     }
 
-    /// Adds an entry after the others.
     fn push(&mut self, key: Key, perm: Perm) -> Result<(), AllocError>
         ensures { OnOk result (self.new ≡ self.old ++ record { key = key; perm = perm } ∷ []) }
     {
@@ -51,7 +49,7 @@ impl EntryLines {
         Ok(())
     }
 
-    /// The entries in the order of their lines.
+    /// Returns the entries in the order of their lines.
     pub(crate) fn as_slice(&self) -> &[Entry]
         ensures { result.now ≡ self.now }
     {
@@ -73,7 +71,7 @@ pub(crate) struct RecordDraft {
 }
 
 impl RecordDraft {
-    /// Whether no line so far was an entry.
+    /// Tells whether no line so far was an entry.
     fn has_no_entry(&self) -> bool
         ensures { result ≡ has_no_entry self.now }
     {
@@ -136,8 +134,8 @@ fn add(draft: &mut Option<RecordDraft>, at: usize, item: Option<Item>) -> Result
     }
 }
 
-/// Adds a line of this content, which begins no record, to the open record, if there is one. What it calls is called here
-/// alone, and so is inlined here.
+/// Adds a line of this content, which begins no record, to the open record, if there is one. Nothing else calls
+/// what it calls, so that is inlined here.
 #[inline(never)]
 pub(crate) fn add_content<N: Names>(
     alloc: Global,
@@ -153,8 +151,7 @@ pub(crate) fn add_content<N: Names>(
     add(draft, at, item)
 }
 
-/// The record that a `file:` line of this value begins. Where paths are watched, no earlier record may have
-/// its path.
+/// Opens the record that a `file:` line of this value begins. If `seen` is kept, no earlier record may have its path.
 pub(crate) fn open_record(
     alloc: Global,
     seen: &Option<Seen>,

@@ -20,20 +20,20 @@ use crate::seen::Seen;
 use acl_names::cut::first_piece;
 use std::alloc::Global;
 
-/// The records of a dump, in their order: what getfacl(1) writes and setfacl(1) --restore reads.
+/// Returns the records of a dump, in their order: what getfacl(1) writes and setfacl(1) --restore reads.
 ///
-/// A line is, after white space, a header `# file:`, `# owner:`, `# group:` or `# flags:`, or a comment,
-/// or empty, or an entry as setfacl(1) takes it, without `X`. `# file:` begins a record; its other headers
-/// come once and before its entries. Lines count from 1.
+/// A line is, after white space, a header `# file:`, `# owner:`, `# group:` or `# flags:`, or a comment, or empty, or
+/// an entry as setfacl(1) takes it, without `X`. `# file:` begins a record; its other headers come once and before
+/// its entries. Lines count from 1.
 ///
 /// # Errors
 ///
-/// The first faulty record's fault. It is the first faulty line of the record and there the first kind
-/// that applies of: an entry's, `UnknownUser` and `UnknownGroup`, `BadHeader` (an empty value, flags that
-/// are not valid, a header that comes twice or after an entry), `MissingHeader` (before the first `# file:`),
-/// `BadPath`, and `RepeatedFile`. The fault of a record whose lines have none is at its `# file:` line:
-/// `MissingHeader` where it is loaded and has no owner or no group, else `List` of its access list, else
-/// of its default list, whose places count the record's entries of that list. Or `NoMemory`.
+/// The first faulty record's fault. It is the first faulty line of the record and there the first kind that applies
+/// of: an entry's, `UnknownUser` and `UnknownGroup`, `BadHeader` (an empty value, flags that are not valid, a header
+/// that comes twice or after an entry), `MissingHeader` (before the first `# file:`), `BadPath`, and `RepeatedFile`.
+/// The fault of a record whose lines have none is at its `# file:` line: `MissingHeader` if it is loaded and has
+/// no owner or no group, else `List` of its access list, else of its default list, whose places count the record's
+/// entries of that list. Or `NoMemory`.
 ///
 /// The records that are returned have different paths.
 pub fn read_dump<N: Names>(
@@ -62,7 +62,7 @@ pub fn read_dump<N: Names>(
     read_stream(alloc, bytes, dump_use, names, Some(Seen::new(alloc)))
 }
 
-/// The records of a dump. A repeated path is a fault only where paths are watched, in a set that starts empty.
+/// Reads the records of a dump. A repeated path is a fault only if paths are kept in `seen`, which starts empty.
 fn read_stream<N: Names>(
     alloc: Global,
     bytes: &[u8],
@@ -78,7 +78,6 @@ fn read_stream<N: Names>(
     Ok(records)
 }
 
-/// Adds the records of a dump to others.
 fn read_lines<N: Names>(
     alloc: Global,
     bytes: &[u8],

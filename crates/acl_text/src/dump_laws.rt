@@ -10,17 +10,16 @@ pub fn dump_fault_is_first()
     ensures { DumpFaultIsFirst }
 {}
 
-/// Proof only: the fault of a `# file:` line is the lowest of the kinds that it has, each looked for on its own: an
-/// empty value, a value that is not a path, and the path of an earlier record. Without a fault, the line
-/// begins a record.
+/// Proof only: the fault of a `# file:` line is the lowest of the kinds that it has, each defined on its own: an
+/// empty value, a value that is not a path, and the path of an earlier record. Without a fault, the line begins a
+/// record.
 pub fn dump_file_fault_is_lowest()
     ensures { DumpFileFaultIsLowest }
 {}
 
-/// Proof only: the fault of a line that begins no record is the lowest of the kinds that it has, each looked for on its
-/// own: what an entry has by the rules of a dump, a value that names nobody, is empty or is not three
-/// flags, a line before the first record, and a header that comes twice or after an entry. Without a
-/// fault, the line is read.
+/// Proof only: the fault of a line that begins no record is the lowest of the kinds that it has, each defined on its
+/// own: what an entry has by the rules of a dump, a value that names nobody, is empty or is not three flags, a line
+/// before the first record, and a header that comes twice or after an entry. Without a fault, the line is read.
 pub fn dump_line_fault_is_lowest()
     ensures { DumpLineFaultIsLowest }
 {}

@@ -19,7 +19,7 @@ use std::alloc::AllocError;
 /// As many tabs as are ever written after an entry.
 const TABS: [u8; 4] = [b'\t', b'\t', b'\t', b'\t'];
 
-/// Whether the effective permissions of an entry are shown.
+/// Tells whether the effective permissions of an entry are shown.
 fn is_shown(how: Effective, mask: Perm, perm: Perm) -> bool
     ensures { result ≡ is_shown how mask perm }
 {
@@ -30,14 +30,14 @@ fn is_shown(how: Effective, mask: Perm, perm: Perm) -> bool
     }
 }
 
-/// The number of tabs after an entry of this many bytes.
+/// Returns the number of tabs after an entry of this many bytes.
 fn tab_count(bytes: usize) -> usize
     ensures { result ≡ tab_count bytes }
 {
     4usize.saturating_sub(bytes / 8).max(1)
 }
 
-/// Adds the effective permissions of an entry of this many bytes, where they are shown.
+/// Adds the effective permissions of an entry of `bytes` bytes, if they are shown.
 fn push_comment(
     text: &mut Vec<u8>,
     how: Effective,
@@ -66,7 +66,7 @@ fn push_effective(text: &mut Vec<u8>, perm: Perm, bytes: usize) -> Result<(), Al
     Ok(())
 }
 
-/// Ends the line of an entry of this many bytes: its effective permissions, where they are shown, and a line feed.
+/// Ends the line of an entry of `bytes` bytes: its effective permissions, if they are shown, and a line feed.
 fn end_line(
     text: &mut Vec<u8>,
     how: Effective,
@@ -81,7 +81,7 @@ fn end_line(
     Ok(())
 }
 
-/// What is before each entry of a list.
+/// Returns what is before each entry of a list.
 fn front(which: Which) -> &'static [u8]
     ensures { result.now ≡ front which }
 {
@@ -91,7 +91,7 @@ fn front(which: Which) -> &'static [u8]
     }
 }
 
-/// Adds an entry, with `default:` in front where it is one of a default list.
+/// Adds an entry, with `default:` in front if it is one of a default list.
 fn push_front_and_entry<N: Names>(
     text: &mut Vec<u8>,
     which: Which,
@@ -105,11 +105,8 @@ fn push_front_and_entry<N: Names>(
     Ok(())
 }
 
-/// Adds an entry of one of a file's lists, whose mask is given, as [`append_list`] adds it.
-///
-/// # Errors
-///
-/// If memory runs out; then a part of it may be added.
+/// Adds an entry of one of a file's lists, whose mask is given, as [`append_list`] adds it. If memory runs out, a
+/// part of it may have been added.
 pub fn push_line<N: Names>(
     text: &mut Vec<u8>,
     how: Effective,
@@ -126,7 +123,6 @@ pub fn push_line<N: Names>(
     end_line(text, how, mask, entry, bytes)
 }
 
-/// Adds the lines of a list.
 fn push_list<N: Names>(
     text: &mut Vec<u8>,
     how: Effective,
@@ -143,13 +139,9 @@ fn push_list<N: Names>(
     Ok(())
 }
 
-/// Adds the entries of one of a file's lists, a line each, in the long form and in list order; default
-/// entries have `default:` in front. Where the effective permissions of an entry are shown they follow
-/// after tabs and `#effective:`; the tabs are as many as an entry of its length needs, at least one.
-///
-/// # Errors
-///
-/// If memory runs out; then nothing is added.
+/// Adds the entries of one of a file's lists, a line each, in the long form and in list order; default entries have
+/// `default:` in front. If the effective permissions of an entry are shown they follow after tabs and
+/// `#effective:`; the tabs are as many as an entry of its length needs, at least one.
 pub fn append_list<N: Names>(
     text: &mut Vec<u8>,
     acl: &Acl,

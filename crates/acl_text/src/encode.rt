@@ -9,7 +9,7 @@ use acl_entry::{Acl, Entry};
 use byteorder::{ByteOrder, LittleEndian};
 use std::alloc::{AllocError, Global};
 
-/// The eight bytes of an entry.
+/// Returns the eight bytes of an entry.
 fn entry_bytes(entry: &Entry) -> [u8; ENTRY_BYTES]
     ensures { result ≡ entry_bytes entry.now }
 {
@@ -20,7 +20,6 @@ fn entry_bytes(entry: &Entry) -> [u8; ENTRY_BYTES]
     bytes
 }
 
-/// Adds the bytes of entries.
 fn push_entries(bytes: &mut Vec<u8>, entries: &[Entry]) -> Result<(), AllocError>
     ensures { OnOk result (bytes.new.items ≡ bytes.old.items ++ flat_map entry_bytes entries.now) }
 {
@@ -30,13 +29,8 @@ fn push_entries(bytes: &mut Vec<u8>, entries: &[Entry]) -> Result<(), AllocError
     Ok(())
 }
 
-/// The attribute of a list: the number 2, and for each entry in list order its tag, its permissions and
-/// the id that it names, or 4294967295 where it names nobody; all numbers are little-endian. It is read as
-/// that list.
-///
-/// # Errors
-///
-/// If memory runs out.
+/// Returns the attribute of a list: the number 2, and for each entry in list order its tag, its permissions and the
+/// id that it names, or 4294967295 if it names nobody; all numbers are little-endian. It is read as that list.
 pub fn encode_attr(alloc: Global, acl: &Acl) -> Result<Vec<u8>, AllocError>
     ensures bytes { IfOk result (λ bytes. bytes.items ≡ attr_bytes acl.now) }
     ensures read_again { IfOk result (λ bytes. attr_of bytes.items ≡ Ok acl.now) }

@@ -37,7 +37,7 @@ pub enum Want {
 pub struct PermSpec {
     /// Those that are given in any case.
     pub fixed: Perm,
-    /// Whether `X` is among them: execute where the file is a directory or someone may execute it.
+    /// Whether `X` is among them: execute if the file is a directory or someone may execute it.
     pub cond_x: bool,
 }
 
@@ -49,7 +49,7 @@ pub struct Spec {
     /// Whether it is an entry of the default list.
     pub dflt: bool,
     pub key: Key,
-    /// `None` where the entry has no permissions field, or an empty one among entries without permissions.
+    /// `None` if the entry has no permissions field, or an empty one among entries without permissions.
     pub perm: Option<PermSpec>,
 }
 
@@ -64,7 +64,7 @@ pub struct Rules {
     pub takes_x: bool,
 }
 
-/// The rules that a use has for its entries.
+/// Returns the rules that a use has for its entries.
 pub(crate) fn rules_of(want: Want) -> Rules
     ensures { result ≡ rules_of want }
 {
@@ -87,7 +87,7 @@ pub(crate) fn rules_of(want: Want) -> Rules
     }
 }
 
-/// The byte between two entries.
+/// Returns the byte between two entries.
 pub(crate) fn separator(sep: Sep) -> u8
     ensures { result ≡ separator sep }
 {
@@ -100,7 +100,7 @@ pub(crate) fn separator(sep: Sep) -> u8
 /// The most entries of one text, empty ones not counted.
 const MAX_TEXT_ENTRIES: usize = 16384;
 
-/// The permissions of a field that has to be there.
+/// Reads the permissions of a field that has to be there.
 fn given_perms(takes_x: bool, field: Option<&[u8]>) -> Result<Option<PermSpec>, FaultKind>
     ensures { result ≡ given_perms takes_x (option_copied field.entry) }
 {
@@ -113,7 +113,7 @@ fn given_perms(takes_x: bool, field: Option<&[u8]>) -> Result<Option<PermSpec>, 
     }
 }
 
-/// No permissions, of a field that is absent or empty.
+/// Reads no permissions from a field that is absent or empty.
 fn no_perms(field: Option<&[u8]>) -> Result<Option<PermSpec>, FaultKind>
     ensures { result ≡ no_perms (option_copied field.entry) }
 {
@@ -124,7 +124,7 @@ fn no_perms(field: Option<&[u8]>) -> Result<Option<PermSpec>, FaultKind>
     }
 }
 
-/// The permissions of a field by the rules of the use.
+/// Reads the permissions of a field by the rules of the use.
 fn wanted_perms(rules: Rules, field: Option<&[u8]>) -> Result<Option<PermSpec>, FaultKind>
     ensures { result ≡ wanted_perms rules (option_copied field.entry) }
 {
@@ -135,7 +135,7 @@ fn wanted_perms(rules: Rules, field: Option<&[u8]>) -> Result<Option<PermSpec>, 
     }
 }
 
-/// The key of a tag and a name.
+/// Returns the key of a tag and a name.
 fn key_of<N: Names>(
     alloc: Global,
     names: &N,
@@ -167,9 +167,9 @@ fn key_of<N: Names>(
     }
 }
 
-/// The entry of a piece of text that is not empty and has no comment, by the rules of its use. Of several
-/// faults the first of `BadTag`, `MissingPerms`, `UnwantedPerms`, `BadPerms`, `UnknownUser`,
-/// `UnknownGroup` and `BaseEntry` is returned, at this place.
+/// Returns the entry of a piece of text that is not empty and has no comment, by the rules of its use. Of several
+/// faults the first of `BadTag`, `MissingPerms`, `UnwantedPerms`, `BadPerms`, `UnknownUser`, `UnknownGroup` and
+/// `BaseEntry` is returned, at this place.
 pub fn entry_of<N: Names>(
     alloc: Global,
     names: &N,
@@ -211,7 +211,7 @@ pub fn entry_of<N: Names>(
     })
 }
 
-/// A piece without its comment.
+/// Returns a piece without its comment.
 pub fn content(sep: Sep, piece: &[u8]) -> &[u8]
     ensures { result.now ≡ content sep piece.now }
 {
@@ -251,10 +251,10 @@ fn read_piece<N: Names>(
     Ok(())
 }
 
-/// The entries of a text, without the empty ones. An entry is `[d[efault]:]TAG:WORD:PERMISSIONS` in the
-/// forms of setfacl(1); entries and lines count from 1, empty ones too. The fault of the first faulty entry is returned, and
-/// of several faults in it the first of: `BadTag`, `MissingPerms`, `UnwantedPerms`, `BadPerms`,
-/// `UnknownUser`, `UnknownGroup`, `BaseEntry`, and `TooMany` beyond 16,384 entries.
+/// Returns the entries of a text, without the empty ones. An entry is `[d[efault]:]TAG:WORD:PERMISSIONS` in the forms
+/// of setfacl(1); entries and lines count from 1, empty ones too. The fault of the first faulty entry is returned,
+/// and of several faults in it the first of: `BadTag`, `MissingPerms`, `UnwantedPerms`, `BadPerms`, `UnknownUser`,
+/// `UnknownGroup`, `BaseEntry`, and `TooMany` beyond 16,384 entries.
 pub fn read_entries<N: Names>(
     alloc: Global,
     bytes: &[u8],

@@ -24,7 +24,7 @@ pub enum FaultKind {
     BadTag,
     /// The permissions are missing.
     MissingPerms,
-    /// There are permissions where none are wanted.
+    /// There are permissions, but none are wanted.
     UnwantedPerms,
     /// The permissions are neither letters nor an octal digit.
     BadPerms,
@@ -55,7 +55,7 @@ pub enum FaultKind {
 }
 
 impl FaultKind {
-    /// What is wrong with a text whose list has this fault.
+    /// Returns what is wrong with a text whose list has this fault.
     pub fn of_list(which: Which, fault: ListFault) -> FaultKind
         ensures { result ≡ of_list which fault }
     {

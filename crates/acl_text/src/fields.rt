@@ -33,14 +33,14 @@ pub(crate) struct Row<'a> {
     pub perms: Option<&'a [u8]>,
 }
 
-/// Whether a word is one of two.
+/// Tells whether a word is one of two.
 fn is_one_of(word: &[u8], short: &[u8], long: &[u8]) -> bool
     ensures { result ≡ bytes_eq word.now short.now || bytes_eq word.now long.now }
 {
     word == short || word == long
 }
 
-/// The tag that a word names.
+/// Returns the tag that a word names.
 fn tag_named(word: &[u8]) -> Option<Tag>
     ensures { result ≡ tag_named word.now }
 {
@@ -57,21 +57,20 @@ fn tag_named(word: &[u8]) -> Option<Tag>
     }
 }
 
-/// Whether the word marks an entry of a default list.
+/// Tells whether the word marks an entry of a default list.
 fn is_default_word(word: &[u8]) -> bool
     ensures { result ≡ is_default_word word.now }
 {
     is_one_of(word, b"d", b"default")
 }
 
-/// A row of these parts.
 fn make_row<'a>(tag: Tag, word: &'a [u8], perms: Option<&'a [u8]>) -> Option<Row<'a>>
     ensures { option_map row_view result ≡ Some (record { tag = tag; word = word.entry.now; perms = option_copied perms.entry }) }
 {
     Some(Row { tag, word, perms })
 }
 
-/// The parts of an entry of one field.
+/// Returns the parts of an entry of one field.
 fn one_field<'a>(first: &'a [u8]) -> Option<Row<'a>>
     ensures { option_map row_view result ≡ one_field (tag_named first.now) first.now }
 {
@@ -85,7 +84,7 @@ fn one_field<'a>(first: &'a [u8]) -> Option<Row<'a>>
     }
 }
 
-/// The parts of an entry of two fields.
+/// Returns the parts of an entry of two fields.
 fn two_fields<'a>(first: &'a [u8], second: &'a [u8]) -> Option<Row<'a>>
     ensures { option_map row_view result ≡ two_fields (tag_named first.now) first.now second.now }
 {
@@ -99,7 +98,7 @@ fn two_fields<'a>(first: &'a [u8], second: &'a [u8]) -> Option<Row<'a>>
     }
 }
 
-/// The parts of an entry of three fields.
+/// Returns the parts of an entry of three fields.
 fn three_fields<'a>(first: &[u8], second: &'a [u8], third: &'a [u8]) -> Option<Row<'a>>
     ensures { option_map row_view result ≡ three_fields (tag_named first.now) second.now third.now }
 {
@@ -113,7 +112,7 @@ fn three_fields<'a>(first: &[u8], second: &'a [u8], third: &'a [u8]) -> Option<R
     }
 }
 
-/// The row that an entry's fields are, where they are one.
+/// Returns the row that an entry's fields are, if they are one.
 pub(crate) fn row_of<'a>(entry: &'a [u8]) -> Option<Row<'a>>
     ensures { option_map row_view result ≡ row_of (entry_fields entry.now) }
 {
@@ -129,7 +128,7 @@ pub(crate) fn row_of<'a>(entry: &'a [u8]) -> Option<Row<'a>>
     None
 }
 
-/// Whether an entry is a default one, and the rest of its fields.
+/// Tells whether an entry is a default one, and the rest of its fields.
 pub(crate) fn split_default(entry: &[u8]) -> (bool, &[u8])
     ensures { default_of (entry_fields entry.now) ≡ (result.0, entry_fields result.1.now) }
 {
@@ -139,14 +138,14 @@ pub(crate) fn split_default(entry: &[u8]) -> (bool, &[u8])
     }
 }
 
-/// Whether a byte is a space or a tab.
+/// Tells whether a byte is a space or a tab.
 fn is_blank(b: u8) -> bool
     ensures { result ≡ is_blank b }
 {
     b == b' ' || b == b'\t'
 }
 
-/// The bytes without the spaces and tabs in front.
+/// Returns the bytes without the spaces and tabs in front.
 pub fn trim_front(bytes: &[u8]) -> &[u8]
     ensures { result.now ≡ trim_front bytes.now }
 {
@@ -160,7 +159,7 @@ pub fn trim_front(bytes: &[u8]) -> &[u8]
     rest
 }
 
-/// The bytes without the blanks at their end.
+/// Returns the bytes without the blanks at their end.
 fn trim_back(bytes: &[u8]) -> &[u8]
     ensures { result.now ≡ trim_back bytes.now }
 {
@@ -174,28 +173,28 @@ fn trim_back(bytes: &[u8]) -> &[u8]
     rest
 }
 
-/// The bytes without the spaces and tabs around them.
+/// Returns the bytes without the spaces and tabs around them.
 pub fn trim(bytes: &[u8]) -> &[u8]
     ensures { result.now ≡ trimmed bytes.now }
 {
     trim_back(trim_front(bytes))
 }
 
-/// Whether a word is digits alone, and so always a number.
+/// Tells whether a word is digits alone, and so always a number.
 pub fn is_number(word: &[u8]) -> bool
     ensures { result ≡ is_number word.now }
 {
     !word.is_empty() && are_digits(word)
 }
 
-/// Whether each byte is a decimal digit.
+/// Tells whether each byte is a decimal digit.
 fn are_digits(word: &[u8]) -> bool
     ensures { result ≡ list_all is_ascii_digit word.now }
 {
     word.iter().all(|b| b.is_ascii_digit())
 }
 
-/// The id of digits alone; `None` for any other word, and above 4294967294.
+/// Returns the id of digits alone; `None` for any other word, and above 4294967294.
 pub fn read_id(word: &[u8]) -> Option<Id>
     ensures { result ≡ id_of word.now }
 {
@@ -215,28 +214,28 @@ pub fn read_id(word: &[u8]) -> Option<Id>
     Id::new(number as u32)
 }
 
-/// Whether the byte is a letter of a permissions field.
+/// Tells whether the byte is a letter of a permissions field.
 fn is_letter(takes_x: bool, b: u8) -> bool
     ensures { result ≡ is_letter takes_x b }
 {
     b == b'r' || b == b'w' || b == b'x' || b == b'-' || takes_x && b == b'X'
 }
 
-/// Whether each byte is a permission letter, or `-`.
+/// Tells whether each byte is a permission letter, or `-`.
 fn are_letters(takes_x: bool, field: &[u8]) -> bool
     ensures { result ≡ list_all (is_letter takes_x) field.now }
 {
     field.iter().all(|b| is_letter(takes_x, *b))
 }
 
-/// Whether the letter is in the field.
+/// Tells whether the letter is in the field.
 fn holds(letter: u8, field: &[u8]) -> bool
     ensures { result ≡ holds letter field.now }
 {
     field.contains(&letter)
 }
 
-/// A permission, if its letter is in the field, and else none.
+/// Returns a permission, if its letter is in the field, and else none.
 fn perm_by_letter(perm: Perm, letter: u8, field: &[u8]) -> Perm
     ensures { result ≡ (if holds letter field.now then perm else none) }
 {
@@ -247,7 +246,7 @@ fn perm_by_letter(perm: Perm, letter: u8, field: &[u8]) -> Perm
     }
 }
 
-/// The permissions whose letters are in the field.
+/// Returns the permissions whose letters are in the field.
 fn letter_set(field: &[u8]) -> Perm
     ensures { result ≡ letter_set field.now }
 {
@@ -257,7 +256,7 @@ fn letter_set(field: &[u8]) -> Perm
     read.union(write).union(execute)
 }
 
-/// The permissions of a field of letters.
+/// Returns the permissions of a field of letters.
 fn letters_of(takes_x: bool, field: &[u8]) -> Option<PermSpec>
     ensures { result ≡ letters_of takes_x field.now }
 {
@@ -270,15 +269,15 @@ fn letters_of(takes_x: bool, field: &[u8]) -> Option<PermSpec>
     })
 }
 
-/// Whether the byte is an octal digit.
+/// Tells whether the byte is an octal digit.
 fn is_octal_digit(b: u8) -> bool
     ensures { result ≡ is_octal_digit b }
 {
     b'0' <= b && b <= b'7'
 }
 
-/// The permissions of a field: one digit 0 to 7, or letters `r`, `w`, `x`, `-` and, where it is taken, `X`
-/// in any order, or nothing.
+/// Returns the permissions of a field: one digit 0 to 7, or letters `r`, `w`, `x`, `-` and, if it is taken, `X` in
+/// any order, or nothing.
 pub(crate) fn perms_of(takes_x: bool, field: &[u8]) -> Option<PermSpec>
     ensures { result ≡ perms_of takes_x field.now }
 {
@@ -294,8 +293,8 @@ pub(crate) fn perms_of(takes_x: bool, field: &[u8]) -> Option<PermSpec>
     }
 }
 
-/// The permissions that a text gives, without `X`: one digit 0 to 7, or letters `r`, `w`, `x` and `-` in
-/// any order, or nothing. `None` for any other text.
+/// Returns the permissions that a text gives, without `X`: one digit 0 to 7, or letters `r`, `w`, `x` and `-` in any
+/// order, or nothing. `None` for any other text.
 pub fn read_perms(text: &[u8]) -> Option<Perm>
     ensures { result ≡ option_map (λ spec. spec.fixed) (perms_of false text.now) }
 {

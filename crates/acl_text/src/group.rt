@@ -14,7 +14,7 @@ use acl_names::Name;
 use acl_names::cut::{cut, first_piece};
 use std::alloc::{AllocError, Global};
 
-/// The name, the id and the field of names of a row of four fields.
+/// Returns the name, the id and the field of names of a row of four fields.
 fn fields(line: &[u8]) -> Option<(&[u8], Id, &[u8])>
     ensures { option_map (λ x. record { name = x.0.now; gid = x.1; names = names_of x.2.now }) result ≡ group_row (pieces 58 line.now) }
 {
@@ -30,7 +30,7 @@ fn fields(line: &[u8]) -> Option<(&[u8], Id, &[u8])>
     Some((name, gid, names))
 }
 
-/// The names between commas, without empty ones.
+/// Reads the names between commas, without empty ones.
 fn names_of(alloc: Global, field: &[u8]) -> Result<NameList, AllocError>
     ensures { IfOk result (λ names. names ≡ names_of field.now) }
 {
@@ -64,11 +64,11 @@ impl TableRow for GroupRow {
     }
 }
 
-/// The counted rows of a group(5) text: the first row of each name, at most 65,536. Empty lines and lines
-/// that begin with `#` are ignored; a line is `name:password:gid:names`, with a name that is not empty, an
-/// id of digits alone, at most 4294967294, and names between commas, of which empty ones are ignored, else
-/// it is `BadRow`; a row whose name came before is not counted, but must be well formed. The fault of the first
-/// faulty line is returned.
+/// Returns the counted rows of a group(5) text: the first row of each name, at most 65,536. Empty lines and lines
+/// that begin with `#` are ignored; a line is `name:password:gid:names`, with a name that is not empty, an id of
+/// digits alone, at most 4294967294, and names between commas, of which empty ones are ignored, else it is `BadRow`;
+/// a row whose name came before is not counted, but must be well formed. The fault of the first faulty line is
+/// returned.
 pub fn read_group(alloc: Global, bytes: &[u8]) -> Result<Vec<GroupRow>, TextFault>
     ensures { Gives (λ rows. rows.items) result (group_of bytes.now) }
 {

@@ -28,14 +28,14 @@ pub struct Header<'a> {
     pub flags: Option<[bool; 3]>,
 }
 
-/// The letter of a flag that is set, else `-`.
+/// Returns the letter of a flag that is set, else `-`.
 fn mark(letter: u8, set: bool) -> u8
     ensures { result ≡ mark letter set }
 {
     if set { letter } else { b'-' }
 }
 
-/// Set user ID, set group ID and sticky, each by its letter or `-`.
+/// Returns set user ID, set group ID and sticky, each as its letter or `-`.
 fn marks(flags: [bool; 3]) -> [u8; 3]
     ensures { result ≡ marks flags }
 {
@@ -56,7 +56,6 @@ fn push_flags(text: &mut Vec<u8>, flags: Option<[bool; 3]>) -> Result<(), AllocE
     Ok(())
 }
 
-/// Adds the `# file:` line.
 fn push_file(text: &mut Vec<u8>, path: &Path, slash: bool) -> Result<(), AllocError>
     ensures { Appends result text.old text.new (file_text path.now slash) }
 {
@@ -69,7 +68,7 @@ fn push_file(text: &mut Vec<u8>, path: &Path, slash: bool) -> Result<(), AllocEr
     Ok(())
 }
 
-/// Adds the line of an id: what is in front, then its name, or its number where it has no name.
+/// Adds the line of an id: `front`, then its name, or its number if it has no name.
 fn push_id_line(
     text: &mut Vec<u8>,
     front: &[u8],
@@ -104,7 +103,6 @@ fn push_group<N: Names>(text: &mut Vec<u8>, group: &Option<Id>, names: &N) -> Re
     }
 }
 
-/// Adds the header lines. A part of them is left where memory runs out.
 fn push_header<N: Names>(
     text: &mut Vec<u8>,
     header: &Header<'_>,
@@ -119,12 +117,8 @@ fn push_header<N: Names>(
     Ok(())
 }
 
-/// Adds the header lines of a record: `# file:`, and `# owner:`, `# group:` and `# flags:`, each where it is present.
-/// An id is written as its name, with escapes, and as a number where it has none.
-///
-/// # Errors
-///
-/// If memory runs out; then nothing is added.
+/// Adds the header lines of a record: `# file:`, and `# owner:`, `# group:` and `# flags:`, each if it is present.
+/// An id is written as its name, with escapes, and as a number if it has none.
 pub fn append_header<N: Names>(
     text: &mut Vec<u8>,
     header: &Header<'_>,
@@ -140,7 +134,6 @@ pub fn append_header<N: Names>(
     Ok(())
 }
 
-/// Adds a record. A part of it is left where memory runs out.
 fn push_record<N: Names>(
     text: &mut Vec<u8>,
     dump_record: &DumpRecord,
@@ -159,7 +152,7 @@ fn push_record<N: Names>(
     push_lists(text, dump_record, names)
 }
 
-/// Adds the lists of a record, and an empty line. A part of it is left where memory runs out.
+/// Adds the lists of a record, and an empty line.
 fn push_lists<N: Names>(
     text: &mut Vec<u8>,
     dump_record: &DumpRecord,
@@ -186,12 +179,7 @@ fn end_record<N: Names>(
     Ok(())
 }
 
-/// Adds a record: its header lines, the entries of its access list, those of its default list, and an
-/// empty line.
-///
-/// # Errors
-///
-/// If memory runs out; then nothing is added.
+/// Adds a record: its header lines, the entries of its access list, those of its default list, and an empty line.
 pub fn append_record<N: Names>(
     text: &mut Vec<u8>,
     dump_record: &DumpRecord,

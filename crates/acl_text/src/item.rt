@@ -22,7 +22,7 @@ pub(crate) enum Item {
     Entry(bool, Entry),
 }
 
-/// Whether a flag's byte is its letter, or `-`.
+/// Tells whether a flag's byte is its letter, or `-`.
 fn flag_of(letter: u8, b: u8) -> Option<bool>
     ensures { result ≡ flag_of letter b }
 {
@@ -35,7 +35,7 @@ fn flag_of(letter: u8, b: u8) -> Option<bool>
     }
 }
 
-/// The flags of three bytes.
+/// Returns the flags of three bytes.
 fn flags_of(value: &[u8]) -> Option<[bool; 3]>
     ensures { result ≡ flags_of value.now }
 {
@@ -50,7 +50,7 @@ fn flags_of(value: &[u8]) -> Option<[bool; 3]>
     }
 }
 
-/// Entries have permissions, may be default entries, and have no `X`.
+/// Returns the rules of a dump: entries have permissions, may be default entries, and have no `X`.
 fn rules() -> Rules
     ensures { result ≡ rules }
 {
@@ -61,7 +61,7 @@ fn rules() -> Rules
     }
 }
 
-/// The permissions of an entry's field, which a dump gives without `X`.
+/// Returns the permissions of an entry's field, which a dump gives without `X`.
 fn perm_of_spec(perm: Option<PermSpec>) -> Perm
     ensures { result ≡ perm_of_spec perm }
 {
@@ -71,7 +71,7 @@ fn perm_of_spec(perm: Option<PermSpec>) -> Perm
     }
 }
 
-/// The content of an entry's line.
+/// Returns the content of an entry's line.
 fn entry_item(spec: Spec) -> Item
     ensures { result ≡ entry_item spec }
 {
@@ -84,7 +84,7 @@ fn entry_item(spec: Spec) -> Item
     )
 }
 
-/// The user that an `# owner:` line names.
+/// Returns the user that an `# owner:` line names.
 fn read_owner<N: Names>(alloc: Global, names: &N, at: usize, value: &[u8]) -> Result<Id, TextFault>
     ensures { GivesAt at (λ id. id) result (named (N.naming names.now).user_id FaultKind.UnknownUser value.now) }
 {
@@ -100,7 +100,7 @@ fn read_owner<N: Names>(alloc: Global, names: &N, at: usize, value: &[u8]) -> Re
     }
 }
 
-/// The group that a `# group:` line names.
+/// Returns the group that a `# group:` line names.
 fn read_group<N: Names>(alloc: Global, names: &N, at: usize, value: &[u8]) -> Result<Id, TextFault>
     ensures { GivesAt at (λ id. id) result (named (N.naming names.now).group_id FaultKind.UnknownGroup value.now) }
 {
@@ -116,7 +116,7 @@ fn read_group<N: Names>(alloc: Global, names: &N, at: usize, value: &[u8]) -> Re
     }
 }
 
-/// The flags that a `# flags:` line gives.
+/// Returns the flags that a `# flags:` line gives.
 fn read_flags(at: usize, value: &[u8]) -> Result<[bool; 3], TextFault>
     ensures { GivesAt at (λ flags. flags) result (or_fault (flags_of value.now) FaultKind.BadHeader) }
 {
@@ -126,7 +126,7 @@ fn read_flags(at: usize, value: &[u8]) -> Result<[bool; 3], TextFault>
     }
 }
 
-/// The fault of a header line that has no value, comes twice, or comes after an entry.
+/// Returns the fault of a header line that has no value, comes twice, or comes after an entry.
 pub(crate) fn bad_header(at: usize) -> TextFault
     ensures kind { result.kind ≡ FaultKind.BadHeader }
     ensures place { result.at ≡ at }
@@ -137,7 +137,7 @@ pub(crate) fn bad_header(at: usize) -> TextFault
     }
 }
 
-/// The content of a line that begins no record, or the lowest kind of fault that it has in itself.
+/// Returns the content of a line that begins no record, or the lowest kind of fault that it has in itself.
 pub(crate) fn item_of<N: Names>(
     alloc: Global,
     names: &N,

@@ -1,4 +1,4 @@
-//! Dumps without a fault, of which bodies that come again are read once.
+//! Reads a dump without a fault: a body that comes again is read once.
 
 ghost use Rattle.std.specs.Prelude.{◌≡◌, ◌+◌, ◌^◌, ◌<◌, ◌≤◌, ◌++◌, ◌∷◌, ℕ, List, [], None, Ok, false, IfOk, OnOk, length, slice_index_or};
 ghost use Rattle.acl_text.specs.InTurn.{Gives};
@@ -23,8 +23,8 @@ use acl_entry::Acl;
 use acl_names::cut::{cut, first_piece};
 use std::alloc::{AllocError, Global};
 
-/// The records of a dump, whether or not their paths are apart. Where the dump has a fault, some fault is returned, which
-/// need not be the first.
+/// Reads the records of a dump, whether or not their paths are apart. If the dump has a fault, some fault is
+/// returned, which need not be the first.
 pub(crate) fn read_known<N: Names>(
     alloc: Global,
     bytes: &[u8],
@@ -53,8 +53,8 @@ pub(crate) fn read_known<N: Names>(
     Ok(records)
 }
 
-/// Reads the record that begins at a line of a dump, or a line that is empty or a comment. It returns the number of
-/// lines read, and what comes after them.
+/// Reads the record that begins at a line of a dump, or a line that is empty or a comment. Returns the number of
+/// lines read, and the rest of the text.
 fn read_next<'a, N: Names>(
     alloc: Global,
     dump_use: DumpUse,
@@ -120,7 +120,7 @@ fn read_lines<'a, N: Names>(
     read_alone(alloc, dump_use, names, records, draft, text)
 }
 
-/// Reads the lines of a text that belong to the open record, and closes it. Other records are not looked at.
+/// Reads the lines of a text that belong to the open record, and closes it. Other records are not looked up.
 fn read_alone<'a, N: Names>(
     alloc: Global,
     dump_use: DumpUse,
@@ -139,8 +139,8 @@ fn read_alone<'a, N: Names>(
     Ok((lines, after))
 }
 
-/// Adds the lines of a text before the first that begins a record to the open record. It returns their number, and
-/// what comes after them.
+/// Adds the lines of a text before the first that begins a record to the open record. Returns their number, and the
+/// rest of the text.
 fn add_record<'a, N: Names>(
     alloc: Global,
     names: &N,
@@ -195,7 +195,7 @@ fn read_body<'a, N: Names>(
     Ok(())
 }
 
-/// Adds a record that has all but its `# file:` line from the one at a place.
+/// Adds a record that shares all but its `# file:` line with the one at a place.
 fn push_like(
     records: &mut Vec<DumpRecord>,
     place: usize,
@@ -209,7 +209,7 @@ fn push_like(
     Ok(())
 }
 
-/// The record of a `# file:` line that has all else from another.
+/// Returns the record of a `# file:` line that shares all else with another.
 fn record_like(other: &DumpRecord, draft: RecordDraft) -> Result<DumpRecord, AllocError>
     ensures { IfOk result (λ r. r ≡ moved draft.at draft.path draft.slash other.now) }
 {
@@ -227,7 +227,7 @@ fn record_like(other: &DumpRecord, draft: RecordDraft) -> Result<DumpRecord, All
     })
 }
 
-/// A list, shared, if there is one.
+/// Shares a list, if there is one.
 fn share_if(acl: &Option<Shared<Acl>>) -> Result<Option<Shared<Acl>>, AllocError>
     ensures { IfOk result (λ same. same ≡ acl.now) }
 {
@@ -237,7 +237,7 @@ fn share_if(acl: &Option<Shared<Acl>>) -> Result<Option<Shared<Acl>>, AllocError
     }
 }
 
-/// The record of an open record and the lines of a text, which are all its other lines.
+/// Returns the record of an open record and the lines of a text, which are all its other lines.
 fn record_in<N: Names>(
     alloc: Global,
     dump_use: DumpUse,

@@ -4,6 +4,8 @@
 //! A dump has files with their owners, groups, flags and lists, as getfacl(1) writes them and setfacl(1) --restore reads
 //! them. Attribute bytes are those of `system.posix_acl_access` and `system.posix_acl_default`, in which Linux keeps lists
 //! (linux/posix_acl_xattr.h).
+//!
+//! A call whose only error is `AllocError` or `NoMemory` fails only if memory runs out.
 #![tactic(auto)]
 
 mod apart;

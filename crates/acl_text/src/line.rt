@@ -23,7 +23,7 @@ pub(crate) enum LineKind {
     Entry,
 }
 
-/// The value without one space in front.
+/// Returns the value without one space in front.
 fn without_space(value: &[u8]) -> &[u8]
     ensures { result.now ≡ without_space value.now }
 {
@@ -33,7 +33,7 @@ fn without_space(value: &[u8]) -> &[u8]
     }
 }
 
-/// What follows `#` and white space: a header with its value, or a comment.
+/// Returns what follows `#` and white space: a header with its value, or a comment.
 #[inline(always)]
 fn header_of(text: &[u8]) -> (LineKind, &[u8])
     ensures { (result.0, result.1.now) ≡ header_of text.now }
@@ -51,7 +51,7 @@ fn header_of(text: &[u8]) -> (LineKind, &[u8])
     }
 }
 
-/// What a line is, and its value: that of a header, or the entry without its comment.
+/// Returns what a line is, and its value: that of a header, or the entry without its comment.
 #[inline(always)]
 pub(crate) fn content_of(line: &[u8]) -> (LineKind, &[u8])
     ensures { (result.0, result.1.now) ≡ content_of line.now }

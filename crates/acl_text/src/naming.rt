@@ -14,24 +14,24 @@ use std::alloc::{AllocError, Global};
 pub trait Names {
     ghost naming: { Self → Naming };
 
-    /// The id of the user of this name. It is asked for no name of digits alone.
+    /// Returns the id of the user of this name, which is not digits alone.
     fn user_id(&self, name: &[u8]) -> Option<Id>
         ensures { result ≡ (naming self.now).user_id name.now };
 
-    /// The id of the group of this name. It is asked for no name of digits alone.
+    /// Returns the id of the group of this name, which is not digits alone.
     fn group_id(&self, name: &[u8]) -> Option<Id>
         ensures { result ≡ (naming self.now).group_id name.now };
 
-    /// The name that a user's id is printed as; an id without one is printed as a number.
+    /// Returns the name that a user's id is printed as; an id without one is printed as a number.
     fn user_name(&self, id: Id) -> Option<&[u8]>
         ensures { option_copied result ≡ (naming self.now).user_name id };
 
-    /// The name that a group's id is printed as; an id without one is printed as a number.
+    /// Returns the name that a group's id is printed as; an id without one is printed as a number.
     fn group_name(&self, id: Id) -> Option<&[u8]>
         ensures { option_copied result ≡ (naming self.now).group_name id };
 }
 
-/// No user and no group has a name: ids are read and printed as numbers.
+/// Users and groups without names: ids are read and printed as numbers.
 #[derive(Clone, Copy)]
 pub struct NoNames;
 
@@ -55,8 +55,8 @@ impl Names for NoNames {
     }
 }
 
-/// The user that a word means: the word is trimmed, then decoded as a name; digits alone are a number,
-/// at most 4294967294 and never looked up; any other name is looked up. Fails only if memory runs out.
+/// Returns the user that a word means: the word is trimmed, then decoded as a name; digits alone are a number, at
+/// most 4294967294 and never looked up; any other name is looked up.
 pub fn read_user_word<N: Names>(
     alloc: Global,
     word: &[u8],
@@ -73,7 +73,7 @@ pub fn read_user_word<N: Names>(
     }
 }
 
-/// The group that a word means, read as a user's word is. Fails only if memory runs out.
+/// Returns the group that a word means, read as a user's word is.
 pub fn read_group_word<N: Names>(
     alloc: Global,
     word: &[u8],

@@ -14,7 +14,7 @@ use acl_names::Name;
 use acl_names::cut::cut;
 use std::alloc::{AllocError, Global};
 
-/// The name and the two ids of a row of seven fields.
+/// Returns the name and the two ids of a row of seven fields.
 fn fields(line: &[u8]) -> Option<(&[u8], Id, Id)>
     ensures { option_map (λ x. record { name = x.0.now; uid = x.1; gid = x.2 }) result ≡ passwd_row (pieces 58 line.now) }
 {
@@ -50,10 +50,10 @@ impl TableRow for PasswdRow {
     }
 }
 
-/// The counted rows of a passwd(5) text: the first row of each name, at most 65,536. Empty lines and lines
-/// that begin with `#` are ignored; a line is `name:password:uid:gid:gecos:home:shell`, with a name that is
-/// not empty and ids of digits alone, at most 4294967294, else it is `BadRow`; a row whose name came before
-/// is not counted, but must be well formed. The fault of the first faulty line is returned.
+/// Returns the counted rows of a passwd(5) text: the first row of each name, at most 65,536. Empty lines and lines
+/// that begin with `#` are ignored; a line is `name:password:uid:gid:gecos:home:shell`, with a name that is not empty
+/// and ids of digits alone, at most 4294967294, else it is `BadRow`; a row whose name came before is not counted, but
+/// must be well formed. The fault of the first faulty line is returned.
 pub fn read_passwd(alloc: Global, bytes: &[u8]) -> Result<Vec<PasswdRow>, TextFault>
     ensures { Gives (λ rows. rows.items) result (passwd_of bytes.now) }
 {

@@ -23,9 +23,9 @@ pub struct DumpRecord {
     pub slash: bool,
     pub owner: Option<Id>,
     pub group: Option<Id>,
-    /// Whether the file has set user ID, set group ID, and is sticky, where the record has a `# flags:` line.
+    /// Whether the file has set user ID, set group ID, and is sticky, if the record has a `# flags:` line.
     pub flags: Option<[bool; 3]>,
     pub access: Shared<Acl>,
-    /// The default list, where the record has default entries.
+    /// The default list, if the record has default entries.
     pub dacl: Option<Shared<Acl>>,
 }

@@ -40,21 +40,20 @@ impl Model for NameList {
 }
 
 impl NameList {
-    /// The list of these names.
     pub fn new(names: Vec<Name>) -> NameList
         ensures { result ≡ names.items }
     {
         NameList { names }
     }
 
-    /// The names, in their order.
+    /// Returns the names, in their order.
     pub fn as_slice(&self) -> &[Name]
         ensures { result.now ≡ self.now }
     {
         &self.names
     }
 
-    /// The names themselves, in their order.
+    /// Returns the names themselves, in their order.
     pub fn into_names(self) -> Vec<Name>
         ensures { result.items ≡ self }
     {
@@ -65,7 +64,7 @@ impl NameList {
 /// The most rows of passwd(5), or of group(5), that are counted.
 pub const MAX_ROWS: usize = 65536;
 
-/// Empty lines and lines that begin with `#` are ignored.
+/// Tells whether a line is ignored: it is empty or begins with `#`.
 pub(crate) fn has_no_content(line: &[u8]) -> bool
     ensures { result ≡ has_no_content line.now }
 {
@@ -75,7 +74,7 @@ pub(crate) fn has_no_content(line: &[u8]) -> bool
     }
 }
 
-/// The first two fields of a line, and what comes after them; `None` where it has no more than two.
+/// Returns the first two fields of a line, and what comes after them; `None` if it has no more than two.
 pub(crate) fn cut_two(line: &[u8]) -> Option<(&[u8], &[u8], &[u8])>
     ensures { MatchOption result (length (pieces 58 line.now) ≤ 2)
         (λ parts. pieces 58 line.now ≡ parts.0.now ∷ parts.1.now ∷ pieces 58 parts.2.now) }

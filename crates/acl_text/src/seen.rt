@@ -16,7 +16,6 @@ pub(crate) struct Seen {
 }
 
 impl Seen {
-    /// No paths.
     pub(crate) fn new(alloc: Global) -> Seen
         ensures { (path : List (List ℕ)) → has_path result path ≡ false }
     {
@@ -25,7 +24,7 @@ impl Seen {
         }
     }
 
-    /// Whether a path is among them. Fails only if memory runs out.
+    /// Tells whether a path is in the set.
     pub(crate) fn contains(&self, alloc: Global, path: &Path) -> Result<bool, AllocError>
         ensures { IfOk result (λ is. is ≡ has_path self.now path.now) }
     {
@@ -33,7 +32,6 @@ impl Seen {
         Ok(self.paths.contains(components.as_slice()))
     }
 
-    /// Adds a path. Fails only if memory runs out.
     pub(crate) fn insert(&mut self, alloc: Global, path: &Path) -> Result<(), AllocError>
         ensures { OnOk result ((other : List (List ℕ)) → has_path self.new other ≡ (same_path other path.now || has_path self.old other)) }
     {
@@ -43,7 +41,7 @@ impl Seen {
     }
 }
 
-/// Whether paths are watched, and this one is among them.
+/// Tells whether a set is kept, and has this path.
 pub(crate) fn is_seen(alloc: Global, seen: &Option<Seen>, path: &Path) -> Result<bool, AllocError>
     ensures { (records : List DumpRecord) → SeenPathsAre seen.now records → IfOk result (λ is. is ≡ (is_some seen.now && is_repeated records path.now)) }
 {
@@ -53,7 +51,7 @@ pub(crate) fn is_seen(alloc: Global, seen: &Option<Seen>, path: &Path) -> Result
     }
 }
 
-/// Adds the path of a record that follows others, where paths are watched.
+/// Adds the path of a record that follows others, if a set is kept.
 pub(crate) fn watch(alloc: Global, seen: &mut Option<Seen>, path: &Path) -> Result<(), AllocError>
     ensures watched { is_some seen.new ≡ is_some seen.old }
     ensures added { OnOk result ((records : List DumpRecord) (r : DumpRecord) → r.path ≡ path.now → SeenPathsAre seen.old records
@@ -65,7 +63,7 @@ pub(crate) fn watch(alloc: Global, seen: &mut Option<Seen>, path: &Path) -> Resu
     }
 }
 
-/// The components of a path, each in an allocation of its own.
+/// Returns the components of a path, each in an allocation of its own.
 fn components_of(alloc: Global, path: &Path) -> Result<Vec<Vec<u8>>, AllocError>
     ensures { IfOk result (λ components. map (λ v. v.items) components.items ≡ path.now) }
 {
@@ -77,7 +75,6 @@ fn components_of(alloc: Global, path: &Path) -> Result<Vec<Vec<u8>>, AllocError>
     Ok(components)
 }
 
-/// Adds a copy of a component. Fails only if memory runs out.
 fn push_copy(
     alloc: Global,
     components: &mut Vec<Vec<u8>>,

@@ -19,7 +19,7 @@ impl<T> Model for Shared<T> {
 }
 
 impl<T> Shared<T> {
-    /// The value.
+    /// Returns the value.
     pub fn get(&self) -> &T
         ensures { result.now ≡ self.now }
     {
@@ -28,7 +28,7 @@ impl<T> Shared<T> {
 }
 
 impl<T: Drop> Shared<T> {
-    /// A value that nothing else shares yet. Fails only if memory runs out.
+    /// Wraps a value that nothing shares yet.
     pub(crate) fn new(alloc: Global, value: T) -> Result<Shared<T>, AllocError>
         ensures { IfOk result (λ shared. shared ≡ value) }
     {
@@ -37,7 +37,7 @@ impl<T: Drop> Shared<T> {
         })
     }
 
-    /// The same value, shared. Fails only if memory runs out.
+    /// Shares the value.
     pub(crate) fn share(&self) -> Result<Shared<T>, AllocError>
         ensures { IfOk result (λ same. same ≡ self.now) }
     {

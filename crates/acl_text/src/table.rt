@@ -20,14 +20,13 @@ pub(crate) trait TableRow {
     /// The row of the fields of a line, if they are one.
     ghost of_fields: { List (List ℕ) → Option Self };
 
-    /// The row of a line, after its name as in the line. `None` where the line is no row. Fails only if memory
-    /// runs out.
+    /// Returns the row of a line, with its name as the line has it. `None` if the line is no row.
     fn read(alloc: Global, line: &[u8]) -> Result<Option<(&[u8], Self)>, AllocError>
         ensures row { IfOk result (λ found. option_map (λ f. f.1) found ≡ of_fields (pieces 58 line.now)) }
         ensures name { IfOk result (λ found. IfSome found (λ f. f.0.now ≡ name f.1)) };
 }
 
-/// Adds a row, and its name to those that were seen.
+/// Adds a row, and its name to `seen`.
 fn add_row<'a, R: TableRow + Drop>(
     rows: &mut Vec<R>,
     seen: &mut BTreeMap<&'a [u8], ()>,
@@ -78,8 +77,8 @@ fn read_line<'a, R: TableRow + Drop>(
     Ok(())
 }
 
-/// The counted rows of a text: the first row of each name, at most 65,536; or the fault of the first faulty line. Empty lines
-/// and lines that begin with `#` are ignored.
+/// Returns the counted rows of a text: the first row of each name, at most 65,536; or the fault of the first faulty
+/// line. Empty lines and lines that begin with `#` are ignored.
 pub(crate) fn read_rows<R: TableRow + Drop>(
     alloc: Global,
     bytes: &[u8],

@@ -6,7 +6,7 @@ ghost use Rattle.acl_text.specs.UserNames.{cuts_row, is_user_name};
 
 use crate::fields::is_number;
 
-/// Whether a byte of the name ends a field or a row, or separates names.
+/// Tells whether a byte of the name ends a field or a row, or separates names.
 fn cuts_row(name: &[u8]) -> bool
     ensures { result ≡ list_any cuts_row name.now }
 {
@@ -14,8 +14,8 @@ fn cuts_row(name: &[u8]) -> bool
         .any(|b| *b == b':' || *b == b',' || *b == b'\n' || *b == 0)
 }
 
-/// Whether a new user may have the name: it is not empty, not digits alone, and nothing in it ends a field or a row of
-/// passwd(5) or group(5).
+/// Tells whether a new user may have the name: it is not empty, not digits alone, and nothing in it ends a field or a
+/// row of passwd(5) or group(5).
 pub fn is_user_name(name: &[u8]) -> bool
     ensures { result ≡ is_user_name name.now }
 {

@@ -17,7 +17,7 @@ use acl_names::append_name;
 use itoa::Buffer;
 use std::alloc::{AllocError, Global};
 
-/// The tag of an entry, and the colon after it.
+/// Returns the tag of an entry, and the colon after it.
 fn tag(form: Form, key: &Key) -> &'static [u8]
     ensures { result.now ≡ tag_text form key.now ++ 58 ∷ [] }
 {
@@ -37,8 +37,7 @@ fn tag(form: Form, key: &Key) -> &'static [u8]
     }
 }
 
-/// Adds the name of a user or a group with escapes, or the number of its id where it has no name. Fails
-/// only if memory runs out, and then nothing is added.
+/// Adds the name of a user or a group with escapes, or the number of its id if it has no name.
 pub fn append_id(text: &mut Vec<u8>, id: Id, name: Option<&[u8]>) -> Result<(), AllocError>
     ensures { AppendsWhole result text.old text.new (id_text id (option_copied name.entry)) }
 {
@@ -62,7 +61,6 @@ fn append_qualifier<N: Names>(text: &mut Vec<u8>, key: &Key, names: &N) -> Resul
     }
 }
 
-/// Adds an entry. A part of it is left where memory runs out.
 fn push_entry<N: Names>(
     text: &mut Vec<u8>,
     entry: &Entry,
@@ -78,8 +76,8 @@ fn push_entry<N: Names>(
     Ok(())
 }
 
-/// Adds an entry as it is written, `TAG:NAME:rwx`. An id is printed as its name, with escapes, and as a
-/// number where it has none. Fails only if memory runs out, and then nothing is added.
+/// Adds an entry as it is written, `TAG:NAME:rwx`. An id is printed as its name, with escapes, and as a number if it
+/// has none.
 pub fn append_entry<N: Names>(
     text: &mut Vec<u8>,
     entry: &Entry,
@@ -96,9 +94,8 @@ pub fn append_entry<N: Names>(
     added
 }
 
-/// The long form of a list: a line for each entry, in list order. It is read as that list, where each name
+/// Returns the long form of a list: a line for each entry, in list order. It is read as that list, if each name
 /// that is printed is looked up as the id that it is printed for, is not empty and not digits alone.
-/// Fails only if memory runs out.
 pub fn write_long<N: Names>(alloc: Global, acl: &Acl, names: &N) -> Result<Vec<u8>, AllocError>
     ensures text { IfOk result (λ text. text.items ≡ long (N.naming names.now) (lists.entries acl.now)) }
     ensures read_again { IfOk result (λ text.
@@ -133,7 +130,7 @@ fn push_others<N: Names>(text: &mut Vec<u8>, others: &[Entry], names: &N) -> Res
     Ok(())
 }
 
-/// Adds entries, joined by commas. A part of them is left where memory runs out.
+/// Adds entries, joined by commas.
 fn push_short<N: Names>(text: &mut Vec<u8>, entries: &[Entry], names: &N) -> Result<(), AllocError>
     ensures { Appends result text.old text.new (short (N.naming names.now) entries.now) }
 {
@@ -145,8 +142,7 @@ fn push_short<N: Names>(text: &mut Vec<u8>, entries: &[Entry], names: &N) -> Res
     Ok(())
 }
 
-/// Adds the short form of a list: its entries in list order, joined by commas. Fails only if memory
-/// runs out, and then nothing is added.
+/// Adds the short form of a list: its entries in list order, joined by commas.
 pub fn append_short<N: Names>(text: &mut Vec<u8>, acl: &Acl, names: &N) -> Result<(), AllocError>
     ensures { AppendsWhole result text.old text.new (short (N.naming names.now) (lists.entries acl.now)) }
 {
@@ -158,9 +154,8 @@ pub fn append_short<N: Names>(text: &mut Vec<u8>, acl: &Acl, names: &N) -> Resul
     added
 }
 
-/// The short form of a list: its entries in list order, joined by commas. It is read as that list, where
-/// each name that is printed is looked up as the id that it is printed for, is not empty and not digits
-/// alone. Fails only if memory runs out.
+/// Returns the short form of a list: its entries in list order, joined by commas. It is read as that list, if each
+/// name that is printed is looked up as the id that it is printed for, is not empty and not digits alone.
 pub fn write_short<N: Names>(alloc: Global, acl: &Acl, names: &N) -> Result<Vec<u8>, AllocError>
     ensures text { IfOk result (λ text. text.items ≡ short (N.naming names.now) (lists.entries acl.now)) }
     ensures read_again { IfOk result (λ text.
