@@ -44,14 +44,14 @@ impl<'a> Model for ChangeRef<'a> {
 }
 
 impl ChangeRef<'_> {
-    /// Whether the line takes the list's mask out.
+    /// Tells whether the line removes the list's mask.
     fn takes_mask(&self, which: Which, draft: &Draft) -> bool
         ensures { result ≡ takes_mask (part self.now which) draft.now }
     {
         has_mask(draft) && self.scope(which).takes_mask(self.remove.as_slice())
     }
 
-    /// Replaces, removes and modifies, and returns whether the list lost its mask.
+    /// Replaces, removes and modifies; returns whether the list lost its mask.
     #[tactic(auto, unfolding(crate::specs::Edits::worked))]
     fn work(
         &self,
@@ -71,7 +71,7 @@ impl ChangeRef<'_> {
         Ok(lost)
     }
 
-    /// The line's steps on an access list.
+    /// Does the line's steps on an access list.
     #[tactic(auto, unfolding(crate::specs::Edits::access_after))]
     fn edit_access(&self, alloc: Global, x: bool, draft: &mut Draft) -> Result<(), AllocError>
         ensures { LeavesIn (FitsPart self.now Which.Access 1 draft.old) result draft.new (edits.access_after self.now x draft.old) }
@@ -83,7 +83,7 @@ impl ChangeRef<'_> {
         Ok(())
     }
 
-    /// The line's steps on a default list, beside the access list that they left.
+    /// Does the line's steps on a default list, beside the access list that they left.
     #[tactic(auto, unfolding(crate::specs::Edits::default_after))]
     fn edit_default(
         &self,
@@ -104,7 +104,7 @@ impl ChangeRef<'_> {
         Ok(())
     }
 
-    /// The access list that the steps begin with.
+    /// Returns the access list that the steps begin with.
     fn access_before(&self, alloc: Global, acl: &Acl) -> Result<Draft, AllocError>
         ensures { MakesIn (Fits (size acl.now)) result (edits.access_before self.now acl.now) }
     {
@@ -115,7 +115,7 @@ impl ChangeRef<'_> {
         }
     }
 
-    /// The default list of a file that is not a directory, if there is one: -b and -k remove it.
+    /// Returns the default list of a file that is not a directory, if there is one: -b and -k remove it.
     fn kept_default(&self, alloc: Global, dacl: &Option<Acl>) -> Result<Option<Acl>, AllocError>
         ensures { MakesIn (Fits (size_of dacl.now)) result (edits.kept_default self.now dacl.now) }
     {
@@ -125,7 +125,7 @@ impl ChangeRef<'_> {
         clone_of(alloc, dacl)
     }
 
-    /// The default list that the steps begin with.
+    /// Returns the default list that the steps begin with.
     fn default_before(&self, alloc: Global, dacl: &Option<Acl>) -> Result<Draft, AllocError>
         ensures { MakesIn (Fits (size_of dacl.now)) result (edits.default_before self.now dacl.now) }
     {
@@ -136,7 +136,7 @@ impl ChangeRef<'_> {
     }
 }
 
-/// The entries as a list, if they are one.
+/// Makes the entries a list, if they are one.
 fn checked(which: Which, draft: Draft) -> Result<Acl, EditFault>
     ensures made { Gives (λ x. x) result (edits.checked which draft) }
     ensures memory { result ≢ Err NoMemory }
@@ -147,7 +147,7 @@ fn checked(which: Which, draft: Draft) -> Result<Acl, EditFault>
     }
 }
 
-/// The entries as a default list; `None` where there are no entries.
+/// Makes the entries a default list; `None` if there are no entries.
 fn checked_default(draft: Draft) -> Result<Option<Acl>, EditFault>
     ensures made { Gives (λ x. x) result (edits.checked_default draft) }
     ensures memory { result ≢ Err NoMemory }
@@ -158,7 +158,7 @@ fn checked_default(draft: Draft) -> Result<Option<Acl>, EditFault>
     Ok(Some(checked(Which::Default, draft)?))
 }
 
-/// The access list that a line leaves.
+/// Returns the access list that a line leaves.
 fn changed_access(
     alloc: Global,
     node: &Node,
@@ -174,7 +174,7 @@ fn changed_access(
     checked(Which::Access, draft)
 }
 
-/// The default list that a line leaves.
+/// Returns the default list that a line leaves.
 fn changed_default(
     alloc: Global,
     node: &Node,
@@ -194,7 +194,7 @@ fn changed_default(
     checked_default(draft)
 }
 
-/// The same list again, if there is one.
+/// Copies a list, if there is one.
 pub(crate) fn clone_of(alloc: Global, acl: &Option<Acl>) -> Result<Option<Acl>, AllocError>
     ensures { MakesIn (Fits (size_of acl.now)) result acl.now }
 {
@@ -204,14 +204,14 @@ pub(crate) fn clone_of(alloc: Global, acl: &Option<Acl>) -> Result<Option<Acl>, 
     }
 }
 
-/// Whether the line puts default entries into a file that is not a directory, and not in a recursion.
+/// Tells whether the line puts default entries into a file that is not a directory, and not in a recursion.
 fn is_misplaced(node: &Node, line: &ChangeRef<'_>, in_recursion: bool) -> bool
     ensures { result ≡ is_misplaced node.now line.now in_recursion }
 {
     node.kind != Kind::Directory && !in_recursion && line.puts(Which::Default)
 }
 
-/// The file after a setfacl(1) line.
+/// Returns the file after a setfacl(1) line.
 #[tactic(auto, unfolding(crate::specs::Edits::change))]
 pub(crate) fn change(
     alloc: Global,
@@ -244,7 +244,7 @@ pub(crate) struct Scope {
 }
 
 impl Scope {
-    /// Whether the entry is for the list.
+    /// Tells whether the entry is for the list.
     pub fn takes(self, spec: &Spec) -> bool
         ensures { result ≡ is_for self.as_default self.which spec.now }
     {
@@ -254,7 +254,7 @@ impl Scope {
         }
     }
 
-    /// Whether an entry is for the list.
+    /// Tells whether an entry is for the list.
     pub fn takes_some(self, specs: &[Spec]) -> bool
         ensures { result ≡ is_given (specs_for self specs.now) }
     {
@@ -266,7 +266,7 @@ impl Scope {
         false
     }
 
-    /// Whether an entry is the list's mask.
+    /// Tells whether an entry is the list's mask.
     pub fn takes_mask(self, specs: &[Spec]) -> bool
         ensures { result ≡ list_any is_of_mask (specs_for self specs.now) }
     {
@@ -279,7 +279,7 @@ impl Scope {
     }
 }
 
-/// Whether it is the mask's key.
+/// Tells whether it is the mask's key.
 pub(crate) fn is_mask(key: &Key) -> bool
     ensures { result ≡ is_mask key.now }
 {
@@ -287,7 +287,7 @@ pub(crate) fn is_mask(key: &Key) -> bool
 }
 
 impl ChangeRef<'_> {
-    /// The entries for this list.
+    /// Returns the entries for this list.
     pub(crate) fn scope(&self, which: Which) -> Scope
         ensures { result ≡ record { which = which; as_default = self.now.as_default } }
     {
@@ -297,7 +297,7 @@ impl ChangeRef<'_> {
         }
     }
 
-    /// Whether the line puts entries into the list.
+    /// Tells whether the line puts entries into the list.
     pub(crate) fn puts(&self, which: Which) -> bool
         ensures { result ≡ parts.puts (part self.now which) }
     {
@@ -305,14 +305,14 @@ impl ChangeRef<'_> {
         scope.takes_some(self.set.as_slice()) || scope.takes_some(self.modify.as_slice())
     }
 
-    /// Whether the line names an entry of the list.
+    /// Tells whether the line names an entry of the list.
     pub(crate) fn names(&self, which: Which) -> bool
         ensures { result ≡ parts.names (part self.now which) }
     {
         self.scope(which).takes_some(self.remove.as_slice()) || self.puts(which)
     }
 
-    /// Whether the line gives the list a mask.
+    /// Tells whether the line gives the list a mask.
     pub(crate) fn gives_mask(&self, which: Which) -> bool
         ensures { result ≡ parts.gives_mask (part self.now which) }
     {

@@ -9,16 +9,16 @@ use crate::{EditFault, Kind, Node};
 use acl_entry::{Acl, Id, Label};
 use std::alloc::{AllocError, Global};
 
-/// The node of a new file in a directory.
+/// Returns the node of a new file in a directory.
 ///
-/// Under a default list of the directory the access list is that list, its entries that correspond to
-/// the mode without what the mode lacks, the umask has no effect, and a directory gets the default list too. Else
-/// the access list is minimal, of the mode without the umask's bits. Mode and umask count by their low
-/// nine bits. A directory with set group ID hands its group on, and to a directory the flag too.
+/// Under a default list of the directory the access list is that list, its entries that correspond to the mode
+/// without what the mode lacks, the umask has no effect, and a directory gets the default list too. Else the access
+/// list is minimal, of the mode without the umask's bits. Mode and umask count by their low nine bits. A directory
+/// with set group ID hands its group on, and to a directory the flag too.
 ///
 /// # Errors
 ///
-/// If memory runs out, never where the directory's default list has at most eight entries.
+/// If memory runs out, never if the directory's default list has at most eight entries.
 pub fn create(
     alloc: Global,
     parent: &Node,
@@ -39,7 +39,7 @@ pub fn create(
     Ok(node)
 }
 
-/// The default list of a new file: of a directory that of the directory that it is in.
+/// Returns the default list of a new file: of a directory that of its parent directory.
 fn inherited_default(
     alloc: Global,
     dacl: &Option<Acl>,
@@ -53,7 +53,7 @@ fn inherited_default(
     }
 }
 
-/// What a new file gets of its directory.
+/// Makes the node that a new file inherits from its directory.
 fn inherit(
     alloc: Global,
     parent: &Node,
@@ -80,7 +80,7 @@ fn inherit(
     })
 }
 
-/// The access list under a directory's default list, if it has one.
+/// Makes the access list under a directory's default list, if it has one.
 fn inherited_access(
     alloc: Global,
     dacl: &Option<Acl>,

@@ -31,7 +31,7 @@ pub enum Edit {
         as_default: bool,
         /// `-n`: no mask is recalculated.
         no_mask: bool,
-        /// `--mask`: the mask is recalculated even where one was given.
+        /// `--mask`: the mask is recalculated even if one was given.
         remask: bool,
         /// `-x`, `-X`: the keys that are removed.
         remove: Specs,
@@ -52,7 +52,7 @@ pub enum Edit {
         dacl: bool,
     },
     /// A record of `setfacl --restore`: a file without default list or flags in its record loses
-    /// them, and keeps its owner or group where nobody is named.
+    /// them, and keeps its owner or group if nobody is named.
     Restore {
         access: Acl,
         dacl: Option<Acl>,
@@ -62,7 +62,7 @@ pub enum Edit {
     },
 }
 
-/// Why an edit is refused. Where several apply, the first variant of this enum is returned, and the
+/// Why an edit is refused. If several apply, the first variant of this enum is returned, and the
 /// access list's fault before the default list's.
 #[derive(Clone, Copy, PartialEq, Eq, Debug)]
 pub enum EditFault {
@@ -91,14 +91,14 @@ impl<T: Drop> From<AllocFailed<T>> for EditFault {
     }
 }
 
-/// What an edit makes of a file. The borrowed file stays as it is. `in_recursion`: the edit goes to a
-/// whole subtree (`-R`, chacl's `-r`), where default entries skip files that are not directories.
+/// Returns what an edit makes of a file. The borrowed file stays as it is. `in_recursion`: the edit goes to a whole
+/// subtree (`-R`, chacl's `-r`), where default entries skip files that are not directories.
 ///
 /// # Errors
 ///
-/// Default entries or a default list for a file that is not a directory, but in a recursion, which takes no
-/// memory to find; a resulting list that is not valid; that memory ran out, never where no list has more than
-/// eight entries, counted with what a setfacl(1) line puts into it, a mask, and copied base entries.
+/// Default entries or a default list for a file that is not a directory, but in a recursion, which takes no memory to
+/// find; a resulting list that is not valid; that memory ran out, never if no list has more than eight entries,
+/// counted with what a setfacl(1) line puts into it, a mask, and copied base entries.
 pub fn apply(alloc: Global, node: &Node, edit: &Edit, in_recursion: bool) -> Result<Node, EditFault>
     ensures made { Gives (λ x. x) result (edits.edit node.now edit.now in_recursion) }
     ensures misplaced { misplaces_default node.now edit.now in_recursion ≡ true → result ≡ Err DefaultOnFile }
@@ -165,7 +165,7 @@ pub fn apply(alloc: Global, node: &Node, edit: &Edit, in_recursion: bool) -> Res
     Ok(edited)
 }
 
-/// A default list that is given, where the file may have one.
+/// Returns the given default list, if the file may have one.
 fn allowed(
     alloc: Global,
     kind: Kind,
@@ -184,13 +184,13 @@ fn allowed(
     }
 }
 
-/// What a record of a dump makes of a file: the lists and the flags are put, and owner and group where the record
-/// names them.
+/// Returns what a record of a dump makes of a file: the lists and the flags are put, and owner and group if the
+/// record names them.
 ///
 /// # Errors
 ///
-/// A default list for a file that is not a directory, but in a recursion, which takes no memory to find; that memory ran
-/// out, never where no list has more than eight entries.
+/// A default list for a file that is not a directory, but in a recursion, which takes no memory to find; that memory
+/// ran out, never if no list has more than eight entries.
 #[tactic(auto, unfolding(crate::specs::Edits::restore))]
 pub fn restore_node(
     alloc: Global,
@@ -221,7 +221,7 @@ pub fn restore_node(
     })
 }
 
-/// The default list that is given, or else the file's own again.
+/// Returns the given default list, or else a copy of the file's own.
 fn given_or_clone(
     alloc: Global,
     given: Option<Acl>,
@@ -235,7 +235,7 @@ fn given_or_clone(
     }
 }
 
-/// Each list that is given, and else the file's own.
+/// Puts each list that is given, and copies the file's own otherwise.
 #[tactic(auto, unfolding(crate::specs::Edits::put))]
 fn put(
     alloc: Global,
@@ -256,7 +256,7 @@ fn put(
     Ok(node.with_lists(acl, dacl))
 }
 
-/// The minimal list of the mode, and no default list, as they are asked for.
+/// Makes the access list minimal if `access` says so, and drops the default list if `dacl` does.
 #[tactic(auto, unfolding(crate::specs::Edits::flatten))]
 fn flatten(alloc: Global, node: &Node, access: bool, dacl: bool) -> Result<Node, AllocError>
     ensures made { MakesIn (HasShortLists node.now) result (edits.flatten node.now access dacl) }
@@ -276,12 +276,8 @@ fn flatten(alloc: Global, node: &Node, access: bool, dacl: bool) -> Result<Node,
 }
 
 impl Edit {
-    /// The edit that gives a file of the same kind the lists, the owner, the group and the flags of this one,
+    /// Returns the edit that gives a file of the same kind the lists, the owner, the group and the flags of this one,
     /// as its record in a dump does.
-    ///
-    /// # Errors
-    ///
-    /// If memory runs out.
     pub fn restoring(alloc: Global, node: &Node) -> Result<Edit, AllocError>
         ensures gives_back { IsSound node.now → IfOk result (GivesBack node.now) }
         ensures room { HasShortLists node.now → IsOk result }
@@ -316,14 +312,14 @@ impl Model for Specs {
 }
 
 impl Specs {
-    /// These entries.
+    /// Wraps entries.
     pub fn new(list: Vec<Spec>) -> Specs
         ensures { result ≡ list.items }
     {
         Specs { list }
     }
 
-    /// The entries, in their order.
+    /// Returns the entries, in their order.
     pub fn as_slice(&self) -> &[Spec]
         ensures { result.now ≡ self.now }
     {

@@ -2,6 +2,8 @@
 //! lists, and what a new file gets of its directory's.
 //!
 //! A [`Node`] is plain data. Paths, people and whole commands are in the crates above.
+//!
+//! A call whose only error is `AllocError` or `NoMemory` fails only if memory runs out.
 #![tactic(auto)]
 
 mod change;

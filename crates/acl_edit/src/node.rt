@@ -29,11 +29,11 @@ pub struct Node {
 }
 
 impl Node {
-    /// The same node again.
+    /// Copies the node.
     ///
     /// # Errors
     ///
-    /// If memory runs out, never where its lists have at most eight entries each.
+    /// If memory runs out, never if its lists have at most eight entries each.
     pub fn try_clone(&self, alloc: Global) -> Result<Node, AllocError>
         ensures same { IfOk result (λ node. node ≡ self.now) }
         ensures room { HasShortLists self.now → IsOk result }
@@ -46,7 +46,7 @@ impl Node {
         Ok(self.with_lists(acl, dacl))
     }
 
-    /// The file with other lists.
+    /// Returns the file with other lists.
     pub(crate) fn with_lists(&self, acl: Acl, dacl: Option<Acl>) -> Node
         ensures { result ≡ nodes.with_lists self.now acl dacl }
     {
@@ -74,7 +74,7 @@ impl Node {
         }
     }
 
-    /// Whether owner, group and access list are the same, so that the check answers alike for both.
+    /// Tells whether owner, group and access list are the same, so that the check answers alike for both.
     pub fn same_label(&self, other: &Node) -> bool
         ensures { IsTrue result ↔ (self.now.label ≡ other.now.label) }
     {
@@ -84,10 +84,10 @@ impl Node {
     }
 }
 
-/// Puts the low twelve bits of a mode into a file: the lowest nine into the entries of the access list
-/// that correspond (acl(5), "CORRESPONDENCE BETWEEN ACL ENTRIES AND FILE PERMISSION BITS"), the next
-/// three into the flags. On a directory set user ID and set group ID are set and never cleared; the sticky
-/// bit is set and cleared on every file: chmod(1).
+/// Puts the low twelve bits of a mode into a file: the lowest nine into the entries of the access list that
+/// correspond (acl(5), "CORRESPONDENCE BETWEEN ACL ENTRIES AND FILE PERMISSION BITS"), the next three into the flags.
+/// On a directory set user ID and set group ID are set and never cleared; the sticky bit is set and cleared on every
+/// file: chmod(1).
 pub fn chmod(node: &mut Node, mode: u16)
     ensures set { node.new ≡ nodes.chmod node.old mode }
     ensures sound { IsSound node.old → IsSound node.new }
@@ -98,7 +98,7 @@ pub fn chmod(node: &mut Node, mode: u16)
     node.lists_are_valid();
 }
 
-/// The flags that a mode leaves.
+/// Returns the flags that a mode leaves.
 fn flags_after(kind: Kind, flags: [bool; 3], mode: u16) -> [bool; 3]
     ensures { result ≡ chmod_flags kind flags mode }
 {
@@ -111,7 +111,7 @@ fn flags_after(kind: Kind, flags: [bool; 3], mode: u16) -> [bool; 3]
     ]
 }
 
-/// Whether a bit of a mode is set.
+/// Tells whether a bit of a mode is set.
 fn has_flag(mode: u16, bit: u32) -> bool
     requires { bit < 16 }
     ensures { result ≡ has_bit mode bit }

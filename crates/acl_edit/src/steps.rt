@@ -15,28 +15,28 @@ use acl_entry::{Acl, Draft, Entry, Key, Perm};
 use acl_text::{PermSpec, Spec, Which};
 use std::alloc::{AllocError, Global};
 
-/// Whether the entry, which is not the mask, has execute.
+/// Tells whether the entry, which is not the mask, has execute.
 fn may_execute(entry: &Entry) -> bool
     ensures { result ≡ may_execute entry.now }
 {
     !is_mask(&entry.key) && entry.perm.contains(Perm::EXECUTE)
 }
 
-/// Whether an entry other than the mask has execute.
+/// Tells whether an entry other than the mask has execute.
 pub(crate) fn someone_may_execute(entries: &[Entry]) -> bool
     ensures { result ≡ list_any may_execute entries.now }
 {
     entries.iter().any(|entry| may_execute(entry))
 }
 
-/// Whether `X` gives execute: to a directory, and where someone may execute the file already.
+/// Tells whether `X` gives execute: to a directory, and if someone may execute the file already.
 pub(crate) fn gives_execute(node: &Node) -> bool
     ensures { result ≡ gives_execute node.now }
 {
     node.kind == Kind::Directory || someone_may_execute(node.label.acl.entries())
 }
 
-/// What an entry gives, where x is whether X gives execute.
+/// Returns what an entry gives, where `x` tells whether `X` gives execute.
 fn perms_of(x: bool, perm: &Option<PermSpec>) -> Perm
     ensures { result ≡ perms_of x perm.now }
 {
@@ -57,7 +57,7 @@ pub(crate) fn put_some(draft: &mut Draft, key: &Key, perm: Option<Perm>) -> Resu
     Ok(())
 }
 
-/// The base entries of a list alone, with what they grant: `-b`.
+/// Keeps the base entries of a list, with what they grant: `-b`.
 pub(crate) fn strip(alloc: Global, acl: &Acl) -> Result<Draft, AllocError>
     ensures stripped { IfOk result (λ draft. draft ≡ steps.strip acl.now) }
     ensures room { IsOk result }
@@ -73,7 +73,7 @@ pub(crate) fn strip(alloc: Global, acl: &Acl) -> Result<Draft, AllocError>
     Ok(kept)
 }
 
-/// Takes the keys out of a list.
+/// Removes the keys from a list.
 pub(crate) fn remove(draft: &mut Draft, scope: Scope, specs: &[Spec])
     ensures { draft.new ≡ steps.remove (specs_for scope specs.now) draft.old }
 {
@@ -137,14 +137,14 @@ fn fill_one(draft: &mut Draft, key: &Key, other: &Acl) -> Result<(), AllocError>
     put_some(draft, key, other.get(*key))
 }
 
-/// Whether the list has a mask.
+/// Tells whether the list has a mask.
 pub(crate) fn has_mask(draft: &Draft) -> bool
     ensures { result ≡ has_mask draft.now }
 {
     draft.get(Key::Mask).is_some()
 }
 
-/// Whether the list names a user or a group.
+/// Tells whether the list names a user or a group.
 fn has_named(draft: &Draft) -> bool
     ensures { result ≡ has_named draft.now }
 {
@@ -163,7 +163,7 @@ fn add_mask(draft: &mut Draft) -> Result<(), AllocError>
     Ok(())
 }
 
-/// Makes a mask that is all that the group class has.
+/// Makes the mask all that the group class has.
 fn recalculate(draft: &mut Draft) -> Result<(), AllocError>
     ensures recalculated { OnOk result (draft.new ≡ masks.recalculate draft.old) }
     ensures room { IsOk result }
@@ -175,14 +175,14 @@ fn recalculate(draft: &mut Draft) -> Result<(), AllocError>
     Ok(())
 }
 
-/// Whether the line has the list's mask recalculated.
+/// Tells whether the line has the list's mask recalculated.
 fn is_recalculated(line: &ChangeRef<'_>, which: Which) -> bool
     ensures { result ≡ is_recalculated line.now (part line.now which) }
 {
     !line.no_mask && (line.remask || !line.gives_mask(which))
 }
 
-/// Completes a list with its mask, where `lost` means that the line took one out.
+/// Completes a list with its mask; `lost` tells that the line removed one.
 pub(crate) fn complete_mask(
     draft: &mut Draft,
     line: &ChangeRef<'_>,
