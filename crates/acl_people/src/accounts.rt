@@ -1,4 +1,4 @@
-//! Users that come and go: useradd(8) and userdel(8).
+//! New and removed users: useradd(8) and userdel(8).
 
 ghost use Rattle.std.specs.Prelude.{◌≡◌, ◌<◌, length, position, IfOk, OnOk};
 ghost use Rattle.acl_people.specs.NameTables.{is_name, has_name, has_id, AreBytes};
@@ -16,7 +16,6 @@ use acl_text::{MAX_ROWS, PasswdRow};
 use std::alloc::{AllocError, Global};
 use std::rc::Rc;
 
-/// A new user's row.
 fn new_row(alloc: Global, name: &[u8], uid: Id, gid: Id) -> Result<PasswdRow, AllocError>
     ensures made { Makes result (user_row name.now uid gid) }
     ensures bytes { OnOk result (AreBytes name.now) }
@@ -29,36 +28,35 @@ fn new_row(alloc: Global, name: &[u8], uid: Id, gid: Id) -> Result<PasswdRow, Al
 }
 
 impl People {
-    /// The place of the user of this name, which may be digits alone. Allocates nothing.
+    /// Returns the place of the user of this name, which may be digits alone.
     pub fn user_named(&self, name: &[u8]) -> Option<usize>
         ensures { result ≡ position (is_name name.now) (users_of self.now) }
     {
         self.user_rows().name_table().place_of_name(name)
     }
 
-    /// Whether a user has this name.
+    /// Tells whether a user has this name.
     pub fn has_user_named(&self, name: &[u8]) -> bool
         ensures { result ≡ has_name name.now (users_of self.now) }
     {
         self.user_named(name).is_some()
     }
 
-    /// Whether a user has this id.
+    /// Tells whether a user has this id.
     pub fn has_user_id(&self, id: Id) -> bool
         ensures { result ≡ has_id id (users_of self.now) }
     {
         self.user_rows().name_table().place_of_id(id).is_some()
     }
 
-    /// Whether there is no room for one more user.
+    /// Tells whether there is no room for a further user.
     pub fn is_full(&self) -> bool
         ensures { result ≡ is_full self.now }
     {
         self.user_rows().rows().len() >= MAX_ROWS
     }
 
-    /// These people and one user more, the last, with a group as the primary group. Fails only if memory
-    /// runs out.
+    /// Adds a user, the last, with `group` as the primary group.
     pub fn with_user(
         &self,
         alloc: Global,
@@ -76,7 +74,7 @@ impl People {
         self.with_user_row(alloc, row)
     }
 
-    /// These people without a user, whose name is in no row of a group. Fails only if memory runs out.
+    /// Removes a user, whose name is in no row of a group.
     pub fn without_user(&self, alloc: Global, user: usize) -> Result<People, AllocError>
         requires { user < length self.now.users }
         ensures rows { Makes result (without_user user self.now) }

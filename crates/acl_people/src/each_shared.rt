@@ -6,7 +6,7 @@ ghost use Rattle.acl_names.specs.Made.{values, MakesShared, AddsShared};
 use std::alloc::{AllocError, Global};
 use std::rc::Rc;
 
-/// Adds an item, the last, with a pointer of its own. Fails only if memory runs out.
+/// Adds an item behind a pointer of its own.
 pub(crate) fn push_shared<T: Drop>(
     alloc: Global,
     all: &mut Vec<Rc<T>>,
@@ -18,7 +18,7 @@ pub(crate) fn push_shared<T: Drop>(
     Ok(())
 }
 
-/// The items, each with a pointer of its own. Fails only if memory runs out.
+/// Puts each item behind a pointer of its own.
 pub(crate) fn each_shared<T: Drop>(alloc: Global, items: Vec<T>) -> Result<Vec<Rc<T>>, AllocError>
     ensures { MakesShared result items.items }
 {
@@ -29,7 +29,7 @@ pub(crate) fn each_shared<T: Drop>(alloc: Global, items: Vec<T>) -> Result<Vec<R
     Ok(all)
 }
 
-/// The items with another one at a place; the rest are shared. Fails only if memory runs out.
+/// Replaces the item at a place; the rest are shared.
 pub(crate) fn each_but_one<T: Drop>(
     alloc: Global,
     items: &[Rc<T>],

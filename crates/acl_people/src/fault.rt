@@ -32,7 +32,7 @@ impl<T: Drop> From<AllocFailed<T>> for LoadFault {
     }
 }
 
-/// A text's fault, and running out of memory as such.
+/// Turns a text's fault into a load's, and keeps running out of memory apart.
 pub(crate) fn text_fault(fault: TextFault) -> LoadFault
     ensures text { fault.kind ≢ FaultKind.NoMemory → result ≡ LoadFault.Text fault }
     ensures memory { fault.kind ≡ FaultKind.NoMemory → result ≡ LoadFault.NoMemory }

@@ -12,7 +12,7 @@ ghost use Rattle.acl_people.specs.Cases.{by_groups, by_name_or, granted_by, mask
 use crate::subjects::Subjects;
 use acl_entry::{Acl, Id, Key, Label, Perm, Requests};
 
-/// Puts requests at places.
+/// Puts requests at `places`.
 fn put(row: &mut [Requests], places: &[usize], requests: Requests)
     requires { AreWithin places.now row.old }
     ensures { ChangesAt places.now (λ _. requests) row.old row.new }
@@ -22,7 +22,7 @@ fn put(row: &mut [Requests], places: &[usize], requests: Requests)
     }
 }
 
-/// Adds requests at places.
+/// Adds requests at `places`.
 fn add(row: &mut [Requests], places: &[usize], requests: Requests)
     requires { AreWithin places.now row.old }
     ensures { ChangesAt places.now (λ n. bit_or n requests) row.old row.new }
@@ -32,7 +32,7 @@ fn add(row: &mut [Requests], places: &[usize], requests: Requests)
     }
 }
 
-/// What permissions grant, and where there is a mask what it grants too.
+/// Returns what permissions grant, limited to the mask, if there is one.
 fn under(mask: &Option<Perm>, perm: Perm) -> Requests
     ensures { result ≡ granted_by (masked_by mask.now perm) }
 {
@@ -42,14 +42,14 @@ fn under(mask: &Option<Perm>, perm: Perm) -> Requests
     }
 }
 
-/// What the entry of a key grants without the mask.
+/// Returns what the entry of a key grants without the mask.
 fn unmasked(acl: &Acl, key: Key) -> Requests
     ensures { result ≡ granted_by (perm_at acl.now key) }
 {
     Requests::within(acl.get(key).unwrap_or(Perm::none()))
 }
 
-/// The group that an entry of the key is for.
+/// Returns the group that an entry of the key is for.
 fn group_of(owning: Id, key: &Key) -> Option<Id>
     ensures { result ≡ group_of owning key.now }
 {
@@ -60,7 +60,7 @@ fn group_of(owning: Id, key: &Key) -> Option<Id>
     }
 }
 
-/// Takes everything from the users of the groups that the entries are for.
+/// Clears the verdicts on the users of the groups that the entries are for.
 fn clear_groups(row: &mut [Requests], users: &Subjects, label: &Label)
     requires { length row.old ≡ length users.now }
     ensures { Regrants users.now row.old row.new (λ f. f) (to_matched label.now (λ _. 0)) }
@@ -100,8 +100,8 @@ fn put_named(row: &mut [Requests], users: &Subjects, label: &Label, mask: &Optio
     }
 }
 
-/// The requests that the check of acl(5) grants each user on a file, in the order of the users. It asks for the
-/// users of the ids and groups that the label mentions, and for no other user. Allocates nothing.
+/// Writes the requests that the check of acl(5) grants each user on a file into `row`, in the order of the users. It
+/// looks up the users of the ids and groups that the label mentions, and no other user.
 pub fn granted_to_all(users: &Subjects, label: &Label, row: &mut [Requests])
     requires { length row.old ≡ length users.now }
     ensures { row.new ≡ map (λ u. rights u label.now) users.now }

@@ -45,7 +45,6 @@ impl NamedRow for GroupRow {
     }
 }
 
-/// Adds a row, the last. Fails only if memory runs out.
 fn push_row(alloc: Global, groups: &mut Vec<Rc<Group>>, row: GroupRow) -> Result<(), AllocError>
     ensures { AddsShared result groups.old groups.new (row ∷ []) }
 {
@@ -53,7 +52,7 @@ fn push_row(alloc: Global, groups: &mut Vec<Rc<Group>>, row: GroupRow) -> Result
     push_shared(alloc, groups, group)
 }
 
-/// The rows, shared among copies.
+/// Returns the rows, shared among copies.
 fn shared_rows(alloc: Global, rows: Vec<GroupRow>) -> Result<Vec<Rc<Group>>, AllocError>
     ensures { MakesShared result rows.items }
 {
@@ -64,7 +63,7 @@ fn shared_rows(alloc: Global, rows: Vec<GroupRow>) -> Result<Vec<Rc<Group>>, All
     Ok(groups)
 }
 
-/// Adds the row without a name, the last. A row that does not contain it is shared.
+/// Adds the row without a name. A row that does not contain it is shared.
 fn push_without(
     alloc: Global,
     groups: &mut Vec<Rc<Group>>,
@@ -81,7 +80,7 @@ fn push_without(
     }
 }
 
-/// The rows without a name.
+/// Removes a name from the rows.
 fn rows_without(
     alloc: Global,
     rows: &[Rc<Group>],
@@ -97,14 +96,12 @@ fn rows_without(
 }
 
 impl Groups {
-    /// No groups. Fails only if memory runs out.
     pub fn new(alloc: Global) -> Result<Groups, AllocError>
         ensures { Makes result [] }
     {
         Groups::of(alloc, Vec::new(alloc))
     }
 
-    /// The groups of these rows. Fails only if memory runs out.
     fn of(alloc: Global, rows: Vec<GroupRow>) -> Result<Groups, AllocError>
         requires { AreGroups rows.items }
         ensures { Makes result rows.items }
@@ -114,7 +111,7 @@ impl Groups {
         Ok(Groups { rows, name_table })
     }
 
-    /// The groups of a group text.
+    /// Reads the groups of a group text.
     pub fn read(alloc: Global, bytes: &[u8]) -> Result<Groups, TextFault>
         ensures { Gives (λ groups. groups) result (group_of bytes.now) }
     {
@@ -123,20 +120,18 @@ impl Groups {
         Ok(groups)
     }
 
-    /// The rows.
     pub fn rows(&self) -> &[Rc<Group>]
         ensures { values result.now ≡ self.now }
     {
         &self.rows
     }
 
-    /// The names and ids.
     pub fn name_table(&self) -> &NameTable
         ensures { IsTableOf group_entry result.now self.now }
     {
         &self.name_table
     }
-    /// These groups with another row at a place, of the same name and id. Fails only if memory runs out.
+    /// Replaces the row at a place by one of the same name and id.
     fn with_row(&self, alloc: Global, at: usize, row: Group) -> Result<Groups, AllocError>
         requires within { at < length self.now }
         requires entry { map group_entry (slice_set self.now at row) ≡ map group_entry self.now }
@@ -149,7 +144,7 @@ impl Groups {
         })
     }
 
-    /// These groups with one more name in a row, the last. Fails only if memory runs out.
+    /// Adds a name to a row, the last.
     pub fn with_name(&self, alloc: Global, at: usize, name: &[u8]) -> Result<Groups, AllocError>
         requires { at < length self.now }
         ensures { Makes result (change_at at (name_added name.now) self.now) }
@@ -158,7 +153,7 @@ impl Groups {
         self.with_row(alloc, at, row)
     }
 
-    /// These groups without a name in a row. Fails only if memory runs out.
+    /// Removes a name from a row.
     pub fn without_name(&self, alloc: Global, at: usize, name: &[u8]) -> Result<Groups, AllocError>
         requires { at < length self.now }
         ensures { Makes result (change_at at (name_removed name.now) self.now) }
@@ -167,7 +162,7 @@ impl Groups {
         self.with_row(alloc, at, row)
     }
 
-    /// These groups without a name in any row. Fails only if memory runs out.
+    /// Removes a name from all rows.
     pub fn without_user(&self, alloc: Global, name: &[u8]) -> Result<Groups, AllocError>
         ensures { Makes result (map (name_removed name.now) self.now) }
     {
@@ -204,7 +199,7 @@ fn push_other(members: &mut Vec<Rc<Name>>, member: &Rc<Name>, name: &[u8]) -> Re
 }
 
 impl Group {
-    /// The row, its names as pointers. Fails only if memory runs out.
+    /// Makes a row, with its names behind pointers.
     pub fn new(alloc: Global, row: GroupRow) -> Result<Group, AllocError>
         ensures { Makes result row }
     {
@@ -215,34 +210,34 @@ impl Group {
         })
     }
 
-    /// The group's name.
+    /// Returns the group's name.
     pub fn name(&self) -> &[u8]
         ensures { result.now ≡ self.now.name }
     {
         self.name.as_bytes()
     }
 
-    /// The group's id.
+    /// Returns the group's id.
     pub fn gid(&self) -> Id
         ensures { result ≡ self.now.gid }
     {
         self.gid
     }
 
-    /// The names in the row, in their order.
+    /// Returns the names in the row, in their order.
     pub fn members(&self) -> &[Rc<Name>]
         ensures { values result.now ≡ self.now.names }
     {
         &self.members
     }
 
-    /// Whether the row names the user.
+    /// Tells whether the row names the user.
     pub fn names_user(&self, name: &[u8]) -> bool
         ensures { result ≡ names_user name.now self.now }
     {
         self.members.iter().any(|member| member.as_bytes() == name)
     }
-    /// The row with one more name, the last. Fails only if memory runs out.
+    /// Adds a name, the last.
     pub fn with_name(&self, alloc: Global, name: &[u8]) -> Result<Group, AllocError>
         ensures { Makes result (name_added name.now self.now) }
     {
@@ -255,7 +250,7 @@ impl Group {
         })
     }
 
-    /// The row without a name, however often it occurs. Fails only if memory runs out.
+    /// Removes a name, however often it occurs.
     pub fn without_name(&self, alloc: Global, name: &[u8]) -> Result<Group, AllocError>
         ensures { Makes result (name_removed name.now self.now) }
     {

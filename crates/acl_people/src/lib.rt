@@ -1,5 +1,8 @@
 //! People: the users and groups of passwd(5) and group(5), looked up by name and by id, and each user's groups; all users
 //! in their order, found by id and by group; and what acl(5)'s check grants them all on a file.
+//!
+//! A call whose only error is `AllocError` or `NoMemory` fails only if memory runs out. A function that returns no `Result`
+//! allocates nothing.
 #![tactic(auto)]
 
 mod accounts;

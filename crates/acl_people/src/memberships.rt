@@ -14,7 +14,7 @@ use std::collections::BTreeMap;
 use std::rc::Rc;
 
 impl People {
-    /// Whether the row of a group names a user.
+    /// Tells whether the row of a group names a user.
     pub fn is_member(&self, user: usize, group: usize) -> bool
         requires { AreThere user group self.now }
         ensures { result ≡ is_member user group self.now }
@@ -22,7 +22,7 @@ impl People {
         self.group_rows().rows()[group].names_user(self.name_of(user))
     }
 
-    /// The id of a group.
+    /// Returns the id of a group.
     pub(crate) fn gid_of(&self, group: usize) -> Id
         requires { group < length self.now.groups }
         ensures { result ≡ gid_of group self.now }
@@ -30,8 +30,7 @@ impl People {
         self.group_rows().rows()[group].gid()
     }
 
-    /// These people with a user's name last in the row of a group, or as they are where the row names the
-    /// user already. Fails only if memory runs out.
+    /// Puts a user's name last in the row of a group, unless the row names the user already.
     pub fn with_member(
         &self,
         alloc: Global,
@@ -52,8 +51,7 @@ impl People {
         self.with_rows(alloc, self.user_rows(), &groups, user)
     }
 
-    /// These people without a user's name in the row of a group, however often it occurs. Fails only if
-    /// memory runs out.
+    /// Removes a user's name from the row of a group, however often it occurs.
     pub fn without_member(
         &self,
         alloc: Global,
@@ -71,7 +69,7 @@ impl People {
         self.with_rows(alloc, self.user_rows(), &groups, user)
     }
 
-    /// These people with a group as the primary group of a user. Fails only if memory runs out.
+    /// Makes a group the primary group of a user.
     pub fn with_primary_group(
         &self,
         alloc: Global,
@@ -88,7 +86,7 @@ impl People {
     }
 }
 
-/// Notes a group for a name.
+/// Records a group for a name.
 fn join<'a>(
     alloc: Global,
     members: &mut BTreeMap<&'a [u8], Vec<Id>>,
@@ -103,7 +101,7 @@ fn join<'a>(
     Ok(())
 }
 
-/// Notes a row's group for each name in it.
+/// Records a row's group for each name in it.
 fn add_row<'a>(
     alloc: Global,
     members: &mut BTreeMap<&'a [u8], Vec<Id>>,
@@ -117,7 +115,7 @@ fn add_row<'a>(
     Ok(())
 }
 
-/// The groups whose rows name a user, by the user's name: one pass over the rows.
+/// Maps each user's name to the groups whose rows name the user: one pass over the rows.
 pub(crate) fn members_of<'a>(
     alloc: Global,
     rows: &'a [Rc<Group>],
@@ -132,8 +130,8 @@ pub(crate) fn members_of<'a>(
 }
 
 impl People {
-    /// The ids of the groups that a user joined or left between these people and the next, rising. Without
-    /// any, all users are as they were. Fails only if memory runs out.
+    /// Returns the ids of the groups that a user joined or left between these people and the next, rising. If there
+    /// are none, all users are as they were.
     pub fn moved_groups(
         &self,
         alloc: Global,

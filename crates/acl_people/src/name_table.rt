@@ -1,5 +1,4 @@
-//! Names with their ids, looked up by name and by id; and the hashes of names, keyed by all the names that they are to tell
-//! apart.
+//! Names with their ids, looked up by name and by id; and the hashes of names, keyed by all the names of a table.
 
 ghost use Rattle.std.specs.Prelude.{◌≡◌, ◌++◌, ◌∷◌, [], ℕ, ◌==◌, map, position, None, OnOk, option_map, slice_get, List};
 ghost use Rattle.std.specs.Option.{option_copied};
@@ -36,7 +35,7 @@ impl Model for NameTable {
         AreFirstPlaces is_id r.first (named_in r.ids.entries) × AreFirstPlaces prints r.shown (named_in r.ids.entries) };
 }
 
-/// Keeps the place for the id, unless it has one. Fails only if memory runs out.
+/// Keeps the place for the id, unless it has one.
 fn note(places: &mut BTreeMap<u32, usize>, id: u32, place: usize) -> Result<(), AllocError>
     ensures { OnOk result (KeepsFirst places.old places.new (λ q. id == q) place) }
 {
@@ -44,7 +43,7 @@ fn note(places: &mut BTreeMap<u32, usize>, id: u32, place: usize) -> Result<(), 
     Ok(())
 }
 
-/// Adds a name, which is not among them, with its id, and keeps its place. Fails only if memory runs out.
+/// Adds a name, which is not among them, with its id, and keeps its place.
 fn add(
     alloc: Global,
     ids: &mut IndexMap<Vec<u8>, Id, NameHashes>,
@@ -66,8 +65,8 @@ fn add(
 }
 
 impl NameTable {
-    /// The names of the rows, hashed with a key that all of them make. A user that comes or goes makes a new
-    /// name table, so a name is never added under a key that was known before. Fails only if memory runs out.
+    /// Indexes the names of the rows, hashed with a key that all of them make. A change of users makes a new name
+    /// table, so a name is never added under a key that was known before.
     pub fn of<R: NamedRow>(alloc: Global, rows: &[R]) -> Result<NameTable, AllocError>
         requires { AreNames (map R.named rows.now) }
         ensures { Makes result (map R.named rows.now) }
@@ -79,7 +78,7 @@ impl NameTable {
         Ok(name_table)
     }
 
-    /// The names of the rows, for those that share them. Fails only if memory runs out.
+    /// Indexes the names of the rows, for those that share them.
     pub fn shared<R: NamedRow>(alloc: Global, rows: &[R]) -> Result<Rc<NameTable>, AllocError>
         requires { AreNames (map R.named rows.now) }
         ensures { MakesOne result (map R.named rows.now) }
@@ -88,7 +87,7 @@ impl NameTable {
         Ok(Rc::new(alloc, name_table)?)
     }
 
-    /// No names, and room for some.
+    /// Returns an empty table, with room for `count` names.
     fn with_room(alloc: Global, count: usize, hashes: NameHashes) -> Result<NameTable, AllocError>
         ensures { Makes result [] }
     {
@@ -99,7 +98,7 @@ impl NameTable {
         })
     }
 
-    /// The names and one more, which is not among them.
+    /// Adds a name, which is not among them.
     fn with(mut self, alloc: Global, name: &[u8], id: Id) -> Result<NameTable, AllocError>
         requires { position (is_name name.now) self ≡ None }
         ensures { Makes result (self ++ (name.now, id) ∷ []) }
@@ -115,21 +114,21 @@ impl NameTable {
         Ok(self)
     }
 
-    /// The place of a name.
+    /// Returns the place of a name.
     pub fn place_of_name(&self, name: &[u8]) -> Option<usize>
         ensures { result ≡ position (is_name name.now) self.now }
     {
         self.ids.get_index_of(name)
     }
 
-    /// The first place of an id.
+    /// Returns the first place of an id.
     pub fn place_of_id(&self, id: Id) -> Option<usize>
         ensures { result ≡ position (is_id id) self.now }
     {
         self.first.get(&id.number()).copied()
     }
 
-    /// The place that a word means: digits alone are an id, any other word is a name.
+    /// Returns the place that a word means: digits alone are an id, any other word is a name.
     pub fn place_of_word(&self, word: &[u8]) -> Option<usize>
         ensures found { result ≡ place_of_word word.now self.now }
         ensures within { IsPlaceIn self.now result }
@@ -144,7 +143,6 @@ impl NameTable {
         }
     }
 
-    /// The id at a place.
     fn id_at(&self, place: usize) -> Option<Id>
         ensures { result ≡ option_map (λ e. e.1) (slice_get self.now place) }
     {
@@ -154,7 +152,6 @@ impl NameTable {
         }
     }
 
-    /// The name at a place.
     fn name_at(&self, place: usize) -> Option<&[u8]>
         ensures { option_copied result ≡ option_map (λ e. e.0) (slice_get self.now place) }
     {
@@ -164,7 +161,7 @@ impl NameTable {
         }
     }
 
-    /// The id of a name.
+    /// Returns the id of a name.
     pub fn id_named(&self, name: &[u8]) -> Option<Id>
         ensures { result ≡ id_named name.now self.now }
     {
@@ -172,14 +169,14 @@ impl NameTable {
         self.id_at(place)
     }
 
-    /// The place of the name that an id prints as.
+    /// Returns the place of the name that an id prints as.
     fn place_shown(&self, id: Id) -> Option<usize>
         ensures { result ≡ position (prints id) self.now }
     {
         self.shown.get(&id.number()).copied()
     }
 
-    /// The name that an id prints as.
+    /// Returns the name that an id prints as.
     pub fn name_shown(&self, id: Id) -> Option<&[u8]>
         ensures { option_copied result ≡ name_shown id self.now }
     {
@@ -193,16 +190,14 @@ pub(crate) trait NamedRow {
     /// The name and the id.
     ghost named: { Self → List ℕ × ℕ };
 
-    /// The name.
     fn name(&self) -> &[u8]
         ensures { result.now ≡ (named self.now).0 };
 
-    /// The id.
     fn id(&self) -> Id
         ensures { result ≡ (named self.now).1 };
 }
 
-/// What hashes a name: SipHash, keyed by the SHA-256 digest of all names of a name table. So names that are to collide
+/// Hashes names: SipHash, keyed by the SHA-256 digest of all names of a name table. So names that are to collide
 /// would have to be found for a key that each of them changes.
 #[derive(Clone, Copy)]
 pub(crate) struct NameHashes {
@@ -210,8 +205,8 @@ pub(crate) struct NameHashes {
 }
 
 impl NameHashes {
-    /// The hashes for the names of these rows. A colon, which no name has, goes after each name into the
-    /// digest, so that names that are cut in other places have another one.
+    /// Keys the hashes by the names of these rows. A colon, which no name has, goes after each name into the digest,
+    /// so that names that are cut in other places have another one.
     pub fn of<R: NamedRow>(rows: &[R]) -> NameHashes
         ensures { result.start ≡ keyed (map R.named rows.now) }
     {

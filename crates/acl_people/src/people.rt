@@ -40,7 +40,7 @@ impl Model for People {
 }
 
 impl People {
-    /// Nobody: no text is loaded. Fails only if memory runs out.
+    /// Returns nobody: no text is loaded.
     pub fn new(alloc: Global) -> Result<People, AllocError>
         ensures { Makes result nobody }
     {
@@ -49,7 +49,7 @@ impl People {
         People::of_rows(alloc, users, groups, false, false)
     }
 
-    /// The people of these rows: every user's groups are computed. Fails only if memory runs out.
+    /// Computes every user's groups from rows.
     fn of_rows(
         alloc: Global,
         users: Rc<Users>,
@@ -70,7 +70,7 @@ impl People {
         })
     }
 
-    /// The same people once more; the rows are shared. Fails only if memory runs out.
+    /// Copies the people; both share the rows.
     pub fn share(&self) -> Result<People, AllocError>
         ensures { Makes result self.now }
     {
@@ -83,29 +83,29 @@ impl People {
         })
     }
 
-    /// Whether a passwd text was loaded.
+    /// Tells whether a passwd text was loaded.
     pub fn passwd_loaded(&self) -> bool
         ensures { result ≡ self.now.passwd_loaded }
     {
         self.passwd_loaded
     }
 
-    /// Whether a group text was loaded.
+    /// Tells whether a group text was loaded.
     pub fn group_loaded(&self) -> bool
         ensures { result ≡ self.now.group_loaded }
     {
         self.group_loaded
     }
 
-    /// The number of users.
+    /// Returns the number of users.
     pub fn users(&self) -> usize
         ensures { result ≡ length self.now.users }
     {
         self.users.rows().len()
     }
 
-    /// The place of the user that a word means: digits alone are the first user of that id, any other
-    /// word is a name.
+    /// Returns the place of the user that a word means: digits alone are the first user of that id, any other word is
+    /// a name.
     pub fn find_user(&self, word: &[u8]) -> Option<usize>
         ensures found { result ≡ place_of_word word.now (users_of self.now) }
         ensures within { IsPlaceIn self.now.users result }
@@ -113,8 +113,8 @@ impl People {
         self.users.name_table().place_of_word(word)
     }
 
-    /// The place of the group that a word means: digits alone are the first group of that id, any other
-    /// word is a name.
+    /// Returns the place of the group that a word means: digits alone are the first group of that id, any other word
+    /// is a name.
     pub fn find_group(&self, word: &[u8]) -> Option<usize>
         ensures found { result ≡ place_of_word word.now (groups_of self.now) }
         ensures within { IsPlaceIn self.now.groups result }
@@ -122,7 +122,7 @@ impl People {
         self.groups.name_table().place_of_word(word)
     }
 
-    /// The name in the user's row; `None` past the last user.
+    /// Returns the name in the user's row; `None` past the last user.
     pub fn name(&self, user: usize) -> Option<&[u8]>
         ensures { option_copied result ≡ option_map (λ row. row.name) (slice_get self.now.users user) }
     {
@@ -132,7 +132,7 @@ impl People {
         }
     }
 
-    /// The user's row; `None` past the last user.
+    /// Returns the user's row; `None` past the last user.
     pub fn user_row(&self, user: usize) -> Option<&PasswdRow>
         ensures { option_copied result ≡ slice_get self.now.users user }
     {
@@ -142,8 +142,7 @@ impl People {
         }
     }
 
-    /// A copy of the user's id and groups; `None` past the last user. Fails only if memory runs out;
-    /// [`People::subject_at`] borrows them, and takes none.
+    /// Copies the user's id and groups; `None` past the last user. [`People::subject_at`] borrows them.
     pub fn subject(&self, alloc: Global, user: usize) -> Result<Option<Subject>, AllocError>
         ensures { Makes result (subject self.now user) }
     {
@@ -153,7 +152,7 @@ impl People {
         }
     }
 
-    /// The user's id and groups; `None` past the last user. Allocates nothing.
+    /// Returns the user's id and groups; `None` past the last user.
     pub fn subject_at(&self, user: usize) -> Option<&Subject>
         ensures { option_copied result ≡ subject self.now user }
     {
@@ -163,22 +162,22 @@ impl People {
         }
     }
 
-    /// Every user's id and groups, in the order of their rows.
+    /// Returns every user's id and groups, in the order of their rows.
     pub fn subjects(&self) -> &[Rc<Subject>]
         ensures { values result.now ≡ persons self.now }
     {
         self.subjects.as_slice()
     }
 
-    /// Every user's id and groups, in the order of their rows, found by id and by group.
+    /// Returns every user's id and groups, in the order of their rows, found by id and by group.
     pub fn all_subjects(&self) -> &Subjects
         ensures { result.now ≡ persons self.now }
     {
         &self.subjects
     }
 
-    /// These people with the users of a passwd text. Refused where one was loaded, whatever memory there is,
-    /// for the text's first fault, or if memory runs out.
+    /// Adds the users of a passwd text. Refused if one was loaded, whatever memory there is, for the text's first
+    /// fault, or if memory runs out.
     pub fn load_passwd(&self, alloc: Global, bytes: &[u8]) -> Result<People, LoadFault>
         ensures reported { Loads result (load_passwd self.now bytes.now) }
         ensures again { LoadsOnce result self.now.passwd_loaded }
@@ -196,8 +195,8 @@ impl People {
         Ok(people)
     }
 
-    /// These people with the groups of a group text. Refused where one was loaded, whatever memory there is,
-    /// for the text's first fault, or if memory runs out.
+    /// Adds the groups of a group text. Refused if one was loaded, whatever memory there is, for the text's first
+    /// fault, or if memory runs out.
     pub fn load_group(&self, alloc: Global, bytes: &[u8]) -> Result<People, LoadFault>
         ensures reported { Loads result (load_group self.now bytes.now) }
         ensures again { LoadsOnce result self.now.group_loaded }
@@ -215,7 +214,6 @@ impl People {
         Ok(people)
     }
 
-    /// The rows of users.
     pub(crate) fn user_rows(&self) -> &Rc<Users>
         ensures rows { result.now.value ≡ self.now.users }
         ensures sound { IsSound self.now }
@@ -224,7 +222,6 @@ impl People {
         &self.users
     }
 
-    /// The rows of groups.
     pub(crate) fn group_rows(&self) -> &Rc<Groups>
         ensures rows { result.now.value ≡ self.now.groups }
         ensures sound { IsSound self.now }
@@ -233,7 +230,7 @@ impl People {
         &self.groups
     }
 
-    /// The name in the row of a user.
+    /// Returns the name in the row of a user.
     pub(crate) fn name_of(&self, user: usize) -> &[u8]
         requires { user < length self.now.users }
         ensures { result.now ≡ name_of user self.now }
@@ -241,8 +238,7 @@ impl People {
         self.users.rows()[user].name.as_bytes()
     }
 
-    /// The people of these rows, where one user's groups may have changed: only that user's groups are
-    /// computed. Fails only if memory runs out.
+    /// Takes these rows, in which only one user's groups may have changed: only these are computed.
     pub(crate) fn with_rows(
         &self,
         alloc: Global,
@@ -264,7 +260,7 @@ impl People {
         })
     }
 
-    /// These people and one user more, the last. The users count as loaded. Fails only if memory runs out.
+    /// Adds a user's row, the last. The users count as loaded.
     pub(crate) fn with_user_row(&self, alloc: Global, row: PasswdRow) -> Result<People, AllocError>
         requires { AreUsers (self.now.users ++ row ∷ []) }
         ensures { Makes result (with_user_row row self.now) }
@@ -280,7 +276,7 @@ impl People {
         })
     }
 
-    /// The people of these rows, where a user is gone and no other changed. Fails only if memory runs out.
+    /// Takes these rows, in which a user is gone and no other changed.
     pub(crate) fn without_subject(
         &self,
         alloc: Global,

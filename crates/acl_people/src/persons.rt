@@ -1,4 +1,4 @@
-//! Each user as the check of access sees one.
+//! Users as the check of access sees them.
 
 ghost use Rattle.std.specs.Prelude.{◌∷◌, [], map};
 ghost use Rattle.acl_people.specs.Members.{person_among};
@@ -14,7 +14,7 @@ use std::alloc::{AllocError, Global};
 use std::collections::BTreeMap;
 use std::rc::Rc;
 
-/// The user of a row, as the check sees one.
+/// Makes the user of a row, as the check sees one.
 fn subject_of(
     alloc: Global,
     members: &BTreeMap<&[u8], Vec<Id>>,
@@ -30,7 +30,7 @@ fn subject_of(
     Subject::from_groups(alloc, row.uid, &gids)
 }
 
-/// Adds the user of a row, the last. Fails only if memory runs out.
+/// Adds the user of a row.
 fn push_subject(
     alloc: Global,
     subjects: &mut Vec<Rc<Subject>>,
@@ -43,7 +43,7 @@ fn push_subject(
     push_shared(alloc, subjects, subject)
 }
 
-/// Every user's id and groups, in the order of the users' rows: one pass over the group rows, and one over
+/// Collects every user's id and groups, in the order of the users' rows: one pass over the group rows, and one over
 /// the users.
 pub(crate) fn subjects_of(
     alloc: Global,
@@ -60,7 +60,7 @@ pub(crate) fn subjects_of(
     Ok(subjects)
 }
 
-/// One user's id and groups: a pass over the group rows. Fails only if memory runs out.
+/// Collects one user's id and groups: a pass over the group rows.
 fn person_of(alloc: Global, groups: &[Rc<Group>], user: &PasswdRow) -> Result<Subject, AllocError>
     ensures { Makes result (person (values groups.now) user.now) }
 {
@@ -75,7 +75,7 @@ fn person_of(alloc: Global, groups: &[Rc<Group>], user: &PasswdRow) -> Result<Su
     Ok(subject)
 }
 
-/// One user's id and groups, for those that share them. Fails only if memory runs out.
+/// Collects one user's id and groups, for those that share them.
 pub(crate) fn shared_person(
     alloc: Global,
     groups: &Groups,

@@ -1,4 +1,4 @@
-//! For each id, or group, the places of users that are listed for it, in lists that copies share.
+//! For each id, or group, the places of its users, in lists that copies share.
 
 ghost use Rattle.std.specs.Prelude.{◌≡◌, ◌==◌, ◌&&◌, ◌≤◌, ◌++◌, [], not, if◌then◌else◌, map, filter, take, length, IfOk, OnOk};
 ghost use Rattle.std.specs.List.{All};
@@ -18,13 +18,13 @@ pub(crate) struct Note {
     pub place: usize,
 }
 
-/// For each id the places that are listed for it.
+/// For each id the places of its users.
 #[derive(Drop)]
 pub(crate) struct PlacesById {
     lists: BTreeMap<Id, Rc<Vec<usize>>>,
 }
 
-/// How many notes there are before the first of another id.
+/// Counts the notes before the first of another id.
 fn count_of(notes: &[Note], id: Id) -> usize
     ensures most { result ≤ length notes.now }
     ensures all { All (λ n. n.id ≡ id) (take result notes.now) }
@@ -37,7 +37,7 @@ fn count_of(notes: &[Note], id: Id) -> usize
     notes.len()
 }
 
-/// Some places and those of notes.
+/// Joins places and those of notes.
 fn joined(alloc: Global, places: &[usize], notes: &[Note]) -> Result<Vec<usize>, AllocError>
     ensures { MakesList result (places.now ++ map (λ n. n.place) notes.now) }
 {
@@ -49,7 +49,7 @@ fn joined(alloc: Global, places: &[usize], notes: &[Note]) -> Result<Vec<usize>,
     Ok(all)
 }
 
-/// Some places without one.
+/// Removes a place.
 fn without(alloc: Global, places: &[usize], place: usize) -> Result<Vec<usize>, AllocError>
     ensures { MakesList result (filter (λ x. not (x == place)) places.now) }
 {
@@ -63,7 +63,6 @@ fn without(alloc: Global, places: &[usize], place: usize) -> Result<Vec<usize>, 
 }
 
 impl PlacesById {
-    /// No places.
     fn new(alloc: Global) -> PlacesById
         ensures { AreListed result (λ _. []) }
     {
@@ -72,7 +71,7 @@ impl PlacesById {
         }
     }
 
-    /// The same places, in lists that both share. Fails only if memory runs out.
+    /// Copies the map; both share the lists.
     pub fn copy(&self) -> Result<PlacesById, AllocError>
         ensures { IfOk result (λ copy. AreListed copy (noted_for self.now)) }
     {
@@ -81,7 +80,7 @@ impl PlacesById {
         })
     }
 
-    /// The places that are listed for an id.
+    /// Returns the places of an id.
     pub fn get(&self, id: Id) -> &[usize]
         ensures { result.now ≡ noted_for self.now id }
     {
@@ -91,7 +90,7 @@ impl PlacesById {
         }
     }
 
-    /// Puts places in the place of those that are listed for an id.
+    /// Replaces the places of an id.
     fn put(&mut self, alloc: Global, id: Id, places: Vec<usize>) -> Result<(), AllocError>
         ensures { OnOk result (AreListed self.new (λ q. if id == q then places.items else noted_for self.old q)) }
     {
@@ -100,7 +99,7 @@ impl PlacesById {
         Ok(())
     }
 
-    /// Lists the places of some notes for an id. Fails only if memory runs out.
+    /// Adds the places of some notes to an id.
     fn add_all(&mut self, alloc: Global, id: Id, notes: &[Note]) -> Result<(), AllocError>
         ensures { OnOk result (Notes self.old self.new (λ q at. (id == q) && is_one_of at (map (λ n. n.place) notes.now))) }
     {
@@ -109,7 +108,7 @@ impl PlacesById {
         Ok(())
     }
 
-    /// Notes one place more for an id. Fails only if memory runs out.
+    /// Adds a place to an id.
     pub fn add(&mut self, alloc: Global, id: Id, place: usize) -> Result<(), AllocError>
         ensures { OnOk result (Notes self.old self.new (for_id id place)) }
     {
@@ -117,7 +116,7 @@ impl PlacesById {
         Ok(())
     }
 
-    /// Takes a place from an id. Fails only if memory runs out.
+    /// Removes a place from an id.
     pub fn remove(&mut self, alloc: Global, id: Id, place: usize) -> Result<(), AllocError>
         ensures { OnOk result (Forgets self.old self.new (for_id id place)) }
     {
@@ -126,7 +125,7 @@ impl PlacesById {
         Ok(())
     }
 
-    /// The places of some notes. Fails only if memory runs out.
+    /// Lists the places of notes by their ids.
     ///
     /// The notes are sorted by their ids first, so that the list of an id is made at once.
     pub fn of(alloc: Global, mut notes: Vec<Note>) -> Result<PlacesById, AllocError>
@@ -144,7 +143,7 @@ impl PlacesById {
     }
 }
 
-/// Adds a note of a place for each of some groups.
+/// Adds a note of a place for each of `groups`.
 fn note_groups(notes: &mut Vec<Note>, groups: &[Id], place: usize) -> Result<(), AllocError>
     ensures { OnOk result (AddsNotes notes.old.items notes.new.items groups.now place) }
 {
@@ -154,7 +153,7 @@ fn note_groups(notes: &mut Vec<Note>, groups: &[Id], place: usize) -> Result<(),
     Ok(())
 }
 
-/// A note of each user's place for the user's id. Fails only if memory runs out.
+/// Makes a note of each user's place for the user's id.
 pub(crate) fn notes_by_id(alloc: Global, users: &[Rc<Subject>]) -> Result<Vec<Note>, AllocError>
     ensures { IfOk result (λ notes. AreNotes has_id (values users.now) notes.items) }
 {
@@ -168,7 +167,7 @@ pub(crate) fn notes_by_id(alloc: Global, users: &[Rc<Subject>]) -> Result<Vec<No
     Ok(notes)
 }
 
-/// Notes of each user's place for the user's groups. Fails only if memory runs out.
+/// Makes notes of each user's place for the user's groups.
 pub(crate) fn notes_by_group(alloc: Global, users: &[Rc<Subject>]) -> Result<Vec<Note>, AllocError>
     ensures { IfOk result (λ notes. AreNotes is_in (values users.now) notes.items) }
 {
@@ -179,7 +178,7 @@ pub(crate) fn notes_by_group(alloc: Global, users: &[Rc<Subject>]) -> Result<Vec
     Ok(notes)
 }
 
-/// Takes a place from the groups of a user that another user is not in.
+/// Removes a place from the groups of a user that another user is not in.
 fn leave(
     alloc: Global,
     noted: &mut PlacesById,
@@ -197,7 +196,7 @@ fn leave(
     Ok(())
 }
 
-/// Notes a place for the groups of a user that another user is not in.
+/// Adds a place to the groups of a user that another user is not in.
 fn join(
     alloc: Global,
     noted: &mut PlacesById,
@@ -215,8 +214,8 @@ fn join(
     Ok(())
 }
 
-/// The places by group, where at a place another user is put for one: only the lists of the groups that one of
-/// them is in and the other is not are made again. Fails only if memory runs out.
+/// Replaces the user at a place: only the lists of the groups that one of the two is in and the other is not are
+/// copied.
 pub(crate) fn moved(
     alloc: Global,
     noted: &PlacesById,
@@ -232,7 +231,7 @@ pub(crate) fn moved(
     Ok(after)
 }
 
-/// The places by group with that of one user more. Fails only if memory runs out.
+/// Adds the place of a further user to the user's groups.
 pub(crate) fn joined_by(
     alloc: Global,
     noted: &PlacesById,

@@ -13,8 +13,8 @@ use std::alloc::{AllocError, Global};
 use std::marker::Model;
 use std::rc::Rc;
 
-/// All users in their order, with the places of the users of each id and of each group. Two users may have one
-/// id. Copies share their memory.
+/// All users in their order, with the places of the users of each id and of each group. Two users may have one id.
+/// Copies share their memory.
 #[derive(Drop)]
 pub struct Subjects {
     users: Rc<Vec<Rc<Subject>>>,
@@ -33,7 +33,7 @@ impl Model for Subjects {
         × AreNoted is_in u.by_group.value (values u.users.value.items) };
 }
 
-/// Some users, by their pointers, with room for one more.
+/// Copies the pointers of users, with room for a further one.
 fn copied(alloc: Global, users: &[Rc<Subject>]) -> Result<Vec<Rc<Subject>>, AllocError>
     ensures { MakesShared result (values users.now) }
 {
@@ -45,7 +45,7 @@ fn copied(alloc: Global, users: &[Rc<Subject>]) -> Result<Vec<Rc<Subject>>, Allo
 }
 
 impl Subjects {
-    /// Users with the places that are listed for them.
+    /// Makes users of a list and the places in it.
     fn found_by(
         alloc: Global,
         users: Vec<Rc<Subject>>,
@@ -63,21 +63,19 @@ impl Subjects {
         })
     }
 
-    /// The places by id.
     fn ids(&self) -> &Rc<PlacesById>
         ensures { AreNoted has_id result.now.value self.now }
     {
         &self.by_id
     }
 
-    /// The places by group.
     fn groups(&self) -> &PlacesById
         ensures { AreNoted is_in result.now self.now }
     {
         &self.by_group
     }
 
-    /// These users. Fails only if memory runs out.
+    /// Indexes users by id and by group.
     pub fn of(alloc: Global, users: Vec<Rc<Subject>>) -> Result<Subjects, AllocError>
         ensures { Makes result (values users.items) }
     {
@@ -87,7 +85,7 @@ impl Subjects {
         Subjects::found_by(alloc, users, by_id, by_group)
     }
 
-    /// The same users, in shared memory. Fails only if memory runs out.
+    /// Copies the users; both share their memory.
     pub fn share(&self) -> Result<Subjects, AllocError>
         ensures { Makes result self.now }
     {
@@ -98,43 +96,43 @@ impl Subjects {
         })
     }
 
-    /// How many users there are.
+    /// Returns how many users there are.
     pub fn len(&self) -> usize
         ensures { result ≡ length self.now }
     {
         self.users.len()
     }
 
-    /// The users in their order.
+    /// Returns the users in their order.
     pub fn as_slice(&self) -> &[Rc<Subject>]
         ensures { values result.now ≡ self.now }
     {
         &self.users
     }
 
-    /// The user at a place.
+    /// Returns the user at a place.
     pub fn get(&self, at: usize) -> Option<&Rc<Subject>>
         ensures { option_map (λ s. s.now.value) result ≡ slice_get self.now at }
     {
         self.users.get(at)
     }
 
-    /// The places of the users of an id.
+    /// Returns the places of the users of an id.
     pub fn of_id(&self, id: Id) -> &[usize]
         ensures { AreThose (has_id id) self.now result.now }
     {
         self.by_id.get(id)
     }
 
-    /// The places of the users in a group.
+    /// Returns the places of the users in a group.
     pub fn of_group(&self, group: Id) -> &[usize]
         ensures { AreThose (is_in group) self.now result.now }
     {
         self.by_group.get(group)
     }
 
-    /// The users with another one of the same id in the place of one. Only the lists of the groups that the user
-    /// joined or left are made again. Fails only if memory runs out.
+    /// Replaces the user at a place by one of the same id. Only the lists of the groups that the user joined or left
+    /// are copied.
     pub fn with(&self, alloc: Global, at: usize, user: Rc<Subject>) -> Result<Subjects, AllocError>
         requires { option_map (λ u. u.uid) (slice_get self.now at) ≡ Some user.value.uid }
         ensures { Makes result (slice_set self.now at user.value) }
@@ -147,8 +145,7 @@ impl Subjects {
         Ok(all)
     }
 
-    /// The users with one more, the last. Only the lists of this user's id and groups are made again. Fails only
-    /// if memory runs out.
+    /// Adds a user, the last. Only the lists of this user's id and groups are copied.
     pub fn with_last(&self, alloc: Global, user: Rc<Subject>) -> Result<Subjects, AllocError>
         ensures { Makes result (self.now ++ user.value ∷ []) }
     {
@@ -162,8 +159,7 @@ impl Subjects {
         Ok(all)
     }
 
-    /// The users without one. Those after it have other places then, so all lists are made again. Fails only if
-    /// memory runs out.
+    /// Removes a user. Those after it have other places then, so all lists are built again.
     pub fn without(&self, alloc: Global, at: usize) -> Result<Subjects, AllocError>
         requires { at < length self.now }
         ensures { Makes result (remove self.now at) }

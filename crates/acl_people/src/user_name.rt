@@ -23,7 +23,7 @@ impl Model for UserName {
 }
 
 impl UserName {
-    /// The name, where a new user may have it.
+    /// Makes the name one for a new user, if it may be one.
     pub fn new(name: Name) -> Option<UserName>
         ensures { result ≡ if is_user_name name then Some name else None }
     {
@@ -34,7 +34,6 @@ impl UserName {
         }
     }
 
-    /// The name.
     pub fn as_name(&self) -> &Name
         ensures all { result.now ≡ self.now }
         ensures filled { 0 < length self.now }

@@ -45,14 +45,13 @@ impl NamedRow for Rc<PasswdRow> {
 }
 
 impl Users {
-    /// No users. Fails only if memory runs out.
     pub fn new(alloc: Global) -> Result<Users, AllocError>
         ensures { Makes result [] }
     {
         Users::of(alloc, Vec::new(alloc))
     }
 
-    /// The users of these rows. Fails only if memory runs out.
+    /// Makes users of rows.
     pub fn of(alloc: Global, rows: Vec<Rc<PasswdRow>>) -> Result<Users, AllocError>
         requires { AreUsers (values rows.items) }
         ensures { Makes result (values rows.items) }
@@ -61,7 +60,7 @@ impl Users {
         Ok(Users { rows, name_table })
     }
 
-    /// The users of a passwd text.
+    /// Reads the users of a passwd text.
     pub fn read(alloc: Global, bytes: &[u8]) -> Result<Users, TextFault>
         ensures { Gives (λ users. users) result (passwd_of bytes.now) }
     {
@@ -70,20 +69,18 @@ impl Users {
         Ok(users)
     }
 
-    /// The rows.
     pub fn rows(&self) -> &[Rc<PasswdRow>]
         ensures { values result.now ≡ self.now }
     {
         &self.rows
     }
 
-    /// The names and ids.
     pub fn name_table(&self) -> &NameTable
         ensures { IsTableOf user_entry result.now self.now }
     {
         &self.name_table
     }
-    /// These users, one of them with another primary group. Fails only if memory runs out.
+    /// Gives a user another primary group.
     pub fn with_gid(&self, alloc: Global, user: usize, gid: Id) -> Result<Users, AllocError>
         requires { user < length self.now }
         ensures { Makes result (change_at user (with_gid gid) self.now) }
@@ -101,7 +98,7 @@ impl Users {
         })
     }
 
-    /// These users and one more, the last. Fails only if memory runs out.
+    /// Adds a user, the last.
     pub fn with_row(&self, alloc: Global, row: PasswdRow) -> Result<Users, AllocError>
         requires { AreUsers (self.now ++ row ∷ []) }
         ensures { Makes result (self.now ++ row ∷ []) }
@@ -111,7 +108,7 @@ impl Users {
         Users::of(alloc, rows)
     }
 
-    /// These users without one of them. Fails only if memory runs out.
+    /// Removes a user.
     pub fn without_row(&self, alloc: Global, user: usize) -> Result<Users, AllocError>
         requires { user < length self.now }
         ensures { Makes result (remove self.now user) }
