@@ -50,6 +50,6 @@ abbrev pub record_at : PathOf → List DumpRecord → Option DumpRecord
 record_at p [] = None
 record_at p (r ∷ rs) = option_or (record_at p rs) (if eq_by_cmp path_cmp p r.path then Some r else None)
 
--- the file of a path, where a record has that path: what lies below it is looked for among all records
+-- the file of a path, where a record has that path: what lies below it is found among all records
 abbrev pub loaded_at : PathOf → List DumpRecord → Option Node
 loaded_at p records = option_map (λ r. node_of (has_below records r.path) r) (record_at p records)

@@ -62,7 +62,7 @@ memberships_moved (Memberships user groups) = Some (user, groups)
 memberships_moved Added = None
 memberships_moved (Removed user) = None
 
--- the place of the user who was added: the last of so many after the command
+-- the place of the user who was added: the last one after the command
 abbrev pub place_joined : UserChange → ℕ → Option ℕ
 place_joined Unchanged users = None
 place_joined Loaded users = None

@@ -9,7 +9,7 @@ use Rattle.acl_tree.specs.declared.user_change.UserChange.{UserChange}
 use Rattle.acl_tree.specs.declared.user_change.UserChange.TheVariants.{Unchanged, Loaded, Memberships, Removed}
 use Rattle.acl_tree.specs.Memberships.{ChangedUser}
 
--- before a dump is loaded nobody's rights are asked for
+-- before a dump is loaded there is no file to judge
 abbrev pub load_moves : Table → UserChange
 load_moves Passwd = Loaded
 load_moves Group = Loaded

@@ -1,4 +1,4 @@
-//! Nodes that are the same, found by their marks.
+//! Compares nodes by their hashes and then whole.
 
 ghost use Rattle.std.specs.Prelude.{◌≡◌, IsTrue, IfOk};
 
@@ -6,18 +6,18 @@ use acl_edit::{Kind, Node};
 use acl_entry::{Acl, Entry, Key};
 use kinds::Likeness;
 
-/// How it is seen whether two nodes are the same: by their marks first.
+/// Compares nodes: hashes first, then the nodes.
 pub(crate) struct AlikeNodes;
 
-/// What a mark is multiplied by, so that it spreads.
+/// An odd multiplier that spreads the bits of a hash.
 const SPREAD: u64 = 0x9E37_79B9_7F4A_7C15;
 
-/// A mark with a number worked into it.
+/// Works a number into a hash.
 fn mixed(mark: u64, number: u64) -> u64 {
     (mark ^ number).wrapping_mul(SPREAD).rotate_left(29)
 }
 
-/// A number of an entry: its tag, its permissions and the id that it names.
+/// Encodes an entry as a number: its tag, its permissions and the id that it names.
 fn number_of(entry: &Entry) -> u64 {
     let (tag, id) = match entry.key {
         Key::Owner => (0, 0),
@@ -31,7 +31,7 @@ fn number_of(entry: &Entry) -> u64 {
     head << 32 | u64::from(id)
 }
 
-/// A mark with a list worked into it.
+/// Works a list into a hash.
 fn mark_with(mark: u64, acl: &Acl) -> u64 {
     let mut mark = mark;
     for entry in acl.entries() {
@@ -40,7 +40,7 @@ fn mark_with(mark: u64, acl: &Acl) -> u64 {
     mark
 }
 
-/// A number of the flags and the kind of a node.
+/// Encodes the flags and the kind of a node as a number.
 fn head_of(node: &Node) -> u64 {
     let [setuid, setgid, sticky] = node.flags;
     let kind = match node.kind {
@@ -50,7 +50,7 @@ fn head_of(node: &Node) -> u64 {
     kind | u64::from(setuid) << 2 | u64::from(setgid) << 1 | u64::from(sticky)
 }
 
-/// Whether both are one default list, or none.
+/// Tells whether both are one default list, or none.
 fn is_same_default(one: &Option<Acl>, other: &Option<Acl>) -> bool
     ensures { IsTrue result → one.now ≡ other.now }
 {
@@ -61,14 +61,12 @@ fn is_same_default(one: &Option<Acl>, other: &Option<Acl>) -> bool
     }
 }
 
-/// Whether both are one kind.
 fn is_same_kind(one: Kind, other: Kind) -> bool
     ensures { IsTrue result → one ≡ other }
 {
     one == other
 }
 
-/// Whether both are the same flags.
 fn has_same_flags(one: &Node, other: &Node) -> bool
     ensures { IsTrue result → one.now.flags ≡ other.now.flags }
 {

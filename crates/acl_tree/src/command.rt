@@ -29,10 +29,10 @@ pub struct NewFile {
     pub umask: u16,
 }
 
-/// What becomes of a user and the row of a group.
+/// A change of the membership of a user in the row of a group.
 #[derive(Clone, Copy, PartialEq, Eq)]
 pub enum Membership {
-    /// The row names the user, last where it did not before.
+    /// The row names the user; last, if it did not before.
     Add,
     /// The row does not name the user.
     Remove,

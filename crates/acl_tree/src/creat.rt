@@ -25,7 +25,7 @@ use acl_people::People;
 use acl_text::PasswdRow;
 use std::alloc::Global;
 
-/// The row of the user that a word means.
+/// Finds the row of the user that a word means.
 fn row_of<'a>(alloc: Global, people: &'a People, user: &Name) -> Result<&'a PasswdRow, TreeFault>
     ensures found { IfOk result (λ row. row_of people.now user.now ≡ Some row.now) }
     ensures none { OnErr result (row_of people.now user.now ≡ None) }
@@ -42,14 +42,14 @@ fn row_of<'a>(alloc: Global, people: &'a People, user: &Name) -> Result<&'a Pass
     }
 }
 
-/// Whether a file is recorded at a path or below it.
+/// Tells whether a file is recorded at a path or below it.
 fn exists(tree: &Files, path: &Path) -> bool
     ensures { result ≡ exists path.now tree.now.files }
 {
     tree.files_by_path().has_within(path)
 }
 
-/// The directory of a new file.
+/// Finds the directory of a new file.
 fn directory_of<'a>(alloc: Global, tree: &'a Files, path: &Path) -> Result<&'a Node, TreeFault>
     ensures { Gives (λ node. node.now) result (directory_at (parent path.now) tree.now.files) }
 {
@@ -61,7 +61,7 @@ fn directory_of<'a>(alloc: Global, tree: &'a Files, path: &Path) -> Result<&'a N
     }
 }
 
-/// The node of a new file.
+/// Makes the node of a new file.
 fn node_of(
     alloc: Global,
     directory: &Node,
@@ -80,7 +80,7 @@ fn node_of(
     }
 }
 
-/// The node of a user's new file.
+/// Makes the node of a user's new file, in its directory.
 fn new_file(
     alloc: Global,
     tree: &Files,

@@ -1,4 +1,4 @@
-//! What changed from one state of the files to another: where the check of access may answer otherwise.
+//! What changed from one state of the files to another, as far as the check of access reads it.
 
 ghost use Rattle.std.specs.Prelude.{◌≡◌, [], ◌∷◌, true, false, IfSome, MatchOption};
 ghost use Rattle.std.specs.Iterator.{YieldsFirstBy, item_count};
@@ -17,14 +17,14 @@ use acl_names::Path;
 use kinds::{KindMap, Kinds};
 use std::marker::Model;
 
-/// Whether both nodes have the same owner, group and access list.
+/// Tells whether both nodes have the same owner, group and access list.
 fn is_same_label(old: &Node, new: &Node) -> bool
     ensures { result ≡ same_label old.now.label new.now.label }
 {
     old.same_label(new)
 }
 
-/// Whether a number has nodes in two states, with the same owner, group and access list.
+/// Tells whether a number has nodes in two states, with the same owner, group and access list.
 fn is_same_number(before: &KindMap<Node>, files: &KindMap<Node>, number: usize) -> bool {
     match (before.used(number), files.used(number)) {
         (Some(old), Some(new)) => is_same_label(old, new),
@@ -32,7 +32,7 @@ fn is_same_number(before: &KindMap<Node>, files: &KindMap<Node>, number: usize) 
     }
 }
 
-/// Whether a file is another one than what the other state has at its path.
+/// Tells whether a file differs from what the other state has at its path.
 fn differs(by_label: bool, other: Option<&Node>, node: &Node) -> bool
     ensures { result ≡ differs by_label (option_copied other.entry) node.now }
 {
@@ -42,7 +42,7 @@ fn differs(by_label: bool, other: Option<&Node>, node: &Node) -> bool
     }
 }
 
-/// The next entry of a walk whose node is another one than what the other state has at its path.
+/// Returns the next entry of a walk whose node differs from what the other state has at its path.
 fn next_differing<'a>(
     walk: &mut Walk<'a, 'a>,
     kinds: &'a Kinds<Node>,
@@ -67,7 +67,7 @@ fn next_differing<'a>(
     None
 }
 
-/// A cursor over files of a state that are others in another state: those that are still to come, in path order.
+/// An iterator over the files of a state that differ from those of another state, in path order.
 #[derive(Drop)]
 pub struct Differences<'a> {
     walk: Walk<'a, 'a>,
@@ -97,14 +97,14 @@ impl<'a> Iterator for Differences<'a> {
 
     ghost remaining = { item_count (λ files. files) };
 
-    /// The next file in path order. Allocates nothing.
+    /// Returns the next file in path order.
     fn next(&mut self) -> Option<(&'a Path, &'a Node)> {
         next_differing(&mut self.walk, self.kinds, &mut self.other, self.by_label)
     }
 }
 
 impl<'a> Differences<'a> {
-    /// The next file in path order. Those below it are passed over, by search. Allocates nothing.
+    /// Returns the next file in path order. Those below it are skipped, by search.
     pub fn next_top(&mut self) -> Option<(&'a Path, &'a Node)>
         ensures { MatchOption result ((self.old ≡ []) × (self.new ≡ [])) (λ top. IsTop (borrowed top) self.old self.new) }
     {
@@ -118,7 +118,7 @@ impl<'a> Differences<'a> {
 }
 
 impl Files {
-    /// The files that are others in another state, where both are the same outside a region.
+    /// Iterates over the files that differ from those of another state, if both are the same outside a region.
     fn differing<'a>(
         &'a self,
         other: &'a Files,
@@ -137,8 +137,8 @@ impl Files {
         }
     }
 
-    /// The files that are new, or whose owner, group or access list is another than before, where no other files than
-    /// those of a region changed. Allocates nothing.
+    /// Iterates over the files that are new, or whose owner, group or access list is another than before, if no other
+    /// files than those of a region changed.
     pub fn changed_from<'a>(&'a self, before: &'a Files, region: &'a Region) -> Differences<'a>
         requires { SameBut (in_region region.now) before.now.files self.now.files }
         ensures { result ≡ changed_between before.now.files self.now.files }
@@ -146,7 +146,7 @@ impl Files {
         self.differing(before, region, true)
     }
 
-    /// No files of the two states. Allocates nothing.
+    /// Iterates over no files of the two states.
     pub(crate) fn none_beside<'a>(&'a self, other: &'a Files) -> Differences<'a>
         ensures { result ≡ [] }
     {
@@ -159,8 +159,8 @@ impl Files {
         }
     }
 
-    /// About how many files are new, or have another owner, group or access list than before: those of each number whose node is
-    /// another one. No file is looked at, and nothing rests on it. Allocates nothing.
+    /// Estimates how many files are new, or have another owner, group or access list than before: those of each
+    /// number whose node is another one. No file is looked at, and correctness does not depend on it.
     pub(crate) fn likely_changed_from(&self, before: &Files) -> usize {
         let files = self.files_by_path();
         let mut count = 0usize;
@@ -172,8 +172,8 @@ impl Files {
         count
     }
 
-    /// The files that are recorded no more in a later state, where no other files than those of a region changed.
-    /// Allocates nothing.
+    /// Iterates over the files that are no longer recorded in a later state, if no other files than those of a region
+    /// changed.
     pub fn gone_in<'a>(&'a self, after: &'a Files, region: &'a Region) -> Differences<'a>
         requires { SameBut (in_region region.now) self.now.files after.now.files }
         ensures { result ≡ gone_between self.now.files after.now.files }

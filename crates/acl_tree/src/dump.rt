@@ -20,7 +20,7 @@ use std::alloc::Global;
 /// The largest number of files of a tree.
 pub(crate) const MAX_FILES: usize = 1048576;
 
-/// A text's fault as that of the command; where memory ran out, `NoMemory`.
+/// Turns a text's fault into that of the command; `NoMemory` stays itself.
 fn text_fault(fault: TextFault) -> TreeFault
     ensures text { fault.kind ≢ FaultKind.NoMemory → result ≡ TreeFault.Text fault }
     ensures memory { fault.kind ≡ FaultKind.NoMemory → result ≡ TreeFault.NoMemory }

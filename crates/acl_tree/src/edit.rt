@@ -21,7 +21,7 @@ use std::alloc::{AllocError, AllocFailed, Global};
 pub trait NodeEdit {
     ghost edited: { Self → OneEdit };
 
-    /// The node after the edit.
+    /// Returns the node after the edit.
     fn edited(&self, alloc: Global, node: &Node) -> Result<Node, EditFault>
         ensures { Gives (λ x. x) result (edited self.now node.now) };
 
@@ -77,7 +77,7 @@ impl From<FileFault> for TreeFault {
     }
 }
 
-/// A file's node edited, or the fault with its path.
+/// Edits a file's node, or returns the fault with its path.
 pub(crate) fn edit_one<E: NodeEdit>(
     alloc: Global,
     edit: &E,
@@ -116,8 +116,8 @@ impl<E: NodeEdit> KindEdit<Node> for ByKind<'_, E> {
     }
 }
 
-/// The tree with all its files edited, which a region means, or a fault of one of them. Each number is edited once, and no path is
-/// read.
+/// Edits all files of a tree, which the region means, or returns the fault of one of them. Each number is edited
+/// once, and no path is read.
 fn edit_whole<E: NodeEdit>(
     alloc: Global,
     tree: &Files,
@@ -134,7 +134,7 @@ fn edit_whole<E: NodeEdit>(
     Ok(Files::of(map, tree.is_loaded()))
 }
 
-/// The tree with the files that a region means edited, one after another.
+/// Edits the files that a region means, one after another.
 fn edit_some<E: NodeEdit>(
     alloc: Global,
     tree: &Files,
@@ -150,7 +150,7 @@ fn edit_some<E: NodeEdit>(
     Ok(Files::of(edited.map, tree.is_loaded()))
 }
 
-/// The tree with the files that a region means edited. Where the edit of one of all files fails, the first such one is found.
+/// Edits the files that a region means. If the edit of one of all files fails, the first such one is found.
 pub fn edit_files<E: NodeEdit>(
     alloc: Global,
     tree: &Files,

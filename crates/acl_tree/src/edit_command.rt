@@ -39,7 +39,7 @@ impl NodeEdit for EachFile<'_> {
     fn keeps_place(&self) {}
 }
 
-/// The state with the files of a command edited. The people stay as they are.
+/// Returns the state with the files of a command edited. The people stay as they are.
 pub(crate) fn stage_edits<E: NodeEdit>(
     alloc: Global,
     state: &BorrowedState<'_>,

@@ -1,4 +1,4 @@
-//! The recorded files, in path order; those at a path or below it, and above it.
+//! The recorded files, in path order; those at a path or below it, and its recorded ancestors.
 
 ghost use Rattle.std.specs.Prelude.{◌≡◌, IfOk};
 ghost use Rattle.std.specs.Option.{option_copied};
@@ -15,10 +15,10 @@ use kinds::{KindMap, KindsFinder, KindsIter};
 use std::alloc::{AllocError, Global};
 use std::marker::Model;
 
-/// A cursor over recorded files: those that are still to come, in path order.
+/// An iterator over recorded files, in path order.
 pub type FilesIter<'a> = KindsIter<'a, Node>;
 
-/// A look-up of recorded files.
+/// Looks up recorded files.
 #[derive(Drop)]
 pub struct FilesFinder<'a> {
     files: KindsFinder<'a, Node>,
@@ -35,7 +35,7 @@ impl<'a> Model for FilesFinder<'a> {
 }
 
 impl<'a> FilesFinder<'a> {
-    /// The node of a path, where it is recorded. Allocates nothing.
+    /// Returns the node of a path, if it is recorded.
     pub fn get(&mut self, path: &Path) -> Option<&'a Node>
         ensures same { self.new ≡ self.old }
         ensures found { option_copied result ≡ find path_cmp path.now self.old }
@@ -44,8 +44,8 @@ impl<'a> FilesFinder<'a> {
     }
 }
 
-/// The files that a dump recorded, in path order, and whether a dump was loaded. Files and those made from them share
-/// what is the same. What is always true of them is the clause of [`Files::soundness_law`].
+/// The files that a dump recorded, in path order, and whether a dump was loaded. Copies and later states share the
+/// files that are the same. What is always true of them is the clause of [`Files::soundness_law`].
 #[derive(Drop)]
 pub struct Files {
     files: KindMap<Node>,
@@ -63,7 +63,7 @@ impl Model for Files {
 }
 
 impl Files {
-    /// No files: no dump is loaded. Fails only if memory runs out.
+    /// Returns files before any dump is loaded: none.
     pub fn new(alloc: Global) -> Result<Files, AllocError>
         ensures { IfOk result (λ files. files ≡ no_files) }
     {
@@ -73,7 +73,6 @@ impl Files {
         })
     }
 
-    /// These files.
     pub fn of(files: KindMap<Node>, loaded: bool) -> Files
         requires { IsSoundTree (record { files = entries_in files; loaded = loaded }) }
         ensures { result ≡ record { files = entries_in files; loaded = loaded } }
@@ -81,7 +80,7 @@ impl Files {
         Files { files, loaded }
     }
 
-    /// A copy that shares the files. Fails only if memory runs out.
+    /// Copies the files; both share them.
     pub fn share(&self) -> Result<Files, AllocError>
         ensures { IfOk result (λ files. files ≡ self.now) }
     {
@@ -91,7 +90,6 @@ impl Files {
         })
     }
 
-    /// The files.
     pub fn files_by_path(&self) -> &KindMap<Node>
         ensures all { entries_in result.now ≡ self.now.files }
         ensures sound { IsSoundTree self.now }
@@ -108,21 +106,21 @@ impl Files {
         let _files = self.files_by_path();
     }
 
-    /// Whether a dump was loaded.
+    /// Tells whether a dump was loaded.
     pub fn is_loaded(&self) -> bool
         ensures { result ≡ self.now.loaded }
     {
         self.loaded
     }
 
-    /// The node of a path, where it is recorded.
+    /// Returns the node of a path, if it is recorded.
     pub fn get(&self, path: &Path) -> Option<&Node>
         ensures { option_copied result ≡ find path_cmp path.now self.now.files }
     {
         self.files.get(path)
     }
 
-    /// A look-up of files. Allocates nothing.
+    /// Returns a look-up of files.
     pub fn finder(&self) -> FilesFinder<'_>
         ensures { result ≡ self.now.files }
     {
@@ -131,14 +129,14 @@ impl Files {
         }
     }
 
-    /// The files in path order. Allocates nothing.
+    /// Iterates over the files in path order.
     pub fn iter(&self) -> FilesIter<'_>
         ensures { result ≡ self.now.files }
     {
         self.files.iter()
     }
 
-    /// The paths of the recorded files at or below a path, in path order. Fails only if memory runs out.
+    /// Returns the paths of the recorded files at or below a path, in path order.
     pub fn within(&self, alloc: Global, path: &Path) -> Result<Vec<Path>, AllocError>
         ensures { IfOk result (λ paths. paths.items ≡ within path.now self.now.files) }
     {
@@ -150,8 +148,7 @@ impl Files {
         Ok(paths)
     }
 
-    /// The paths of the recorded files that a path is below, parents first: each is found from the one below it.
-    /// Fails only if memory runs out.
+    /// Returns the recorded ancestors of a path, the root first: each is found from the one below it.
     pub fn ancestors(&self, alloc: Global, path: &Path) -> Result<Vec<Path>, AllocError>
         ensures { IfOk result (λ paths. paths.items ≡ ancestors path.now self.now.files) }
     {

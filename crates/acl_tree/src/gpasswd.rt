@@ -17,7 +17,7 @@ use acl_names::Name;
 use acl_people::People;
 use std::alloc::Global;
 
-/// The people with a user added to the row of a group, or removed from it.
+/// Adds a user to the row of a group, or removes the user from it.
 fn change_membership(
     alloc: Global,
     people: &People,

@@ -2,6 +2,9 @@
 //!
 //! The files are one value, made of the records of a dump. The files of a command are found by search, and edited or
 //! restored, all or none.
+//!
+//! A call whose only error is `AllocError` or `NoMemory` fails only if memory runs out. A function that returns no `Result`
+//! allocates nothing.
 #![tactic(auto)]
 
 mod alike;

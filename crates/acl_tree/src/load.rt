@@ -17,7 +17,7 @@ use crate::user_change::UserChange;
 use acl_people::{LoadFault, People};
 use std::alloc::Global;
 
-/// Why a load is refused, as the fault of the command.
+/// Turns a load's fault into that of the command.
 fn load_fault(fault: LoadFault) -> TreeFault
     ensures { result ≡ tree_fault fault }
 {
@@ -50,7 +50,7 @@ pub(crate) fn prepare_load(
     }
 }
 
-/// The state with people that were loaded.
+/// Returns the state with the loaded people.
 fn with_people(
     alloc: Global,
     tree: &Files,

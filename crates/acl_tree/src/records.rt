@@ -1,4 +1,4 @@
-//! The files of a dump's records, sorted by their paths; maps of files with some put, or without some.
+//! Makes files of a dump's records, sorted by their paths; puts files into a map, and removes them.
 
 ghost use Rattle.std.specs.Prelude.{◌≡◌, true, not, reverse, IfOk, unwrap_or, filter};
 ghost use Rattle.std.specs.FinMap.{put};
@@ -19,7 +19,7 @@ use acl_text::{DumpRecord, Shared};
 use kinds::{KindMap, KindMapBuilder, KindPuts};
 use std::alloc::{AllocError, Global};
 
-/// The map with a file put. Fails only if memory runs out.
+/// Puts a file.
 pub fn put_file(
     alloc: Global,
     files: &KindMap<Node>,
@@ -33,7 +33,7 @@ pub fn put_file(
     puts.finish(alloc)
 }
 
-/// The map without the files that a region means. Fails only if memory runs out.
+/// Removes the files that a region means.
 pub fn without_files(
     alloc: Global,
     files: &KindMap<Node>,
@@ -45,7 +45,7 @@ pub fn without_files(
     files.without_all(alloc, &entries)
 }
 
-/// A directory where a file is below it, or its record has a default list.
+/// Returns the kind of a recorded file: a directory if a file is below it, or its record has a default list.
 fn kind_of(has_below: bool, entry: &DumpRecord) -> Kind
     ensures { result ≡ (node_of has_below entry.now).kind }
 {
@@ -56,7 +56,7 @@ fn kind_of(has_below: bool, entry: &DumpRecord) -> Kind
     }
 }
 
-/// The id, or that of root where there is none.
+/// Returns the id, or that of root if there is none.
 fn id_or_root(id: Option<Id>) -> Id
     ensures { result ≡ unwrap_or id 0 }
 {
@@ -66,7 +66,7 @@ fn id_or_root(id: Option<Id>) -> Id
     }
 }
 
-/// A copy of a record's default list, if there is one. Fails only if memory runs out.
+/// Copies a record's default list, if there is one.
 pub fn copy_of(alloc: Global, dacl: &Option<Shared<Acl>>) -> Result<Option<Acl>, AllocError>
     ensures { IfOk result (λ copy. copy ≡ dacl.now) }
 {
@@ -76,7 +76,7 @@ pub fn copy_of(alloc: Global, dacl: &Option<Shared<Acl>>) -> Result<Option<Acl>,
     }
 }
 
-/// The file of a record, with copies of its lists. Fails only if memory runs out.
+/// Makes the file of a record, with copies of its lists.
 fn file_of(alloc: Global, has_below: bool, entry: DumpRecord) -> Result<(Path, Node), AllocError>
     ensures { IfOk result (λ file. file ≡ (entry.path, node_of has_below entry)) }
 {
@@ -95,7 +95,7 @@ fn file_of(alloc: Global, has_below: bool, entry: DumpRecord) -> Result<(Path, N
     Ok((entry.path, node))
 }
 
-/// Whether the first of the records that follow in path order, which are given from the last to the first, is below a path.
+/// Tells whether the next record is below a path. `following` is in path order from the last to the first.
 fn is_followed_below(path: &Path, following: &[DumpRecord]) -> bool
     ensures { result ≡ next_below path.now (reverse following.now) }
 {
@@ -108,7 +108,7 @@ fn is_followed_below(path: &Path, following: &[DumpRecord]) -> bool
 /// How many records are moved out before the memory that they took is freed.
 const FREED_AT_ONCE: usize = 1024;
 
-/// Frees the memory of records that were moved out, once they are many.
+/// Frees the memory of records that were moved out, as soon as they are many.
 fn free_moved(left: &mut Vec<DumpRecord>)
     ensures { left.new.items ≡ left.old.items }
 {
@@ -117,8 +117,7 @@ fn free_moved(left: &mut Vec<DumpRecord>)
     }
 }
 
-/// The map of the files of records that are in path order. Paths are moved out of the records into the map, and memory of
-/// records is freed meanwhile.
+/// Moves records that are in path order into a map, and frees the memory of records meanwhile.
 fn map_of(alloc: Global, sorted: Vec<DumpRecord>) -> Result<KindMap<Node>, AllocError>
     requires { IsInOrder (files_from sorted.items) }
     ensures { IfOk result (λ files. entries_in files ≡ files_from sorted.items) }
@@ -136,7 +135,7 @@ fn map_of(alloc: Global, sorted: Vec<DumpRecord>) -> Result<KindMap<Node>, Alloc
     files.finish(alloc)
 }
 
-/// The map of the files of a dump's records. Fails only if memory runs out.
+/// Makes the map of the files of a dump's records.
 pub fn files_of(alloc: Global, records: Vec<DumpRecord>) -> Result<KindMap<Node>, AllocError>
     requires { have_own_paths records.items ≡ true }
     ensures { IfOk result (λ files. entries_in files ≡ files_of records.items) }
@@ -144,7 +143,7 @@ pub fn files_of(alloc: Global, records: Vec<DumpRecord>) -> Result<KindMap<Node>
     map_of(alloc, in_path_order(records))
 }
 
-/// The records in path order. Allocates nothing.
+/// Sorts the records by path.
 pub fn in_path_order(records: Vec<DumpRecord>) -> Vec<DumpRecord>
     requires { have_own_paths records.items ≡ true }
     ensures { result.items ≡ in_path_order records.items }

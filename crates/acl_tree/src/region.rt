@@ -31,7 +31,6 @@ impl Model for Region {
     ghost invariant = { λ r. Ascend r.paths.items };
 }
 
-/// Copies of paths.
 fn copies(alloc: Global, paths: &[Path]) -> Result<Vec<Path>, AllocError>
     ensures { IfOk result (λ all. all.items ≡ paths.now) }
 {
@@ -42,7 +41,6 @@ fn copies(alloc: Global, paths: &[Path]) -> Result<Vec<Path>, AllocError>
     Ok(all)
 }
 
-/// The paths in path order.
 fn sorted(paths: Vec<Path>) -> Vec<Path>
     ensures same { (recursive : Bool) (q : PathOf) → is_file recursive result.items q ≡ is_file recursive paths.items q }
     ensures order { Ascend result.items }
@@ -53,7 +51,7 @@ fn sorted(paths: Vec<Path>) -> Vec<Path>
 }
 
 impl Region {
-    /// The files at some paths, or also all files below these. Allocates nothing.
+    /// Makes the region of the files at some paths, or also of all files below these.
     pub fn new(paths: Vec<Path>, recursive: bool) -> Region
         ensures { (q : PathOf) → in_region result q ≡ is_file recursive paths.items q }
     {
@@ -63,7 +61,7 @@ impl Region {
         }
     }
 
-    /// The files of a selection. Fails only if memory runs out.
+    /// Makes the region of a selection.
     pub fn of(alloc: Global, selection: &Selection<'_>) -> Result<Region, AllocError>
         ensures { IfOk result (λ region. (q : PathOf) → in_region region q ≡ is_file selection.now.recursive selection.now.operands.now q) }
     {
@@ -71,7 +69,7 @@ impl Region {
         Ok(Region::new(paths, selection.recursive))
     }
 
-    /// The file at a path. Fails only if memory runs out.
+    /// Makes the region of the file at a path.
     pub fn at(alloc: Global, path: &Path) -> Result<Region, AllocError>
         ensures { IfOk result (λ region. (q : PathOf) → in_region region q ≡ is_file false (path.now ∷ []) q) }
     {
@@ -80,14 +78,14 @@ impl Region {
         Ok(Region::new(paths, false))
     }
 
-    /// No files. Allocates nothing.
+    /// Makes the region of no file.
     pub fn nothing(alloc: Global) -> Region
         ensures { (q : PathOf) → in_region result q ≡ false }
     {
         Region::new(Vec::new(alloc), false)
     }
 
-    /// All files. Fails only if memory runs out.
+    /// Makes the region of all files.
     pub fn everything(alloc: Global) -> Result<Region, AllocError>
         ensures { IfOk result (λ region. (q : PathOf) → in_region region q ≡ true) }
     {
@@ -96,8 +94,8 @@ impl Region {
         Ok(Region::new(paths, true))
     }
 
-    /// Whether it is known that the region means every file: its first path is the root, and it means the files below. Allocates
-    /// nothing.
+    /// Tells whether it is known that the region means every file: its first path is the root, and it means the files
+    /// below.
     pub(crate) fn is_everything(&self) -> bool
         ensures { result ≡ true → (q : PathOf) → in_region self.now q ≡ true }
     {
@@ -107,7 +105,7 @@ impl Region {
         }
     }
 
-    /// A walk over the entries of a map that the region means.
+    /// Walks over the entries of a map that the region means.
     pub(crate) fn walk<'a, 'p>(&'p self, numbers: &'a PathMap<usize>) -> Walk<'a, 'p>
         ensures { result ≡ (files_meant self.now.0 self.now.1 numbers.now, numbers.now) }
     {
@@ -115,7 +113,7 @@ impl Region {
     }
 }
 
-/// The paths that a region means, with their numbers.
+/// Returns the paths that a region means, with their numbers.
 pub(crate) fn numbers_in<'a>(
     alloc: Global,
     numbers: &'a PathMap<usize>,

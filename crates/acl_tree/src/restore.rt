@@ -46,7 +46,7 @@ impl Model for DumpRecords {
 }
 
 impl DumpRecords {
-    /// The records, in their order.
+    /// Returns the records, in their order.
     pub fn new(list: Vec<DumpRecord>) -> DumpRecords
         requires { have_own_paths list.items ≡ true }
         ensures { result ≡ list.items }
@@ -54,7 +54,7 @@ impl DumpRecords {
         DumpRecords { list }
     }
 
-    /// The records, in their order.
+    /// Returns the records, in their order.
     pub fn as_slice(&self) -> &[DumpRecord]
         ensures all { result.now ≡ self.now }
         ensures apart { have_own_paths self.now ≡ true }
@@ -101,7 +101,7 @@ impl NodeEdit for Restored<'_> {
     fn keeps_place(&self) {}
 }
 
-/// The files of records, in the order of the records; or the first path that is not recorded.
+/// Finds the files of records, in the order of the records; or returns the first path that is not recorded.
 fn files_of<'a>(
     alloc: Global,
     tree: &'a Files,
@@ -125,7 +125,6 @@ fn files_of<'a>(
     Ok(found)
 }
 
-/// The files in path order.
 fn in_path_order(found: Vec<Restored<'_>>) -> Vec<Restored<'_>>
     requires { have_own_paths (map (λ x. x.1) found.items) ≡ true }
     ensures order { map (λ x. x.1) result.items ≡ in_path_order (map (λ x. x.1) found.entry.items) }
@@ -136,7 +135,7 @@ fn in_path_order(found: Vec<Restored<'_>>) -> Vec<Restored<'_>>
     sorted
 }
 
-/// Whether a file has the owner and the group of a record, as far as it names them.
+/// Tells whether a file has the owner and the group of a record, as far as it names them.
 fn has_ids(node: &Node, entry: &DumpRecord) -> bool
     ensures { result ≡ true → (unwrap_or entry.now.owner node.now.label.owner ≡ node.now.label.owner)
         × (unwrap_or entry.now.group node.now.label.group ≡ node.now.label.group) }
@@ -146,14 +145,14 @@ fn has_ids(node: &Node, entry: &DumpRecord) -> bool
         && entry.group.unwrap_or(label.group) == label.group
 }
 
-/// Whether a file has the flags of a record, or none where that has no such line.
+/// Tells whether a file has the flags of a record, or none if that has no such line.
 fn has_recorded_flags(node: &Node, entry: &DumpRecord) -> bool
     ensures { result ≡ true → unwrap_or entry.now.flags no_flags ≡ node.now.flags }
 {
     entry.flags.unwrap_or([false; 3]) == node.flags
 }
 
-/// Whether a file has the default list of a record, which only a directory may have.
+/// Tells whether a file has the default list of a record, which only a directory may have.
 fn has_recorded_default(node: &Node, entry: &DumpRecord) -> bool
     ensures { result ≡ true → (entry.now.dacl ≡ node.now.dacl) × IsSound node.now }
 {
@@ -164,7 +163,7 @@ fn has_recorded_default(node: &Node, entry: &DumpRecord) -> bool
     }
 }
 
-/// Whether a file is what its record makes of it.
+/// Tells whether a file is what its record makes of it.
 fn is_as_recorded(node: &Node, entry: &DumpRecord) -> bool
     ensures { result ≡ true → restored_by entry.now node.now ≡ Ok node.now }
 {
@@ -177,8 +176,7 @@ fn is_as_recorded(node: &Node, entry: &DumpRecord) -> bool
     has_recorded_default(node, entry)
 }
 
-/// A file with its edited node more to be put, and its path more of those that are touched, unless it is what its record makes
-/// of it.
+/// Puts a file with its edited node, and adds its path to `touched`, unless it is what its record makes of it.
 fn put_restored<'a>(
     alloc: Global,
     puts: KindPuts<'a, Node>,
@@ -200,8 +198,8 @@ fn put_restored<'a>(
     Ok(puts)
 }
 
-/// The files as their records have them, to be put among those of a map, but for those that stay as they are; and the paths of
-/// those that are put.
+/// Puts the files as their records have them, but for those that stay as they are; and returns the paths of those
+/// that are put.
 fn restore_each<'a>(
     alloc: Global,
     files: &'a KindMap<Node>,
@@ -222,7 +220,7 @@ fn restore_each<'a>(
     Ok((puts, touched))
 }
 
-/// The tree with the files of records restored, and a region outside of which no file is another one than before.
+/// Restores the files of records, and returns a region outside of which no file is another one than before.
 pub fn restore_files(
     alloc: Global,
     tree: &Files,

@@ -18,7 +18,7 @@ use acl_edit::Kind;
 use acl_names::Path;
 use std::alloc::Global;
 
-/// Whether an operand may be removed.
+/// Checks that an operand may be removed.
 fn check_one(alloc: Global, tree: &Files, recursive: bool, path: &Path) -> Result<(), TreeFault>
     ensures { IsRefusedFor result (refusal recursive path.now (find path_cmp path.now tree.now.files)) }
 {
@@ -35,7 +35,7 @@ fn check_one(alloc: Global, tree: &Files, recursive: bool, path: &Path) -> Resul
     Ok(())
 }
 
-/// Whether all operands may be removed; else the fault of the first that may not.
+/// Checks that all operands may be removed; else returns the fault of the first that may not.
 fn check_all(alloc: Global, tree: &Files, selection: &Selection<'_>) -> Result<(), TreeFault>
     ensures { IsRefusedFor result (first_refused selection.now.recursive selection.now.operands.now tree.now.files) }
 {

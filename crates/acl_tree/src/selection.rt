@@ -15,7 +15,7 @@ use acl_names::Path;
 use std::alloc::{AllocError, Global};
 use std::marker::Model;
 
-/// Whether a path that follows another one, if there is one, is below it.
+/// Tells whether the next path, if there is one, is below `path`.
 fn is_below(path: &Path, next: Option<&Path>) -> bool
     ensures { result ≡ option_map_or (λ next. is_above path.now next.now) next.entry false }
 {
@@ -25,7 +25,7 @@ fn is_below(path: &Path, next: Option<&Path>) -> bool
     }
 }
 
-/// The files that a region means.
+/// Collects the files that a region means.
 fn files_in<'a>(
     alloc: Global,
     tree: &'a Files,
@@ -44,7 +44,7 @@ fn files_in<'a>(
     Ok(found)
 }
 
-/// The files of a selection.
+/// Collects the files of a selection.
 pub fn select<'a>(
     alloc: Global,
     tree: &'a Files,
@@ -56,7 +56,7 @@ pub fn select<'a>(
     Ok(files_in(alloc, tree, &region)?)
 }
 
-/// Whether each operand is recorded; else the first that isn't.
+/// Checks that each operand is recorded; else returns the first that isn't.
 pub fn look_up(alloc: Global, tree: &Files, operands: &[Path]) -> Result<(), TreeFault>
     ensures all { OnOk result (first_missing operands.now tree.now.files ≡ None) }
     ensures reported { IfErr result (λ fault. fault ≢ TreeFault.NoMemory → IsMissing fault (first_missing operands.now tree.now.files)) }
@@ -72,7 +72,8 @@ pub fn look_up(alloc: Global, tree: &Files, operands: &[Path]) -> Result<(), Tre
 }
 
 impl Files {
-    /// The files of a selection, each once, in path order, each with whether another recorded file is below it.
+    /// Collects the files of a selection, each once, in path order, each with whether another recorded file is below
+    /// it.
     ///
     /// # Errors
     ///
@@ -104,14 +105,14 @@ impl Model for Paths {
 }
 
 impl Paths {
-    /// The operands, in their order.
+    /// Returns the operands, in their order.
     pub fn new(list: Vec<Path>) -> Paths
         ensures { result ≡ list.items }
     {
         Paths { list }
     }
 
-    /// The operands, in their order.
+    /// Returns the operands, in their order.
     pub fn as_slice(&self) -> &[Path]
         ensures { result.now ≡ self.now }
     {
@@ -145,7 +146,6 @@ impl<'a> Model for FoundFile<'a> {
 }
 
 impl<'a> FoundFile<'a> {
-    /// A file, and whether another one lies below it.
     pub fn new(path: &'a Path, node: &'a Node, has_below: bool) -> FoundFile<'a>
         ensures { result ≡ record { path = path.now; node = node.now; has_below = has_below } }
     {
@@ -156,28 +156,28 @@ impl<'a> FoundFile<'a> {
         }
     }
 
-    /// A file before those that follow it in path order, with whether the next one is below it. Allocates nothing.
+    /// Makes a file of the entry before those of `rest`: the next one tells whether there is a file below it.
     pub fn before(path: &'a Path, node: &'a Node, rest: &FilesIter<'_>) -> FoundFile<'a>
         ensures { result ≡ found_file (next_file_below path.now rest.now) (path.now, node.now) }
     {
         FoundFile::new(path, node, is_below(path, rest.peek()))
     }
 
-    /// The file's path.
+    /// Returns the file's path.
     pub fn path(&self) -> &'a Path
         ensures { result.now ≡ self.now.path }
     {
         self.path
     }
 
-    /// The file's node.
+    /// Returns the file's node.
     pub fn node(&self) -> &'a Node
         ensures { result.now ≡ self.now.node }
     {
         self.node
     }
 
-    /// Whether another recorded file lies below it.
+    /// Tells whether another recorded file lies below it.
     pub fn has_below(&self) -> bool
         ensures { result ≡ self.now.has_below }
     {

@@ -19,7 +19,7 @@ use acl_names::Name;
 use acl_people::People;
 use std::alloc::{AllocError, Global};
 
-/// The same files with other people.
+/// Returns the same files with other people.
 pub(crate) fn stage_people(
     alloc: Global,
     tree: &Files,
@@ -34,7 +34,7 @@ pub(crate) fn stage_people(
     Ok(Staged::of(files, people, before, Region::nothing(alloc), user_change))
 }
 
-/// How the users move where one joined or left these groups.
+/// Returns how the users move if one joined or left `groups`.
 fn move_of(user: usize, groups: Vec<Id>) -> UserChange
     ensures { result ≡ move_of user groups.items }
 {
@@ -48,7 +48,7 @@ fn move_of(user: usize, groups: Vec<Id>) -> UserChange
     }
 }
 
-/// The same files with people of whom one may have other groups.
+/// Returns the same files with people of whom one may have other groups.
 pub(crate) fn stage_user_change(
     alloc: Global,
     state: &BorrowedState<'_>,
@@ -64,7 +64,7 @@ pub(crate) fn stage_user_change(
     Ok(staged)
 }
 
-/// The place of the user that a word means.
+/// Finds the place of the user that a word means.
 pub(crate) fn find_user(alloc: Global, people: &People, word: &Name) -> Result<usize, TreeFault>
     ensures found { Gives (λ user. user) result (user_at people.now word.now) }
     ensures within { IfOk result (λ user. user < length people.now.users) }
@@ -78,7 +78,7 @@ pub(crate) fn find_user(alloc: Global, people: &People, word: &Name) -> Result<u
     }
 }
 
-/// The place of the group that a word means.
+/// Finds the place of the group that a word means.
 pub(crate) fn find_group(alloc: Global, people: &People, word: &Name) -> Result<usize, TreeFault>
     ensures found { Gives (λ group. group) result (group_at people.now word.now) }
     ensures within { IfOk result (λ group. group < length people.now.groups) }

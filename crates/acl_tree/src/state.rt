@@ -31,7 +31,7 @@ impl Model for State {
 }
 
 impl State {
-    /// No file, and nobody is known. Fails only if memory runs out.
+    /// Returns the state without files and users.
     pub fn new(alloc: Global) -> Result<State, AllocError>
         ensures { IfOk result (λ state. state ≡ nothing) }
     {
@@ -41,7 +41,7 @@ impl State {
         })
     }
 
-    /// The prepared state. Allocates nothing.
+    /// Takes the prepared state.
     pub fn of(staged: Staged) -> State
         ensures { result ≡ staged.state }
     {
@@ -49,22 +49,22 @@ impl State {
         State { tree, people }
     }
 
-    /// The recorded files.
+    /// Returns the recorded files.
     pub fn tree(&self) -> &Tree
         ensures { result.now ≡ self.now.tree }
     {
         &self.tree
     }
 
-    /// The users and groups.
+    /// Returns the users and groups.
     pub fn people(&self) -> &People
         ensures { result.now ≡ self.now.people }
     {
         &self.people
     }
 
-    /// The state after a command, as [`Tree::prepare`] makes it of this state's tree and people, with its errors. This
-    /// state stays as it is: a refused command changes nothing.
+    /// Prepares the state after a command, as [`Tree::prepare`] does with this state's tree and people, with its
+    /// errors. This state stays as it is: a refused command changes nothing.
     pub fn prepare(&self, alloc: Global, command: &Command<'_>) -> Result<Staged, TreeFault>
         ensures prepares { Prepares self.now command.now result }
         ensures at_once { RefusesAtOnce self.now command.now result }
@@ -72,7 +72,7 @@ impl State {
         prepare_command(alloc, &self.tree.with_people(&self.people), command)
     }
 
-    /// Puts a prepared state in place of this one. Allocates nothing.
+    /// Puts a prepared state in place of this one.
     pub fn commit(&mut self, staged: Staged)
         ensures { self.new ≡ staged.state }
     {

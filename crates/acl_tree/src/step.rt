@@ -30,7 +30,7 @@ use acl_people::People;
 use std::alloc::{AllocError, Global};
 use std::marker::Model;
 
-/// The operands of a command, with whether files below them are meant too.
+/// Returns the operands of a command, with whether files below them are meant too.
 fn selection_of(operands: &Paths, recursive: bool) -> Selection<'_>
     ensures { result ≡ record { operands = operands.entry; recursive = recursive } }
 {
@@ -40,7 +40,7 @@ fn selection_of(operands: &Paths, recursive: bool) -> Selection<'_>
     }
 }
 
-/// The state after a command: [`crate::Tree::prepare`], by commands.
+/// Prepares the state after a command: [`crate::Tree::prepare`], by commands.
 pub(crate) fn prepare_command(
     alloc: Global,
     state: &BorrowedState<'_>,
@@ -107,7 +107,6 @@ impl Model for Staged {
 }
 
 impl Staged {
-    /// The state after a command, with the files before it and those that the command touched.
     pub(crate) fn of(
         files: Files,
         people: People,
@@ -130,7 +129,7 @@ impl Staged {
         }
     }
 
-    /// The same, where no file is gone.
+    /// Records that no file is gone.
     pub(crate) fn keeping_files(self) -> Staged
         requires { self.gone ≡ [] }
         ensures { result ≡ self }
@@ -153,7 +152,7 @@ impl Staged {
         }
     }
 
-    /// The state after a command on files alone, with the files that it touched. Fails only if memory runs out.
+    /// Makes the state after a command on files alone, with the files that it touched.
     pub(crate) fn with_files(
         state: &BorrowedState<'_>,
         files: Files,
@@ -169,22 +168,22 @@ impl Staged {
         Ok(staged)
     }
 
-    /// The tree after the command.
+    /// Returns the tree after the command.
     pub fn tree(&self) -> &Tree
         ensures { result.now ≡ self.now.state.tree }
     {
         &self.tree
     }
 
-    /// The people after the command.
+    /// Returns the people after the command.
     pub fn people(&self) -> &People
         ensures { result.now ≡ self.now.state.people }
     {
         &self.people
     }
 
-    /// The files after the command that are new, or whose owner, group or access list is another than
-    /// before, in path order. Allocates nothing.
+    /// Iterates over the files after the command that are new, or whose owner, group or access list is another than
+    /// before, in path order.
     pub fn changed(&self) -> Differences<'_>
         ensures { result ≡ self.now.changed }
     {
@@ -193,8 +192,8 @@ impl Staged {
             .changed_from(&self.before, &self.touched)
     }
 
-    /// The files before the command that are recorded no more, in path order. No file is looked at where it is known that there
-    /// is none. Allocates nothing.
+    /// Iterates over the files before the command that are no longer recorded, in path order. No file is looked at if
+    /// it is known that there is none.
     pub fn gone(&self) -> Differences<'_>
         ensures { result ≡ self.now.gone }
     {
@@ -205,20 +204,20 @@ impl Staged {
         self.before.gone_in(files, &self.touched)
     }
 
-    /// About how many files the command changed, by a look at the numbers of nodes alone. Nothing rests on it. Allocates nothing.
+    /// Estimates how many files the command changed, by the numbers of nodes alone. Correctness does not depend on
+    /// it.
     pub fn likely_changed(&self) -> usize {
         self.tree.files_whole().likely_changed_from(&self.before)
     }
 
-    /// Whether it is known, with no look at any file, that none is gone: so after an edit. Allocates nothing.
+    /// Tells whether it is known, without a look at any file, that none is gone: so after an edit.
     pub fn keeps_files(&self) -> bool
         ensures { result ≡ true → self.now.gone ≡ [] }
     {
         self.keeps_files
     }
 
-    /// The user who joined or left groups, and the ids of these groups, rising; `None` where nobody did. It allocates
-    /// nothing.
+    /// Returns the user who joined or left groups, and the ids of these groups, rising; `None` if nobody did.
     pub fn moved(&self) -> Option<(usize, &[Id])>
         ensures { option_map (λ moved. (moved.0, moved.1.now)) result ≡ memberships_moved self.now.user_change }
     {
@@ -228,8 +227,7 @@ impl Staged {
         }
     }
 
-    /// The place of the user who was added, among the users after the command; `None` where nobody was. It allocates
-    /// nothing.
+    /// Returns the place of the user who was added, among the users after the command; `None` if nobody was.
     pub fn joined(&self) -> Option<usize>
         ensures { result ≡ place_joined self.now.user_change (length self.now.state.people.users) }
     {
@@ -240,8 +238,7 @@ impl Staged {
         }
     }
 
-    /// The place of the user who was removed, among the users before the command; `None` where nobody was. It
-    /// allocates nothing.
+    /// Returns the place of the user who was removed, among the users before the command; `None` if nobody was.
     pub fn left(&self) -> Option<usize>
         ensures { result ≡ place_left self.now.user_change }
     {
@@ -251,15 +248,15 @@ impl Staged {
         }
     }
 
-    /// What changed of the users: the same as [`Staged::moved`], [`Staged::joined`] and [`Staged::left`] as one value,
-    /// and whether users were loaded. It allocates nothing.
+    /// Returns what changed of the users: [`Staged::moved`], [`Staged::joined`] and [`Staged::left`] as one value,
+    /// and whether users were loaded.
     pub fn user_change(&self) -> &UserChange
         ensures { result.now ≡ self.now.user_change }
     {
         &self.user_change
     }
 
-    /// Discards the prepared state, and leaves the present one as it is. It allocates nothing.
+    /// Discards the prepared state, and leaves the present one as it is.
     pub fn give_up(self) {
         let Staged {
             tree: _tree,
@@ -271,7 +268,7 @@ impl Staged {
         } = self;
     }
 
-    /// The tree and the people after the command.
+    /// Returns the tree and the people after the command.
     pub(crate) fn into_parts(self) -> (Tree, People)
         ensures tree { result.0 ≡ self.state.tree }
         ensures people { result.1 ≡ self.state.people }

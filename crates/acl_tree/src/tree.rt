@@ -24,8 +24,8 @@ use acl_people::People;
 use std::alloc::Global;
 use std::marker::Model;
 
-/// The files that a dump recorded, in path order. A tree and the trees made from it share the files that are the same.
-/// What is true of every tree is the clause of [`Tree::soundness_law`].
+/// The files that a dump recorded, in path order. Copies and later trees share the files that are the same. What is
+/// true of every tree is the clause of [`Tree::soundness_law`].
 #[derive(Drop)]
 pub struct Tree {
     files: Files,
@@ -42,7 +42,7 @@ impl Model for Tree {
 }
 
 impl Tree {
-    /// No files: no dump is loaded. Fails only if memory runs out.
+    /// Returns the tree before any dump is loaded: without files.
     pub fn new(alloc: Global) -> Result<Tree, NoMemory>
         ensures { IfOk result (λ tree. tree ≡ no_files) }
     {
@@ -51,14 +51,13 @@ impl Tree {
         })
     }
 
-    /// The tree of these files.
     pub(crate) fn of(files: Files) -> Tree
         ensures { result ≡ files }
     {
         Tree { files }
     }
 
-    /// A copy of the tree that shares its files. Fails only if memory runs out.
+    /// Copies the tree; both share its files.
     pub fn share(&self) -> Result<Tree, NoMemory>
         ensures { IfOk result (λ tree. tree ≡ self.now) }
     {
@@ -67,50 +66,50 @@ impl Tree {
         })
     }
 
-    /// Whether a dump was loaded.
+    /// Tells whether a dump was loaded.
     pub fn is_loaded(&self) -> bool
         ensures { result ≡ self.now.loaded }
     {
         self.files.is_loaded()
     }
 
-    /// The node of a path, where it is recorded. Allocates nothing.
+    /// Returns the node of a path, if it is recorded.
     pub fn get(&self, path: &Path) -> Option<&Node>
         ensures { option_copied result ≡ find path_cmp path.now self.now.files }
     {
         self.files.get(path)
     }
 
-    /// A look-up of files. Allocates nothing.
+    /// Returns a look-up of files.
     pub fn finder(&self) -> FilesFinder<'_>
         ensures { result ≡ self.now.files }
     {
         self.files.finder()
     }
 
-    /// The files in path order. Allocates nothing.
+    /// Iterates over the files in path order.
     pub fn iter(&self) -> FilesIter<'_>
         ensures { result ≡ self.now.files }
     {
         self.files.iter()
     }
 
-    /// The paths of the recorded files at or below a path, in path order. Fails only if memory runs out.
+    /// Returns the paths of the recorded files at or below a path, in path order.
     pub fn within(&self, alloc: Global, path: &Path) -> Result<Vec<Path>, NoMemory>
         ensures { IfOk result (λ paths. paths.items ≡ within path.now self.now.files) }
     {
         self.files.within(alloc, path)
     }
 
-    /// The paths of the recorded files that a path is below, parents first: one look-up for each path above it.
-    /// Fails only if memory runs out.
+    /// Returns the recorded ancestors of a path, the root first: each is found from the one below it.
     pub fn ancestors(&self, alloc: Global, path: &Path) -> Result<Vec<Path>, NoMemory>
         ensures { IfOk result (λ paths. paths.items ≡ ancestors path.now self.now.files) }
     {
         self.files.ancestors(alloc, path)
     }
 
-    /// The files of a selection, each once, in path order, each with whether another recorded file is below it.
+    /// Collects the files of a selection, each once, in path order, each with whether another recorded file is below
+    /// it.
     ///
     /// # Errors
     ///
@@ -134,14 +133,13 @@ impl Tree {
         self.files.soundness_law();
     }
 
-    /// The files as one value.
+    /// Returns the files as one value.
     pub fn files_whole(&self) -> &Files
         ensures { result.now ≡ self.now }
     {
         &self.files
     }
 
-    /// The state of this tree and these people.
     pub(crate) fn with_people<'a>(&'a self, people: &'a People) -> BorrowedState<'a>
         ensures tree { result.tree.now ≡ self.now }
         ensures people { result.people.now ≡ people.now }
@@ -152,21 +150,26 @@ impl Tree {
         }
     }
 
-    /// The state after a command on these files and these people. Both stay as they are: a refused command changes
-    /// nothing.
+    /// Returns the state after a command on these files and these people. Both stay as they are: a refused command
+    /// changes nothing.
     ///
     /// # Errors
     ///
     /// The command's first fault, in this order:
     ///
-    /// - a load: `AlreadyLoaded`, before any look at the text; `Text` with the
-    ///   text's first fault; `TooMany`;
-    /// - a chmod, an edit, a restore: `NoSuchFile` of the first operand that is not recorded; an edit and a
-    ///   restore then `Edit` of the first file in path order whose edit is refused;
+    /// - a load: `AlreadyLoaded`, before any look at the text; `Text` with the   text's first fault; `TooMany`;
+    ///
+    /// - a chmod, an edit, a restore: `NoSuchFile` of the first operand that is not recorded; an edit and a   restore
+    ///   then `Edit` of the first file in path order whose edit is refused;
+    ///
     /// - a creat: `NoSuchUser`; `Exists`; `NoSuchFile` or `NotDirectory` of the parent; `TooMany`;
+    ///
     /// - an rm: `NoSuchFile` or `IsDirectory` of the first operand that has one of them;
-    /// - a gpasswd, a usermod: `NoSuchUser`; `NoSuchGroup`; `NotMember` where there is nothing to remove;
+    ///
+    /// - a gpasswd, a usermod: `NoSuchUser`; `NoSuchGroup`; `NotMember` if there is nothing to remove;
+    ///
     /// - a useradd: `UserExists`; `UidExists`; `NoSuchGroup`; `TooManyUsers`;
+    ///
     /// - a userdel: `NoSuchUser`.
     ///
     /// Or `NoMemory`, but never in place of `AlreadyLoaded`, `NotMember`, `UidExists` or `TooManyUsers`.
@@ -182,7 +185,7 @@ impl Tree {
         prepare_command(alloc, &self.with_people(people), command)
     }
 
-    /// Puts a prepared state in place of this tree and of its people. Allocates nothing and succeeds.
+    /// Puts a prepared state in place of this tree and of its people, which cannot fail.
     pub fn commit(&mut self, people: &mut People, staged: Staged)
         ensures tree { self.new ≡ staged.state.tree }
         ensures people { people.new ≡ staged.state.people }

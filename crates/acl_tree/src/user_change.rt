@@ -14,9 +14,9 @@ pub enum UserChange {
     Loaded,
     /// One user joined or left these groups, at least one. No file changed.
     Memberships { user: usize, groups: GroupIds },
-    /// There is one user more, the last. No file changed.
+    /// A user was added, the last. No file changed.
     Added,
-    /// There is one user fewer: the one who was at this place. No file changed.
+    /// The user at this place was removed. No file changed.
     Removed { user: usize },
 }
 
@@ -35,14 +35,12 @@ impl Model for GroupIds {
 }
 
 impl GroupIds {
-    /// These ids.
     pub(crate) fn new(ids: Vec<Id>) -> GroupIds
         ensures { result ≡ ids.items }
     {
         GroupIds { ids }
     }
 
-    /// The ids.
     pub fn as_slice(&self) -> &[Id]
         ensures { result.now ≡ self.now }
     {

@@ -1,4 +1,4 @@
-//! useradd(8): one user more.
+//! useradd(8): adds a user.
 
 ghost use Rattle.std.specs.Prelude.{◌≡◌, length, Err, IfOk, IfSome};
 ghost use Rattle.acl_people.specs.KnownPeople.{persons};
@@ -18,7 +18,7 @@ use crate::user_change::UserChange;
 use acl_people::People;
 use std::alloc::Global;
 
-/// The people with one user more.
+/// Adds a user to the people.
 fn add_user(alloc: Global, people: &People, new: &NewUser) -> Result<People, TreeFault>
     ensures made { Gives (λ next. record { user = length people.now.users; people = next }) result (useradd new.now people.now) }
     ensures joins { IfOk result (λ next. JoinsUser (persons people.now) (persons next)) }

@@ -1,4 +1,4 @@
-//! userdel(8): one user fewer.
+//! userdel(8): removes a user.
 
 ghost use Rattle.acl_tree.specs.InnerCommands.{whole};
 ghost use Rattle.acl_tree.specs.Reports.{Prepares};

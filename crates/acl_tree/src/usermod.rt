@@ -1,4 +1,4 @@
-//! usermod(8): a user's primary group is another.
+//! usermod(8): changes a user's primary group.
 
 ghost use Rattle.acl_tree.specs.InnerCommands.{whole};
 ghost use Rattle.acl_tree.specs.Reports.{Prepares};

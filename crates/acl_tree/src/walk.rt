@@ -1,4 +1,4 @@
-//! A walk over the entries of a map that operands in path order mean, found by search.
+//! A walk over the entries of a map that operands mean, by search. The operands are in path order.
 
 ghost use Rattle.std.specs.Prelude.{◌≡◌, option_map};
 ghost use Rattle.path_map.specs.Entries.{IsInOrder, first, seen};
@@ -12,7 +12,7 @@ use path_map::{Entries, PathMap};
 use std::cmp::Ordering;
 use std::marker::Model;
 
-/// Whether an operand means a file.
+/// Tells whether an operand means a file.
 fn means(recursive: bool, operand: &Path, path: &Path) -> bool
     ensures { result ≡ means recursive operand.now path.now }
 {
@@ -23,7 +23,7 @@ fn means(recursive: bool, operand: &Path, path: &Path) -> bool
     }
 }
 
-/// The entries of a map that are still to come, and the operands that are left.
+/// The entries of a map and the operands that are left, both in path order.
 #[derive(Drop)]
 pub(crate) struct Walk<'a, 'p> {
     numbers: &'a PathMap<usize>,
@@ -46,7 +46,6 @@ impl<'a, 'p> Model for Walk<'a, 'p> {
 }
 
 impl<'a, 'p> Walk<'a, 'p> {
-    /// A walk over the entries that operands in path order mean.
     pub fn new(numbers: &'a PathMap<usize>, recursive: bool, operands: &'p [Path]) -> Walk<'a, 'p>
         requires { Ascend operands.now }
         ensures { result ≡ (files_meant recursive operands.now numbers.now, numbers.now) }
@@ -59,8 +58,8 @@ impl<'a, 'p> Walk<'a, 'p> {
         }
     }
 
-    /// The next entry that is meant. Those before the first operand are passed over by search, and an operand by the first
-    /// entry after all that it means. Allocates nothing.
+    /// Returns the next entry that is meant. Skips by search to the first operand; drops an operand once an entry
+    /// lies past it.
     pub fn next(&mut self) -> Option<(&'a Path, usize)>
         ensures { TakesFirst self.old (option_map seen result) self.new }
     {
@@ -81,14 +80,14 @@ impl<'a, 'p> Walk<'a, 'p> {
         None
     }
 
-    /// Proof only: the entries that are still to come are in path order.
+    /// Proof only: the entries that are left are in path order.
     pub fn order_law(&self)
         ensures { IsInOrder self.now.1 }
     {
         self.numbers.order_law();
     }
 
-    /// Passes over the entries at or below a path, by search, where none that is to come is before it. Allocates nothing.
+    /// Skips the entries at or below a path, by search, if none that is left is before it.
     pub fn pass_within(&mut self, top: &Path)
         requires { From top.now self.old.1 }
         ensures { self.new ≡ (outside top.now self.old.0, outside top.now self.old.1) }
@@ -102,7 +101,7 @@ impl<'a, 'p> Walk<'a, 'p> {
         }
     }
 
-    /// The path of the map's entry after those that were passed. Allocates nothing.
+    /// Returns the path of the map's next entry.
     pub fn next_path(&self) -> Option<&'a Path>
         ensures { option_map (λ p. p.now) result ≡ option_map (λ e. e.0) (first self.now.1) }
     {
