@@ -24,7 +24,7 @@ labels_of fs = map (λ e. (e.0, e.1.label)) fs
 abbrev pub HaveLabels : Files → RowedPaths → Type 0
 HaveLabels fs es = map (λ e. (e.0, e.1.label)) es ≡ labels_of fs
 
--- the table of so many users and of files with their rows
+-- the table of `users` users and of files with their rows
 abbrev pub table_of : ℕ → Files → KindRows → VerdictTable
 table_of users fs rows = record { users = users; files = fs; rows = rows_at (entries_in rows.rows) }
 

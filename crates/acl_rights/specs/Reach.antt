@@ -46,7 +46,7 @@ files_reached V s user q = option_map (λ u. map (λ e. e.0) (filter (λ e. has 
 abbrev pub unlike : UserChange → Rows → Rows → ℕ
 unlike move old new = differing (place_left move) (reached_rows old) (reached_rows new)
 
--- how many are made again for the users' move, beside those of changed files
+-- how many can change with the users' move, beside those of changed files
 abbrev pub moves_refreshed : UserChange → Files → ℕ
 moves_refreshed Unchanged fs = 0
 moves_refreshed Loaded fs = 0
@@ -54,7 +54,7 @@ moves_refreshed (Memberships user groups) fs = count_by (λ e. lies_in (filter (
 moves_refreshed Added fs = length fs
 moves_refreshed (Removed user) fs = 0
 
--- how many verdicts along paths the index makes again after a line: those of all users on changed files and on what is
--- below them, and those of the users' move; no other one changes
+-- the most verdicts along paths that a line can change: those of all users on changed files and on what is below them,
+-- and those of the users' move
 abbrev pub verdicts_refreshed : StagedState → ℕ
 verdicts_refreshed t = length t.state.people.users * count_by (λ e. lies_in t.changed e.0) t.state.tree.files + moves_refreshed t.user_change t.state.tree.files

@@ -42,7 +42,7 @@ abbrev pub coded_staged : Coded StagedTable
 coded_staged = code_by (VerdictTable × (ℕ × ℕ)) (coded× coded_table (coded× coded_ℕ coded_ℕ)) (λ s. (s.table, (s.looked, s.refreshed)))
     (λ p. record { table = p.0; looked = p.1.0; refreshed = p.1.1 }) (λ _. refl)
 
--- ---- what is asked of a table
+-- ---- questions to a table
 
 abbrev pub cell_at : VerdictTable → ℕ → PathOf → Option ℕ
 cell_at t user p = option_and_then (λ cells. slice_get cells user) (find path_cmp p t.rows)
@@ -51,7 +51,7 @@ cell_at t user p = option_and_then (λ cells. slice_get cells user) (find path_c
 abbrev pub users_at : Rows → PathOf → Perms → Option (List ℕ)
 users_at rows p q = option_map (who_in q) (find path_cmp p rows)
 
--- the files on which rows of so many users grant a request to a user, if the user is there
+-- the files on which rows of `users` users grant a request to a user, if the user is there
 abbrev pub files_at : (users : ℕ) → Rows → ℕ → Perms → Option (List PathOf)
 files_at users rows user q = if nat_lt user users then Some (may_in q user rows) else None
 
@@ -62,7 +62,7 @@ FindsUsers r places = IfOk r (λ found. option_map (λ users. users.items) found
 abbrev pub FindsFiles : {E : Type 0} → Result (Option (Vec (Bor Path) Global)) E → Option (List PathOf) → Type 0
 FindsFiles r paths = IfOk r (λ found. option_map (λ files. map (λ p. p.now) files.items) found ≡ paths)
 
--- ---- what is asked of a state
+-- ---- questions to a state
 
 abbrev pub verdict_at : Verdict → State → ℕ → PathOf → Option ℕ
 verdict_at V s user p = option_and_then (λ n. option_map (λ u. V u n.label) (slice_get (persons s.people) user)) (find path_cmp p s.tree.files)

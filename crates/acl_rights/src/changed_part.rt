@@ -1,5 +1,5 @@
-//! The part of the tree in which lines changed files since the texts were loaded: some paths, its tops, with all that is
-//! below them.
+//! The part of the tree in which lines changed files since the texts were loaded: some paths, its tops, with all that
+//! is below them.
 
 ghost use Rattle.std.specs.Prelude.{◌≡◌, ◌||◌, [], ◌∷◌, true, false, map, IfOk};
 ghost use Rattle.acl_names.specs.Below.{encloses};
@@ -12,10 +12,9 @@ use acl_tree::{Differences, Staged, UserChange};
 use path_classes::tops_of;
 use std::alloc::{AllocError, Global};
 
-/// The most tops of a part. More changed files than these, apart from one another, are not looked at one by one.
-const MOST_TOPS: usize = 64;
+/// The most tops of a part. Of more changed files than these, apart from one another, no list is made.
+const MAX_TOPS: usize = 64;
 
-/// The whole tree.
 fn whole_tree(alloc: Global) -> Result<Vec<Path>, AllocError>
     ensures { IfOk result (λ tops. tops.items ≡ [] ∷ []) }
 {
@@ -24,7 +23,7 @@ fn whole_tree(alloc: Global) -> Result<Vec<Path>, AllocError>
     Ok(tops)
 }
 
-/// Whether a part is the whole tree.
+/// Tells whether a part is the whole tree.
 fn is_whole(tops: &[Path]) -> bool
     ensures { result ≡ true → (p : PathOf) → is_outside tops.now p ≡ false }
 {
@@ -34,14 +33,13 @@ fn is_whole(tops: &[Path]) -> bool
     }
 }
 
-/// Whether a path is one of some, or below one.
+/// Tells whether a path is one of `tops`, or below one.
 fn is_inside(tops: &[Path], path: &Path) -> bool
     ensures { result ≡ is_inside tops.now path.now }
 {
     tops.iter().any(|top| path.is_within(top))
 }
 
-/// Copies of paths.
 fn copied(alloc: Global, paths: &[&Path]) -> Result<Vec<Path>, AllocError>
     ensures { IfOk result (λ copies. copies.items ≡ paths_seen paths.now) }
 {
@@ -52,7 +50,7 @@ fn copied(alloc: Global, paths: &[&Path]) -> Result<Vec<Path>, AllocError>
     Ok(copies)
 }
 
-/// The tops with one more, without those below it.
+/// Adds a top, and drops those below it.
 fn with_top(alloc: Global, tops: &[Path], top: &Path) -> Result<Vec<Path>, AllocError>
     requires { AreTops tops.now }
     ensures tops { IfOk result (λ new. AreTops new.items) }
@@ -66,8 +64,8 @@ fn with_top(alloc: Global, tops: &[Path], top: &Path) -> Result<Vec<Path>, Alloc
     copied(alloc, &new)
 }
 
-/// The tops of a part that holds another one and a path. Where they would be too many, the path's top is raised until it holds
-/// enough of the others.
+/// Extends a part by a path. If the tops would be too many, the path is replaced by an ancestor that holds enough of
+/// them.
 fn with_path(alloc: Global, tops: Vec<Path>, path: &Path) -> Result<Vec<Path>, AllocError>
     requires { AreTops tops.items }
     ensures tops { IfOk result (λ new. AreTops new.items) }
@@ -79,15 +77,15 @@ fn with_path(alloc: Global, tops: Vec<Path>, path: &Path) -> Result<Vec<Path>, A
     }
     let mut top = path.try_clone(alloc)?;
     let mut new = with_top(alloc, &tops, &top)?;
-    while new.len() > MOST_TOPS && !top.borrowed().is_root() {
+    while new.len() > MAX_TOPS && !top.borrowed().is_root() {
         top = top.parent(alloc)?;
         new = with_top(alloc, &tops, &top)?;
     }
     Ok(new)
 }
 
-/// The tops of a part that holds another one and some files, or of the whole tree where many files are not below one another.
-/// No file is looked at where the part is the whole tree already.
+/// Extends a part by files, or to the whole tree if many files are not below one another. No file is looked at if the
+/// part is the whole tree already.
 fn with_files(
     alloc: Global,
     tops: Vec<Path>,
@@ -98,7 +96,7 @@ fn with_files(
     ensures holds { IfOk result (λ new. Holds new.items tops.items files.entry) }
 {
     let mut new = tops;
-    let mut left = MOST_TOPS;
+    let mut left = MAX_TOPS;
     let mut rest = files;
     while left > 0 && !is_whole(&new) {
         let Some(file) = rest.next_top() else {
@@ -110,7 +108,6 @@ fn with_files(
     whole_tree(alloc)
 }
 
-/// The tops of a part, copied.
 fn same_part(alloc: Global, tops: &[Path]) -> Result<Vec<Path>, AllocError>
     ensures { IfOk result (λ copies. copies.items ≡ tops.now) }
 {
@@ -121,7 +118,7 @@ fn same_part(alloc: Global, tops: &[Path]) -> Result<Vec<Path>, AllocError>
     Ok(copies)
 }
 
-/// The tops of a part that holds another one and all files that a line changed. Where a user moved it is the whole tree.
+/// Extends a part by all files that a line changed. If users moved it is the whole tree.
 pub(crate) fn with_changes(
     alloc: Global,
     tops: &[Path],

@@ -1,4 +1,4 @@
-//! Rows of verdicts by kinds after some files changed: of labels that differ each is judged once.
+//! Rows of verdicts by kinds after some files changed: each distinct label is judged once.
 
 ghost use Rattle.std.specs.Prelude.{◌≡◌, ◌+◌, ◌*◌, ◌++◌, ◌<◌, ◌≤◌, ◌^◌, ℕ, Some, true, length, map, slice_get, IfOk, IfSome, OnOk};
 ghost use Rattle.path_map.specs.Entries.{IsInOrder, seen};
@@ -23,14 +23,14 @@ use std::alloc::{AllocError, Global};
 use std::collections::BTreeMap;
 use std::rc::Rc;
 
-/// Whether owner, group and access list are the same.
+/// Tells whether owner, group and access list are the same.
 pub(crate) fn is_same_label(one: &Label, other: &Label) -> bool
     ensures { result ≡ true → one.now ≡ other.now }
 {
     one.owner == other.owner && one.group == other.group && one.acl.same(&other.acl)
 }
 
-/// A place, if it has this label.
+/// Returns the place, if it has this label.
 fn place_if(labels: &[&Label], at: usize, label: &Label) -> Option<usize>
     ensures { IfSome result (λ n. slice_get (borrowed_labels labels.now) n ≡ Some label.now) }
 {
@@ -42,7 +42,7 @@ fn place_if(labels: &[&Label], at: usize, label: &Label) -> Option<usize>
     }
 }
 
-/// The place of a label, if it is the last one of its hash.
+/// Returns the place of a label, if it is the last one of its hash.
 fn place_by_hash(
     labels: &[&Label],
     by_hash: &BTreeMap<u64, usize>,
@@ -55,7 +55,8 @@ fn place_by_hash(
     place_if(labels, at, label)
 }
 
-/// The place of a label among those that differ: the last one, or one by its hash; or it is added. The last place is `last`.
+/// Returns the place of a label: `last`, or one by its hash; or adds it. Labels of one hash may be added more than
+/// once.
 fn place_of<'a>(
     labels: &mut Vec<&'a Label>,
     by_hash: &mut BTreeMap<u64, usize>,
@@ -77,7 +78,7 @@ fn place_of<'a>(
     Ok(at)
 }
 
-/// Labels that differ, and for each path the place of its label; and places of labels by their hashes.
+/// Distinct labels, and for each path the place of its label; and places of labels by their hashes.
 #[derive(Drop)]
 struct LabelPlaces<'a> {
     labels: Vec<&'a Label>,
@@ -85,7 +86,7 @@ struct LabelPlaces<'a> {
     by_hash: BTreeMap<u64, usize>,
 }
 
-/// The labels of some paths, each once, and for each path the place of its label.
+/// Lists the distinct labels of some paths, and for each path the place of its label.
 fn places_of<'a>(
     alloc: Global,
     paths: &[(&'a Path, &'a Label)],
@@ -107,7 +108,7 @@ fn places_of<'a>(
     })
 }
 
-/// A label with its row, judged once.
+/// Judges a label once.
 pub(crate) fn judged_row<J: Judge>(
     alloc: Global,
     judge: &mut J,
@@ -123,7 +124,7 @@ pub(crate) fn judged_row<J: Judge>(
     Ok(Rc::new(alloc, new)?)
 }
 
-/// The number that hints give for a label, if a file has this number and its label is this one.
+/// Returns the number that hints give for a label, if a file has this number and its label is this one.
 fn known_number(rows: &KindMap<LabelRow>, hints: &Hints, label: &Label) -> Option<usize>
     ensures { IfSome result (λ number. HasLabel label.now number rows.now) }
 {
@@ -136,7 +137,7 @@ fn known_number(rows: &KindMap<LabelRow>, hints: &Hints, label: &Label) -> Optio
     }
 }
 
-/// The row of a label: that of a file that has it, or one that is judged once.
+/// Returns the row of a label: that of a file that has it, or else judges it once.
 fn given_row<J: Judge>(
     alloc: Global,
     judge: &mut J,
@@ -157,7 +158,7 @@ fn given_row<J: Judge>(
     Ok(GivenNode::New(row))
 }
 
-/// The rows of labels, each judged at most once.
+/// Returns the rows of labels, each judged at most once.
 fn given_rows<J: Judge>(
     alloc: Global,
     judge: &mut J,
@@ -179,14 +180,15 @@ fn given_rows<J: Judge>(
     Ok(nodes)
 }
 
-/// Whether a path has a row.
+/// Tells whether a path has a row.
 fn has_row(rows: &KindRows, path: &Path) -> bool
     ensures { result ≡ has path.now (entries_in rows.now.rows) }
 {
     rows.rows.rows().get(path).is_some()
 }
 
-/// Whether the root, which has a row, is the first of some files that changed, and others follow; and no file is gone.
+/// Tells whether the root, which has a row, is the first of some files that changed, and others follow; and no file
+/// is gone.
 fn begin_with_root<W>(rows: &KindRows, changed: &[(&Path, &Label)], gone: &[(&Path, W)]) -> bool
     ensures { result ≡ true → BeginWithRoot (entries_in rows.now.rows) (map with_label changed.now) (map seen gone.now) }
 {
@@ -200,7 +202,7 @@ fn begin_with_root<W>(rows: &KindRows, changed: &[(&Path, &Label)], gone: &[(&Pa
     has_row(rows, path)
 }
 
-/// The sum of two counts, or `most` where that is less.
+/// Returns the sum of two counts, or `most` if that is less.
 fn sum_up_to(most: usize, one: usize, other: usize) -> usize
     ensures most { result ≤ most }
     ensures least { (n : ℕ) → n ≤ one + other → n ≤ most → n ≤ result }
@@ -212,9 +214,9 @@ fn sum_up_to(most: usize, one: usize, other: usize) -> usize
 }
 
 impl KindRows {
-    /// The rows after some files have other labels and others are gone, and of how many files the answers along their paths
-    /// were found again. Each different label is judged at most once, and not where hints find a file that has it. Fails only
-    /// if memory, or the numbers, run out.
+    /// Returns the rows after some files got other labels and others are gone, and of how many files the answers
+    /// along their paths were found again. One verdict per user is asked for each distinct label that hints do not
+    /// find (more if hashes collide); the clause bounds that by the files.
     fn with_labels<'a, J: Judge, W>(
         &self,
         alloc: Global,
@@ -259,9 +261,9 @@ impl KindRows {
         Ok((KindRows { rows, hints }, refreshed))
     }
 
-    /// The rows of `with_labels`. Where the root changed beside other files, it gets its label after these: so the files below
-    /// it keep their path classes, where they did not change. A file that is counted twice by that counts at most as the
-    /// number of all files allows.
+    /// Returns the rows of `with_labels`. If the root changed beside other files, it gets its label after these: so
+    /// files below it that did not change keep their path classes. The two counts may
+    /// have a file twice, so their sum is limited to the number of all files.
     pub fn with_files<'a, J: Judge, W>(
         &self,
         alloc: Global,

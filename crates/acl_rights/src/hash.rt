@@ -1,9 +1,9 @@
-//! A number that is made of a label, by which labels that differ are looked up.
+//! A hash of labels.
 
 use acl_entry::{Entry, Key, Label};
 use path_classes::mixed;
 
-/// A number of an entry: its tag, its permissions and the id that it names.
+/// Encodes an entry as a number: its tag, its permissions and the id that it names.
 fn number_of(entry: &Entry) -> u64 {
     let (tag, id) = match entry.key {
         Key::Owner => (0, 0),
@@ -17,7 +17,7 @@ fn number_of(entry: &Entry) -> u64 {
     head << 32 | u64::from(id)
 }
 
-/// A hash of a label. Equal labels have equal hashes, and other labels seldom do. Allocates nothing.
+/// Hashes a label. Equal labels have equal hashes, and other labels seldom do.
 pub(crate) fn hash_of(label: &Label) -> u64 {
     let ids = u64::from(label.owner.number()) << 32 | u64::from(label.group.number());
     let mut hash = mixed(0, ids);

@@ -1,4 +1,4 @@
-//! Numbers by hashes, as hints where to look first.
+//! A cache of numbers by the hashes of labels.
 
 use std::alloc::{AllocError, Global};
 use std::collections::BTreeMap;
@@ -11,23 +11,23 @@ pub(crate) struct Hint {
     pub number: usize,
 }
 
-/// For hashes a number that a label of this hash has or had. Nothing rests on it: whoever is given a number compares what has
-/// it. So labels whose hashes are the same cost time and memory alone.
+/// A cache from a label's hash to the last number seen for it. Correctness does not depend on it: callers compare the
+/// label. So labels whose hashes collide cost only time and memory.
 ///
-/// Copies share what they have in common: hints are in a few blocks, each in the order of its hashes, and each more than
-/// twice as long as the next.
+/// Copies share what they have in common: hints are in a few blocks, each sorted by hash, and each more than twice as
+/// long as the next.
 #[derive(Drop)]
 pub(crate) struct Hints {
     blocks: Vec<Rc<Vec<Hint>>>,
 }
 
-/// Where there are more hints than these, all are dropped before others are added.
+/// If there are more hints than these, all are dropped before others are added.
 const MAX_HINTS: usize = 1 << 20;
 
-/// How many numbers of a tree are hinted at, after its load and after a line on many files.
+/// How many numbers of a tree the cache gets after a load and after a line on many files.
 pub(crate) const FIRST_HINTS: usize = 1 << 16;
 
-/// The number of a hash in a block.
+/// Returns the number of a hash in a block, by binary search.
 fn number_in(block: &[Hint], hash: u64) -> Option<usize> {
     match block.binary_search_by(|hint| hint.hash.cmp(&hash)) {
         Ok(place) => match block.get(place) {
@@ -38,7 +38,7 @@ fn number_in(block: &[Hint], hash: u64) -> Option<usize> {
     }
 }
 
-/// The hints of two blocks, in the order of their hashes; where both have a hash, the later one's.
+/// Merges two blocks, sorted by hash; if both have a hash, the later one's number is kept.
 fn joined(alloc: Global, block: &[Hint], later: &[Hint]) -> Result<Vec<Hint>, AllocError> {
     let mut all = Vec::with_capacity(alloc, block.len())?;
     let mut left = block;
@@ -62,7 +62,7 @@ fn joined(alloc: Global, block: &[Hint], later: &[Hint]) -> Result<Vec<Hint>, Al
     Ok(all)
 }
 
-/// A block of the numbers at these places, by hashes.
+/// Sorts the numbers at `places` by hash into a block.
 fn block_of(
     alloc: Global,
     places: &BTreeMap<u64, usize>,
@@ -81,14 +81,13 @@ fn block_of(
 }
 
 impl Hints {
-    /// No hints. Allocates nothing.
     pub fn new(alloc: Global) -> Hints {
         Hints {
             blocks: Vec::new(alloc),
         }
     }
 
-    /// These hints. Fails only if memory runs out.
+    /// Makes a cache of one block.
     pub fn of(alloc: Global, hints: Vec<Hint>) -> Result<Hints, AllocError> {
         let mut block = hints;
         block.sort_unstable_by_key(|hint| hint.hash);
@@ -97,7 +96,7 @@ impl Hints {
         Ok(Hints { blocks })
     }
 
-    /// A number of a hash, of the last block that has one. Allocates nothing.
+    /// Returns a number of a hash, from the last block that has one.
     pub fn get(&self, hash: u64) -> Option<usize> {
         let mut rest: &[Rc<Vec<Hint>>] = &self.blocks;
         while let Some((block, before)) = rest.split_last() {
@@ -109,7 +108,6 @@ impl Hints {
         None
     }
 
-    /// How many hints there are. Allocates nothing.
     fn len(&self) -> usize {
         let mut count = 0usize;
         for block in &self.blocks {
@@ -118,7 +116,7 @@ impl Hints {
         count
     }
 
-    /// The blocks that are kept when hints are added.
+    /// Returns the blocks that are kept when hints are added.
     fn kept(&self, alloc: Global) -> Result<Vec<Rc<Vec<Hint>>>, AllocError> {
         if self.len() > MAX_HINTS {
             return Ok(Vec::new(alloc));
@@ -126,14 +124,14 @@ impl Hints {
         self.blocks.clone()
     }
 
-    /// A copy, which shares all hints. Fails only if memory runs out.
+    /// Copies the cache; both share all hints.
     pub fn share(&self) -> Result<Hints, AllocError> {
         Ok(Hints {
             blocks: self.blocks.clone()?,
         })
     }
 
-    /// These hints, and those of the numbers at some places, by hashes. Fails only if memory runs out.
+    /// Adds the numbers at `places`, by hashes.
     pub fn with(
         &self,
         alloc: Global,

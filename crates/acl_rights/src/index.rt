@@ -42,7 +42,7 @@ impl Model for VerdictTable {
 }
 
 impl VerdictTable {
-    /// The table of `users` users and a tree, which it shares.
+    /// Makes the table of `users` users and a tree, which it shares.
     fn of(users: usize, tree: &Tree, rows: KindRows) -> Result<VerdictTable, AllocError>
         requires { HaveLabels tree.now.files (entries_in rows.rows) }
         ensures { IfOk result (λ table. table ≡ table_of users tree.now.files rows) }
@@ -55,8 +55,8 @@ impl VerdictTable {
     }
 }
 
-/// The whole table of verdicts of a state: what each user may do with each file. A question asks it with or without search
-/// along the file's path.
+/// The whole table of verdicts of a state: what each user may do with each file. A question reads it with or without
+/// search along the file's path.
 #[derive(Drop)]
 pub struct Index<J> {
     pub(crate) table: VerdictTable,
@@ -92,21 +92,21 @@ impl Model for Rows {
 }
 
 impl Rows {
-    /// How many labels were fetched for a change of memberships. Allocates nothing.
+    /// Returns how many labels were fetched for a change of memberships.
     pub fn looked(&self) -> u64
         ensures { result ≡ self.now.looked }
     {
         self.looked
     }
 
-    /// How many verdicts along paths were found again. Allocates nothing.
+    /// Returns how many verdicts along paths were found again.
     pub fn refreshed(&self) -> u64
         ensures { result ≡ self.now.refreshed }
     {
         self.refreshed
     }
 
-    /// Discards the table. Allocates nothing.
+    /// Discards the table.
     pub fn give_up(self) {
         let Rows {
             table,
@@ -117,7 +117,7 @@ impl Rows {
     }
 }
 
-/// The rows of all files: every user is judged on every file.
+/// Judges every user on every file.
 fn all_rows<J: Judge>(
     alloc: Global,
     judge: &mut J,
@@ -137,7 +137,7 @@ impl<J: Judge> Index<J> {
     ghost use Rattle.acl_rights.specs.Stages.{CanStage, most_asked, most_looked, moves_groups};
     ghost use Rattle.acl_rights.specs.Reach.{verdicts_refreshed, unlike};
 
-    /// The table of a state: every user is judged on every file. Fails only if memory runs out.
+    /// Builds the table of a state: every user is judged on every file.
     pub fn build(
         alloc: Global,
         judge: &mut J,
@@ -156,8 +156,8 @@ impl<J: Judge> Index<J> {
         })
     }
 
-    /// The table of the state after a line. The judge decides at most as many verdicts as the line can have
-    /// changed. Fails only if memory runs out.
+    /// Makes the table of the state after a line. The judge decides at most as many verdicts as the line can have
+    /// changed.
     pub fn stage(&self, alloc: Global, judge: &mut J, staged: &Staged) -> Result<Rows, NoMemory>
         requires room { J.asked_of judge.old + all_pairs staged.now.state < 2 ^ 64 }
         requires goes { CanStage J.verdict_of self.now staged.now }
@@ -186,7 +186,7 @@ impl<J: Judge> Index<J> {
         })
     }
 
-    /// A staged table. Allocates nothing.
+    /// Takes a staged table, as [`Index::commit`] does, without one before it.
     pub fn of(staged: Rows) -> Index<J>
         ensures { result ≡ staged.table }
     {
@@ -201,7 +201,7 @@ impl<J: Judge> Index<J> {
         }
     }
 
-    /// Puts a staged table in place of this one. Allocates nothing.
+    /// Puts a staged table in place of this one.
     pub fn commit(&mut self, staged: Rows)
         ensures { self.new ≡ staged.table }
     {

@@ -1,5 +1,6 @@
-//! A state with the index of who may do what in it, and what users are granted in it, with or without search along the path;
-//! the present one with the one after the texts were loaded, the states that the lines of a script see.
+//! A state with the index of who may do what in it, and what users are granted in it, with or without search along
+//! the path; and the two states that the lines of a script see: the present one, and the one after the texts were
+//! loaded.
 
 ghost use Rattle.std.specs.Prelude.{◌≡◌, [], ◌+◌, ◌<◌, ◌≤◌, ◌^◌, map, slice_get, IfOk, OnOk, OnErr};
 ghost use Rattle.acl_tree.specs.Reports.{Reports};
@@ -46,8 +47,7 @@ impl<J: Judge> Model for IndexedState<J> {
 }
 
 impl<J: Judge> IndexedState<J> {
-    /// A state with its index, for which the judge is asked about every user and every file. Fails only if memory
-    /// runs out.
+    /// Indexes a state: the judge is asked about every user and every file.
     pub fn build(alloc: Global, judge: &mut J, state: State) -> Result<IndexedState<J>, AllocError>
         requires room { J.asked_of judge.old + all_pairs state < 2 ^ 64 }
         ensures state { IfOk result (λ indexed. indexed ≡ state) }
@@ -62,8 +62,8 @@ impl<J: Judge> IndexedState<J> {
         }
     }
 
-    /// The prepared state after a line, with its index. The judge decides at most as many verdicts as the line can
-    /// have changed. Fails only if memory runs out; then the prepared state is discarded.
+    /// Returns the prepared state after a line, with its index. The judge decides at most as many verdicts as the
+    /// line can have changed. If memory runs out, the prepared state is discarded.
     pub fn after(
         &self,
         alloc: Global,
@@ -88,14 +88,13 @@ impl<J: Judge> IndexedState<J> {
         }
     }
 
-    /// The state.
     pub fn state(&self) -> &State
         ensures { result.now ≡ self.now }
     {
         &self.state
     }
 
-    /// The files that are not before a path, in path order. Allocates nothing.
+    /// Iterates over the files from a path on, in path order.
     pub fn files_from(&self, top: &Path) -> FilesIter<'_>
         ensures { result ≡ from top.now self.now.tree.files }
     {
@@ -103,14 +102,13 @@ impl<J: Judge> IndexedState<J> {
         files.from(top)
     }
 
-    /// The index of the state.
     fn index(&self) -> &Index<J>
         ensures { IsWhole J.verdict_of self.now result.now }
     {
         &self.index
     }
 
-    /// The verdicts of the index: those on the files alone, or with `along` those along their paths.
+    /// Returns the verdicts of the index: those on the files alone, or with `along` those along their paths.
     pub fn verdicts(&self, along: bool) -> Verdicts<'_, J>
         ensures state { result.state.now ≡ self.now }
         ensures along { result.along ≡ along }
@@ -123,12 +121,12 @@ impl<J: Judge> IndexedState<J> {
 #[derive(Drop)]
 pub struct Verdicts<'a, J: Judge> {
     pub state: &'a IndexedState<J>,
-    /// Whether a user is granted something only where the user can search each recorded directory above the file.
+    /// Whether a user is granted something only if the user can search each recorded directory above the file.
     pub along: bool,
 }
 
 impl<'a, J: Judge> Verdicts<'a, J> {
-    /// What a user may do with a file, if both are there. Allocates nothing.
+    /// Returns what a user may do with a file, if both are there.
     pub fn get(&self, user: usize, path: &Path) -> Option<Requests>
         ensures { result ≡ can_requests J.verdict_of self.now.along self.now.state.now user path.now }
     {
@@ -140,7 +138,7 @@ impl<'a, J: Judge> Verdicts<'a, J> {
         }
     }
 
-    /// The users who are granted a request on a file, if it is there, by their places. Fails only if memory runs out.
+    /// Returns the users who are granted a request on a file, if it is there, by their places.
     pub fn who(
         &self,
         alloc: Global,
@@ -157,7 +155,7 @@ impl<'a, J: Judge> Verdicts<'a, J> {
         }
     }
 
-    /// All files by their classes: how many files have each, and the first of them. Fails only if memory runs out.
+    /// Returns all files by their classes: how many files have each, and the first of them.
     pub fn counted_classes(
         &self,
         alloc: Global,
@@ -169,8 +167,7 @@ impl<'a, J: Judge> Verdicts<'a, J> {
         Ok(found)
     }
 
-    /// Each file that is not before a path with its class, in path order: files of a class have the same row. Allocates
-    /// nothing.
+    /// Iterates over the files from a path on with their classes, in path order: files of a class have the same row.
     pub fn classes_from(&self, alloc: Global, top: &Path) -> FileClasses<'a>
         ensures { result ≡ ([], from top.now (rows_granted J.verdict_of self.now.along self.now.state.now)) }
     {
@@ -183,7 +180,7 @@ impl<'a, J: Judge> Verdicts<'a, J> {
 #[derive(Drop)]
 pub struct IndexedStates<J: Judge> {
     state: IndexedState<J>,
-    /// The state after the texts were loaded; `None` where no line that may change the state was accepted since.
+    /// The state after the texts were loaded; `None` if no line that may change the state was accepted since.
     loaded: Option<IndexedState<J>>,
     /// The paths at or below which both may differ: in path order, none below another one.
     changed: Vec<Path>,
@@ -212,8 +209,7 @@ struct NextState<J: Judge> {
 }
 
 impl<J: Judge> IndexedStates<J> {
-    /// A state with its index, for which the judge is asked about every user and every file. Fails only if memory
-    /// runs out.
+    /// Indexes a state: the judge is asked about every user and every file.
     pub fn new(alloc: Global, judge: &mut J, state: State) -> Result<IndexedStates<J>, AllocError>
         requires { J.asked_of judge.old ≡ 0 }
         ensures state { IfOk result (λ indexed_states. states_in indexed_states ≡ from_start state) }
@@ -231,15 +227,15 @@ impl<J: Judge> IndexedStates<J> {
         })
     }
 
-    /// The present state with its index.
+    /// Returns the present state with its index.
     pub fn state(&self) -> &IndexedState<J>
         ensures { result.now ≡ self.now.state }
     {
         &self.state
     }
 
-    /// The paths at or below which all files are with which a user may do something else than after the texts were loaded:
-    /// in path order, none below another one. Allocates nothing.
+    /// Returns the paths at or below which all files are with which a user may do something else than after the texts
+    /// were loaded: in path order, none below another one.
     pub fn changed(&self) -> &[Path]
         ensures tops { AreTops result.now }
         ensures same { SameOutside J.verdict_of result.now (loaded_state self.now) self.now.state }
@@ -247,7 +243,7 @@ impl<J: Judge> IndexedStates<J> {
         &self.changed
     }
 
-    /// The state after the texts were loaded, with its index.
+    /// Returns the state after the texts were loaded, with its index.
     pub fn loaded(&self) -> &IndexedState<J>
         ensures { result.now ≡ loaded_state self.now }
     {
@@ -257,8 +253,7 @@ impl<J: Judge> IndexedStates<J> {
         }
     }
 
-    /// Forgets the state after the texts were loaded: it is the present one, where a load begins again. Allocates
-    /// nothing.
+    /// Drops the state after the texts were loaded if a load begins: the present one takes its place.
     fn begin_again(&mut self, loads: bool)
         ensures { states_in self.new ≡ states_after loads (states_in self.old) self.old.state }
     {
@@ -268,7 +263,7 @@ impl<J: Judge> IndexedStates<J> {
         }
     }
 
-    /// The state after a line, with its index, and where files may differ after it. Fails only if memory runs out; then the
+    /// Returns the state after a line, with its index, and where files may differ after it. If memory runs out, the
     /// prepared state is discarded.
     fn after(
         &self,
@@ -298,8 +293,8 @@ impl<J: Judge> IndexedStates<J> {
         }
     }
 
-    /// Puts a state in place of the present one, which is kept where no line has changed the state since the texts were
-    /// loaded. Allocates nothing.
+    /// Puts a state in place of the present one, which is kept if no line has changed the state since the texts were
+    /// loaded.
     fn put(&mut self, next: NextState<J>)
         requires tops { AreTops next.changed.items }
         requires same { SameRows J.verdict_of next.changed.items (loaded_state self.old) next.state }
@@ -312,9 +307,9 @@ impl<J: Judge> IndexedStates<J> {
         drop(mem::replace(&mut self.changed, changed));
     }
 
-    /// Puts a prepared state with its index in place of the present one; where a load prepared it, it is the state after
-    /// the texts were loaded too. The index is made first, which fails only if memory runs out: then the prepared state
-    /// is discarded, and all is as it was.
+    /// Puts a prepared state with its index in place of the present one; if a load prepared it, it is the state after
+    /// the texts were loaded too. The index is made first: if memory runs out for it, the prepared state is
+    /// discarded, and all is as it was.
     fn replace(
         &mut self,
         alloc: Global,
@@ -337,8 +332,8 @@ impl<J: Judge> IndexedStates<J> {
         Ok(())
     }
 
-    /// Puts a prepared state, if there is one, with its index in place of the present one; after a load it is the state
-    /// after the texts were loaded too. Fails only if memory runs out: then both states stay, and the prepared one is
+    /// Puts a prepared state, if there is one, with its index in place of the present one; after a load it is the
+    /// state after the texts were loaded too. If memory runs out, both states stay, and the prepared one is
     /// discarded.
     pub fn replace_if(
         &mut self,

@@ -17,16 +17,17 @@ pub trait Judge {
     /// How many verdicts were decided.
     ghost asked_of: { Self → ℕ };
 
-    /// The verdict on a user and a label. Allocates nothing.
+    /// Returns the verdict on a user and a label.
     fn verdict(&mut self, subject: &Subject, label: &Label) -> Requests
         requires { asked_of self.old + 1 < 2 ^ 64 }
         ensures verdict { result ≡ verdict_of subject.now label.now }
         ensures asked { asked_of self.new ≡ asked_of self.old + 1 };
 
-    /// The verdicts on all users and a label, in the order of the users, for `files` files that have this label.
+    /// Writes the verdicts on all users and a label into `row`, in the order of the users, for `files` files that
+    /// have this label.
     ///
-    /// One verdict counts for each user and each of these files, however they are found. A judge that has no
-    /// quicker way asks for them one by one, as this body does. Allocates nothing.
+    /// One verdict counts for each user and each of these files, however they are found. A judge that has no quicker
+    /// way decides them one by one, as this body does.
     fn verdicts(&mut self, users: &Subjects, label: &Label, files: u64, row: &mut [Requests])
         requires room { asked_of self.old + files * length users.now < 2 ^ 64 }
         requires some { 0 < files }
@@ -41,11 +42,11 @@ pub trait Judge {
         }
     }
 
-    /// How many verdicts were decided.
+    /// Returns how many verdicts were decided.
     fn asked(&self) -> u64
         ensures { result ≡ asked_of self.now };
 
-    /// Locality: the verdicts on two users of one id are the same where their groups agree on those that the
+    /// Locality: the verdicts on two users of one id are the same if their groups agree on those that the
     /// label mentions.
     ghost local: { IsLocal verdict_of };
 }
@@ -57,7 +58,7 @@ pub struct Posix {
 }
 
 impl Posix {
-    /// No verdict was decided yet.
+    /// Returns a judge that has decided no verdict yet.
     pub fn new() -> Posix
         ensures { result.asked ≡ 0 }
     {

@@ -11,8 +11,8 @@ use acl_people::Subjects;
 use path_classes::Cells;
 use std::alloc::{AllocError, Global};
 
-/// The verdicts of all users on a label, which count for `files` files that have it. Where those of
-/// another row are the same, they are shared. Fails only if memory runs out.
+/// Judges all users on a label; the verdicts count for `files` files that have it. They are shared with `other`, if
+/// they are the same.
 pub(crate) fn judged<J: Judge>(
     alloc: Global,
     judge: &mut J,
@@ -31,7 +31,7 @@ pub(crate) fn judged<J: Judge>(
     Cells::new_or_shared(alloc, requests, other)
 }
 
-/// The verdicts with that of one user decided again, if it is another one. Fails only if memory runs out.
+/// Judges one user again, and returns the verdicts if that one is another.
 pub(crate) fn judged_again<J: Judge>(
     alloc: Global,
     judge: &mut J,
@@ -56,7 +56,7 @@ pub(crate) fn judged_again<J: Judge>(
     Ok(Some(row))
 }
 
-/// The verdicts with that of one user more, the last. Fails only if memory runs out.
+/// Judges a further user, the last.
 pub(crate) fn judged_last<J: Judge>(
     alloc: Global,
     judge: &mut J,
@@ -75,7 +75,7 @@ pub(crate) fn judged_last<J: Judge>(
     Cells::new_or_shared(alloc, new, other)
 }
 
-/// The verdicts without that of one user. Fails only if memory runs out.
+/// Removes the verdict of one user.
 pub(crate) fn without(
     alloc: Global,
     cells: &[Requests],

@@ -1,5 +1,5 @@
-//! Rows of labels where all files changed: as long as files that had one label have one label again, labels keep their numbers,
-//! and so do path classes.
+//! Rows of labels after all files changed: as long as files that had one label have one label again, labels keep
+//! their numbers, and so do path classes.
 
 ghost use Rattle.std.specs.Prelude.{◌≡◌, ◌<◌, true, None, Some, get_or, slice_set, length, option_map, IfOk, IfSome};
 ghost use Rattle.std.specs.Option.{option_copied};
@@ -16,14 +16,14 @@ use path_classes::{LabelRow, same_row};
 use std::alloc::{AllocError, Global};
 use std::rc::Rc;
 
-/// Whether two rows are the same, and their labels.
+/// Tells whether two rows and their labels are the same.
 fn is_same(one: &LabelRow, other: &LabelRow) -> bool
     ensures { result ≡ true → one.now ≡ other.now }
 {
     is_same_label(&one.label, &other.label) && same_row(one.row.as_slice(), other.row.as_slice())
 }
 
-/// The row at a place, if one is there.
+/// Returns the row at a place, if one is there.
 fn row_at(rows: &[Option<Rc<LabelRow>>], at: usize) -> Option<&LabelRow>
     ensures { option_copied result ≡ get_or (shared_nodes rows.now) at None }
 {
@@ -33,7 +33,7 @@ fn row_at(rows: &[Option<Rc<LabelRow>>], at: usize) -> Option<&LabelRow>
     }
 }
 
-/// The number at a place, if one is there.
+/// Returns the number at a place, if one is there.
 fn number_at(numbers: &[Option<usize>], at: usize) -> Option<usize>
     ensures { result ≡ get_or numbers.now at None }
 {
@@ -43,7 +43,6 @@ fn number_at(numbers: &[Option<usize>], at: usize) -> Option<usize>
     }
 }
 
-/// Writes a number at a place.
 fn set_number(numbers: &mut Vec<Option<usize>>, at: usize, number: usize)
     requires { at < length numbers.old.items }
     ensures { numbers.new.items ≡ slice_set numbers.old.items at (Some number) }
@@ -51,7 +50,7 @@ fn set_number(numbers: &mut Vec<Option<usize>>, at: usize, number: usize)
     numbers[at] = Some(number);
 }
 
-/// Whether two numbers of a tree have the same row.
+/// Tells whether two numbers of a tree have the same row.
 fn has_same_row(rows: &[Option<Rc<LabelRow>>], number: usize, other: usize) -> bool
     ensures { result ≡ true → IsSameRow (shared_nodes rows.now) number other }
 {
@@ -67,7 +66,7 @@ fn has_same_row(rows: &[Option<Rc<LabelRow>>], number: usize, other: usize) -> b
     }
 }
 
-/// Keeps the number of a label's first file. Whether a file of the label has the same row as that one.
+/// Keeps the number of a label's first file. Tells whether a file of the label has the same row as that one.
 fn gets_row(
     numbers: &mut Vec<Option<usize>>,
     rows: &[Option<Rc<LabelRow>>],
@@ -90,9 +89,9 @@ fn gets_row(
     }
 }
 
-/// For each number of a label the number that its first file has in a tree, which has as many files in the same order: `rows` has
-/// a row for each number of the tree. `None` where two files of a label have different rows, or the files are not as many. No path
-/// is read.
+/// Returns for each number of a label the number that its first file has in a tree, which has as many files in the
+/// same order: `rows` has a row for each number of the tree. `None` if two files of a label have different rows, or
+/// the files are not as many. No path is read.
 fn kept_numbers(
     alloc: Global,
     labels: &KindMap<LabelRow>,
@@ -119,7 +118,7 @@ fn kept_numbers(
     }
 }
 
-/// The row of a number, shared, if there is a number and it has one.
+/// Shares the row of a number, if there is a number and it has one.
 fn shared_row(
     rows: &[Option<Rc<LabelRow>>],
     number: Option<usize>,
@@ -135,7 +134,7 @@ fn shared_row(
     }
 }
 
-/// For each label the row that it gets.
+/// Returns for each label the row that it gets.
 fn rows_of_labels(
     alloc: Global,
     numbers: &[Option<usize>],
@@ -151,9 +150,9 @@ fn rows_of_labels(
     Ok(own)
 }
 
-/// The labels of files with other rows, by the numbers that they have: `rows` has a row for each number of the tree of these
-/// files, and as `same` says, they are the same files if they are as many. `None` where it does not, and where two files that had
-/// one label have different ones now. Fails only if memory runs out.
+/// Returns the labels of files with other rows, by the numbers that they have: `rows` has a row for each number of
+/// the tree of these files, and as `same` says, they are the same files if they are as many. `None` if `same` does
+/// not say so, and if two files that had one label have different ones now.
 pub(crate) fn kept_labels(
     alloc: Global,
     labels: &KindMap<LabelRow>,

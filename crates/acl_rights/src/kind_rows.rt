@@ -32,8 +32,8 @@ pub struct KindRows {
     pub(crate) hints: Hints,
 }
 
-/// The rows after a line, how many labels were fetched for it, and of how many files the answers along their paths were found
-/// again.
+/// The rows after a line, how many labels were fetched for it, and of how many files the answers along their paths
+/// were found again.
 #[derive(Drop)]
 pub(crate) struct UpdatedRows {
     pub rows: KindRows,
@@ -41,7 +41,6 @@ pub(crate) struct UpdatedRows {
     pub refreshed: usize,
 }
 
-/// A copy of a label. Fails only if memory runs out.
 fn copied(alloc: Global, label: &Label) -> Result<Label, AllocError>
     ensures { IfOk result (λ copy. copy ≡ label.now) }
 {
@@ -52,7 +51,7 @@ fn copied(alloc: Global, label: &Label) -> Result<Label, AllocError>
     })
 }
 
-/// A label with a row.
+/// Pairs a copy of a label with a row.
 pub(crate) fn with_row(alloc: Global, label: &Label, row: Cells) -> Result<LabelRow, AllocError>
     ensures { IfOk result (λ new. new ≡ record { label = label.now; row = row }) }
 {
@@ -60,7 +59,7 @@ pub(crate) fn with_row(alloc: Global, label: &Label, row: Cells) -> Result<Label
     Ok(LabelRow { label, row })
 }
 
-/// Hints at the numbers that files have, or at the first of them.
+/// Caches the numbers that files have, or the first of them.
 pub(crate) fn hints_of(alloc: Global, rows: &KindMap<LabelRow>) -> Result<Hints, AllocError> {
     let mut hints = Vec::new(alloc);
     for number in 0..rows.numbers_len().min(FIRST_HINTS) {
@@ -72,7 +71,7 @@ pub(crate) fn hints_of(alloc: Global, rows: &KindMap<LabelRow>) -> Result<Hints,
     Hints::of(alloc, hints)
 }
 
-/// The verdicts of all users.
+/// Renews a label's row by the verdicts of all users.
 #[derive(Drop)]
 struct AllUsers<'a> {
     users: &'a Subjects,
@@ -100,7 +99,7 @@ impl<'a, J: Judge> Renewal<Node, LabelRow, J> for AllUsers<'a> {
     }
 }
 
-/// One user more, the last.
+/// Adds the verdict on a further user, the last.
 #[derive(Drop)]
 struct LastUser<'a> {
     user: &'a Subject,
@@ -135,13 +134,13 @@ impl<'a, J: Judge> Renewal<LabelRow, LabelRow, J> for LastUser<'a> {
     }
 }
 
-/// A user fewer.
+/// Removes the verdict on a user.
 #[derive(Drop)]
 struct NoUser {
     at: usize,
 }
 
-/// A row without the user at a place, if it has one there.
+/// Removes the verdict on the user at a place, if the row has one there.
 fn shorter(alloc: Global, row: &Cells, at: usize) -> Result<Cells, AllocError>
     ensures { IfOk result (λ new. new ≡ (if nat_lt at (length row.now) then remove row.now at else row.now)) }
 {
@@ -174,7 +173,7 @@ impl Renewal<LabelRow, LabelRow, ()> for NoUser {
     }
 }
 
-/// A user who joined or left groups that a label mentions.
+/// Judges a user again who joined or left groups that a label mentions.
 #[derive(Drop)]
 struct MovedUser<'a> {
     at: usize,
@@ -205,7 +204,7 @@ impl<'a, J: Judge> NodeChange<LabelRow, J> for MovedUser<'a> {
 }
 
 impl KindRows {
-    /// No files. Fails only if memory runs out.
+    /// Returns the rows of no files.
     pub fn none(alloc: Global) -> Result<KindRows, AllocError>
         ensures { IfOk result (λ none. entries_in none.rows ≡ []) }
     {
@@ -215,7 +214,7 @@ impl KindRows {
         })
     }
 
-    /// A copy that shares the rows. Fails only if memory runs out.
+    /// Copies the rows; both share them.
     pub fn share(&self) -> Result<KindRows, AllocError>
         ensures { IfOk result (λ same. same.rows ≡ self.now.rows) }
     {
@@ -225,7 +224,7 @@ impl KindRows {
         })
     }
 
-    /// The row of a file, if it is there. Allocates nothing.
+    /// Returns the row of a file, if it is there.
     pub fn row(&self, path: &Path) -> Option<&Cells>
         ensures { option_copied result ≡ find path_cmp path.now (rows_at (entries_in self.now.rows)) }
     {
@@ -236,8 +235,7 @@ impl KindRows {
         }
     }
 
-    /// The rows of files, which share their paths: each kind is judged, and counts for each file that has it. Fails only if memory
-    /// runs out.
+    /// Returns the rows of files, which share their paths: each kind is judged, and counts for each file that has it.
     pub fn of_files<J: Judge>(
         alloc: Global,
         judge: &mut J,
@@ -257,7 +255,7 @@ impl KindRows {
         Ok(KindRows { rows, hints })
     }
 
-    /// The rows with one user more, the last. Fails only if memory runs out.
+    /// Adds a further user, the last.
     pub fn with_user<J: Judge>(
         &self,
         alloc: Global,
@@ -276,7 +274,7 @@ impl KindRows {
         Ok(KindRows { rows, hints })
     }
 
-    /// The rows without the user at a place. Fails only if memory runs out.
+    /// Removes the user at a place.
     pub fn without_user(&self, alloc: Global, at: usize) -> Result<KindRows, AllocError>
         ensures { IfOk result (λ new. entries_in new.rows ≡ each_row (without_at at) (entries_in self.now.rows)) }
     {
@@ -288,9 +286,9 @@ impl KindRows {
         Ok(KindRows { rows, hints })
     }
 
-    /// The rows with a user's verdict found again where the label mentions one of `groups`, which the user joined or left:
-    /// once for each kind. The rows of other labels are shared, and none of them is looked at. Fails only if memory, or the
-    /// numbers, run out.
+    /// Judges a user again on the labels that mention one of `groups`, which the user joined or left: once for each
+    /// kind, which the clause bounds by the files. The rows of other labels are shared, and none of them is looked
+    /// at.
     pub fn with_user_updated<J: Judge>(
         &self,
         alloc: Global,

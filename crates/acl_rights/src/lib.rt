@@ -13,26 +13,25 @@
 //!
 //! For each group the numbers of the rows whose label mentions it are kept, as pairs of numbers in one ordered set.
 //!
-//! - A line that changes files: each different label of a changed file that hints do not find is judged once, for all users
-//!   (more often where hashes collide), and the changed files get the number of their new row. All other files keep theirs.
-//!   The groups that the label of each number that files got or lost mentions are compared before and after the line, and the
-//!   pairs that differ are taken out or put in. The files at or below the changed ones get their path classes again; but the
-//!   root, where it changed beside others, gets its label after these, and no file another class by that. Where the root
-//!   changed, and at least as many files as the tree has numbers of kinds, and an eighth of all, the rows are those of these
-//!   numbers: each is judged at most once, and not where a row of its label is there. Labels keep their numbers, and so do path
-//!   classes, where files that had one label have one label again; else all files get the tree's numbers, and their path
-//!   classes again.
-//! - A membership: the lists of the groups give the rows whose label mentions one of them. For each of these the one user is
-//!   judged again; no other row is looked at. Path classes of these labels, and those below, say again by whom directories can
-//!   be searched.
-//! - A user more: each row is one verdict longer. A user fewer: one shorter.
-//! - A question on a file is a look-up of its row, along its path of its path class too; one on all files is a walk over them in
+//! - A line that changes files: each distinct label of a changed file that is not found by its hash is judged once for
+//!   all users (more often if hashes collide), and the changed files get the number of their new row. All other files
+//!   keep theirs. Groups are compared for the labels of the numbers that files got or lost, and the pairs that differ
+//!   are removed or put. The files at or below the changed ones get their path classes again. If the root changed
+//!   beside others, it gets its label last, which changes no other file's class.
+//! - If the root changed, and at least as many files as the tree has numbers of kinds, and an eighth of all, the rows are
+//!   found by these numbers: each is judged at most once, and not if a row of its label is known. Labels and path classes
+//!   keep their numbers if files that had one label have one label again; else all files get the tree's numbers, and
+//!   their path classes again.
+//! - A membership: the groups' pairs give the rows whose label mentions one of them. For each of these the one user is
+//!   judged again; no other row is looked at. Path classes of these labels, and those below, are searched again.
+//! - A new user adds a verdict to each row; a removed one takes it out.
+//! - A question on a file looks up its row, and along its path its path class too; one on all files walks over them in
 //!   path order.
 //! - A question on all users at once counts files by classes: files of a class have the same row, alone or along paths. So
 //!   each class is looked at once for all users.
 //!
-//! Verdicts on users and files: who decides, how often, the verdicts of all users on one label, rows of them by kinds of files,
-//! and what each line makes of them.
+//! A call whose only error is `AllocError` or `NoMemory` fails only if memory runs out, or if a number or a count would be
+//! too large. A function that returns no `Result` allocates nothing.
 #![tactic(auto)]
 
 mod changed_part;
@@ -54,7 +53,7 @@ pub use indexed::{IndexedState, IndexedStates, States, Verdicts};
 pub use judge::{Judge, Posix};
 pub use path_classes::{Cells, ClassFiles, FileClasses, same_row};
 
-// The public calls take and give these values of the crates below.
+// The public calls take and return these values of the crates below.
 pub use acl_edit::{Edit, Kind, Specs};
 pub use acl_entry::{Acl, Id, Key, Label, NoMemory, Perm, Requests, Subject};
 pub use acl_names::{Name, Path, read_name};

@@ -1,5 +1,5 @@
-//! Rows of verdicts by kinds after many files changed: one for each number of the files' map. Of labels that differ each is
-//! judged at most once.
+//! Rows of verdicts by kinds after many files changed: one for each number of the files' map. Each distinct label is
+//! judged at most once, unless hashes collide.
 
 ghost use Rattle.std.specs.Prelude.{◌≡◌, ◌+◌, ◌*◌, ◌++◌, ◌∷◌, ◌<◌, ◌≤◌, ◌^◌, [], true, length, option_map, IfOk, IfSome};
 ghost use Rattle.kinds.specs.Numbered.{entries_in};
@@ -23,7 +23,7 @@ use std::alloc::{AllocError, Global};
 use std::collections::BTreeMap;
 use std::rc::Rc;
 
-/// Rows that are known, and their places by the hashes of their labels.
+/// Known rows, and their places by the hashes of their labels.
 #[derive(Drop)]
 struct KnownRows {
     rows: Vec<Rc<LabelRow>>,
@@ -31,7 +31,7 @@ struct KnownRows {
 }
 
 impl KnownRows {
-    /// The row of a label, if it is the last one of its hash.
+    /// Returns the row of a label, if it is the last one of its hash.
     fn row(&self, hash: u64, label: &Label) -> Result<Option<Rc<LabelRow>>, AllocError>
         ensures { IfOk result (λ some. IfSome some (λ row. IsAmongRows label.now row.value (shared_rows self.now.rows.items))) }
     {
@@ -48,7 +48,7 @@ impl KnownRows {
         }
     }
 
-    /// One row more, by the hash of its label.
+    /// Adds a row, by the hash of its label.
     fn put(&mut self, hash: u64, row: Rc<LabelRow>) -> Result<(), AllocError>
         ensures { IfOk result (λ _. self.new.rows.items ≡ self.old.rows.items ++ row ∷ []) }
     {
@@ -58,7 +58,7 @@ impl KnownRows {
     }
 }
 
-/// Puts the row of a number among those that are known, if a file has the number.
+/// Adds the row of a number, if a file has the number.
 fn put_number(
     known: &mut KnownRows,
     rows: &KindMap<LabelRow>,
@@ -76,7 +76,7 @@ fn put_number(
     Ok(())
 }
 
-/// The rows that files have.
+/// Collects the rows that files have.
 fn known_rows(alloc: Global, rows: &KindMap<LabelRow>) -> Result<KnownRows, AllocError>
     ensures { IfOk result (λ known. AreOfEntries (shared_rows known.rows.items) (entries_in rows.now)) }
 {
@@ -90,7 +90,7 @@ fn known_rows(alloc: Global, rows: &KindMap<LabelRow>) -> Result<KnownRows, Allo
     Ok(known)
 }
 
-/// The row of a label: one that is known, or one that is judged once, which is known from then on.
+/// Returns the row of a label: one that is known, or else judges the label once and adds its row.
 fn row_of_label<J: Judge>(
     alloc: Global,
     judge: &mut J,
@@ -115,7 +115,7 @@ fn row_of_label<J: Judge>(
     Ok(row)
 }
 
-/// The row of a number, if a file has the number.
+/// Returns the row of a number, if a file has the number.
 fn row_of_number<J: Judge>(
     alloc: Global,
     judge: &mut J,
@@ -139,7 +139,7 @@ fn row_of_number<J: Judge>(
     }
 }
 
-/// For each number its row, if a file has the number.
+/// Returns for each number its row, if a file has the number.
 fn rows_of_numbers<J: Judge>(
     alloc: Global,
     judge: &mut J,
@@ -162,7 +162,8 @@ fn rows_of_numbers<J: Judge>(
 }
 
 impl KindRows {
-    /// Other rows for the same labels, by their numbers, and of how many files the answers along their paths may be others.
+    /// Replaces the rows of the same labels, which keep their numbers; and counts the files whose answers along their
+    /// paths may be others.
     fn with_own_rows(
         &self,
         alloc: Global,
@@ -181,10 +182,10 @@ impl KindRows {
         Ok((KindRows { rows, hints }, count))
     }
 
-    /// The rows of a tree's files, given one for each number of the tree: the labels' own numbers stay where files that had
-    /// one label have one again, and else they are those of the tree. They stay only if `same` says that the files are the same
-    /// as before if they are as many. The number is that of the files whose answers along their paths may be others, and of
-    /// all files where labels get other numbers.
+    /// Returns the rows of a tree's files, given one for each number of the tree: the labels' own numbers stay if
+    /// files that had one label have one again, and else they are those of the tree. They stay only if `same` says
+    /// that the files are the same as before if they are as many. Counts also the files whose answers along their
+    /// paths may be others: all files, if labels get other numbers.
     fn with_rows_of(
         &self,
         alloc: Global,
@@ -214,11 +215,11 @@ impl KindRows {
         Ok((KindRows { rows, hints }, files.len()))
     }
 
-    /// The rows of the files of a map by kinds. Labels and path classes keep their numbers where files that had one label have
-    /// one again, if the files are as many as before and `same` says that they are the same then; else rows share the map's
-    /// paths, and path classes are found again for all files. Each number of the map is judged at most once, and not where a file
-    /// of these rows has its label. The number is that of the files whose answers along their paths were found again. Fails only
-    /// if memory, or the numbers, run out.
+    /// Returns the rows of the files of a map by kinds. Labels and path classes keep their numbers if files that had
+    /// one label have one again, the files are as many as before and `same` says that they are the same then; else
+    /// rows share the map's paths, and path classes are found again for all files. Each number of the map is judged
+    /// at most once, and not if a row of its label is known. Counts also the files whose answers along their paths
+    /// were found again.
     pub fn of_kinds<J: Judge>(
         &self,
         alloc: Global,

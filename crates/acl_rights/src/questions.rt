@@ -20,7 +20,7 @@ impl<J: Judge> Index<J> {
     ghost use Rattle.path_classes.specs.ReachedRows.{rows_along, reached_rows, reached_at};
     ghost use Rattle.acl_rights.specs.Reach.{reach_at, users_reaching, files_reached};
 
-    /// The verdict on a user and a file.
+    /// Returns the verdict on a user and a file.
     fn cell(&self, user: usize, path: &Path) -> Option<Requests>
         ensures { result ≡ cell_at self.now user path.now }
     {
@@ -31,7 +31,7 @@ impl<J: Judge> Index<J> {
         }
     }
 
-    /// What a user may do with a file, if both are there. Allocates nothing.
+    /// Returns what a user may do with a file, if both are there.
     pub fn get(&self, user: usize, path: &Path) -> Option<Requests>
         ensures cell { result ≡ cell_at self.now user path.now }
         ensures verdict { (s : states.State) → IsWhole J.verdict_of s self.now → result ≡ verdict_at J.verdict_of s user path.now }
@@ -39,7 +39,7 @@ impl<J: Judge> Index<J> {
         self.cell(user, path)
     }
 
-    /// The users who are granted a request on a file.
+    /// Returns the users who are granted a request on a file.
     fn users(
         &self,
         alloc: Global,
@@ -55,8 +55,7 @@ impl<J: Judge> Index<J> {
         Ok(Some(users))
     }
 
-    /// The users who are granted a request on a file, if it is there, by their places. Fails
-    /// only if memory runs out.
+    /// Returns the users who are granted a request on a file, if it is there, by their places.
     pub fn who(
         &self,
         alloc: Global,
@@ -69,7 +68,7 @@ impl<J: Judge> Index<J> {
         self.users(alloc, path, request)
     }
 
-    /// The files on which a user is granted a request.
+    /// Returns the files on which a user is granted a request.
     fn paths(
         &self,
         alloc: Global,
@@ -86,8 +85,7 @@ impl<J: Judge> Index<J> {
         Ok(Some(paths))
     }
 
-    /// The files on which a request is granted to a user, if the user is there, in path order. Fails
-    /// only if memory runs out.
+    /// Returns the files on which a request is granted to a user, if the user is there, in path order.
     pub fn may(
         &self,
         alloc: Global,
@@ -100,7 +98,7 @@ impl<J: Judge> Index<J> {
         self.paths(alloc, user, request)
     }
 
-    /// The verdict on a user and a file, with search along its path.
+    /// Returns the verdict on a user and a file, with search along its path.
     fn reach_cell(&self, user: usize, path: &Path) -> Option<Requests>
         ensures { result ≡ reached_at self.now.rows user path.now }
     {
@@ -108,8 +106,8 @@ impl<J: Judge> Index<J> {
         now.rows.rows.reach(user, path)
     }
 
-    /// What a user may do with a file, if both are there and the user can search each recorded directory above; else
-    /// nothing. Allocates nothing.
+    /// Returns what a user may do with a file, if both are there and the user can search each recorded directory
+    /// above; else nothing.
     pub fn get_reach(&self, user: usize, path: &Path) -> Option<Requests>
         ensures cell { result ≡ reached_at self.now.rows user path.now }
         ensures reach { (s : states.State) → IsWhole J.verdict_of s self.now → result ≡ reach_at J.verdict_of s user path.now }
@@ -117,7 +115,7 @@ impl<J: Judge> Index<J> {
         self.reach_cell(user, path)
     }
 
-    /// The users who are granted a request on a file, with search along its path.
+    /// Returns the users who are granted a request on a file, with search along its path.
     fn reaching(
         &self,
         alloc: Global,
@@ -134,8 +132,7 @@ impl<J: Judge> Index<J> {
         Ok(Some(users))
     }
 
-    /// The users who reach a file with a request, if it is there, by their places. Fails
-    /// only if memory runs out.
+    /// Returns the users who reach a file with a request, if it is there, by their places.
     pub fn who_reach(
         &self,
         alloc: Global,
@@ -148,7 +145,7 @@ impl<J: Judge> Index<J> {
         self.reaching(alloc, path, request)
     }
 
-    /// The files on which a user is granted a request, with search along their paths.
+    /// Returns the files on which a user is granted a request, with search along their paths.
     fn reached_paths(
         &self,
         alloc: Global,
@@ -165,8 +162,7 @@ impl<J: Judge> Index<J> {
         Ok(Some(paths))
     }
 
-    /// The files that a user reaches with a request, if the user is there, in path order. Fails
-    /// only if memory runs out.
+    /// Returns the files that a user reaches with a request, if the user is there, in path order.
     pub fn may_reach(
         &self,
         alloc: Global,
@@ -179,7 +175,6 @@ impl<J: Judge> Index<J> {
         self.reached_paths(alloc, user, request)
     }
 
-    /// The verdicts on all users and a file.
     fn cells(&self, path: &Path) -> Option<&[Requests]>
         ensures { option_copied result ≡ find path_cmp path.now self.now.rows }
     {
@@ -190,7 +185,7 @@ impl<J: Judge> Index<J> {
         }
     }
 
-    /// What each user may do with a file, in the order of the users, if the file is there. Allocates nothing.
+    /// Returns what each user may do with a file, in the order of the users, if the file is there.
     pub fn row(&self, path: &Path) -> Option<&[Requests]>
         ensures row { option_copied result ≡ find path_cmp path.now self.now.rows }
         ensures verdicts { (s : states.State) → IsWhole J.verdict_of s self.now → option_copied result ≡ row_at J.verdict_of s path.now }
@@ -198,8 +193,8 @@ impl<J: Judge> Index<J> {
         self.cells(path)
     }
 
-    /// Each file with its class, in path order: files of a class have the same row, with `along` what is left of their rows
-    /// where each recorded directory above has to let the user search. Allocates nothing.
+    /// Iterates over the files with their classes, in path order: files of a class have the same row, with `along`
+    /// what is left of their rows if each recorded directory above has to let the user search.
     pub fn file_classes(&self, alloc: Global, along: bool) -> FileClasses<'_>
         ensures { result ≡ ([], rows_along along self.now.rows) }
     {
@@ -207,7 +202,7 @@ impl<J: Judge> Index<J> {
         now.rows.rows.file_classes(alloc, along)
     }
 
-    /// All files by their classes: how many files have each, and the first of them. Fails only if memory runs out.
+    /// Returns all files by their classes: how many files have each, and the first of them.
     pub fn counted_classes(
         &self,
         alloc: Global,
@@ -219,8 +214,7 @@ impl<J: Judge> Index<J> {
         now.rows.rows.counted_classes(alloc, along)
     }
 
-    /// Each file that is not before a path with its class, in path order, as [`Index::file_classes`] has them. Allocates
-    /// nothing.
+    /// Iterates over the files from a path on with their classes, in path order, as [`Index::file_classes`] does.
     pub fn file_classes_from(&self, alloc: Global, along: bool, top: &Path) -> FileClasses<'_>
         ensures { result ≡ ([], from top.now (rows_along along self.now.rows)) }
     {

@@ -1,4 +1,5 @@
-//! The rows of verdicts after a line, by how the line moves the users.
+//! The rows of verdicts after a line, by what the line does: it changes files, loads users or groups, or adds,
+//! removes or moves a user.
 
 ghost use Rattle.std.specs.Prelude.{◌≡◌, ◌+◌, ◌*◌, ◌-◌, ◌<◌, ◌≤◌, ◌^◌, true, Some, count_by, length, map, slice_get, IfOk, MatchOption};
 ghost use Rattle.acl_tree.specs.Files.{Files};
@@ -30,7 +31,7 @@ pub(crate) struct NextRows {
     pub refreshed: u64,
 }
 
-/// The labels of files that are still to come.
+/// Collects the labels of the remaining files.
 fn labels<'a>(
     alloc: Global,
     files: Differences<'a>,
@@ -45,7 +46,7 @@ fn labels<'a>(
     Ok(labels)
 }
 
-/// The labels of files that are still to come, if they are fewer than `many`. No more of them are looked at.
+/// Collects the remaining labels; `None` as soon as there are `many`.
 fn fewer_labels<'a>(
     alloc: Global,
     files: Differences<'a>,
@@ -64,7 +65,7 @@ fn fewer_labels<'a>(
     Ok(Some(labels))
 }
 
-/// Whether the first file that is still to come is the root: all paths are at or below it.
+/// Tells whether the first of the remaining files is the root: all paths are at or below it.
 fn begin_at_root(files: Differences<'_>) -> bool
     ensures { result ≡ true → (p : PathOf) → lies_in files.entry p ≡ true }
 {
@@ -75,8 +76,8 @@ fn begin_at_root(files: Differences<'_>) -> bool
     }
 }
 
-/// The rows with those of files that changed put, and without those of files that are gone: each label of a file that changed
-/// is judged at most once. And of how many files the answers along their paths were found again.
+/// Puts the rows of files that changed, and removes those of files that are gone; and counts the files whose answers
+/// along their paths were found again.
 fn with_changed<J: Judge>(
     alloc: Global,
     judge: &mut J,
@@ -101,8 +102,9 @@ fn with_changed<J: Judge>(
     Ok(new)
 }
 
-/// From how many changed files on the rows of all files are found again: as many as the tree has numbers of kinds, so that
-/// no more is judged; and an eighth of all files, which are not counted one by one where it is likely that as many changed.
+/// Returns from how many changed files on the rows of all files are found again: as many as the tree has numbers of
+/// kinds, so that no more is judged; and an eighth of all files, which are not counted one by one if it is likely
+/// that as many changed.
 fn many_of(staged: &Staged, files: &KindMap<Node>) -> usize
     requires { length (entries_in files.now) < 2 ^ 64 }
     ensures { length files.now.0.0 ≤ result }
@@ -116,8 +118,8 @@ fn many_of(staged: &Staged, files: &KindMap<Node>) -> usize
     }
 }
 
-/// The rows after a line by which files change and no user does. Where the root changed, and many files did, no list of them is
-/// made, and the rows of all files are found from the numbers of the tree.
+/// Returns the rows after a line that changes files and no user. If the root and many files changed, no list of them
+/// is made, and the rows of all files are found from the numbers of the tree.
 fn changed_rows<J: Judge>(
     alloc: Global,
     judge: &mut J,
@@ -146,7 +148,7 @@ fn changed_rows<J: Judge>(
     }
 }
 
-/// The rows after a line by which files change and no user does, and how many verdicts along paths were found again.
+/// Returns the rows after a line that changes files and no user, and how many verdicts along paths were found again.
 fn after_files<J: Judge>(
     alloc: Global,
     judge: &mut J,
@@ -170,7 +172,7 @@ fn after_files<J: Judge>(
     })
 }
 
-/// The rows after users or groups were loaded: no file is there.
+/// Returns the rows after users or groups were loaded: no file is there.
 fn after_load<J: Judge>(
     alloc: Global,
     rows: &KindRows,
@@ -188,7 +190,7 @@ fn after_load<J: Judge>(
     })
 }
 
-/// The user who joined or left groups.
+/// Returns the user who joined or left groups.
 fn moved_user<'a, J: Judge>(
     rows: &KindRows,
     staged: &'a Staged,
@@ -205,7 +207,7 @@ fn moved_user<'a, J: Judge>(
     }
 }
 
-/// The rows after a user joined or left groups: the user is judged again where a label mentions one of these
+/// Returns the rows after a user joined or left groups: the user is judged again if a label mentions one of these
 /// groups, and nowhere else.
 fn after_move<J: Judge>(
     alloc: Global,
@@ -239,7 +241,7 @@ fn after_move<J: Judge>(
     })
 }
 
-/// The user who was added, the last.
+/// Returns the user who was added, the last.
 fn joined_user<'a, J: Judge>(rows: &KindRows, staged: &'a Staged) -> &'a Subject
     requires before { AreBefore J.verdict_of (entries_in rows.now.rows) staged.now }
     requires moved { staged.now.user_change ≡ UserChange.Added }
@@ -251,7 +253,7 @@ fn joined_user<'a, J: Judge>(rows: &KindRows, staged: &'a Staged) -> &'a Subject
     }
 }
 
-/// The rows after a user was added, the last: that user is judged on each kind of files.
+/// Returns the rows after a user was added, the last: that user is judged on each kind of files.
 fn after_join<J: Judge>(
     alloc: Global,
     judge: &mut J,
@@ -275,7 +277,7 @@ fn after_join<J: Judge>(
     })
 }
 
-/// The rows after a user was removed. Nobody is judged.
+/// Returns the rows after a user was removed. Nobody is judged.
 fn after_leave<J: Judge>(
     alloc: Global,
     rows: &KindRows,
@@ -296,7 +298,7 @@ fn after_leave<J: Judge>(
     })
 }
 
-/// The rows after a line.
+/// Returns the rows after a line.
 pub(crate) fn after_line<J: Judge>(
     alloc: Global,
     judge: &mut J,
