@@ -25,7 +25,7 @@ macro_rules! by_name {
 /// The options of the program.
 static FILES: [OptionRow; 3] = [by_name!("passwd"), by_name!("group"), by_name!("dump")];
 
-/// The words that the program takes: the three files.
+/// Returns the words that the program takes: the three files.
 fn program_syntax() -> Syntax
     ensures { syntax_view result ≡ program_syntax }
 {
@@ -36,11 +36,11 @@ fn program_syntax() -> Syntax
     }
 }
 
-/// The files of `--passwd`, `--group` and `--dump`, in this order, from the words after the program's
-/// name; `None` for an absent option.
+/// Returns the files of `--passwd`, `--group` and `--dump`, in this order, from the words after the program's name;
+/// `None` for an absent option.
 ///
-/// Returns `Usage` where `clap` refuses the words: another word, an option without its value, or one that
-/// is given twice. Returns `NoMemory` only if memory runs out.
+/// Returns `Usage` if `clap` refuses the words: another word, an option without its value, or one that is given
+/// twice; and `NoMemory` only if memory runs out.
 #[tactic(auto, unfolding(crate::specs::Args::files_for))]
 pub fn read_args(alloc: Global, words: &[String]) -> Result<[Option<String>; 3], WordsFault>
     ensures { MatchResult result

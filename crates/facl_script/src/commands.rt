@@ -10,7 +10,7 @@ use crate::tool_fault::WordsFault;
 use clap::{Arg, ArgAction, ArgMatches, Command};
 use std::alloc::{AllocError, Global};
 
-/// A flag or an option, as an argument of `clap`.
+/// Makes a flag or an option an argument of `clap`.
 fn option_arg<'a>(alloc: Global, row: &OptionRow, action: ArgAction) -> Arg<'a>
     ensures rule { rule_of result ≡ option_rule action (option_view row.now) }
     ensures local { result.global ≡ false }
@@ -25,7 +25,7 @@ fn option_arg<'a>(alloc: Global, row: &OptionRow, action: ArgAction) -> Arg<'a>
     arg
 }
 
-/// An operand, as an argument of `clap`.
+/// Makes an operand an argument of `clap`.
 fn operand_arg<'a>(alloc: Global, row: &OperandRow) -> Arg<'a>
     ensures rule { rule_of result ≡ operand_rule (operand_view row.now) }
     ensures local { result.global ≡ false }
@@ -40,8 +40,8 @@ fn operand_arg<'a>(alloc: Global, row: &OperandRow) -> Arg<'a>
         .action(action)
 }
 
-/// The `clap` command of a syntax: its arguments alone, with no help and no version, for words that do not
-/// begin with a program's name. Fails only if memory runs out.
+/// Makes the `clap` command of a syntax: its arguments alone, with no help and no version, for words that do not
+/// begin with a program's name.
 fn command_for<'a>(alloc: Global, syntax: &Syntax) -> Result<Command<'a>, AllocError>
     ensures { IfOk result (λ c. app_of c ≡ app_for (syntax_view syntax.now)) }
 {
@@ -61,7 +61,7 @@ fn command_for<'a>(alloc: Global, syntax: &Syntax) -> Result<Command<'a>, AllocE
     Ok(command)
 }
 
-/// What `clap` finds in the words, where it takes them.
+/// Lets `clap` read the words; it may refuse them.
 pub(crate) fn matches_for<'a>(
     alloc: Global,
     syntax: &Syntax,
@@ -77,7 +77,7 @@ pub(crate) fn matches_for<'a>(
     Ok(matches)
 }
 
-/// A copy of the value of an option. `None` where it is absent. Fails only if memory runs out.
+/// Copies the value of an option. `None` if it is absent.
 pub(crate) fn value_of(
     alloc: Global,
     matches: &ArgMatches<'_>,

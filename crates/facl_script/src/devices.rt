@@ -14,7 +14,7 @@ use std::io::{Read, Write};
 
 /// A reader that remembers whether it failed.
 pub trait Feed {
-    /// The bytes that reads will give from here on, where they are known.
+    /// The bytes that reads will give from here on, if they are known.
     ghost remaining: { Self → Option (List ℕ) };
 
     /// Whether a read answered an error.
@@ -28,14 +28,14 @@ pub trait Feed {
         ensures bytes { ReadConsumes (remaining self.old) (remaining self.new) result buf.new }
         ensures failed { has_failed self.new ≡ (has_failed self.old || is_err result) };
 
-    /// Whether a read answered an error.
+    /// Tells whether a read answered an error.
     fn failed(&self) -> bool
         ensures { result ≡ has_failed self.now };
 }
 
 /// A writer that remembers whether it failed.
 pub trait Sink {
-    /// The bytes that the writer has, where they are known.
+    /// The bytes that the writer has, if they are known.
     ghost contents: { Self → Option (List ℕ) };
 
     /// Whether a write answered an error, or took nothing of a piece that is not empty.
@@ -49,7 +49,7 @@ pub trait Sink {
         ensures bytes { WriteAppends (contents self.old) (contents self.new) result piece.now }
         ensures failed { has_failed self.new ≡ (has_failed self.old || write_fails result piece.now) };
 
-    /// Whether a write failed.
+    /// Tells whether a write failed.
     fn failed(&self) -> bool
         ensures { result ≡ has_failed self.now };
 }
@@ -62,7 +62,7 @@ pub struct StdFeed<R> {
 }
 
 impl<R: Read> StdFeed<R> {
-    /// A feed that has not failed. Its bytes are known where the reader's are.
+    /// Returns a feed that has not failed. Its bytes are known if the reader's are.
     pub fn new(reader: R) -> StdFeed<R>
         ensures reader { fed_by result ≡ reader }
         ensures works { feed_failed result ≡ false }
@@ -101,7 +101,7 @@ pub struct StdSink<W> {
 }
 
 impl<W: Write> StdSink<W> {
-    /// A sink that has not failed. Its bytes are known where the writer's are.
+    /// Returns a sink that has not failed. Its bytes are known if the writer's are.
     pub fn new(writer: W) -> StdSink<W>
         ensures writer { sunk_in result ≡ writer }
         ensures works { sink_failed result ≡ false }
@@ -133,8 +133,8 @@ impl<W: Write> Sink for StdSink<W> {
     }
 }
 
-/// Writes all of the bytes, or a proper beginning of them where the writer fails. No write is tried again after an error,
-/// nor after one that takes nothing.
+/// Writes all of the bytes, or a proper beginning of them if the writer fails. No write is tried again after an
+/// error, nor after one that takes nothing.
 pub fn write_whole<W: Sink>(sink: &mut W, bytes: &[u8]) -> Result<(), ScriptFault>
     requires { W.has_failed sink.old ≡ false }
     ensures writes { WritesWhole result (W.contents sink.old) (W.contents sink.new) bytes.now }

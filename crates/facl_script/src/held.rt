@@ -21,7 +21,7 @@ pub enum LineFound {
     WithWords,
 }
 
-/// Whether a line is blank or a comment: whether its first byte after spaces and tabs is `#`, or there is none.
+/// Tells whether a line is blank or a comment: its first byte after spaces and tabs is `#`, or there is none.
 pub fn has_no_words(line: &[u8]) -> bool
     ensures { result ≡ is_silent line.now }
 {
@@ -35,7 +35,7 @@ pub fn has_no_words(line: &[u8]) -> bool
 }
 
 impl LineFound {
-    /// What the line is that is held.
+    /// Classifies a line as it was read.
     pub(crate) fn of(is_too_long: bool, line: &[u8]) -> LineFound
         ensures { (text : List ℕ) → Held is_too_long line.now text → IsLineFound result line.now (within_limit text) }
     {
@@ -87,7 +87,7 @@ pub struct HeldUnit<'a> {
 }
 
 impl<'a> HeldLine<'a> {
-    /// A line within the limit.
+    /// Makes a line of bytes within the limit.
     pub fn of(bytes: &'a [u8]) -> HeldLine<'a>
         ensures { IsLineHeld result (Some bytes.now) }
     {
@@ -98,7 +98,7 @@ impl<'a> HeldLine<'a> {
         }
     }
 
-    /// The line that was found, which is not looked at again.
+    /// Returns the line that was found, without another look at it.
     pub(crate) fn found(found: LineFound, bytes: &'a [u8]) -> HeldLine<'a>
         ensures { (line : Option (List ℕ)) → IsLineFound found bytes.now line → IsLineHeld result line }
     {
@@ -111,7 +111,7 @@ impl<'a> HeldLine<'a> {
 }
 
 impl<'a> HeldText<'a> {
-    /// The text that was found.
+    /// Returns the text that was found.
     pub(crate) fn found(found: TextFound, bytes: &'a [u8]) -> HeldText<'a>
         ensures held { (text : UnitText) → IsTextFound found bytes.now text → IsTextHeld result text }
         ensures lost { result ≡ HeldText.Lost → found ≡ TextFound.Lost }

@@ -1,10 +1,13 @@
-//! A script that is read from any reader, cut into lines, words and units, and answered to two writers; and how the words
-//! of a line, and of the program, are read by a row.
+//! Reads a script from any reader, cuts it into lines, words and units, and writes the answers to two writers; and
+//! reads the words of a line, and of the program, by a syntax.
 //!
-//! A row gives the flags, options and operands of a tool. `read_by` reads the words after a tool's name by its row,
-//! `read_args` those after the program's, each by a `clap` command of its own; and `asks_for_text` decides which lines
-//! ask for the lines after them. Callers see `Words`, asked by the names of the row, and two faults, and nothing of
-//! `clap`. What each tool makes of its words is in the crate of the tools.
+//! A syntax has the flags, options and operands of a tool. `read_by` reads the words after a tool's name by the
+//! tool's syntax, `read_args` those after the program's name, each by a `clap` command of its own; and
+//! `asks_for_text` tells which lines take the lines after them as their text. Callers see `Words`, which they ask by
+//! the names of a syntax, and two faults, and nothing of `clap`. What a tool makes of its words is in `facl_tools`
+//! and `facl`.
+//!
+//! A call whose only error is `AllocError` or `NoMemory` fails only if memory runs out.
 #![tactic(auto)]
 
 mod args;

@@ -1,5 +1,5 @@
-//! A run over a whole script: each unit is answered and its answer written, in turn. That an answer is written before the
-//! next read is tested, and in no contract.
+//! A run over a whole script: answers each unit and writes its answer before it reads the next one, which is tested,
+//! and in no contract.
 ghost use Rattle.std.specs.Prelude.{◌≡◌, ◌⊎◌, ◌<◌, ◌≤◌, ◌+◌, ◌||◌, ℕ, Bool, List, Option, true, false, OnOk, Err, is_err};
 ghost use Rattle.std.specs.Io.KnownBytes.{IsAtEnd};
 ghost use Rattle.facl_script.specs.Units.{ScriptUnit, line_takes};
@@ -15,7 +15,7 @@ use crate::held::{HeldLine, HeldUnit};
 use crate::unit::Script;
 use std::alloc::Global;
 
-/// What answers the units of a script: it has a state, which each unit may change, and the answer to the last unit.
+/// Answers the units of a script: it has a state, which each unit may change, and the answer to the last unit.
 pub trait Session {
     /// What contracts know of the state.
     type State;
@@ -36,7 +36,7 @@ pub trait Session {
     ghost is_ready: { ℕ → Self → Type 0 } = { λ _ _. Unit {0} };
 
     /// The name of the reference that a session holds to what it spends from, if it holds one. The caller, from whom
-    /// that reference is borrowed, knows it again by that name.
+    /// that reference is borrowed, recognizes it by that name.
     ghost held: { Self → ℕ } = { λ _. 0 };
 
     /// What the last unit writes to the output.
@@ -45,11 +45,11 @@ pub trait Session {
     /// What the last unit writes to the messages.
     ghost to_err: { Self → List ℕ };
 
-    /// Whether a line asks for a text. It is decided without memory.
+    /// Tells whether a line asks for a text. It is decided without an allocation.
     fn asks_for_text(line: &HeldLine<'_>) -> bool
         ensures { (content : Option (List ℕ)) → IsLineHeld line.now content → result ≡ line_takes asks content };
 
-    /// Answers a unit, and returns whether it is refused. All that it writes is composed here. Where its text was lost,
+    /// Answers a unit, and returns whether it is refused. All that it writes is composed here. If its text was lost,
     /// or an allocation fails, memory runs out for the unit.
     fn answer(&mut self, unit: &HeldUnit<'_>) -> bool
         requires { is_ready unit.now.number self.old }
@@ -60,11 +60,11 @@ pub trait Session {
         ensures ready { (n : ℕ) → unit.now.number < n → n ≤ script_limit + 1 → is_ready n self.new }
         ensures held { held self.new ≡ held self.old };
 
-    /// What the last unit writes to the output.
+    /// Returns what the last unit writes to the output.
     fn out(&self) -> &[u8]
         ensures { result.now ≡ to_out self.now };
 
-    /// What the last unit writes to the messages.
+    /// Returns what the last unit writes to the messages.
     fn err(&self) -> &[u8]
         ensures { result.now ≡ to_err self.now };
 }
@@ -115,7 +115,7 @@ pub fn run_session<S: Session, R: Feed, O: Sink, E: Sink>(
     // An answer comes only once the reader is at its end.
     ensures end { OnOk result (IsAtEnd (R.remaining reader.new)) }
 
-    // A fault of a device is returned only where that device has failed.
+    // A fault of a device is returned only if that device has failed.
     ensures works { OnOk result ((R.has_failed reader.new ≡ false)
         × (O.has_failed out.new ≡ false) × (E.has_failed err.new ≡ false)) }
     ensures read { result ≡ Err ScriptFault.Read → R.has_failed reader.new ≡ true }

@@ -1,4 +1,4 @@
-//! A line's words, borrowed from it, and taken from what clap found.
+//! Reads a line's words by a syntax, from what `clap` found; and borrows them.
 
 ghost use Rattle.std.specs.Prelude.{◌≡◌, ◌++◌, [], IfOk, MatchResult, OnOk, Some, map, count_by, string_bytes, true, unwrap_or};
 ghost use Rattle.std.specs.List.{list_all, list_any};
@@ -20,7 +20,7 @@ use clap::ArgMatches;
 use std::alloc::{AllocError, Global};
 use std::marker::Model;
 
-/// Whether `clap` found a flag.
+/// Tells whether `clap` found a flag.
 fn is_flag_on(matches: &ArgMatches<'_>, id: &str) -> bool
     ensures { result ≡ is_on id.now (rows_of (found_of matches.now)) }
 {
@@ -30,7 +30,7 @@ fn is_flag_on(matches: &ArgMatches<'_>, id: &str) -> bool
     }
 }
 
-/// For each flag of the syntax whether `clap` found it.
+/// Tells for each flag of the syntax whether `clap` found it.
 fn flags_of(alloc: Global, syntax: &Syntax, matches: &ArgMatches<'_>) -> Result<Flags, AllocError>
     ensures { IfOk result (λ f.
         f ≡ flags_in (syntax_view syntax.now) (rows_of (found_of matches.now))) }
@@ -42,7 +42,7 @@ fn flags_of(alloc: Global, syntax: &Syntax, matches: &ArgMatches<'_>) -> Result<
     Ok(Flags::new(items))
 }
 
-/// The value of an option, if `clap` found it.
+/// Returns the value of an option, if `clap` found it.
 fn option_value(
     alloc: Global,
     row: &OptionRow,
@@ -60,7 +60,7 @@ fn option_value(
     }
 }
 
-/// For each option of the syntax its value, if `clap` found it.
+/// Returns for each option of the syntax its value, if `clap` found it.
 fn values_of(alloc: Global, syntax: &Syntax, matches: &ArgMatches<'_>) -> Result<Values, AllocError>
     ensures { IfOk result (λ v.
         v ≡ values_in (syntax_view syntax.now) (rows_of (found_of matches.now))) }
@@ -72,7 +72,6 @@ fn values_of(alloc: Global, syntax: &Syntax, matches: &ArgMatches<'_>) -> Result
     Ok(Values::new(items))
 }
 
-/// Adds texts as words.
 fn push_words(alloc: Global, items: &mut Vec<Word>, texts: &[&str]) -> Result<(), AllocError>
     ensures { OnOk result (items.new.items ≡ items.old.items ++ map (λ t. t.now) texts.now) }
 {
@@ -98,7 +97,7 @@ fn push_operand(
     }
 }
 
-/// The operands that `clap` found, in their order.
+/// Returns the operands that `clap` found, in their order.
 fn operands_of(
     alloc: Global,
     syntax: &Syntax,
@@ -114,7 +113,7 @@ fn operands_of(
     Ok(Operands::new(items))
 }
 
-/// The words that `clap` found. Fails only if memory runs out.
+/// Returns the words that `clap` found.
 fn words_found(
     alloc: Global,
     syntax: &Syntax,
@@ -132,7 +131,7 @@ fn words_found(
     })
 }
 
-/// The words as clap reads them.
+/// Reads the words as `clap` does.
 fn words_by_clap(alloc: Global, syntax: &Syntax, words: &[String]) -> Result<Words, WordsFault>
     requires { is_simple_and_free (app_for (syntax_view syntax.now)) ≡ true }
     ensures { MatchResult result
@@ -145,7 +144,7 @@ fn words_by_clap(alloc: Global, syntax: &Syntax, words: &[String]) -> Result<Wor
     Ok(found?)
 }
 
-/// How many of the options that read a text were given.
+/// Counts the given options that read a text.
 fn texts_given(syntax: &Syntax, found: &Words) -> usize
     ensures { result ≡ texts_given (syntax_view syntax.now) found.now }
 {
@@ -156,7 +155,7 @@ fn texts_given(syntax: &Syntax, found: &Words) -> usize
         .count()
 }
 
-/// Whether an option reads no text, is absent, or names standard input.
+/// Tells whether an option reads no text, is absent, or names standard input.
 fn is_named(syntax: &Syntax, found: &Words, option: &OptionRow) -> bool
     ensures { result ≡ is_named (syntax_view syntax.now) found.now (option_view option.now) }
 {
@@ -169,7 +168,7 @@ fn is_named(syntax: &Syntax, found: &Words, option: &OptionRow) -> bool
     }
 }
 
-/// Whether each option that reads a text is absent or names standard input.
+/// Tells whether each option that reads a text is absent or names standard input.
 fn are_named(syntax: &Syntax, found: &Words) -> bool
     ensures { result ≡ list_all (λ option. is_named (syntax_view syntax.now) found.now (option_view option))
         syntax.now.options.now }
@@ -180,7 +179,7 @@ fn are_named(syntax: &Syntax, found: &Words) -> bool
         .all(|option| is_named(syntax, found, option))
 }
 
-/// How many words name standard input as a text.
+/// Counts the words that name standard input as a text.
 fn texts_named(words: &[String]) -> usize
     ensures { result ≡ count_by is_text_spelling (map string_bytes words.now) }
 {
@@ -190,8 +189,8 @@ fn texts_named(words: &[String]) -> usize
         .count()
 }
 
-/// Whether each option that reads a text names standard input, and the words that do so are as many as these options:
-/// at most one.
+/// Tells whether each option that reads a text names standard input, and the words that do so are as many as these
+/// options: at most one.
 #[tactic(auto, using(crate::proofs::Named::all_by_rows))]
 fn fits_text(syntax: &Syntax, words: &[String], found: &Words) -> bool
     ensures { result ≡ fits_text (syntax_view syntax.now) (map string_bytes words.now) found.now }
@@ -200,10 +199,10 @@ fn fits_text(syntax: &Syntax, words: &[String], found: &Words) -> bool
     are_named(syntax, found) && texts_named(words) == given && given <= 1
 }
 
-/// The words of a line by the syntax of its tool: flags, options and operands.
+/// Reads the words of a line by the syntax of its tool: flags, options and operands.
 ///
-/// Returns `Usage` where `clap` refuses the words by the syntax, and where those that name the lines after the line as
-/// its text are not as many as the options that read one, at most one. Returns `NoMemory` only if memory runs out, and
+/// Returns `Usage` if `clap` refuses the words by the syntax, and if those that name the lines after the line as its
+/// text are not as many as the options that read one, at most one. Returns `NoMemory` only if memory runs out, and
 /// then in place of any answer.
 #[tactic(auto, unfolding(crate::specs::ToolWords::words_by))]
 pub fn read_by(alloc: Global, syntax: &Syntax, words: &[String]) -> Result<Words, WordsFault>
@@ -220,7 +219,7 @@ pub fn read_by(alloc: Global, syntax: &Syntax, words: &[String]) -> Result<Words
     }
 }
 
-/// Whether a word is `-`, which names standard input and no file.
+/// Tells whether a word is `-`, which names standard input and no file.
 pub(crate) fn is_dash(word: &[u8]) -> bool
     ensures { result ≡ names_input word.now }
 {
@@ -242,21 +241,21 @@ impl<'a> Model for WordRef<'a> {
 }
 
 impl<'a> WordRef<'a> {
-    /// The word with these bytes.
+    /// Returns the word with these bytes.
     pub fn new(bytes: &'a [u8]) -> WordRef<'a>
         ensures { result ≡ bytes.now }
     {
         WordRef { bytes }
     }
 
-    /// The word's bytes.
+    /// Returns the word's bytes.
     pub fn as_bytes(&self) -> &'a [u8]
         ensures { result.now ≡ self.now }
     {
         self.bytes
     }
 
-    /// The word as a FILE. `None` where it is `-`, which names no file.
+    /// Returns the word as a FILE. `None` if it is `-`, which names no file.
     pub fn file(self) -> Option<WordRef<'a>>
         ensures { result ≡ file_of self.entry }
     {
@@ -268,7 +267,7 @@ impl<'a> WordRef<'a> {
     }
 }
 
-/// Whether one of the words is `-`.
+/// Tells whether one of the words is `-`.
 fn have_dash(words: &[Word]) -> bool
     ensures { result ≡ list_any names_input words.now }
 {
@@ -290,7 +289,7 @@ impl<'a> Model for LineFiles<'a> {
 }
 
 impl<'a> LineFiles<'a> {
-    /// The FILEs of words. `None` where there is no word, or one is `-`.
+    /// Returns the FILEs of words. `None` if there is no word, or one is `-`.
     pub fn of(words: &'a [Word]) -> Option<LineFiles<'a>>
         ensures { result ≡ files_of words.now }
     {
@@ -301,7 +300,7 @@ impl<'a> LineFiles<'a> {
         }
     }
 
-    /// Their words.
+    /// Returns their words.
     pub fn as_slice(&self) -> &'a [Word]
         ensures { result.now ≡ self.now }
     {

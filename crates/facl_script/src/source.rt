@@ -24,7 +24,7 @@ pub(crate) struct LineRead {
     pub is_too_long: bool,
 }
 
-/// The place of the first LF, if there is one.
+/// Returns the place of the first LF, if there is one.
 fn line_feed_at(piece: &[u8]) -> Option<usize>
     ensures { MatchOption result (HasNoLineFeed piece.now) (λ n.
         (n < length piece.now) × HasNoLineFeed (take n piece.now)
@@ -74,7 +74,7 @@ pub(crate) struct ByteSource {
 impl ByteSource {
     ghost use Rattle.facl_script.specs.ByteSource.{pending, taken_count, Fills, ReadsLine};
 
-    /// No bytes are read yet.
+    /// Returns a source of which nothing is read.
     pub fn new() -> ByteSource
         ensures none { pending result ≡ [] }
         ensures count { taken_count result ≡ 0 }
@@ -87,7 +87,7 @@ impl ByteSource {
         }
     }
 
-    /// The bytes that are read and not taken yet.
+    /// Returns the bytes that were read and not taken yet.
     pub fn pending(&self) -> &[u8]
         ensures all { result.now ≡ pending self.now }
         ensures within { length result.now ≤ chunk_limit }
@@ -95,7 +95,7 @@ impl ByteSource {
         &self.chunk[self.start..self.end]
     }
 
-    /// Takes the first bytes of those.
+    /// Drops the first `n` of the pending bytes.
     pub fn skip(&mut self, n: usize)
         requires { n ≤ length (pending self.old) }
         ensures pending { pending self.new ≡ drop n (pending self.old) }
@@ -105,7 +105,8 @@ impl ByteSource {
         self.taken += n as u64;
     }
 
-    /// Reads a chunk where nothing is pending. At the limit of the script it reads one byte more, which is to be the end.
+    /// Reads a chunk if nothing is pending. At the limit of the script it reads one byte more, which has to be the
+    /// end.
     fn fill<R: Feed>(&mut self, reader: &mut R) -> Result<(), ScriptFault>
         requires { R.has_failed reader.old ≡ false }
         ensures fills { Fills result self.old self.new
@@ -131,7 +132,7 @@ impl ByteSource {
         Ok(())
     }
 
-    /// The next line of the script, without its LF. `None` is the end.
+    /// Returns the next line of the script, without its LF. `None` is the end.
     pub fn next_line<R: Feed>(
         &mut self,
         reader: &mut R,

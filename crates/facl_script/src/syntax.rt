@@ -3,7 +3,7 @@
 /// A flag, or an option with one value.
 #[derive(Clone, Copy)]
 pub struct OptionRow {
-    /// The long name, and the letter where there is none.
+    /// The long name, or else the letter.
     pub id: &'static str,
     /// The letter of `-n`.
     pub short: Option<char>,

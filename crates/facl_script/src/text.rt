@@ -37,7 +37,7 @@ pub(crate) struct TextRead {
     pub(crate) is_full: bool,
 }
 
-/// Whether the line ends a text: it is `.`.
+/// Tells whether the line ends a text: it is `.`.
 fn is_end(line: &[u8]) -> bool
     ensures { result ≡ ends_text line.now }
 {
@@ -47,14 +47,14 @@ fn is_end(line: &[u8]) -> bool
     }
 }
 
-/// Whether the line that is held is the end of a text.
+/// Tells whether the line that is held is the end of a text.
 fn ends_here(is_too_long: bool, line: &[u8]) -> bool
     ensures { (text : List ℕ) → Held is_too_long line.now text → result ≡ ends_text text }
 {
     !is_too_long && is_end(line)
 }
 
-/// Adds a line and its LF. A part of it is left where memory runs out.
+/// Adds a line and its LF.
 fn append(text: &mut Vec<u8>, line: &[u8]) -> Result<(), AllocError>
     ensures { OnOk result (text.new.items ≡ text.old.items ++ (line.now ++ 10 ∷ [])) }
 {
@@ -79,14 +79,13 @@ fn keep(text: &mut Vec<u8>, held: TextFound, is_too_long: bool, line: &[u8]) -> 
     }
 }
 
-/// How many LFs there are.
 fn line_feeds(bytes: &[u8]) -> usize
     ensures { result ≡ line_feeds bytes.now }
 {
     memchr_iter(b'\n', bytes).count()
 }
 
-/// The place of the LF before the first line `.` that has one, or else of the last LF, if there is one.
+/// Returns the place of the LF before the first line `.` that has one, or else of the last LF, if there is one.
 fn last_feed(piece: &[u8]) -> Option<usize>
     ensures { IfSome result (IsLastFeed piece.now) }
 {
@@ -96,7 +95,7 @@ fn last_feed(piece: &[u8]) -> Option<usize>
     }
 }
 
-/// How far whole lines go of which none ends a text. No line of a piece is over the limit.
+/// Returns how far whole lines go of which none ends a text. No line of a piece is over the limit.
 fn end_of_lines(piece: &[u8]) -> usize
     requires { length piece.now ≤ line_limit }
     ensures within { result ≤ length piece.now }
@@ -125,7 +124,8 @@ fn keep_part(text: &mut Vec<u8>, held: TextFound, part: &[u8]) -> TextFound
     }
 }
 
-/// Takes the whole lines that are read already, up to one that ends the text: how many they are, and what is kept by now.
+/// Takes the whole lines that were read already, up to one that ends the text: returns how many they are, and what is
+/// kept by now.
 fn take_lines(source: &mut ByteSource, text: &mut Vec<u8>, held: TextFound) -> (u64, TextFound)
     ensures { TakesLines result.0 held result.1 text.old.items text.new.items source.old source.new }
 {
@@ -137,7 +137,7 @@ fn take_lines(source: &mut ByteSource, text: &mut Vec<u8>, held: TextFound) -> (
     (lines, held)
 }
 
-/// Reads a text to its end, line by line, and keeps it where it can.
+/// Reads a text to its end, line by line, and keeps it if it can.
 pub(crate) fn read_text<R: Feed>(
     source: &mut ByteSource,
     reader: &mut R,

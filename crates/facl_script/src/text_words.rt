@@ -1,4 +1,4 @@
-//! Which lines of a script ask for the lines after them as their text. It is decided without memory.
+//! Tells which lines of a script take the lines after them as their text, without an allocation.
 ghost use Rattle.std.specs.Prelude.{◌≡◌, ◌≤◌, ℕ, false, List, [], ◌∷◌, ◌++◌, Option, take};
 ghost use Rattle.std.specs.Option.{option_map_or};
 ghost use Rattle.facl_script.specs.Held.{IsLineHeld};
@@ -10,8 +10,8 @@ ghost use Rattle.facl_script.specs.declared.text_words.TheConstants.{BEGINNING};
 use crate::held::HeldLine;
 use crate::words::{CharAction, Place};
 
-/// Whether a word of a tool line names standard input as a file of entries or as a dump, as setfacl(1) spells it:
-/// `-`, `-M-`, `-X-`, `--modify-file=-`, `--remove-file=-`, `--set-file=-` or `--restore=-`.
+/// Tells whether a word of a tool line names standard input as a file of entries or as a dump, as setfacl(1) spells
+/// it: `-`, `-M-`, `-X-`, `--modify-file=-`, `--remove-file=-`, `--set-file=-` or `--restore=-`.
 pub fn is_text_word(word: &[u8]) -> bool
     ensures { result ≡ is_text_spelling word.now }
 {
@@ -24,7 +24,7 @@ pub fn is_text_word(word: &[u8]) -> bool
         || word == b"--restore=-".as_slice()
 }
 
-/// Whether one word asks for a text: the first where it is `load`, a later one where it names standard input.
+/// Tells whether one word asks for a text: the first if it is `load`, a later one if it names standard input.
 fn asks(is_first: bool, word: &[u8]) -> bool
     ensures { result ≡ word_asks is_first word.now }
 {
@@ -35,7 +35,7 @@ fn asks(is_first: bool, word: &[u8]) -> bool
     }
 }
 
-/// How many bytes of a word are kept: one more than the longest word that asks for a text has.
+/// How many bytes of a word are kept: one more than the longest word that asks for a text.
 const BEGINNING: usize = 16;
 
 /// The first bytes of a word.
@@ -49,7 +49,6 @@ struct Beginning {
 impl Beginning {
     ghost use Rattle.facl_script.specs.Beginning.{first_bytes};
 
-    /// No bytes.
     fn new() -> Beginning
         ensures { first_bytes result ≡ [] }
     {
@@ -59,7 +58,7 @@ impl Beginning {
         }
     }
 
-    /// Adds a byte of the word, where there is room.
+    /// Adds a byte of the word, if there is room.
     fn push(&mut self, byte: u8)
         ensures { first_bytes self.new ≡ take BEGINNING (first_bytes self.old ++ byte ∷ []) }
     {
@@ -69,7 +68,6 @@ impl Beginning {
         }
     }
 
-    /// The bytes.
     fn as_slice(&self) -> &[u8]
         ensures { result.now ≡ first_bytes self.now }
     {
@@ -77,8 +75,8 @@ impl Beginning {
     }
 }
 
-/// Whether one of the words of a line asks for a text: the first where it is `load`, a later one where it names standard
-/// input, once quotes are taken off. None does where a quote is open.
+/// Tells whether one of the words of a line asks for a text: the first if it is `load`, a later one if it names
+/// standard input, without their quotes. None does if a quote is open.
 fn words_ask(line: &[u8]) -> bool
     ensures { result ≡ option_map_or words_ask (words_of line.now) false }
 {
@@ -105,8 +103,8 @@ fn words_ask(line: &[u8]) -> bool
     }
 }
 
-/// Whether a line asks for the lines after it, up to a line `.`, as its text: its first word is `load`, or a later one
-/// names standard input, once quotes are taken off. No line does that is blank, a comment, or has an open quote.
+/// Tells whether a line asks for the lines after it, up to a line `.`, as its text: its first word is `load`, or a
+/// later one names standard input, without their quotes. No line does that is blank, a comment, or has an open quote.
 pub fn asks_for_text(line: &HeldLine<'_>) -> bool
     ensures { (content : Option (List ℕ)) → IsLineHeld line.now content → result ≡ line_takes line_asks content }
 {

@@ -27,7 +27,7 @@ impl Model for Word {
 }
 
 impl Word {
-    /// A word with a copy of this text. Fails only if memory runs out.
+    /// Copies a text into a word.
     pub fn new(alloc: Global, text: &str) -> Result<Word, AllocError>
         ensures { IfOk result (λ w. w ≡ text.now) }
     {
@@ -36,14 +36,14 @@ impl Word {
         })
     }
 
-    /// The word as text.
+    /// Returns the word as text.
     pub fn as_str(&self) -> &str
         ensures { result.now ≡ self.now }
     {
         self.text.as_str()
     }
 
-    /// The word's bytes.
+    /// Returns the word's bytes.
     pub fn as_bytes(&self) -> &[u8]
         ensures { result.now ≡ self.now }
     {
@@ -66,14 +66,14 @@ impl Model for Flags {
 }
 
 impl Flags {
-    /// The flags of a line: one for each flag of its syntax, in that order.
+    /// Returns the flags of a line: one for each flag of its syntax, in that order.
     pub fn new(items: Vec<bool>) -> Flags
         ensures { result ≡ items.items }
     {
         Flags { items }
     }
 
-    /// Whether the flag at a place was given. False where the syntax has no flag there.
+    /// Tells whether the flag at a place was given. `false` if the syntax has no flag there.
     pub fn get(&self, place: usize) -> bool
         ensures { result ≡ slice_index_or self.now place false }
     {
@@ -96,14 +96,14 @@ impl Model for Values {
 }
 
 impl Values {
-    /// The values of a line: one for each option of its syntax, in that order.
+    /// Returns the values of a line: one for each option of its syntax, in that order.
     pub fn new(items: Vec<Option<Word>>) -> Values
         ensures { result ≡ items.items }
     {
         Values { items }
     }
 
-    /// The value of the option at a place. `None` where it is absent, or the syntax has no option there.
+    /// Returns the value of the option at a place. `None` if it is absent, or the syntax has no option there.
     pub fn get(&self, place: usize) -> Option<WordRef<'_>>
         ensures { result ≡ slice_index_or self.now place None }
     {
@@ -129,21 +129,21 @@ impl Model for Operands {
 }
 
 impl Operands {
-    /// The operands of a line.
+    /// Returns the operands of a line.
     pub fn new(items: Vec<Word>) -> Operands
         ensures { result ≡ items.items }
     {
         Operands { items }
     }
 
-    /// All operands.
+    /// Returns all operands.
     pub fn as_slice(&self) -> &[Word]
         ensures { result.now ≡ self.now }
     {
         self.items.as_slice()
     }
 
-    /// The operand at a place, and an empty text where there is none.
+    /// Returns the operand at a place, and an empty text if there is none.
     pub fn get(&self, place: usize) -> WordRef<'_>
         ensures { result ≡ slice_index_or self.now place [] }
     {
@@ -153,7 +153,7 @@ impl Operands {
         }
     }
 
-    /// The operands from a place on: an empty slice where there is no such place.
+    /// Returns the operands from a place on: an empty slice if there is no such place.
     pub fn starting_at(&self, place: usize) -> &[Word]
         ensures { result.now ≡ drop place self.now }
     {
@@ -176,35 +176,35 @@ pub struct Words {
 }
 
 impl Words {
-    /// Whether the flag of this name was given, in a line of this syntax.
+    /// Tells whether the flag of this name was given, in a line of this syntax.
     pub fn has(&self, syntax: &Syntax, name: &str) -> bool
         ensures { result ≡ has (syntax_view syntax.now) self.now name.now }
     {
         self.flags.get(option_place(syntax.flags, name))
     }
 
-    /// The value of the option of this name. `None` where it is absent.
+    /// Returns the value of the option of this name. `None` if it is absent.
     pub fn value(&self, syntax: &Syntax, name: &str) -> Option<WordRef<'_>>
         ensures { result ≡ value (syntax_view syntax.now) self.now name.now }
     {
         self.values.get(option_place(syntax.options, name))
     }
 
-    /// Whether the option of this name was given.
+    /// Tells whether the option of this name was given.
     pub fn gives(&self, syntax: &Syntax, name: &str) -> bool
         ensures { result ≡ gives (syntax_view syntax.now) self.now name.now }
     {
         self.value(syntax, name).is_some()
     }
 
-    /// The operand of this name. Empty where it is absent.
+    /// Returns the operand of this name. Empty if it is absent.
     pub fn operand(&self, syntax: &Syntax, name: &str) -> WordRef<'_>
         ensures { result ≡ operand (syntax_view syntax.now) self.now name.now }
     {
         self.operands.get(operand_place(syntax.operands, name))
     }
 
-    /// The operands from the one of this name on.
+    /// Returns the operands from the one of this name on.
     pub fn operands_from(&self, syntax: &Syntax, name: &str) -> &[Word]
         ensures { result.now ≡ operands_from (syntax_view syntax.now) self.now name.now }
     {
@@ -212,14 +212,14 @@ impl Words {
             .starting_at(operand_place(syntax.operands, name))
     }
 
-    /// The operand of this name as a FILE. `None` where it is `-`.
+    /// Returns the operand of this name as a FILE. `None` if it is `-`.
     pub fn file(&self, syntax: &Syntax, name: &str) -> Option<WordRef<'_>>
         ensures { result ≡ file_of (operand (syntax_view syntax.now) self.now name.now) }
     {
         self.operand(syntax, name).file()
     }
 
-    /// The operands from the one of this name on, as FILEs. `None` where there are none, or one is `-`.
+    /// Returns the operands from the one of this name on, as FILEs. `None` if there are none, or one is `-`.
     pub fn files(&self, syntax: &Syntax, name: &str) -> Option<LineFiles<'_>>
         ensures { result ≡ files_of (operands_from (syntax_view syntax.now) self.now name.now) }
     {
@@ -227,28 +227,28 @@ impl Words {
     }
 }
 
-/// The place of a flag, or of an option, among its rows, by its name.
+/// Returns the place of a flag, or of an option, among its rows, by its name.
 fn find_option(rows: &[OptionRow], name: &str) -> Option<usize>
     ensures { result ≡ position (λ row. bytes_eq row.id.now name.now) rows.now }
 {
     rows.iter().position(|row| row.id == name)
 }
 
-/// The place of an operand among its rows, by its name.
+/// Returns the place of an operand among its rows, by its name.
 fn find_operand(rows: &[OperandRow], name: &str) -> Option<usize>
     ensures { result ≡ position (λ row. bytes_eq row.id.now name.now) rows.now }
 {
     rows.iter().position(|row| row.id == name)
 }
 
-/// The place of a flag or of an option, and how many there are where it is none of them.
+/// Returns the place of a flag or of an option, or how many there are if it is none of them.
 pub(crate) fn option_place(rows: &[OptionRow], name: &str) -> usize
     ensures { result ≡ place name.now (map (λ s. s.id) (map option_view rows.now)) }
 {
     find_option(rows, name).unwrap_or(rows.len())
 }
 
-/// The place of an operand, and how many there are where it is none of them.
+/// Returns the place of an operand, or how many there are if it is none of them.
 pub(crate) fn operand_place(rows: &[OperandRow], name: &str) -> usize
     ensures { result ≡ place name.now (map (λ o. o.id) (map operand_view rows.now)) }
 {

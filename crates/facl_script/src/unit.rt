@@ -27,7 +27,7 @@ pub struct UnitFound {
     pub is_full: bool,
 }
 
-/// Whether the line that was found takes a text.
+/// Tells whether the line that was found takes a text.
 fn takes<S: Session>(found: LineFound, line: &[u8]) -> bool
     ensures { (content : Option (List ℕ)) → IsLineFound found line.now content → result ≡ line_takes S.asks content }
 {
@@ -49,7 +49,7 @@ pub struct Script {
 impl Script {
     ghost use Rattle.facl_script.specs.Script.{script_left, script_taken, next_number, is_over, line_held, text_held, ReadsUnit};
 
-    /// A script of which nothing is read. It takes no memory.
+    /// Returns a script of which nothing is read.
     pub fn new(alloc: Global) -> Script
         ensures left { (remaining : Option (List ℕ)) → script_left result remaining ≡ remaining }
         ensures taken { script_taken result ≡ 0 }
@@ -66,7 +66,7 @@ impl Script {
         }
     }
 
-    /// The unit that was read last, as it was found.
+    /// Returns the unit that was read last, as it was found.
     pub fn unit(&self, found: &UnitFound) -> HeldUnit<'_>
         ensures number { result.number ≡ found.now.number }
         ensures held { (asks : List ℕ → Bool) (unit : ScriptUnit) → IsUnitFound asks found.now (line_held self.now) (text_held self.now) unit
@@ -80,7 +80,7 @@ impl Script {
         }
     }
 
-    /// The next unit, past the check for the end.
+    /// Reads the next unit, past the check for the end.
     fn read_unit<S: Session, R: Feed>(
         &mut self,
         reader: &mut R,
@@ -128,11 +128,11 @@ impl Script {
         }))
     }
 
-    /// The next unit of the script, as the session says which lines ask for a text, or `None` where it ends. After the
-    /// end, and after an error, nothing is read, and the answer is `None`.
+    /// Reads the next unit of the script, as the session says which lines ask for a text, or returns `None` at the
+    /// end. After the end, and after an error, nothing is read, and the answer is `None`.
     ///
-    /// A text that memory cannot keep is read to its end all the same. An error means that the reader failed, that the script
-    /// is longer than the limit, or that no memory was there for a line.
+    /// A text that memory cannot keep is read to its end all the same. An error means that the reader failed, that
+    /// the script is longer than the limit, or that no memory was there for a line.
     pub fn next_unit<S: Session, R: Feed>(
         &mut self,
         reader: &mut R,

@@ -37,7 +37,7 @@ impl<T: Drop> From<AllocFailed<T>> for SplitFault {
     }
 }
 
-/// The words of a text, in which quotes are taken off.
+/// Splits a text into words, without their quotes.
 fn split_text(alloc: Global, text: &str) -> Result<Vec<String>, SplitFault>
     ensures { MatchResult result
         (λ words. words_of text.now ≡ Some (map string_bytes words.items))
@@ -67,7 +67,7 @@ fn split_text(alloc: Global, text: &str) -> Result<Vec<String>, SplitFault>
     }
 }
 
-/// The words of a line that is neither blank nor a comment, split at spaces and tabs. From `'` to the next `'` all
+/// Splits a line that is neither blank nor a comment into words, at spaces and tabs. From `'` to the next `'` all
 /// characters are kept as they are, inside a word too, and `''` is an empty word.
 pub fn split_words(alloc: Global, line: &[u8]) -> Result<Vec<String>, SplitFault>
     ensures { MatchResult result
@@ -103,7 +103,7 @@ pub enum CharAction {
 }
 
 impl Place {
-    /// What a character does to the word.
+    /// Returns what a character does to the word.
     pub fn char_action(self, c: char) -> CharAction
         ensures { result ≡ action_of self c }
     {
@@ -114,7 +114,7 @@ impl Place {
         }
     }
 
-    /// Where the next character is.
+    /// Returns where the next character is.
     pub fn after(self, c: char) -> Place
         ensures { result ≡ place_after self c }
     {
