@@ -13,7 +13,7 @@ use acl_text::encode_attr;
 use acl_tree::FoundFile;
 use std::alloc::{AllocError, Global};
 
-/// The bytes of a list as hex digits.
+/// Writes the bytes of a list as hex digits.
 fn digits(alloc: Global, acl: &Acl) -> Result<String, AllocError>
     ensures { IfOk result (λ text. string_bytes text ≡ encode_lower (attr_bytes acl.now)) }
 {
@@ -79,9 +79,8 @@ fn push_files(alloc: Global, text: &mut Vec<u8>, files: &[FoundFile<'_>]) -> Res
     Ok(())
 }
 
-/// What `attr` prints of these files, in their order: for each a line of its path, its access list and, where it
-/// has one, its default list as extended attributes of acl(5) in hex digits, and an empty line. Fails only if
-/// memory runs out.
+/// Writes what `attr` prints of these files, in their order: for each a line of its path, its access list and, if it
+/// has one, its default list as extended attributes of acl(5) in hex digits, and an empty line.
 pub fn write_attributes(alloc: Global, files: &[FoundFile<'_>]) -> Result<Vec<u8>, AllocError>
     ensures { IfOk result (λ text. text.items ≡ attr_listing files.now) }
 {

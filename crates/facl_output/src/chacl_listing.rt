@@ -69,7 +69,6 @@ fn push_line<'a, N: Names>(
     kept.push(text, &BracketedLists { names }, file.node())
 }
 
-/// Adds the lines of files.
 fn push_lines<N: Names>(
     text: &mut Vec<u8>,
     names: &N,
@@ -84,9 +83,8 @@ fn push_lines<N: Names>(
     Ok(())
 }
 
-/// What chacl(1) `-l` prints of these files, in their order: for each a line of its path and, in brackets, its
-/// access list in the short form, and after a `/` its default list where it has one. Fails only if memory runs
-/// out.
+/// Writes what chacl(1) `-l` prints of these files, in their order: for each a line of its path and, in brackets, its
+/// access list in the short form, and after a `/` its default list if it has one.
 pub fn write_chacl_listing<N: Names>(
     alloc: Global,
     names: &N,

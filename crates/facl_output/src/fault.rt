@@ -87,7 +87,7 @@ pub enum RunFault {
 }
 
 impl LineFault {
-    /// The fault of a line of which a text or an operand has this fault.
+    /// Makes the fault of a line of which a text or an operand has this fault.
     pub fn of_text(source: Source, fault: TextFault) -> LineFault
         ensures { result ≡ line_fault_of_text source fault }
     {

@@ -1,4 +1,4 @@
-//! Texts of nodes that were listed, kept so that another file of the same node costs a comparison and a copy.
+//! A cache of the texts of nodes that were listed: another file of the same node costs a comparison and a copy.
 
 ghost use Rattle.std.specs.Prelude.{◌≡◌, ◌<◌, List, ℕ, Some, true, length, drop, IfOk, IfSome, OnOk};
 ghost use Rattle.acl_names.specs.Appends.{Appends};
@@ -9,30 +9,31 @@ use acl_edit::{Kind, Node};
 use acl_entry::{Acl, Entry, Key};
 use std::alloc::{AllocError, Global};
 
-/// The most nodes whose texts are kept.
+/// The most places of the cache.
 const MAX_PLACES: usize = 1 << 16;
 
 /// The most bytes of kept texts, except that one text may be longer.
 const MAX_BYTES: usize = 1 << 24;
 
-/// How many look-ups may find nothing before only one file in [`SELDOM`] is looked up: one that finds a text pays for [`WORTH`].
+/// The most misses after which only one file in [`SAMPLING_INTERVAL`] is looked up. Each look-up costs 1 of this
+/// credit, and a hit brings [`CREDIT_PER_HIT`] back.
 const MAX_CREDIT: usize = 1 << 10;
 
 /// See [`MAX_CREDIT`].
-const SELDOM: usize = 1 << 5;
+const SAMPLING_INTERVAL: usize = 1 << 5;
 
-/// See [`MAX_CREDIT`]: a copy saves more than a look costs.
-const WORTH: usize = 3;
+/// See [`MAX_CREDIT`]: a copy saves more than a look-up costs.
+const CREDIT_PER_HIT: usize = 3;
 
-/// What a mark is multiplied by, so that it spreads.
+/// An odd multiplier that spreads the bits of a hash.
 const SPREAD: u64 = 0x9E37_79B9_7F4A_7C15;
 
-/// A mark with a number worked into it.
+/// Works a number into a hash.
 fn mixed(mark: u64, number: u64) -> u64 {
     (mark ^ number).wrapping_mul(SPREAD).rotate_left(29)
 }
 
-/// A number of an entry: its permissions and the id that it names.
+/// Encodes an entry as a number: its permissions and the id that it names.
 fn number_of(entry: &Entry) -> u64 {
     let id = match entry.key {
         Key::User(id) | Key::Group(id) => id.number(),
@@ -41,7 +42,7 @@ fn number_of(entry: &Entry) -> u64 {
     u64::from(id) << 8 | u64::from(entry.perm.number())
 }
 
-/// A mark with a list worked into it.
+/// Works a list into a hash.
 fn mark_with(mark: u64, acl: &Acl) -> u64 {
     let mut mark = mark;
     for entry in acl.entries() {
@@ -50,7 +51,7 @@ fn mark_with(mark: u64, acl: &Acl) -> u64 {
     mark
 }
 
-/// A number of the kind and the flags of a node.
+/// Encodes the kind and the flags of a node as a number.
 fn head_of(node: &Node) -> u64 {
     let [setuid, setgid, sticky] = node.flags;
     let is_directory = node.kind == Kind::Directory;
@@ -60,7 +61,7 @@ fn head_of(node: &Node) -> u64 {
         | u64::from(sticky)
 }
 
-/// A mark of a node. Nodes that are the same have one mark, and others seldom do.
+/// Hashes a node. Equal nodes have equal hashes, and others seldom do.
 pub(crate) fn mark_of(node: &Node) -> u64 {
     let label = &node.label;
     let ids = u64::from(label.owner.number()) << 32 | u64::from(label.group.number());
@@ -71,21 +72,19 @@ pub(crate) fn mark_of(node: &Node) -> u64 {
     }
 }
 
-/// Whether both are one kind.
 fn is_same_kind(one: Kind, other: Kind) -> bool
     ensures { result ≡ true → one ≡ other }
 {
     one == other
 }
 
-/// Whether both have the same flags.
 fn has_same_flags(one: &Node, other: &Node) -> bool
     ensures { result ≡ true → one.now.flags ≡ other.now.flags }
 {
     one.flags == other.flags
 }
 
-/// Whether both are one default list, or none.
+/// Tells whether both are one default list, or none.
 fn is_same_default(one: &Option<Acl>, other: &Option<Acl>) -> bool
     ensures { result ≡ true → one.now ≡ other.now }
 {
@@ -96,7 +95,6 @@ fn is_same_default(one: &Option<Acl>, other: &Option<Acl>) -> bool
     }
 }
 
-/// Whether both nodes are the same.
 fn is_same(one: &Node, other: &Node) -> bool
     ensures { result ≡ true → one.now ≡ other.now }
 {
@@ -106,21 +104,17 @@ fn is_same(one: &Node, other: &Node) -> bool
     one.same_label(other) && is_same_default(&one.dacl, &other.dacl)
 }
 
-/// What writes the text of a node.
+/// Writes the texts of nodes.
 pub(crate) trait NodeText {
     /// The text of a node.
     ghost text_of: { Self → Node → List ℕ };
 
     /// Adds the text of a node.
-    ///
-    /// # Errors
-    ///
-    /// If memory runs out.
     fn push(&self, text: &mut Vec<u8>, node: &Node) -> Result<(), AllocError>
         ensures { Appends result text.old text.new (text_of self.now node.now) };
 }
 
-/// Where the text of a node is among the bytes that are kept.
+/// Where the text of a node is among the kept bytes.
 #[derive(Clone, Copy)]
 pub(crate) struct Kept<'a> {
     node: &'a Node,
@@ -129,10 +123,10 @@ pub(crate) struct Kept<'a> {
     end: usize,
 }
 
-/// The texts of the nodes that were listed last, each at a place by the mark of its node; and how often it is still worth it to
-/// look for one.
+/// A cache of the texts of the nodes that were listed last, each at a place by the hash of its node; and the credit
+/// for further look-ups.
 ///
-/// A text is dropped when another node gets its place, and all are dropped when there is no room for one more.
+/// A text is dropped when another node gets its place, and all are dropped when there is no room for a further one.
 #[derive(Drop)]
 pub(crate) struct KeptTexts<'a> {
     bytes: Vec<u8>,
@@ -142,11 +136,7 @@ pub(crate) struct KeptTexts<'a> {
 }
 
 impl<'a> KeptTexts<'a> {
-    /// No texts, with a place for each of `files`, up to [`MAX_PLACES`].
-    ///
-    /// # Errors
-    ///
-    /// If memory runs out.
+    /// Returns an empty cache, with a place for each of `files`, up to [`MAX_PLACES`].
     pub fn new(alloc: Global, files: usize) -> Result<KeptTexts<'a>, AllocError>
         ensures { (text_of : Node → List ℕ) → IfOk result (AreKept text_of) }
     {
@@ -160,33 +150,34 @@ impl<'a> KeptTexts<'a> {
         })
     }
 
-    /// Whether to look for the text of the next file: where most files have nodes of their own, it is seldom worth it.
+    /// Tells whether to look up the text of the next file: if most files have nodes of their own, it is seldom worth
+    /// it.
     pub fn seeks_next(&mut self) -> bool
         ensures { (text_of : Node → List ℕ) → AreKept text_of self.old → AreKept text_of self.new }
     {
         self.turn = self.turn.wrapping_add(1);
         if self.credit == 0 {
-            return self.turn % SELDOM == 0;
+            return self.turn % SAMPLING_INTERVAL == 0;
         }
         self.credit -= 1;
         true
     }
 
-    /// Notes that the text of a file was found.
+    /// Records that the text of a file was found.
     pub fn note_found(&mut self)
         ensures { (text_of : Node → List ℕ) → AreKept text_of self.old → AreKept text_of self.new }
     {
-        self.credit = self.credit.saturating_add(WORTH).min(MAX_CREDIT);
+        self.credit = self.credit.saturating_add(CREDIT_PER_HIT).min(MAX_CREDIT);
     }
 
-    /// The place of a mark, if there are places.
+    /// Returns the place of a hash, if there are places.
     fn place_of(&self, mark: u64) -> Option<usize>
         ensures { IfSome result (λ place. place < length self.now.places.items) }
     {
         (mark as usize).checked_rem(self.places.len())
     }
 
-    /// What is at the place of a mark.
+    /// Returns what is at the place of a hash.
     fn at(&self, mark: u64) -> Option<Kept<'a>>
         ensures { (text_of : Node → List ℕ) → AreKept text_of self.now → IsKept text_of self.now.bytes.items result }
     {
@@ -196,7 +187,7 @@ impl<'a> KeptTexts<'a> {
         }
     }
 
-    /// The text of a node of this mark, if it is kept. Allocates nothing.
+    /// Returns the text of a node of this hash, if it is kept.
     pub fn find(&self, mark: u64, node: &Node) -> Option<&[u8]>
         ensures { (text_of : Node → List ℕ) → AreKept text_of self.now → IfSome result (λ text. text.now ≡ text_of node.now) }
     {
@@ -207,11 +198,6 @@ impl<'a> KeptTexts<'a> {
         self.bytes.get(kept.start..kept.end)
     }
 
-    /// Drops all texts.
-    ///
-    /// # Errors
-    ///
-    /// If memory runs out.
     fn clear(&mut self) -> Result<(), AllocError>
         ensures { (text_of : Node → List ℕ) → OnOk result (AreKept text_of self.new) }
     {
@@ -222,11 +208,7 @@ impl<'a> KeptTexts<'a> {
         Ok(())
     }
 
-    /// Keeps what a text has from a place on, which is that of a node of this mark.
-    ///
-    /// # Errors
-    ///
-    /// If memory runs out.
+    /// Keeps what `text` has from `start` on, as the text of a node of this hash.
     pub fn keep(
         &mut self,
         mark: u64,
@@ -243,11 +225,7 @@ impl<'a> KeptTexts<'a> {
         self.add(mark, node, kept)
     }
 
-    /// Drops all texts where there is no room for `bytes` more.
-    ///
-    /// # Errors
-    ///
-    /// If memory runs out.
+    /// Drops all texts if there is no room for `bytes` more.
     fn make_room(&mut self, bytes: usize) -> Result<(), AllocError>
         ensures { (text_of : Node → List ℕ) → AreKept text_of self.old → OnOk result (AreKept text_of self.new) }
     {
@@ -257,11 +235,7 @@ impl<'a> KeptTexts<'a> {
         self.clear()
     }
 
-    /// Keeps the text of a node of this mark, however long it is.
-    ///
-    /// # Errors
-    ///
-    /// If memory runs out.
+    /// Keeps the text of a node of this hash, however long it is.
     fn add(&mut self, mark: u64, node: &'a Node, text: &[u8]) -> Result<(), AllocError>
         ensures { (text_of : Node → List ℕ) → AreKept text_of self.old → text.now ≡ text_of node.now → OnOk result (AreKept text_of self.new) }
     {
@@ -277,7 +251,7 @@ impl<'a> KeptTexts<'a> {
         Ok(())
     }
 
-    /// Puts what is kept of a node at the place of its mark.
+    /// Puts what is kept of a node at the place of its hash.
     fn put(&mut self, kept: Kept<'a>)
         ensures { (text_of : Node → List ℕ) → AreKept text_of self.old → IsKept text_of self.old.bytes.items (Some kept.entry) → AreKept text_of self.new }
     {
@@ -288,10 +262,6 @@ impl<'a> KeptTexts<'a> {
     }
 
     /// Adds the text of a node: a copy, if it is kept.
-    ///
-    /// # Errors
-    ///
-    /// If memory runs out.
     pub fn push<W: NodeText>(
         &mut self,
         text: &mut Vec<u8>,

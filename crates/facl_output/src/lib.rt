@@ -1,5 +1,8 @@
 //! What is printed: of files the listings of getfacl(1), of setfacl(1) with `--test`, of chacl(1) and of extended
 //! attributes; why a script's line or a whole run is refused, and the exact bytes of its message.
+//!
+//! A call whose only error is `AllocError` or `NoMemory` fails only if memory runs out. A function that returns no `Result`
+//! allocates nothing.
 #![tactic(auto)]
 
 mod attr_listing;

@@ -16,21 +16,21 @@ use acl_text::{Effective, Header, Names, NoNames, Which, append_header, append_l
 use acl_tree::FoundFile;
 use std::alloc::AllocError;
 
-/// Whether a file has base entries alone, and no default list.
+/// Tells whether a file has base entries alone, and no default list.
 fn has_base_alone(node: &Node) -> bool
     ensures { result ≡ has_base_alone node.now }
 {
     node.label.acl.is_minimal() && node.dacl.is_none()
 }
 
-/// Whether a file is listed: an option leaves out files that have base entries alone.
+/// Tells whether a file is listed: an option leaves out files that have base entries alone.
 fn is_listed(options: &Options, file: &FoundFile<'_>) -> bool
     ensures { result ≡ is_listed options.now file.now }
 {
     !(options.skip_base && has_base_alone(file.node()))
 }
 
-/// Whether a final `/` shows that the file is a directory, as nothing else does.
+/// Tells whether a final `/` shows that the file is a directory, as nothing else does.
 pub(crate) fn has_slash(file: &FoundFile<'_>) -> bool
     ensures { result ≡ has_slash file.now }
 {
@@ -40,7 +40,7 @@ pub(crate) fn has_slash(file: &FoundFile<'_>) -> bool
     file.node().kind == Kind::Directory && !is_shown
 }
 
-/// Adds a line feed. Fails only if memory runs out; then nothing is added.
+/// Adds a line feed, or nothing if memory runs out.
 pub fn end_line(text: &mut Vec<u8>) -> Result<(), AllocError>
     ensures { AppendsWhole result text.old text.new (10 ∷ []) }
 {
@@ -48,8 +48,7 @@ pub fn end_line(text: &mut Vec<u8>) -> Result<(), AllocError>
     Ok(())
 }
 
-/// Adds the path of a file, with the final `/` of a directory that nothing else shows as one. Fails only if memory
-/// runs out.
+/// Adds the path of a file, with the final `/` of a directory that nothing else shows as one.
 pub fn push_path_shown(text: &mut Vec<u8>, file: &FoundFile<'_>) -> Result<(), AllocError>
     ensures { Appends result text.old text.new (path_shown file.now) }
 {
@@ -60,7 +59,7 @@ pub fn push_path_shown(text: &mut Vec<u8>, file: &FoundFile<'_>) -> Result<(), A
     Ok(())
 }
 
-/// Adds the line of a file's path, as a listing of getfacl(1) begins with it. Fails only if memory runs out.
+/// Adds the line of a file's path, as a listing of getfacl(1) begins with it.
 pub fn push_path(text: &mut Vec<u8>, file: &FoundFile<'_>) -> Result<(), AllocError>
     ensures { Appends result text.old text.new (dump.file_text file.now.path (has_slash file.now)) }
 {
@@ -74,7 +73,7 @@ pub fn push_path(text: &mut Vec<u8>, file: &FoundFile<'_>) -> Result<(), AllocEr
     append_header(text, &header, &NoNames)
 }
 
-/// The flags, where one of them is set.
+/// Returns the flags, if one of them is set.
 fn flags_shown(flags: [bool; 3]) -> Option<[bool; 3]>
     ensures { result ≡ flags_shown flags }
 {
@@ -181,7 +180,7 @@ fn push_path_line(
     push_path(text, file)
 }
 
-/// Adds the record of a file of which all but the line of its path is at hand.
+/// Adds the record of a file of which all but the line of its path is kept.
 fn push_known_record(
     text: &mut Vec<u8>,
     options: &Options,
@@ -195,7 +194,7 @@ fn push_known_record(
     Ok(())
 }
 
-/// Finds where the line of a file's path is going to end: it is added and taken away again.
+/// Finds where the line of a file's path ends: adds and removes it.
 fn end_of_path_line(
     text: &mut Vec<u8>,
     options: &Options,
@@ -274,7 +273,6 @@ fn push_files<N: Names>(
     Ok(())
 }
 
-/// Adds the listing of files.
 fn push_listing<N: Names>(
     text: &mut Vec<u8>,
     names: &N,
@@ -290,13 +288,9 @@ fn push_listing<N: Names>(
     }
 }
 
-/// Adds what getfacl(1) prints of these files, in their order: for each its header lines, its access
-/// entries, its default entries with `default:` in front, and an empty line. The path of a directory ends
-/// in `/` where nothing else shows that it is one.
-///
-/// # Errors
-///
-/// Fails only if memory runs out; then nothing is added.
+/// Adds what getfacl(1) prints of these files, in their order: for each its header lines, its access entries, its
+/// default entries with `default:` in front, and an empty line. The path of a directory ends in `/` if nothing else
+/// shows that it is one. If memory runs out, nothing is added.
 pub fn append_listing<N: Names>(
     text: &mut Vec<u8>,
     names: &N,
@@ -320,8 +314,8 @@ pub struct Options {
     pub access_only: bool,
     /// No header lines (`-c`).
     pub omit_header: bool,
-    /// Where effective permissions are printed: where the mask takes something from an entry, at each entry of
-    /// the group class of a list with a mask (`-e`), or nowhere (`-E`).
+    /// Where effective permissions are printed: where the mask takes something from an entry, at each entry of the
+    /// group class of a list with a mask (`-e`), or nowhere (`-E`).
     pub effective: Effective,
     /// Leaves out the files that have the three base entries alone and no default list (`-s`).
     pub skip_base: bool,

@@ -18,7 +18,8 @@ use acl_tree::TreeFault;
 use itoa::Buffer;
 use std::alloc::AllocError;
 
-/// Who reports a fault: the tool, once the line has words and a text; before that, and where memory runs out, the program.
+/// Returns who reports a fault: the tool, once the line has words and a text; before that, and if memory runs out,
+/// the program.
 fn reporter<'a>(tool: &'a [u8], fault: &LineFault) -> &'a [u8]
     ensures { result.now ≡ reporter tool.now fault.now }
 {
@@ -77,9 +78,9 @@ fn push_head(text: &mut Vec<u8>, number: u64, reported_by: &[u8]) -> Result<(), 
     Ok(())
 }
 
-/// Adds the message of a line that is refused: `line N: TOOL: TEXT` and a line feed. TOOL is the line's first
-/// word, but `facl` for a fault that is found before the tool's own words are read, and where memory ran out.
-/// Fails only if memory runs out, and then what was before is kept.
+/// Adds the message of a line that is refused: `line N: TOOL: TEXT` and a line feed. TOOL is the line's first word,
+/// but `facl` for a fault that is found before the tool's own words are read, and if memory ran out. If memory runs
+/// out for the message, what was before is kept.
 #[tactic(auto, unfolding(crate::specs::Messages::message))]
 pub fn push_message(
     text: &mut Vec<u8>,
@@ -95,8 +96,8 @@ pub fn push_message(
     Ok(())
 }
 
-/// Adds the warning that a line of setfacl(1) dropped default entries, and a line feed. Fails only if memory runs
-/// out, and what was there before is still there then.
+/// Adds the warning that a line of setfacl(1) dropped default entries, and a line feed. If memory runs out for the
+/// warning, what was before is kept.
 #[tactic(auto, unfolding(crate::specs::Messages::warning))]
 pub fn push_warning(text: &mut Vec<u8>, number: u64) -> Result<(), AllocError>
     ensures { Appends result text.old text.new (warning number) }
@@ -106,7 +107,7 @@ pub fn push_warning(text: &mut Vec<u8>, number: u64) -> Result<(), AllocError>
     Ok(())
 }
 
-/// What messages call one of a file's lists.
+/// Returns what messages call one of a file's lists.
 fn list_name(which: Which) -> &'static [u8]
     ensures { result.now ≡ list_name which }
 {
@@ -153,7 +154,7 @@ pub(crate) fn push_kind(text: &mut Vec<u8>, kind: &FaultKind) -> Result<(), Allo
     }
 }
 
-/// What messages print before the place of a fault.
+/// Returns what messages print before the place of a fault.
 fn source_name(source: Source) -> &'static [u8]
     ensures { result.now ≡ source_name source }
 {
@@ -166,7 +167,7 @@ fn source_name(source: Source) -> &'static [u8]
     }
 }
 
-/// Whether the fault is of a list and not of one of its entries.
+/// Tells whether the fault is of a list and not of one of its entries.
 fn is_of_whole_list(fault: &TextFault) -> bool
     ensures { result ≡ is_of_whole_list fault.now }
 {
@@ -207,7 +208,7 @@ pub(crate) fn push_numbered(
     Ok(())
 }
 
-/// The text of a missing base entry.
+/// Returns the text of a missing base entry.
 fn missing_base(key: &Key) -> &'static [u8]
     ensures { result.now ≡ tag_text Long key.now ++ codes ":: missing" }
 {

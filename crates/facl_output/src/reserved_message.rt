@@ -1,4 +1,4 @@
-//! The message of a line for which there was no memory, made without memory.
+//! The message of a line for which memory ran out, made without an allocation.
 
 ghost use Rattle.std.specs.Prelude.{◌≡◌, [], IfOk};
 ghost use Rattle.facl_output.specs.Messages.{message};
@@ -29,7 +29,7 @@ impl Model for ReservedMessage {
 }
 
 impl ReservedMessage {
-    /// Room with no message in it. Fails only if memory runs out.
+    /// Reserves room, with no message in it.
     pub fn new(alloc: Global) -> Result<ReservedMessage, AllocError>
         ensures { IfOk result (λ reserved_message. reserved_message ≡ []) }
     {
@@ -38,8 +38,7 @@ impl ReservedMessage {
         })
     }
 
-    /// Puts the message that there was no memory for the line with this number in the place of what was
-    /// there. It takes no memory.
+    /// Replaces the message by the one that memory ran out for the line with this number, without an allocation.
     pub fn put_no_memory(&mut self, number: u64)
         ensures { self.new ≡ message number [] NoMemory }
     {
@@ -54,7 +53,7 @@ impl ReservedMessage {
             .unwrap();
     }
 
-    /// The message that was put last, and nothing before the first.
+    /// Returns the message that was put last, and nothing before the first.
     pub fn as_bytes(&self) -> &[u8]
         ensures { result.now ≡ self.now }
     {

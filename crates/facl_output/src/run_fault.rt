@@ -9,7 +9,7 @@ use crate::message::push_tree_fault;
 use acl_tree::{Table, TreeFault};
 use std::alloc::AllocError;
 
-/// The name of a text of the setup.
+/// Returns the name of a text of the setup.
 fn table_name(which: Table) -> &'static [u8]
     ensures { result.now ≡ table_name which }
 {
@@ -31,8 +31,8 @@ fn push_setup(text: &mut Vec<u8>, which: Table, fault: &TreeFault) -> Result<(),
     Ok(())
 }
 
-/// Adds what the program prints after `facl: ` of a run that ended early, without a line feed. Fails only if
-/// memory runs out, and then what was before is kept.
+/// Adds what the program prints after `facl: ` of a run that ended early, without a line feed. If memory runs out for
+/// it, what was before is kept.
 pub fn push_run_fault(text: &mut Vec<u8>, fault: &RunFault) -> Result<(), AllocError>
     ensures { Appends result text.old text.new (run_fault_text fault.now) }
 {

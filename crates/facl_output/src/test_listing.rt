@@ -55,7 +55,6 @@ fn push_default<N: Names>(
     }
 }
 
-/// Adds a file's lists.
 fn push_lists<N: Names>(text: &mut Vec<u8>, names: &N, node: &Node) -> Result<(), AllocError>
     ensures { Appends result text.old text.new (lists_text (N.naming names.now) node.now) }
 {
@@ -108,7 +107,6 @@ fn push_file<'a, N: Names>(
     kept.push(text, &TestedLists { names }, file.node())
 }
 
-/// Adds the lines of files.
 fn push_files<N: Names>(
     text: &mut Vec<u8>,
     names: &N,
@@ -124,12 +122,8 @@ fn push_files<N: Names>(
 }
 
 /// Adds what setfacl(1) prints with `--test` of these files, in their order: a line for each, with its path, its
-/// access list in the short form, and its default entries with `d:` before each. The path of a directory ends in
-/// `/` where nothing else shows that it is one.
-///
-/// # Errors
-///
-/// Fails only if memory runs out; then nothing is added.
+/// access list in the short form, and its default entries with `d:` before each. The path of a directory ends in `/`
+/// if nothing else shows that it is one. If memory runs out, nothing is added.
 pub fn append_test_listing<N: Names>(
     text: &mut Vec<u8>,
     names: &N,
