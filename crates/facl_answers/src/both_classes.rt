@@ -1,4 +1,4 @@
-//! The files of two states by their classes in both: one walk, which finds each file once.
+//! Walks over the files of two states at once and finds their classes in both.
 
 ghost use Rattle.std.specs.Prelude.{◌≡◌, true, Some, option_map, IfOk};
 ghost use Rattle.std.specs.declared.cmp.Ordering.TheVariants as orders;
@@ -13,7 +13,7 @@ use acl_rights::{Cells, FileClasses, IndexedState, Judge, Verdicts};
 use std::alloc::{AllocError, Global};
 use std::cmp::Ordering;
 
-/// The row of a class, if there is one. Fails only if memory runs out.
+/// Returns the row of a class, if there is one.
 fn row_of_class(
     alloc: Global,
     classes: &FileClasses<'_>,
@@ -27,7 +27,7 @@ fn row_of_class(
     }
 }
 
-/// The files of a state that are not before a path, by classes.
+/// Iterates over the files of a state from a path on, by classes.
 pub(crate) fn classes_from<'a, J: Judge>(
     alloc: Global,
     verdicts: &Verdicts<'a, J>,
@@ -41,11 +41,11 @@ pub(crate) fn classes_from<'a, J: Judge>(
     verdicts.classes_from(alloc, top)
 }
 
-/// What is there before and after, by numbers: classes of files, or requests that are granted. `None` on the side where it is
-/// not there.
+/// A number before and one after: of classes of files, or of granted requests. `None` on the side that lacks the file
+/// or the user.
 pub type Sides = (Option<usize>, Option<usize>);
 
-/// The files of two states that are still to come, in path order, and the classes so far.
+/// An iterator over the files of two states in path order, and the classes so far.
 #[derive(Drop)]
 pub struct BothClasses<'a> {
     pub before: FileClasses<'a>,
@@ -53,7 +53,7 @@ pub struct BothClasses<'a> {
 }
 
 impl<'a> BothClasses<'a> {
-    /// The files of two states that are not before a path. Allocates nothing.
+    /// Iterates over the files of two states from a path on.
     pub fn of_states<J: Judge>(
         alloc: Global,
         loaded: &'a IndexedState<J>,
@@ -71,7 +71,7 @@ impl<'a> BothClasses<'a> {
         BothClasses { before, after }
     }
 
-    /// The next file, which went.
+    /// Returns the next file, which is gone.
     fn next_gone(&mut self, alloc: Global) -> Result<Option<(&'a Path, Sides)>, AllocError>
         requires before { IsInOrder self.old.before.1 }
         requires after { IsInOrder self.old.after.1 }
@@ -84,7 +84,7 @@ impl<'a> BothClasses<'a> {
         }
     }
 
-    /// The next file, which is new.
+    /// Returns the next file, which is new.
     fn next_new(&mut self, alloc: Global) -> Result<Option<(&'a Path, Sides)>, AllocError>
         requires before { IsInOrder self.old.before.1 }
         requires after { IsInOrder self.old.after.1 }
@@ -97,7 +97,7 @@ impl<'a> BothClasses<'a> {
         }
     }
 
-    /// The next file, which is in both states.
+    /// Returns the next file, which is in both states.
     fn next_kept(&mut self, alloc: Global) -> Result<Option<(&'a Path, Sides)>, AllocError>
         requires before { IsInOrder self.old.before.1 }
         requires after { IsInOrder self.old.after.1 }
@@ -115,7 +115,7 @@ impl<'a> BothClasses<'a> {
         }
     }
 
-    /// The next file of either state in path order, with its classes in both. Fails only if memory runs out.
+    /// Returns the next file of either state in path order, with its classes in both.
     fn next(&mut self, alloc: Global) -> Result<Option<(&'a Path, Sides)>, AllocError>
         requires before { IsInOrder self.old.before.1 }
         requires after { IsInOrder self.old.after.1 }
@@ -129,8 +129,8 @@ impl<'a> BothClasses<'a> {
         }
     }
 
-    /// Whether files of a class before and of one after have the same row, where that is seen without the rows. Allocates
-    /// nothing.
+    /// Tells whether files of a class before and of one after have the same row, as far as that is seen without the
+    /// rows.
     pub fn keeps_row(&self, classes: Sides) -> bool
         ensures { result ≡ true → row_of_class self.now.before.0 classes.0 ≡ row_of_class self.now.after.0 classes.1 }
     {
@@ -143,7 +143,7 @@ impl<'a> BothClasses<'a> {
         }
     }
 
-    /// The row of a class before, if there is one. Fails only if memory runs out.
+    /// Returns the row of a class before, if there is one.
     pub fn row_before(
         &self,
         alloc: Global,
@@ -154,7 +154,7 @@ impl<'a> BothClasses<'a> {
         row_of_class(alloc, &self.before, class)
     }
 
-    /// The row of a class after, if there is one. Fails only if memory runs out.
+    /// Returns the row of a class after, if there is one.
     pub fn row_after(
         &self,
         alloc: Global,
@@ -165,8 +165,8 @@ impl<'a> BothClasses<'a> {
         row_of_class(alloc, &self.after, class)
     }
 
-    /// The next file of either state, if it is at a path or below it. After `None` nothing more is to be taken, since a file that
-    /// is not below may have been passed. Fails only if memory runs out.
+    /// Returns the next file of either state, if it is at a path or below it. After `None` the walk is over, since a
+    /// file that is not below may have been skipped.
     pub fn next_within(
         &mut self,
         alloc: Global,

@@ -13,14 +13,14 @@ use acl_entry::{Perm, Requests};
 use acl_rights::same_row;
 use std::alloc::{AllocError, Global};
 
-/// Whether a request is granted after, and was not before.
+/// Tells whether a request is granted after, and was not before.
 fn is_gained(before: Requests, after: Requests, request: Perm) -> bool
     ensures { result ≡ (has after request && not (has before request)) }
 {
     after.has(request) && !before.has(request)
 }
 
-/// The requests that are granted after and were not before, in rising number. Fails only if memory runs out.
+/// Returns the requests that are granted after and were not before, in rising number.
 fn requests_gained(
     alloc: Global,
     before: Requests,
@@ -120,7 +120,7 @@ fn push_user(
     push_gained(alloc, text, path, user, b"loses", after, before)
 }
 
-/// What a row grants the user at a place, if there is one.
+/// Returns what a row grants the user at a place, if there is one.
 fn verdict_or_none(row: &[Requests], place: Option<usize>) -> Requests
     ensures { result ≡ verdict_or_none row.now place }
 {
@@ -133,7 +133,7 @@ fn verdict_or_none(row: &[Requests], place: Option<usize>) -> Requests
     }
 }
 
-/// Whether what a user is granted differs.
+/// Tells whether what a user is granted differs.
 fn differs(user: &PlacedUser, before: &[Requests], after: &[Requests]) -> bool
     ensures { result ≡ differs before.now after.now user.now }
 {
@@ -142,14 +142,15 @@ fn differs(user: &PlacedUser, before: &[Requests], after: &[Requests]) -> bool
     had.bits() != has.bits()
 }
 
-/// Whether what some user is granted differs.
+/// Tells whether what some user is granted differs.
 fn some_differs(users: &[PlacedUser], before: &[Requests], after: &[Requests]) -> bool
     ensures { result ≡ list_any (differs before.now after.now) users.now }
 {
     users.iter().any(|user| differs(user, before, after))
 }
 
-/// Whether a file with these rows may have lines. Where all users keep their places, the rows are compared at once.
+/// Tells whether a file with these rows may have lines. If all users keep their places, the rows are compared at
+/// once.
 pub(crate) fn has_lines(
     users: &[PlacedUser],
     keep_places: bool,

@@ -23,7 +23,7 @@ use acl_rights::{Cells, IndexedState, Judge, Verdicts};
 use acl_tree::Tree;
 use std::alloc::{AllocError, Global};
 
-/// A row, or that of nobody where there is none.
+/// Returns the row, or that of nobody if there is none.
 pub(crate) fn row_or_none(row: &Option<Cells>) -> &[Requests]
     ensures { result.now ≡ unwrap_or row.now [] }
 {
@@ -33,7 +33,8 @@ pub(crate) fn row_or_none(row: &Option<Cells>) -> &[Requests]
     }
 }
 
-/// Adds the lines of a file of either tree, by the rows of its classes. The path is printed only where there may be lines.
+/// Adds the lines of a file of either tree, by the rows of its classes. The path is printed only if there may be
+/// lines.
 fn push_file(
     alloc: Global,
     text: &mut Vec<u8>,
@@ -61,7 +62,7 @@ fn push_file(
     push_rows(alloc, text, users, &path, had, has)
 }
 
-/// Adds the lines of the files of both that are to come, as long as they are at a path or below it.
+/// Adds the lines of the next files of both, as long as they are at a path or below it.
 fn push_both(
     alloc: Global,
     text: &mut Vec<u8>,
@@ -120,7 +121,7 @@ fn push_inside<J: Judge>(
     Ok(())
 }
 
-/// Adds the lines of all files, where users may do the same outside a part of the tree. Where no user has another place
+/// Adds the lines of all files, if users may do the same outside a part of the tree. If no user has another place
 /// than before, only the files of the part are looked at.
 fn push_part<J: Judge>(
     alloc: Global,
@@ -144,8 +145,8 @@ fn push_part<J: Judge>(
     }
 }
 
-/// What `changes` prints, where users may do the same in both states outside a part of the tree, what is at or below some paths:
-/// it is a walk over both states' files for each of them. Fails only if memory runs out.
+/// Writes what `changes` prints, if users may do the same in both states outside a part of the tree, what is at or
+/// below `tops`: a walk over both states' files for each of these.
 pub fn write_changes_within<J: Judge>(
     alloc: Global,
     loaded: &IndexedState<J>,
@@ -165,10 +166,9 @@ pub fn write_changes_within<J: Judge>(
     Ok(text)
 }
 
-/// What `changes` prints: for each file of either state in path order, and each user of either state, a line of the
-/// requests that the user gains on it, and one of those that the user loses; with those verdicts that are asked of the
-/// present state, on the files alone or along their paths. It is one walk over both states' files. Fails only if memory
-/// runs out.
+/// Writes what `changes` prints: for each file of either state in path order, and each user of either state, a line
+/// of the requests that the user gains on it, and one of those that the user loses; by the verdicts on the files
+/// alone or along their paths, as `verdicts` says. It is one walk over both states' files.
 pub fn write_changes<J: Judge>(
     alloc: Global,
     loaded: &IndexedState<J>,

@@ -19,7 +19,7 @@ pub(crate) struct FileInClass<'a> {
     pub class: usize,
 }
 
-/// The files that are still to come, in path order, and the classes so far.
+/// An iterator over files in path order, and the classes so far.
 #[derive(Drop)]
 pub(crate) struct Walk<'a> {
     pub files: FilesIter<'a>,
@@ -27,7 +27,7 @@ pub(crate) struct Walk<'a> {
 }
 
 impl<'a> FileInClass<'a> {
-    /// The file before those of `rest`, which follow it: with whether the next one is below it. Allocates nothing.
+    /// Returns the file before those of `rest`, which follow it: with whether the next one is below it.
     pub fn found(&self, rest: &Walk<'_>) -> FoundFile<'a>
         ensures { result ≡ (rowed_file (walked rest.now) self.now).0 }
     {
@@ -36,7 +36,7 @@ impl<'a> FileInClass<'a> {
 }
 
 impl<'a> Walk<'a> {
-    /// All files of a state with their classes. Allocates nothing.
+    /// Iterates over all files of a state with their classes.
     pub fn of_verdicts<J: Judge>(alloc: Global, verdicts: &Verdicts<'a, J>) -> Walk<'a>
         ensures { files_left (walked result) ≡ files_granted J.verdict_of verdicts.now.along verdicts.now.state.now }
     {
@@ -48,7 +48,7 @@ impl<'a> Walk<'a> {
         }
     }
 
-    /// The next file with its class. Fails only if memory runs out.
+    /// Returns the next file with its class.
     pub fn next(&mut self, alloc: Global) -> Result<Option<FileInClass<'a>>, AllocError>
         ensures { IfOk result (λ file. TakesStep (walked self.old) file (walked self.new)) }
     {

@@ -67,7 +67,7 @@ fn push_row(
     Ok(())
 }
 
-/// The path of a found file as it is printed.
+/// Returns the path of a found file as it is printed.
 pub fn path_shown(alloc: Global, file: &FoundFile<'_>) -> Result<Vec<u8>, AllocError>
     ensures { IfOk result (λ path. path.items ≡ path_shown file.now) }
 {
@@ -92,7 +92,7 @@ fn push_file(
     push_row(text, names, row_or_none(&row), &path)
 }
 
-/// Adds the lines of the files of a walk that are still to come.
+/// Adds the lines of the files that are left of a walk.
 fn push_files(
     alloc: Global,
     text: &mut Vec<u8>,
@@ -107,7 +107,7 @@ fn push_files(
     Ok(())
 }
 
-/// The names of all users, as they are printed.
+/// Returns the names of all users, as they are printed.
 pub fn written_names(alloc: Global, people: &People) -> Result<Vec<Vec<u8>>, AllocError>
     ensures { IfOk result (λ names. map (λ n. n.items) names.items ≡ map (λ row. escaped row.name) people.now.users) }
 {
@@ -120,8 +120,8 @@ pub fn written_names(alloc: Global, people: &People) -> Result<Vec<Vec<u8>>, All
     Ok(names)
 }
 
-/// What `index` prints: for each file in path order and each user in the order of the rows a line of the requests
-/// that the user is granted, as two hex digits, the user's name and the path. Fails only if memory runs out.
+/// Writes what `index` prints: for each file in path order and each user in the order of the rows a line of the
+/// requests that the user is granted, as two hex digits, the user's name and the path.
 pub fn write_index<J: Judge>(
     alloc: Global,
     indexed: &IndexedState<J>,

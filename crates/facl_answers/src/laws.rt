@@ -54,9 +54,9 @@ pub fn deciding_entries_are_the_reach(subject: &Subject, tree: &Tree)
     let _subject = subject;
 }
 
-/// Proof only: `changes` prints nothing exactly where each user, by name, is granted the same requests other than none on
-/// each path in both states. A user or a file that is not there is granted nothing, so one that came or went counts as
-/// unchanged where it is granted nothing.
+/// Proof only: `changes` prints nothing exactly if each user, by name, is granted the same requests other than none
+/// on each path in both states. A user or a file that is not there is granted nothing, so one that came or went
+/// counts as unchanged where it is granted nothing.
 pub fn changes_print_all_that_differs(loaded: &State, state: &State)
     ensures silent { (V : Verdict) (along : Bool) → IsUnchanged V along loaded.now state.now → changes_text V along loaded.now state.now ≡ [] }
     ensures complete { (V : Verdict) (along : Bool) → changes_text V along loaded.now state.now ≡ [] → IsUnchanged V along loaded.now state.now }

@@ -4,6 +4,9 @@
 //! `can`, `who`, `may`, `index` and `changes` are answered from the index of who may do what, without a new verdict, and
 //! `why` from the lists alone. The words of a line are not known here: a question is called with the users, paths and
 //! permissions that the words name.
+//!
+//! A call whose only error is `AllocError` or `NoMemory` fails only if memory runs out. A function that returns no `Result`
+//! allocates nothing.
 #![tactic(auto)]
 
 mod both_classes;

@@ -24,7 +24,7 @@ pub fn push_file(text: &mut Vec<u8>, file: &FoundFile<'_>) -> Result<(), AllocEr
     Ok(())
 }
 
-/// Whether a verdict, if there is one, contains a request.
+/// Tells whether a verdict, if there is one, contains a request.
 fn contains(verdict: Option<Requests>, request: Perm) -> bool
     ensures { result ≡ option_map_or (λ c. has c request) verdict false }
 {
@@ -34,8 +34,8 @@ fn contains(verdict: Option<Requests>, request: Perm) -> bool
     }
 }
 
-/// Whether a user is granted a request on the files of a class, by a table of the first classes: it gets longer where it does
-/// not have the class.
+/// Tells whether a user is granted a request on the files of a class, by a table of the first classes, which grows if
+/// it does not have the class.
 fn is_granted(
     table: &mut Vec<bool>,
     classes: &FileClasses<'_>,
@@ -71,7 +71,7 @@ fn push_granted(
     }
 }
 
-/// Adds the lines of the files of a walk that are still to come, if their classes grant a user a request.
+/// Adds the lines of the files that are left of a walk, if their classes grant a user a request.
 fn push_files(
     alloc: Global,
     text: &mut Vec<u8>,
@@ -89,8 +89,8 @@ fn push_files(
     Ok(())
 }
 
-/// What `may` prints: the files on which a user is granted a request, a line each, in path order. None past the last
-/// user. Fails only if memory runs out.
+/// Writes what `may` prints: the files on which a user is granted a request, a line each, in path order. `None` past
+/// the last user.
 pub fn write_may<J: Judge>(
     alloc: Global,
     verdicts: &Verdicts<'_, J>,

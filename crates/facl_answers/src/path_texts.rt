@@ -11,21 +11,20 @@ use acl_names::Path;
 use acl_tree::{FoundFile, Paths, Selection, Tree};
 use std::alloc::{AllocError, Global};
 
-/// Whether a path is recorded.
 fn is_recorded(tree: &Tree, path: &Path) -> bool
     ensures { result ≡ is_some (find path_cmp path.now tree.now.files) }
 {
     tree.get(path).is_some()
 }
 
-/// The path of the root.
+/// Returns the path of the root.
 pub fn root(alloc: Global) -> Path
     ensures { result ≡ [] }
 {
     Path::new(Vec::new(alloc)).unwrap()
 }
 
-/// The file of a path, if it is recorded.
+/// Returns the file of a path, if it is recorded.
 pub fn files_at<'a>(
     alloc: Global,
     tree: &'a Tree,
@@ -50,7 +49,6 @@ pub fn files_at<'a>(
     }
 }
 
-/// One path.
 fn one_path(alloc: Global, path: &Path) -> Result<Paths, AllocError>
     ensures { IfOk result (λ paths. paths ≡ path.now ∷ []) }
 {
@@ -59,7 +57,7 @@ fn one_path(alloc: Global, path: &Path) -> Result<Paths, AllocError>
     Ok(Paths::new(list))
 }
 
-/// The path of a file as it is printed, if it is recorded.
+/// Returns the path of a file as it is printed, if it is recorded.
 fn text_in_tree(alloc: Global, tree: &Tree, path: &Path) -> Result<Option<Vec<u8>>, AllocError>
     ensures { IfOk result (λ text. option_map (λ t. t.items) text ≡ text_in_tree tree.now.files path.now) }
 {
@@ -70,7 +68,7 @@ fn text_in_tree(alloc: Global, tree: &Tree, path: &Path) -> Result<Option<Vec<u8
     }
 }
 
-/// The path of a file as it is printed now, or as it was printed. Fails only if memory runs out.
+/// Returns the path of a file as it is printed now, or as it was printed.
 pub fn text_of(alloc: Global, loaded: &Tree, now: &Tree, path: &Path) -> Result<Vec<u8>, AllocError>
     ensures { IfOk result (λ text. text.items ≡ text_in loaded.now now.now path.now) }
 {

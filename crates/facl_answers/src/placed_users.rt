@@ -18,7 +18,7 @@ pub struct PlacedUser {
     pub after: Option<usize>,
 }
 
-/// The user of a name, who is in either state.
+/// Returns the user of a name, who is in either state.
 fn placed_user(
     alloc: Global,
     name: &[u8],
@@ -34,7 +34,7 @@ fn placed_user(
     })
 }
 
-/// The users who are there now, in the order of their rows.
+/// Collects the users who are there now, in the order of their rows.
 fn present_users(
     alloc: Global,
     loaded: &People,
@@ -51,7 +51,7 @@ fn present_users(
     Ok(users)
 }
 
-/// Adds the user of a name, if the user went.
+/// Adds the user of a name, if the user is gone.
 fn add_if_gone(
     alloc: Global,
     users: &mut Vec<PlacedUser>,
@@ -68,7 +68,7 @@ fn add_if_gone(
     Ok(())
 }
 
-/// Adds the users who went, in the order of their rows.
+/// Adds the users who are gone, in the order of their rows.
 fn add_gone(
     alloc: Global,
     users: &mut Vec<PlacedUser>,
@@ -86,7 +86,7 @@ fn add_gone(
     Ok(())
 }
 
-/// The users of both states, by their names.
+/// Collects the users of both states, by their names.
 pub fn users_of_both(
     alloc: Global,
     loaded: &People,
@@ -100,7 +100,7 @@ pub fn users_of_both(
     Ok(users)
 }
 
-/// Whether a user has the same place in both states, or none in both.
+/// Tells whether a user has the same place in both states, or none in both.
 pub fn same_place(before: Option<usize>, after: Option<usize>) -> bool
     ensures { result ≡ same_place before after }
 {
@@ -113,7 +113,7 @@ pub fn same_place(before: Option<usize>, after: Option<usize>) -> bool
     }
 }
 
-/// Whether the users are the same, and in the same order.
+/// Tells whether the users are the same, and in the same order.
 pub(crate) fn keep_places(users: &[PlacedUser]) -> bool
     ensures { result ≡ list_all keeps_place users.now }
 {

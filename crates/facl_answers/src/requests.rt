@@ -10,7 +10,7 @@ use std::alloc::AllocError;
 /// The numbers of the requests other than none.
 pub(crate) const NUMBERS: [u8; 7] = [1, 2, 3, 4, 5, 6, 7];
 
-/// Adds a request that is granted, after a space where it is not the first.
+/// Adds a request that is granted, after a space unless it is the first.
 fn push_request(text: &mut Vec<u8>, request: Perm, is_first: bool) -> Result<(), AllocError>
     ensures { Appends result text.old text.new (request_text is_first request) }
 {
@@ -48,12 +48,8 @@ fn push_line(text: &mut Vec<u8>, granted: Requests) -> Result<(), AllocError>
     end_line(text)
 }
 
-/// Adds the line of the requests that are granted: each of them other than none, by its permissions, in
-/// rising number with a space between each two, or `none`.
-///
-/// # Errors
-///
-/// Fails only if memory runs out; then nothing is added.
+/// Adds the line of the requests that are granted: each of them other than none, by its permissions, in rising number
+/// with a space between each two, or `none`. If memory runs out, nothing is added.
 pub fn append_requests(text: &mut Vec<u8>, granted: Requests) -> Result<(), AllocError>
     ensures { AppendsWhole result text.old text.new (requests_line granted) }
 {

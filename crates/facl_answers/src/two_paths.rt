@@ -1,4 +1,4 @@
-//! How the next path of one walk is to that of another one, which goes on beside it.
+//! Compares the next paths of two parallel walks.
 
 ghost use Rattle.std.specs.Prelude.{◌≡◌, option_map};
 ghost use Rattle.facl_answers.specs.BothStates.{path_order};
@@ -6,7 +6,7 @@ ghost use Rattle.facl_answers.specs.BothStates.{path_order};
 use acl_names::Path;
 use std::cmp::Ordering;
 
-/// How a path is to another one; before it where there is no other one. None where there is no path.
+/// Compares the next paths; a path comes before an absent one. `None` if both are absent.
 pub(crate) fn path_order(before: Option<&Path>, after: Option<&Path>) -> Option<Ordering>
     ensures { result ≡ path_order (option_map (λ path. path.now) before.entry) (option_map (λ path. path.now) after.entry) }
 {

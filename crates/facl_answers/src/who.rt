@@ -23,7 +23,6 @@ fn push_user(text: &mut Vec<u8>, people: &People, user: usize) -> Result<(), All
     Ok(())
 }
 
-/// Adds the lines of users.
 fn push_users(text: &mut Vec<u8>, people: &People, users: &[usize]) -> Result<(), AllocError>
     ensures { Appends result text.old text.new (flat_map (line_at people.now) users.now) }
 {
@@ -33,8 +32,8 @@ fn push_users(text: &mut Vec<u8>, people: &People, users: &[usize]) -> Result<()
     Ok(())
 }
 
-/// What `who` prints: the users who are granted a request on a file, a line each, in the order of their rows. None where
-/// the path is not recorded. Fails only if memory runs out.
+/// Writes what `who` prints: the users who are granted a request on a file, a line each, in the order of their rows.
+/// `None` if the path is not recorded.
 pub fn write_who<J: Judge>(
     alloc: Global,
     verdicts: &Verdicts<'_, J>,

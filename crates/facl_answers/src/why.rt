@@ -18,7 +18,7 @@ use facl_output::push_path;
 use std::alloc::{AllocError, Global};
 use std::cmp::Ordering;
 
-/// Whether some entry is for one of the user's groups.
+/// Tells whether some entry is for one of the user's groups.
 fn is_matched(subject: &Subject, label: &Label) -> bool
     ensures { result ≡ list_any (is_for subject.now label.now.group) (entries label.now.acl) }
 {
@@ -30,7 +30,7 @@ fn is_matched(subject: &Subject, label: &Label) -> bool
     false
 }
 
-/// The key whose entry alone decides on the user; none where the entries of the user's groups do.
+/// Returns the key whose entry alone decides on the user; `None` if the entries of the user's groups do.
 fn sole_key(subject: &Subject, label: &Label) -> Option<Key>
     ensures { result ≡ sole_key subject.now label.now }
 {
@@ -47,7 +47,7 @@ fn sole_key(subject: &Subject, label: &Label) -> Option<Key>
     }
 }
 
-/// Whether an entry is that of the key, where there is one, or else for one of the user's groups.
+/// Tells whether an entry is that of the key, if there is one, or else for one of the user's groups.
 fn is_chosen(subject: &Subject, owning: Id, sole: &Option<Key>, entry: &Entry) -> bool
     ensures { result ≡ is_chosen subject.now owning sole.now entry.now }
 {
@@ -98,7 +98,6 @@ fn push_record<N: Names>(
     Ok(())
 }
 
-/// Adds the records of files.
 fn push_records<N: Names>(
     text: &mut Vec<u8>,
     names: &N,
@@ -113,9 +112,9 @@ fn push_records<N: Names>(
     Ok(())
 }
 
-/// What `why` prints of a user and these files, in their order: for each a line of its path, the entries of its access
-/// list that decide on the user by the check of acl(5), as getfacl(1) prints them without options, and an empty line.
-/// Fails only if memory runs out.
+/// Writes what `why` prints of a user and these files, in their order: for each a line of its path, the entries of
+/// its access list that decide on the user by the check of acl(5), as getfacl(1) prints them without options, and an
+/// empty line.
 pub fn write_why<N: Names>(
     alloc: Global,
     names: &N,
@@ -129,7 +128,7 @@ pub fn write_why<N: Names>(
     Ok(text)
 }
 
-/// Adds a path, after those of the recorded directories above it.
+/// Adds a path, after its recorded ancestors.
 fn push_way(alloc: Global, all: &mut Vec<Path>, tree: &Tree, path: &Path) -> Result<(), AllocError>
     ensures { OnOk result (all.new.items ≡ all.old.items ++ (ancestors path.now tree.now.files ++ path.now ∷ [])) }
 {
@@ -139,7 +138,7 @@ fn push_way(alloc: Global, all: &mut Vec<Path>, tree: &Tree, path: &Path) -> Res
     Ok(())
 }
 
-/// Each path, after those of the recorded directories above it.
+/// Puts before each path its recorded ancestors.
 fn with_ways(alloc: Global, tree: &Tree, paths: &Paths) -> Result<Paths, AllocError>
     ensures { IfOk result (λ all. all ≡ ways paths.now tree.now.files) }
 {
@@ -150,7 +149,7 @@ fn with_ways(alloc: Global, tree: &Tree, paths: &Paths) -> Result<Paths, AllocEr
     Ok(Paths::new(all))
 }
 
-/// The paths whose files are printed.
+/// Returns the paths whose files are printed.
 fn asked_paths(alloc: Global, tree: &Tree, paths: Paths, along: bool) -> Result<Paths, AllocError>
     ensures { IfOk result (λ asked. asked ≡ asked_paths along paths tree.now.files) }
 {
@@ -162,7 +161,7 @@ fn asked_paths(alloc: Global, tree: &Tree, paths: Paths, along: bool) -> Result<
     }
 }
 
-/// The files of these paths, each once, in path order; with `along` the recorded directories above them too.
+/// Returns the files of these paths, each once, in path order; with `along` their recorded ancestors too.
 ///
 /// # Errors
 ///
