@@ -24,7 +24,6 @@ use facl_answers::{files_at, push_file, written_names};
 use path_classes::tops_of;
 use std::alloc::{AllocError, Global};
 
-/// Adds the lines of files.
 fn push_found(text: &mut Vec<u8>, files: &[FoundFile<'_>]) -> Result<(), AllocError>
     ensures { OnOk result (text.new.items ≡ text.old.items ++ flat_map file_line files.now) }
 {
@@ -34,7 +33,7 @@ fn push_found(text: &mut Vec<u8>, files: &[FoundFile<'_>]) -> Result<(), AllocEr
     Ok(())
 }
 
-/// Adds the line of a user, where there is a file.
+/// Adds the line of a user, if there is a file.
 fn push_sum(
     alloc: Global,
     text: &mut Vec<u8>,
@@ -52,7 +51,6 @@ fn push_sum(
     push_found(text, &files)
 }
 
-/// Adds the lines of users.
 fn push_sums(
     alloc: Global,
     text: &mut Vec<u8>,
@@ -70,7 +68,7 @@ fn push_sums(
     Ok(())
 }
 
-/// The paths of files that are below none of the others, in path order. Fails only if memory runs out.
+/// Returns the paths of files that are below none of the others, in path order.
 fn tops<'a>(alloc: Global, files: &[FoundFile<'a>]) -> Result<Vec<&'a Path>, AllocError>
     requires { IsInOrder (map (λ file. (file.path, file.node)) files.now) }
     ensures tops { IfOk result (λ tops. AreTops (paths_seen tops.items)) }
@@ -102,7 +100,7 @@ fn add_all<'a, J: Judge>(
     Ok(())
 }
 
-/// Adds the files at a path or below it to the sums of users, where files before them were added.
+/// Adds the files at a path or below it to the sums of users; all files before them were added.
 fn add_below<'a, J: Judge>(
     alloc: Global,
     sums: &mut UserSums<'a>,
@@ -124,8 +122,8 @@ fn add_below<'a, J: Judge>(
     Ok(())
 }
 
-/// For each user on how many files at or below some paths a request is granted, and the first of these files: path by path,
-/// so that no other file is looked at.
+/// Counts for each user on how many files at or below `tops` a request is granted, and finds the first of these
+/// files: path by path, so that no other file is looked at.
 fn sums_below<'a, J: Judge>(
     alloc: Global,
     verdicts: &Verdicts<'a, J>,
@@ -144,8 +142,8 @@ fn sums_below<'a, J: Judge>(
     Ok(sums)
 }
 
-/// What `below` prints: for each user, in the order of the rows, who is granted a request on a file at or below one of
-/// some paths, a line of the number of these files, the user's name and the first of them in path order.
+/// Writes what `below` prints: for each user, in the order of the rows, who is granted a request on a file at or
+/// below one of some paths, a line of the number of these files, the user's name and the first of them in path order.
 ///
 /// # Errors
 ///

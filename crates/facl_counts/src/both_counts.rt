@@ -12,7 +12,7 @@ use facl_answers::{BothClasses, Sides};
 use std::alloc::{AllocError, Global};
 use std::collections::BTreeMap;
 
-/// A number of a class, if there is one.
+/// Encodes a class as a number; 0 is none.
 fn number(class: Option<usize>) -> u64 {
     match class {
         Some(class) => (class as u64).wrapping_add(1),
@@ -20,14 +20,14 @@ fn number(class: Option<usize>) -> u64 {
     }
 }
 
-/// A number of a key for hints. Two keys may have the same one.
+/// Hashes a key for `hints`. Two keys may have the same hash.
 fn code(key: Sides) -> u64 {
     number(key.0)
         .wrapping_mul(1 << 32)
         .wrapping_add(number(key.1))
 }
 
-/// The place that is kept with a number, or the first one.
+/// Returns the place that is kept with a hash, or the first one.
 fn hint_at(hints: &BTreeMap<u64, usize>, code: u64) -> usize {
     match hints.get(&code) {
         Some(at) => *at,
@@ -35,7 +35,7 @@ fn hint_at(hints: &BTreeMap<u64, usize>, code: u64) -> usize {
     }
 }
 
-/// Keeps the place of a key that was not at the place where it was expected. Fails only if memory runs out.
+/// Keeps the place of a key that was not at the place where it was expected.
 fn expect(
     hints: &mut BTreeMap<u64, usize>,
     code: u64,
@@ -48,8 +48,7 @@ fn expect(
     Ok(())
 }
 
-/// How many of the files of both that are to come have each key, as long as they are at a path or below it. Fails only if memory,
-/// or the numbers, run out.
+/// Counts by keys the next files of both, as long as they are at a path or below it.
 pub(crate) fn count_within<'a>(
     alloc: Global,
     both: &mut BothClasses<'a>,

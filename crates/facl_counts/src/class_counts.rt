@@ -16,8 +16,8 @@ use acl_rights::{Cells, ClassFiles, FileClasses};
 use facl_answers::Sides;
 use std::alloc::{AllocError, Global};
 
-/// Counts files of a class more. Classes have numbers in the order in which their files come first, so the count of a class is
-/// expected at its number. Fails only if memory, or the numbers, run out.
+/// Adds files of a class to the counts. Classes have numbers in the order in which their files come first, so the
+/// count of a class is expected at its number.
 fn count<'a>(tallies: &mut Tallies<'a>, files: ClassFiles<'a>) -> Result<(), AllocError>
     ensures { OnOk result ((others : List (Tallied Sides)) → SaysAs tallies.old others
         → SaysAs tallies.new (others ++ of_class (class_tally files.entry) ∷ [])) }
@@ -27,7 +27,7 @@ fn count<'a>(tallies: &mut Tallies<'a>, files: ClassFiles<'a>) -> Result<(), All
     Ok(())
 }
 
-/// The next file with its class, if it is at a path or below it.
+/// Returns the next file with its class, if it is at a path or below it.
 fn next_within<'a>(
     alloc: Global,
     classes: &mut FileClasses<'a>,
@@ -41,7 +41,7 @@ fn next_within<'a>(
     }
 }
 
-/// Counts the files at or below a path by their classes, as long as they come first.
+/// Counts the next files by their classes, as long as they are at or below a path.
 pub(crate) fn count_files<'a>(
     alloc: Global,
     classes: &mut FileClasses<'a>,
@@ -61,7 +61,7 @@ pub(crate) fn count_files<'a>(
     Ok(tallies)
 }
 
-/// Counts files that are counted by classes already, where a class may come more than once.
+/// Joins counts by classes, in which a class may come more than once.
 pub(crate) fn count_found<'a>(
     alloc: Global,
     found: &[ClassFiles<'a>],
@@ -75,7 +75,7 @@ pub(crate) fn count_found<'a>(
     Ok(tallies)
 }
 
-/// The row of the class of a key, if there is one. Fails only if memory runs out.
+/// Returns the row of the class of a key, if there is one.
 fn row_of(
     alloc: Global,
     classes: &FileClasses<'_>,

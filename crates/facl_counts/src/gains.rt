@@ -26,13 +26,13 @@ use acl_tree::Tree;
 use facl_answers::{BothClasses, Sides, push_hex, root, text_of, users_of_both};
 use std::alloc::{AllocError, Global};
 
-/// The number of sides: not there, or one of 256 bytes.
+/// The number of sides: absent, or one of 256 bytes.
 const SIDES: usize = 257;
 
-/// What is granted before and after; none where the user or the file is not there.
+/// What is granted before and after; `None` if the user or the file is absent.
 type Granted = (Option<u8>, Option<u8>);
 
-/// The side of a number: first the one that is not there.
+/// Returns the side of a number: 0 is the absent one.
 fn side_of(number: usize) -> Option<u8>
     requires { number < 257 }
     ensures { result ≡ side_of number }
@@ -44,7 +44,7 @@ fn side_of(number: usize) -> Option<u8>
     }
 }
 
-/// Whether a side of a key is this one.
+/// Tells whether a side of a key is this one.
 fn is_same_side(side: Option<u8>, other: Option<usize>) -> bool
     ensures { result ≡ is_same_side side other }
 {
@@ -57,14 +57,14 @@ fn is_same_side(side: Option<u8>, other: Option<usize>) -> bool
     }
 }
 
-/// Whether a key is this one.
+/// Tells whether a key is this one.
 fn is_same(granted: Granted, key: Sides) -> bool
     ensures { result ≡ is_same granted key }
 {
     is_same_side(granted.0, key.0) && is_same_side(granted.1, key.1)
 }
 
-/// Adds what is granted: two hex digits, or `--` where the user or the file is not there.
+/// Adds what is granted: two hex digits, or `--` if the user or the file is absent.
 fn push_side(text: &mut Vec<u8>, side: Option<u8>) -> Result<(), AllocError>
     ensures { Appends result text.old text.new (side_text side) }
 {
@@ -77,7 +77,6 @@ fn push_side(text: &mut Vec<u8>, side: Option<u8>) -> Result<(), AllocError>
     }
 }
 
-/// Adds what is granted, and a space.
 fn push_spaced_side(text: &mut Vec<u8>, side: Option<u8>) -> Result<(), AllocError>
     ensures { Appends result text.old text.new (spaced (side_text side)) }
 {
@@ -102,7 +101,6 @@ fn push_counted(text: &mut Vec<u8>, count: u64, user: &[u8], path: &[u8]) -> Res
     push_path(text, path)
 }
 
-/// Adds a line.
 fn push_line(
     text: &mut Vec<u8>,
     granted: Granted,
@@ -116,7 +114,7 @@ fn push_line(
     push_counted(text, count, user, path)
 }
 
-/// A sum with a count, where it counts. Fails only if the numbers run out.
+/// Adds a count to a sum, if `counts` says so.
 fn with_count(sum: u64, counts: bool, count: u64) -> Result<u64, AllocError>
     ensures { IfOk result (λ new. new ≡ sum + (if counts then count else 0)) }
 {
@@ -126,7 +124,7 @@ fn with_count(sum: u64, counts: bool, count: u64) -> Result<u64, AllocError>
     together(sum, count)
 }
 
-/// How many files have a key. Fails only if the numbers run out.
+/// Sums the counts of a key.
 fn count_of(tallies: &[Tally<'_>], granted: Granted) -> Result<u64, AllocError>
     ensures { IfOk result (λ count. count ≡ count_where (is_same granted) (map tallied tallies.now)) }
 {
@@ -138,7 +136,7 @@ fn count_of(tallies: &[Tally<'_>], granted: Granted) -> Result<u64, AllocError>
     Ok(sum)
 }
 
-/// The first file that has a key.
+/// Returns the first file that has a key.
 fn first_of<'a>(tallies: &[Tally<'a>], granted: Granted) -> Option<&'a Path>
     ensures { option_map (λ path. path.now) result ≡ first_where (is_same granted) (map tallied tallies.now) }
 {
@@ -150,7 +148,7 @@ fn first_of<'a>(tallies: &[Tally<'a>], granted: Granted) -> Option<&'a Path>
     None
 }
 
-/// Whether some count has a key with this side before.
+/// Tells whether some count has a key with this side before.
 fn has_before(tallies: &[Tally<'_>], before: Option<u8>) -> bool
     ensures { result ≡ list_any (is_before before) tallies.now }
 {
@@ -199,7 +197,7 @@ fn push_after(
     Ok(())
 }
 
-/// Adds a user's lines of the changes with this side before. No file has one where no count has the side.
+/// Adds a user's lines of the changes with this side before. No file has one if no count has the side.
 fn push_before(
     alloc: Global,
     text: &mut Vec<u8>,
@@ -217,7 +215,6 @@ fn push_before(
     push_after(alloc, text, loaded, now, user, tallies, before)
 }
 
-/// Adds a user's lines.
 fn push_user(
     alloc: Global,
     text: &mut Vec<u8>,
@@ -234,7 +231,6 @@ fn push_user(
     Ok(())
 }
 
-/// Adds the lines of users.
 fn push_users(
     alloc: Global,
     text: &mut Vec<u8>,
@@ -291,7 +287,7 @@ fn count_inside<'x, J: Judge>(
     Ok(())
 }
 
-/// Counts each user's changes. Where no user has another place than before, only the files of the part are looked at
+/// Counts each user's changes. If no user has another place than before, only the files of the part are looked at
 /// outside which users may do the same in both states.
 fn count_all<'x, J: Judge>(
     alloc: Global,
@@ -313,7 +309,7 @@ fn count_all<'x, J: Judge>(
     }
 }
 
-/// The users of both states, with their changes counted.
+/// Collects the users of both states, with their changes counted.
 fn gains_of_users<'x, J: Judge>(
     alloc: Global,
     loaded: &'x IndexedState<J>,
@@ -334,8 +330,8 @@ fn gains_of_users<'x, J: Judge>(
     Ok(users)
 }
 
-/// What `gains` prints, where users may do the same in both states outside a part of the tree, what is at or below some paths:
-/// it is a walk over both states' files for each of them. Fails only if memory runs out.
+/// Writes what `gains` prints, if users may do the same in both states outside a part of the tree, what is at or
+/// below `tops`: a walk over both states' files for each of these.
 pub fn write_gains_within<'x, J: Judge>(
     alloc: Global,
     loaded: &'x IndexedState<J>,
@@ -353,9 +349,9 @@ pub fn write_gains_within<'x, J: Judge>(
     Ok(text)
 }
 
-/// What `gains` prints: for each user of either state and each change of what the user is granted, how many files have
-/// it, and the first of them; with those verdicts that are asked of the present state, on the files alone or along their
-/// paths. It is one walk over both states' files. Fails only if memory runs out.
+/// Writes what `gains` prints: for each user of either state and each change of what the user is granted, how many
+/// files have it, and the first of them; by the verdicts on the files alone or along their paths, as `verdicts` says.
+/// It is one walk over both states' files.
 pub fn write_gains<'x, J: Judge>(
     alloc: Global,
     loaded: &'x IndexedState<J>,

@@ -17,8 +17,8 @@ ghost use Rattle.facl_counts.specs.BelowText.{below_line, granted_below};
 ghost use Rattle.facl_counts.specs.GainsLaws.{AreBytes, IsWithoutChange, changed_files, changed_pairs, counted, is_changed};
 ghost use Rattle.facl_counts.specs.GainsText.{gains_text, is_kept};
 
-/// Proof only: the files that `below` counts for a user are those of the files that `may` lists which are at or below one
-/// of the paths; so the user has a line exactly where `may` lists such a file.
+/// Proof only: the files that `below` counts for a user are those of the files that `may` lists which are at or below
+/// one of the paths; so the user has a line exactly if `may` lists such a file.
 pub fn below_counts_what_may_lists()
     ensures files { (V : Verdict) (along : Bool) (s : StateOf) (q : Perms) (paths : List PathOf) (row : PasswdRow)
         → granted_below V along s q paths row ≡ filter (λ file. is_file true paths file.path) (filter (λ file. has (granted V along s row (file.path, file.node)) q) (all_files s)) }
@@ -27,8 +27,9 @@ pub fn below_counts_what_may_lists()
         ↔ (filter (λ file. is_file true paths file.path) (filter (λ file. has (granted V along s row (file.path, file.node)) q) (all_files s)) ≡ []) }
 {}
 
-/// Proof only: `gains` prints nothing exactly where no file of both states is a change for a user of both, if each verdict is
-/// a byte. A file that is there before and after is a change exactly where `changes` has a line of it and the user.
+/// Proof only: `gains` prints nothing exactly if no file of both states is a change for a user of both, if each
+/// verdict is a byte. A file that is there before and after is a change exactly if `changes` has a line of it and the
+/// user.
 pub fn gains_print_all_that_changes()
     ensures silent { (V : Verdict) (along : Bool) (loaded now : StateOf) → IsWithoutChange V along loaded now → gains_text V along loaded now ≡ [] }
     ensures complete { (V : Verdict) (along : Bool) (loaded now : StateOf) → AreBytes V → gains_text V along loaded now ≡ [] → IsWithoutChange V along loaded now }

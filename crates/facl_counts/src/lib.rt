@@ -1,7 +1,11 @@
-//! What `below` and `gains` print: for each user on how many files a request is granted or changes, and the first of them.
+//! What `below` and `gains` print: for each user on how many files a request is granted or changes, and the first of
+//! them.
 //!
 //! The files are counted once for all users, by classes of files that have the same row of the index, without a new
 //! verdict.
+//!
+//! A call whose only error is `AllocError` fails only if memory runs out, or if a count would be too large. A
+//! function that returns no `Result` allocates nothing.
 #![tactic(auto)]
 
 mod below;

@@ -21,8 +21,8 @@ pub(crate) struct UserSum<'a> {
     pub first: Option<&'a Path>,
 }
 
-/// Whether a row grants a request to one of the users who wait. The loop does not end early, so that it looks at many at a
-/// time.
+/// Tells whether a row grants a request to one of the users who wait. The loop does not end early, so that it looks
+/// at many at a time.
 fn grants_one(waits: &[bool], row: &[Requests], request: Perm) -> bool
     ensures { result ≡ grants_one request row.now waits.now }
 {
@@ -34,7 +34,7 @@ fn grants_one(waits: &[bool], row: &[Requests], request: Perm) -> bool
     found
 }
 
-/// The file of a user who has none before, where a file's verdict grants the request.
+/// Returns the first file of a user: `before`, or else `first`, if its verdict grants the request.
 fn first_where<P: Copy>(before: Option<P>, granted: Requests, request: Perm, first: P) -> Option<P>
     ensures { result ≡ (if has granted request then option_or before (Some first) else before) }
 {
@@ -50,7 +50,7 @@ fn first_where<P: Copy>(before: Option<P>, granted: Requests, request: Perm, fir
     }
 }
 
-/// Adds a file for the users to whom a row grants a request, and who have none.
+/// Records a file for the users to whom a row grants a request, and who have none.
 fn add_firsts<P: Copy>(firsts: &mut [Option<P>], row: &[Requests], request: Perm, first: P)
     ensures { firsts.new ≡ firsts_after request first row.now firsts.old }
 {
@@ -60,7 +60,7 @@ fn add_firsts<P: Copy>(firsts: &mut [Option<P>], row: &[Requests], request: Perm
     }
 }
 
-/// Who has no file still waits.
+/// Recomputes `waits`: true for users without a first file.
 fn look_again(waits: &mut [bool], firsts: &[Option<&Path>])
     requires { length waits.old ≡ length firsts.now }
     ensures { waits.new ≡ waits_of firsts.now }
@@ -70,7 +70,7 @@ fn look_again(waits: &mut [bool], firsts: &[Option<&Path>])
     }
 }
 
-/// The sums of users, who are all that there are: the counts and the first files apart, and who has no file yet.
+/// The sums of all users: the counts and the first files apart, and who has no file yet.
 #[derive(Drop)]
 pub(crate) struct UserSums<'a> {
     counts: UserCounts,
@@ -91,7 +91,7 @@ impl<'a> Model for UserSums<'a> {
 }
 
 impl<'a> UserSums<'a> {
-    /// No file, for each user of these names.
+    /// Returns sums without files, for each user of these names.
     pub fn new(alloc: Global, names: &[Vec<u8>]) -> Result<UserSums<'a>, AllocError>
         ensures { IfOk result (λ sums. sums ≡ map no_sum names.now) }
     {
@@ -105,8 +105,7 @@ impl<'a> UserSums<'a> {
         })
     }
 
-    /// Adds files to the sums of the users to whom their row grants a request; they come later. Fails only if the numbers
-    /// run out.
+    /// Adds files to the sums of the users to whom their row grants a request. They come after the files so far.
     pub fn add_row(
         &mut self,
         row: &[Requests],
@@ -123,7 +122,7 @@ impl<'a> UserSums<'a> {
         Ok(())
     }
 
-    /// The sum of the user at a place, if there is one. Allocates nothing.
+    /// Returns the sum of the user at a place, if there is one.
     pub fn get(&self, at: usize) -> Option<UserSum<'a>>
         ensures { option_map sum_of result ≡ slice_get self.now at }
     {

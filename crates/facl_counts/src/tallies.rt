@@ -18,7 +18,7 @@ pub(crate) struct Tally<'a> {
     pub first: &'a Path,
 }
 
-/// Two counts together. Fails only if the number does not fit.
+/// Adds two counts. Fails if the sum does not fit.
 pub(crate) fn together(count: u64, more: u64) -> Result<u64, AllocError>
     ensures { IfOk result (λ sum. sum ≡ count + more) }
 {
@@ -41,7 +41,6 @@ impl<'a> Model for Tallies<'a> {
 }
 
 impl<'a> Tallies<'a> {
-    /// None. Allocates nothing.
     pub fn new(alloc: Global) -> Tallies<'a>
         ensures { result ≡ [] }
     {
@@ -50,14 +49,13 @@ impl<'a> Tallies<'a> {
         }
     }
 
-    /// The counts. Allocates nothing.
     pub fn as_slice(&self) -> &[Tally<'a>]
         ensures { map tallied result.now ≡ self.now }
     {
         &self.list
     }
 
-    /// Whether the count at a place has a key.
+    /// Tells whether the count at a place has a key.
     fn has(&self, at: usize, key: Sides) -> bool
         ensures { result ≡ true → HasKey self.now at key }
     {
@@ -67,7 +65,7 @@ impl<'a> Tallies<'a> {
         }
     }
 
-    /// The place of the count of a key: first where it is expected. Past the counts if there is none.
+    /// Returns the place of the count of a key: `hint` is tried first. Past the counts if there is none.
     pub fn place_of(&self, hint: usize, key: Sides) -> usize {
         if self.has(hint, key) {
             return hint;
@@ -80,8 +78,8 @@ impl<'a> Tallies<'a> {
         self.list.len()
     }
 
-    /// So many files more have a key, of which one is the first: they are counted at a place where the key is expected, or
-    /// anew. Returns the place. Fails only if memory, or the numbers, run out.
+    /// Adds `count` files to the count of a key; `first` is the first of them. The key is expected at `at`, else it
+    /// is searched for or added. Returns the place.
     pub fn add(
         &mut self,
         at: usize,

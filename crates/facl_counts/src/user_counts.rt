@@ -1,5 +1,5 @@
-//! For each user on how many files a request is granted: a narrow number, to which few files are added for many users at a
-//! time, and a wide one, to which narrow ones are added before they run out.
+//! Counts for each user on how many files a request is granted: in a narrow number, to which few files are added for
+//! many users at a time, and a wide one, to which narrow ones are added before they overflow.
 
 ghost use Rattle.std.specs.Prelude.{◌≡◌, ◌+◌, ◌<◌, ◌^◌, length, replicate, slice_get, if◌then◌else◌, IfOk, OnOk};
 ghost use Rattle.acl_entry.specs.Check.{has};
@@ -10,25 +10,25 @@ use acl_entry::{Perm, Requests};
 use std::alloc::{AllocError, Global};
 use std::marker::Model;
 
-/// Fewer files than this are added to narrow numbers, of which each holds four times as many.
-const FEW: u64 = 64;
+/// From this many files on a count is added to the wide numbers. A narrow number holds four times as many.
+const MIN_WIDE: u64 = 64;
 
-/// A number, where a file's verdict grants the request.
+/// Returns `more`, if a file's verdict grants the request, else 0.
 fn where_granted(granted: Requests, request: Perm, more: u64) -> u64
     ensures { result ≡ (if has granted request then more else 0) }
 {
     if granted.has(request) { more } else { 0 }
 }
 
-/// A narrow number, where a file's verdict grants the request.
+/// Returns `more`, if a file's verdict grants the request, else 0.
 fn few_where_granted(granted: Requests, request: Perm, more: u8) -> u8
     ensures { result ≡ (if has granted request then more else 0) }
 {
     if granted.has(request) { more } else { 0 }
 }
 
-/// Adds a number to the counts of the users to whom a row grants a request. The loop always writes, so that it adds many
-/// at a time.
+/// Adds `more` to the counts of the users to whom a row grants a request. The loop always writes, so that it adds
+/// many at a time.
 fn add_counts(counts: &mut [u64], row: &[Requests], request: Perm, more: u64)
     requires { AreSmall (2 ^ 64) more counts.old }
     ensures { counts.new ≡ counts_after request more row.now counts.old }
@@ -39,7 +39,7 @@ fn add_counts(counts: &mut [u64], row: &[Requests], request: Perm, more: u64)
     }
 }
 
-/// Adds a number to narrow counts, as `add_counts` does to wide ones: to eight times as many at a time.
+/// Adds `more` to narrow counts, as `add_counts` does to wide ones: to eight times as many at a time.
 fn add_few(counts: &mut [u8], row: &[Requests], request: Perm, more: u8)
     requires { AreSmall (2 ^ 8) more counts.old }
     ensures { counts.new ≡ counts_after request more row.now counts.old }
@@ -61,7 +61,6 @@ fn add_narrow(wide: &mut [u64], narrow: &[u8])
     }
 }
 
-/// Makes narrow counts zero.
 fn clear(narrow: &mut [u8])
     ensures { narrow.new ≡ replicate (length narrow.old) 0 }
 {
@@ -70,8 +69,8 @@ fn clear(narrow: &mut [u8])
     }
 }
 
-/// Makes room for `more` in narrow counts, of which none is above `most`: adds them to the wide ones where there is none.
-/// Returns what none is above then.
+/// Makes room for `more` in narrow counts, of which none is above `most`: if there is none, adds them to the wide
+/// ones. Returns the new `most`.
 fn make_room(wide: &mut [u64], narrow: &mut [u8], most: u8, more: u8) -> u8
     requires long { length wide.old ≡ length narrow.old }
     requires small { AreSmall (2 ^ 64) 0 (totals wide.old narrow.old) }
@@ -88,8 +87,8 @@ fn make_room(wide: &mut [u64], narrow: &mut [u8], most: u8, more: u8) -> u8
     0
 }
 
-/// Adds `more` to the counts of the users to whom a row grants a request: to the narrow ones, of which none is above `most`,
-/// where it is few. Returns what none of these is above then.
+/// Adds `more` to the counts of the users to whom a row grants a request: to the narrow ones, of which none is above
+/// `most`, unless it is too large for them. Returns the new `most`.
 fn add_to_parts(
     wide: &mut [u64],
     narrow: &mut [u8],
@@ -104,7 +103,7 @@ fn add_to_parts(
     ensures added { totals wide.new narrow.new ≡ counts_after request more row.now (totals wide.old narrow.old) }
     ensures few { AreWithin result narrow.new }
 {
-    if more >= FEW {
+    if more >= MIN_WIDE {
         add_counts(wide, row, request, more);
         return most;
     }
@@ -114,7 +113,7 @@ fn add_to_parts(
     most + few
 }
 
-/// A list that has a value `count` times. Fails only if memory runs out.
+/// Returns a list that has a value `count` times.
 pub(crate) fn repeated<T: Copy>(alloc: Global, count: usize, value: T) -> Result<Vec<T>, AllocError>
     ensures { IfOk result (λ list. list.items ≡ replicate count value) }
 {
@@ -123,7 +122,7 @@ pub(crate) fn repeated<T: Copy>(alloc: Global, count: usize, value: T) -> Result
     Ok(list)
 }
 
-/// The item at a place, if there is one.
+/// Returns the item at a place, if there is one.
 pub(crate) fn item_at<T: Copy>(items: &[T], at: usize) -> Option<T>
     ensures { result ≡ slice_get items.now at }
 {
@@ -133,7 +132,7 @@ pub(crate) fn item_at<T: Copy>(items: &[T], at: usize) -> Option<T>
     }
 }
 
-/// The counts of users: wide and narrow numbers, which are added where a count is read.
+/// The counts of users: wide and narrow numbers, which are added when a count is read.
 #[derive(Drop)]
 pub(crate) struct UserCounts {
     wide: Vec<u64>,
@@ -156,7 +155,7 @@ impl Model for UserCounts {
 }
 
 impl UserCounts {
-    /// No file, for each of some users. Fails only if memory runs out.
+    /// Returns counts of no file, for `users` users.
     pub fn new(alloc: Global, users: usize) -> Result<UserCounts, AllocError>
         ensures { IfOk result (λ counts. counts ≡ replicate users 0) }
     {
@@ -170,7 +169,7 @@ impl UserCounts {
         })
     }
 
-    /// Adds `more` to the counts of the users to whom a row grants a request. Fails only if the numbers run out.
+    /// Adds `more` to the counts of the users to whom a row grants a request.
     pub fn add(&mut self, row: &[Requests], request: Perm, more: u64) -> Result<(), AllocError>
         ensures { OnOk result (self.new ≡ counts_after request more row.now self.old) }
     {
@@ -188,7 +187,7 @@ impl UserCounts {
         Ok(())
     }
 
-    /// The count of the user at a place, if there is one. Allocates nothing.
+    /// Returns the count of the user at a place, if there is one.
     pub fn get(&self, at: usize) -> Option<u64>
         ensures { result ≡ slice_get self.now at }
     {

@@ -1,4 +1,4 @@
-//! For each user how many files have each change of what the user is granted, and which is the first.
+//! Counts for each user how many files have each change of what the user is granted, and finds the first.
 
 ghost use Rattle.std.specs.Prelude.{◌≡◌, ◌<◌, ◌||◌, [], true, IfOk, OnOk, map, unwrap_or};
 ghost use Rattle.std.specs.Option.{option_copied};
@@ -31,7 +31,7 @@ pub(crate) struct GivenRow<'r> {
     pub row: &'r [Requests],
 }
 
-/// A row, if there is one.
+/// Borrows a row, if there is one.
 fn given(row: &Option<Cells>) -> GivenRow<'_>
     ensures { row_given result ≡ row.now }
 {
@@ -47,7 +47,7 @@ fn given(row: &Option<Cells>) -> GivenRow<'_>
     }
 }
 
-/// What a row grants the user at a place, if both are there.
+/// Returns what a row grants the user at a place, if both are there.
 fn cell(given: &GivenRow<'_>, place: Option<usize>) -> Option<Requests>
     ensures { result ≡ verdict_given (row_given given.now) place }
 {
@@ -63,7 +63,7 @@ fn cell(given: &GivenRow<'_>, place: Option<usize>) -> Option<Requests>
     }
 }
 
-/// What is granted, as a byte; nothing where the user or the file is not there.
+/// Encodes what is granted as a byte; 0 if the user or the file is absent.
 fn byte_of(granted: Option<Requests>) -> u8
     ensures { result ≡ unwrap_or granted 0 }
 {
@@ -73,15 +73,15 @@ fn byte_of(granted: Option<Requests>) -> u8
     }
 }
 
-/// Whether a request is granted `before` and not `after`, or the other way round. Looks past the lowest bit, the request for
-/// nothing.
+/// Tells whether a request is granted `before` and not `after`, or the other way round. Ignores the lowest bit, the
+/// request for nothing.
 fn differ(before: u8, after: u8) -> bool
     ensures { result ≡ (is_gained before after || is_gained after before) }
 {
     before >> 1 != after >> 1
 }
 
-/// Whether it is a change that these requests are granted before and after.
+/// Tells whether it is a change that these requests are granted before and after.
 fn is_change(is_kept: bool, before: Option<Requests>, after: Option<Requests>) -> bool
     ensures { result ≡ is_change is_kept (before, after) }
 {
@@ -91,7 +91,7 @@ fn is_change(is_kept: bool, before: Option<Requests>, after: Option<Requests>) -
     differ(byte_of(before), byte_of(after))
 }
 
-/// What is granted, as a number.
+/// Encodes what is granted as a number.
 fn side(granted: Option<Requests>) -> Option<usize>
     ensures { result ≡ granted }
 {
@@ -101,7 +101,7 @@ fn side(granted: Option<Requests>) -> Option<usize>
     }
 }
 
-/// The change of a file with these rows for a user, if it is one.
+/// Returns the change of a file with these rows for a user, if it is one.
 fn change_of(user: &PlacedUser, before: &GivenRow<'_>, after: &GivenRow<'_>) -> Option<Sides>
     ensures { result ≡ change_of (placed_of user.now).1 (row_given before.now, row_given after.now) }
 {
@@ -114,8 +114,8 @@ fn change_of(user: &PlacedUser, before: &GivenRow<'_>, after: &GivenRow<'_>) -> 
     }
 }
 
-/// Which of the requests for execute, write and read alone `side` grants, the bits 1, 2 and 4 of it, as a number below 8.
-/// They mostly decide the other requests.
+/// Returns which of the requests for execute, write and read alone `side` grants, the bits 1, 2 and 4 of it, as a
+/// number below 8. They mostly decide the other requests.
 fn digit(side: Option<usize>) -> usize
     ensures { result < 8 }
 {
@@ -123,7 +123,7 @@ fn digit(side: Option<usize>) -> usize
     granted / 2 % 4 + granted / 16 % 2 * 4
 }
 
-/// The number of the hint for a change. Two changes may have the same one.
+/// Hashes a change to the number of its hint. Two changes may have the same one.
 fn hint_number(key: Sides) -> usize
     ensures { result < 64 }
 {
@@ -131,7 +131,7 @@ fn hint_number(key: Sides) -> usize
 }
 
 impl<'a> UserGains<'a> {
-    /// Counts `count` files more with these rows, of which `first` is the first.
+    /// Counts `count` further files with these rows; `first` is the first of them.
     fn count(
         &mut self,
         before: &GivenRow<'_>,
@@ -152,7 +152,7 @@ impl<'a> UserGains<'a> {
     }
 }
 
-/// Counts `count` files more with these rows for each user.
+/// Counts `count` further files with these rows for each user.
 fn count_for_each<'a>(
     users: &mut [UserGains<'a>],
     before: &GivenRow<'_>,
@@ -168,7 +168,7 @@ fn count_for_each<'a>(
     Ok(())
 }
 
-/// Whether a file is there before and after, with the same row.
+/// Tells whether a file is there before and after, with the same row.
 fn row_stays(before: &GivenRow<'_>, after: &GivenRow<'_>) -> bool
     ensures { result ≡ true → RowStays (row_given before.now, row_given after.now) }
 {
@@ -180,7 +180,7 @@ fn row_stays(before: &GivenRow<'_>, after: &GivenRow<'_>) -> bool
     false
 }
 
-/// Whether each user has the same place in both states, or none in both.
+/// Tells whether each user has the same place in both states, or none in both.
 pub(crate) fn keep_places(users: &[UserGains<'_>]) -> bool
     ensures { result ≡ list_all keeps users.now }
 {
@@ -189,8 +189,8 @@ pub(crate) fn keep_places(users: &[UserGains<'_>]) -> bool
         .all(|entry| same_place(entry.user.before, entry.user.after))
 }
 
-/// Counts `count` files more with these rows for each user: `is_kept` says that all keep their places. There is no change where
-/// the rows and the users are the same.
+/// Counts `count` further files with these rows for each user: `is_kept` says that all keep their places. Nothing
+/// changes if the rows and the users are the same.
 fn count_rows<'a>(
     users: &mut [UserGains<'a>],
     is_kept: bool,
@@ -208,7 +208,7 @@ fn count_rows<'a>(
     count_for_each(users, before, after, count, first)
 }
 
-/// Counts the files of one key more for each user: `is_kept` says that all keep their places.
+/// Counts the files of one key for each user: `is_kept` says that all keep their places.
 fn count_tally<'a>(
     alloc: Global,
     users: &mut [UserGains<'a>],
@@ -234,7 +234,7 @@ fn count_tally<'a>(
     )
 }
 
-/// Counts the changes of each user, out of counts of files by classes.
+/// Counts the changes of each user from counts of files by classes.
 pub(crate) fn count_changes<'a>(
     alloc: Global,
     users: &mut [UserGains<'a>],
@@ -250,7 +250,7 @@ pub(crate) fn count_changes<'a>(
     Ok(())
 }
 
-/// The users, with no file counted.
+/// Returns the users, with no file counted.
 pub(crate) fn without_counts<'a>(
     alloc: Global,
     users: Vec<PlacedUser>,

@@ -7,8 +7,8 @@ use Rattle.facl_counts.proofs.user_counts.add_to_parts.Goals as goal
 pub add_counts-requires : goal.add_counts-requires
 add_counts-requires c = wide_small (2 ^ 64) c.args.more c.args.wide.now c.args.narrow.now c.requires.long c.requires.small
 
-pub returns-then-more-ge-FEW : goal.returns-then-more-ge-FEW
-returns-then-more-ge-FEW c = record {
+pub returns-then-more-ge-MIN_WIDE : goal.returns-then-more-ge-MIN_WIDE
+returns-then-more-ge-MIN_WIDE c = record {
   added = ap (λ wide. totals wide c.args.narrow.now) c.add_counts.ensures ∙ many_added c.args.request c.args.more c.args.row.now c.args.wide.now c.args.narrow.now;
   few = c.requires.few;
 }
