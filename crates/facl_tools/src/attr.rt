@@ -26,7 +26,7 @@ pub struct AttrLine<'a> {
     pub files: LineFiles<'a>,
 }
 
-/// The line that words give. `None` where they are usage.
+/// Reads the line of words. `None` if they are usage.
 pub fn read(words: &Words) -> Option<AttrLine<'_>>
     ensures { result ≡ read words.now }
 {

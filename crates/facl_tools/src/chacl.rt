@@ -16,7 +16,7 @@ use facl_output::{LineFault, Source, write_chacl_listing};
 use facl_script::{LineFiles, OperandRow, OptionRow, Syntax, Word, WordRef, Words};
 use std::alloc::Global;
 
-/// The words of the tool: lists, where the flags require them, and then files.
+/// The words of the tool: lists, if the flags require them, and then files.
 pub const SYNTAX: Syntax = Syntax {
     flags: &[
         by_letter!('b', "b"),
@@ -59,7 +59,7 @@ pub struct ChaclLine<'a> {
     pub files: LineFiles<'a>,
 }
 
-/// How many of the flags are given that select what is done.
+/// Counts the given flags that select what is done.
 fn tasks_given(words: &Words) -> usize
     ensures { result ≡ tasks_given words.now }
 {
@@ -72,7 +72,7 @@ fn tasks_given(words: &Words) -> usize
         + usize::from(words.has(syntax, "l"))
 }
 
-/// A task on these files.
+/// Joins a task and these files.
 fn on_files<'a>(task: Task<'a>, words: &'a [Word]) -> Option<(Task<'a>, LineFiles<'a>)>
     ensures { result ≡ on_files task.entry words.now }
 {
@@ -80,7 +80,7 @@ fn on_files<'a>(task: Task<'a>, words: &'a [Word]) -> Option<(Task<'a>, LineFile
     Some((task, files))
 }
 
-/// An access list is put into the files after it.
+/// Reads an access list, which is put into the files after it.
 fn read_access(words: &[Word]) -> Option<(Task<'_>, LineFiles<'_>)>
     ensures { result ≡ read_access words.now }
 {
@@ -91,7 +91,7 @@ fn read_access(words: &[Word]) -> Option<(Task<'_>, LineFiles<'_>)>
     on_files(task, files)
 }
 
-/// A default list is put.
+/// Reads a default list, which is put into the files after it.
 fn read_default(words: &[Word]) -> Option<(Task<'_>, LineFiles<'_>)>
     ensures { result ≡ read_default words.now }
 {
@@ -102,7 +102,7 @@ fn read_default(words: &[Word]) -> Option<(Task<'_>, LineFiles<'_>)>
     on_files(task, files)
 }
 
-/// Both are put.
+/// Reads both lists, which are put into the files after them.
 fn read_both(words: &[Word]) -> Option<(Task<'_>, LineFiles<'_>)>
     ensures { result ≡ read_both words.now }
 {
@@ -116,7 +116,7 @@ fn read_both(words: &[Word]) -> Option<(Task<'_>, LineFiles<'_>)>
     on_files(task, files)
 }
 
-/// The task of the flag that selects what is done.
+/// Returns the task of the flag that selects what is done.
 fn task_of<'a>(words: &Words, operands: &'a [Word]) -> Option<(Task<'a>, LineFiles<'a>)>
     ensures { result ≡ task_of words.now operands.now }
 {
@@ -138,7 +138,7 @@ fn task_of<'a>(words: &Words, operands: &'a [Word]) -> Option<(Task<'a>, LineFil
     }
 }
 
-/// The line that words give. `None` where they are usage: two tasks, or too few words.
+/// Reads the line of words. `None` if they are usage: two tasks, or too few words.
 pub fn read(words: &Words) -> Option<ChaclLine<'_>>
     ensures { result ≡ read words.now }
 {
@@ -218,7 +218,6 @@ fn put_both(
     edit_files(alloc, state, files, edit)
 }
 
-/// Prints the lists of files.
 fn list_files(alloc: Global, state: &State, files: &NamedFiles<'_>) -> Result<Effect, LineFault>
     ensures { Replies state.now result (list_files state.now files.now.recursive files.now.words.now) }
 {

@@ -30,7 +30,7 @@ pub struct ChmodLine<'a> {
     pub files: LineFiles<'a>,
 }
 
-/// The line that words give. `None` where they are usage.
+/// Reads the line of words. `None` if they are usage.
 pub fn read(words: &Words) -> Option<ChmodLine<'_>>
     ensures { result ≡ read words.now }
 {

@@ -34,19 +34,18 @@ pub struct CreatLine<'a> {
     pub user: WordRef<'a>,
     /// `--mode`: the requested permissions.
     pub mode: u16,
-    /// `--umask`: the permissions that are withheld, 022 where it is absent.
+    /// `--umask`: the permissions that are withheld, 022 if it is absent.
     pub umask: u16,
     pub file: WordRef<'a>,
 }
 
-/// The mode of an option's value.
+/// Reads the mode of an option's value.
 fn mode_given(value: Option<WordRef<'_>>) -> Option<u16>
     ensures { result ≡ mode_given value.entry }
 {
     permission_mode_of(value?.as_bytes())
 }
 
-/// A directory or a plain file.
 fn kind_of(is_directory: bool) -> Kind
     ensures { result ≡ kind_of is_directory }
 {
@@ -57,7 +56,7 @@ fn kind_of(is_directory: bool) -> Kind
     }
 }
 
-/// The line that words give. `None` where they are usage.
+/// Reads the line of words. `None` if they are usage.
 pub fn read(words: &Words) -> Option<CreatLine<'_>>
     ensures { result ≡ read words.now }
 {
@@ -75,7 +74,7 @@ pub fn read(words: &Words) -> Option<CreatLine<'_>>
     })
 }
 
-/// The new file of a line.
+/// Makes the new file of a line.
 fn new_file(alloc: Global, line: CreatLine<'_>) -> Result<NewFile, LineFault>
     ensures { Gives (λ new. new) result (new_file line.entry) }
 {

@@ -12,14 +12,14 @@ use std::alloc::Global;
 pub struct Effect {
     /// What is printed.
     pub out: Vec<u8>,
-    /// The state that replaces the present one; `None` where the state stays.
+    /// The state that replaces the present one; `None` if the state stays.
     pub staged: Option<Staged>,
     /// Whether default entries were dropped, which setfacl(1) warns of.
     pub warns: bool,
 }
 
 impl Effect {
-    /// The state stays, and this is printed.
+    /// Prints `out`, and keeps the state.
     pub fn prints(out: Vec<u8>) -> Effect
         ensures reply_of { (s : State) → reply_of s result ≡ printed s out.items }
         ensures staged { result.staged ≡ None }
@@ -31,7 +31,7 @@ impl Effect {
         }
     }
 
-    /// The state becomes this one, and nothing is printed.
+    /// Replaces the state, and prints nothing.
     pub fn changes(alloc: Global, staged: Staged) -> Effect
         ensures reply_of { (s : State) → reply_of s result ≡ record { state = staged.state; user_change = staged.user_change; out = []; warns = false } }
         ensures staged { result.staged ≡ Some staged }
@@ -43,7 +43,7 @@ impl Effect {
         }
     }
 
-    /// The same, with a warning or without one.
+    /// Sets whether the line warns.
     pub fn warning(mut self, warns: bool) -> Effect
         ensures reply_of { (s : State) → reply_of s result ≡ record (reply_of s self) { warns = warns } }
         ensures staged { result.staged ≡ self.staged }
@@ -52,7 +52,7 @@ impl Effect {
         self
     }
 
-    /// Nothing is done, and the state stays as it is.
+    /// Discards the effect: nothing is done, and the state stays as it is.
     pub fn give_up(self) {
         let Effect {
             out: _out,
@@ -65,7 +65,7 @@ impl Effect {
     }
 }
 
-/// The state after a command, prepared. The present state is left as it is.
+/// Prepares the state after a command. The present state is left as it is.
 pub(crate) fn prepared(
     alloc: Global,
     state: &State,
@@ -77,8 +77,8 @@ pub(crate) fn prepared(
     Ok(Effect::changes(alloc, staged))
 }
 
-/// The same of a command that is then dropped. A tool passes the one that it made: a command that goes out of scope is
-/// dear to prove, and one that is dropped by name is not.
+/// As `prepared`, but takes the command and drops it by name, which is cheaper to prove than letting it go out of
+/// scope.
 pub(crate) fn effect_of(
     alloc: Global,
     state: &State,

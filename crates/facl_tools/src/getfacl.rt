@@ -37,7 +37,7 @@ pub struct GetfaclLine<'a> {
     pub files: LineFiles<'a>,
 }
 
-/// Where effective permissions are printed: `-e` and `-E` exclude each other.
+/// Returns where effective permissions are printed: `-e` and `-E` exclude each other.
 fn effective_for(always: bool, never: bool) -> Option<Effective>
     ensures { result ≡ effective_for always never }
 {
@@ -49,7 +49,7 @@ fn effective_for(always: bool, never: bool) -> Option<Effective>
     }
 }
 
-/// The line that words give. `None` where they are usage.
+/// Reads the line of words. `None` if they are usage.
 pub fn read(words: &Words) -> Option<GetfaclLine<'_>>
     ensures { result ≡ read words.now }
 {

@@ -28,7 +28,7 @@ pub struct GpasswdLine<'a> {
     pub group: WordRef<'a>,
 }
 
-/// The line of a user who is added, or of one who is removed: one of the two is given.
+/// Makes the line of a user who is added, or of one who is removed: exactly one of the two is given.
 fn line_of<'a>(
     added: Option<WordRef<'a>>,
     removed: Option<WordRef<'a>>,
@@ -51,7 +51,7 @@ fn line_of<'a>(
     }
 }
 
-/// The line that words give. `None` where they are usage.
+/// Reads the line of words. `None` if they are usage.
 pub fn read(words: &Words) -> Option<GpasswdLine<'_>>
     ensures { result ≡ read words.now }
 {

@@ -3,6 +3,8 @@
 //!
 //! What a line does is an [`Effect`]: what is printed, and the state that is to replace the present one. It changes
 //! nothing; who takes it puts it in place. The tools that ask who may do what are in `facl`.
+//!
+//! A call whose only error is `AllocError` or `NoMemory` fails only if memory runs out.
 #![tactic(auto)]
 
 pub mod attr;

@@ -10,7 +10,7 @@ use acl_text::{FaultKind, Sep, Spec, TextFault, Want, Which, read_entries};
 use facl_output::{LineFault, Source};
 use std::alloc::{AllocError, Global};
 
-/// What a written entry gives.
+/// Returns what a written entry gives.
 fn entry_of(spec: &Spec) -> Entry
     ensures { result ≡ entry_of spec.now }
 {
@@ -24,7 +24,7 @@ fn entry_of(spec: &Spec) -> Entry
     }
 }
 
-/// The entries that entry texts give.
+/// Collects the entries that entry texts give.
 fn entries_of(alloc: Global, specs: &[Spec]) -> Result<Vec<Entry>, AllocError>
     ensures { IfOk result (λ entries. entries.items ≡ map entry_of specs.now) }
 {
@@ -35,7 +35,6 @@ fn entries_of(alloc: Global, specs: &[Spec]) -> Result<Vec<Entry>, AllocError>
     Ok(entries)
 }
 
-/// The list of some entries.
 fn list_from(
     alloc: Global,
     source: Source,
@@ -53,7 +52,7 @@ fn list_from(
     }
 }
 
-/// The entries of a text.
+/// Reads the entries of a text.
 fn specs_of(
     alloc: Global,
     people: &People,
@@ -68,7 +67,7 @@ fn specs_of(
     }
 }
 
-/// The list that a text names. A fault of the list as a whole is reported at place 0.
+/// Reads the list that a text names. A fault of the list as a whole is reported at place 0.
 #[tactic(auto, unfolding(crate::specs::Lists::list_of_text))]
 pub(crate) fn list_of_text(
     alloc: Global,

@@ -25,7 +25,7 @@ pub struct LoadLine {
     pub table: Table,
 }
 
-/// The text that a word names.
+/// Returns the text that a word names.
 fn table_named(name: &[u8]) -> Option<Table>
     ensures { result ≡ table_named name.now }
 {
@@ -40,7 +40,7 @@ fn table_named(name: &[u8]) -> Option<Table>
     }
 }
 
-/// The line that words give. `None` where they are usage.
+/// Reads the line of words. `None` if they are usage.
 pub fn read(words: &Words) -> Option<LoadLine>
     ensures { result ≡ read words.now }
 {

@@ -4,28 +4,28 @@ ghost use Rattle.std.specs.List.{list_all};
 ghost use Rattle.std.specs.Prelude.{◌≡◌, IsTrue};
 ghost use Rattle.facl_tools.specs.Modes.{is_mode, is_octal_digit, mode_of, octal_number, permission_mode_of, starts_with_zero};
 
-/// Whether each byte is an octal digit.
+/// Tells whether each byte is an octal digit.
 fn are_octal_digits(bytes: &[u8]) -> bool
     ensures { result ≡ list_all is_octal_digit bytes.now }
 {
     bytes.iter().all(|b| b'0' <= *b && *b <= b'7')
 }
 
-/// Whether the text is one to four octal digits.
+/// Tells whether the text is one to four octal digits.
 fn is_mode(text: &[u8]) -> bool
     ensures { result ≡ is_mode text.now }
 {
     0 < text.len() && text.len() <= 4 && are_octal_digits(text)
 }
 
-/// Whether the first of four digits is 0.
+/// Tells whether the first of four digits is 0.
 fn starts_with_zero(text: &[u8]) -> bool
     ensures { result ≡ starts_with_zero text.now }
 {
     text.len() < 4 || text[0] == b'0'
 }
 
-/// The number that octal digits write.
+/// Reads octal digits.
 fn octal_number(digits: &[u8]) -> u16
     requires { IsTrue (is_mode digits.now) }
     ensures { result ≡ octal_number digits.now }
@@ -39,7 +39,7 @@ fn octal_number(digits: &[u8]) -> u16
     mode
 }
 
-/// The number that one to four octal digits write. `None` for any other text.
+/// Reads a mode of one to four octal digits. `None` for any other text.
 pub(crate) fn mode_of(text: &[u8]) -> Option<u16>
     ensures { result ≡ mode_of text.now }
 {
@@ -50,7 +50,7 @@ pub(crate) fn mode_of(text: &[u8]) -> Option<u16>
     }
 }
 
-/// The number that one to four octal digits write, where it is at most 0777. `None` for any other text.
+/// Reads a mode of one to four octal digits that is at most 0777. `None` for any other text.
 pub(crate) fn permission_mode_of(text: &[u8]) -> Option<u16>
     ensures { result ≡ permission_mode_of text.now }
 {

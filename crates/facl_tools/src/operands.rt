@@ -12,7 +12,7 @@ use facl_output::{LineFault, Source};
 use facl_script::{Word, WordRef};
 use std::alloc::{AllocError, Global};
 
-/// The path of the operand at a place, counted from 1.
+/// Reads the path of the operand at a place, counted from 1.
 pub fn path_at(alloc: Global, at: usize, word: &[u8]) -> Result<Path, LineFault>
     ensures { Gives (λ path. path) result (path_at at word.now) }
 {
@@ -28,7 +28,7 @@ pub fn path_at(alloc: Global, at: usize, word: &[u8]) -> Result<Path, LineFault>
     }
 }
 
-/// The paths of the FILE operands of a line.
+/// Reads the paths of the FILE operands of a line.
 pub fn paths_of(alloc: Global, words: &[Word]) -> Result<Paths, LineFault>
     ensures { Gives (λ paths. paths) result (paths_from 1 words.now) }
 {
@@ -41,14 +41,14 @@ pub fn paths_of(alloc: Global, words: &[Word]) -> Result<Paths, LineFault>
     Ok(Paths::new(paths))
 }
 
-/// The name that a word for a user or a group means.
+/// Reads the name that a word for a user or a group means.
 pub fn name_meant(alloc: Global, word: &WordRef<'_>) -> Result<Name, AllocError>
     ensures { IfOk result (λ name. name ≡ name_meant word.now) }
 {
     read_name(alloc, trim(word.as_bytes()))
 }
 
-/// The place of the user that a word means.
+/// Finds the place of the user that a word means.
 pub fn user_at(alloc: Global, people: &People, word: &WordRef<'_>) -> Result<usize, LineFault>
     ensures { Gives (λ user. user) result (user_or_fault people.now (name_meant word.now)) }
 {

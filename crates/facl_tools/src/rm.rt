@@ -27,7 +27,7 @@ pub struct RmLine<'a> {
     pub files: LineFiles<'a>,
 }
 
-/// The line that words give. `None` where they are usage.
+/// Reads the line of words. `None` if they are usage.
 pub fn read(words: &Words) -> Option<RmLine<'_>>
     ensures { result ≡ read words.now }
 {

@@ -39,7 +39,7 @@ pub struct SetattrLine<'a> {
     pub files: LineFiles<'a>,
 }
 
-/// What follows a beginning of a word.
+/// Returns what follows `start` in a word that begins with it.
 fn rest_of<'a>(word: &'a [u8], start: &[u8]) -> Option<&'a [u8]>
     ensures { option_map (λ rest. rest.now) result ≡ rest_of start.now word.now }
 {
@@ -50,7 +50,7 @@ fn rest_of<'a>(word: &'a [u8], start: &[u8]) -> Option<&'a [u8]>
     }
 }
 
-/// The hex digits of a word that begins in one of two ways.
+/// Returns the hex digits of a word that begins with `lower` or `upper`.
 fn digits_of<'a>(word: &'a [u8], lower: &[u8], upper: &[u8]) -> Option<&'a [u8]>
     ensures { option_map (λ rest. rest.now) result ≡ digits_of lower.now upper.now word.now }
 {
@@ -60,7 +60,7 @@ fn digits_of<'a>(word: &'a [u8], lower: &[u8], upper: &[u8]) -> Option<&'a [u8]>
     }
 }
 
-/// The attribute of a word `NAME=0xHEX`.
+/// Reads the attribute of a word `NAME=0xHEX`.
 fn attribute_of(word: &[u8]) -> Option<Attribute<'_>>
     ensures { result ≡ attribute_of word.now }
 {
@@ -85,7 +85,7 @@ fn attribute_of(word: &[u8]) -> Option<Attribute<'_>>
     })
 }
 
-/// The line that words give. `None` where they are usage.
+/// Reads the line of words. `None` if they are usage.
 pub fn read(words: &Words) -> Option<SetattrLine<'_>>
     ensures { result ≡ read words.now }
 {
@@ -95,7 +95,7 @@ pub fn read(words: &Words) -> Option<SetattrLine<'_>>
     Some(SetattrLine { attribute, files })
 }
 
-/// The bytes of hex digits. Digits that are none, and an odd number of them, are a bad attribute at 0.
+/// Reads the bytes of hex digits. Digits that are none, and an odd number of them, are a bad attribute at 0.
 fn bytes_of(alloc: Global, digits: &[u8]) -> Result<Vec<u8>, LineFault>
     ensures { Gives (λ bytes. bytes.items) result (bytes_of digits.now) }
 {
@@ -112,7 +112,7 @@ fn bytes_of(alloc: Global, digits: &[u8]) -> Result<Vec<u8>, LineFault>
     }
 }
 
-/// The list of hex digits.
+/// Reads the list of hex digits.
 fn list_of_digits(alloc: Global, digits: &[u8]) -> Result<Acl, LineFault>
     ensures { Gives (λ acl. acl) result (list_of_digits digits.now) }
 {
@@ -123,7 +123,6 @@ fn list_of_digits(alloc: Global, digits: &[u8]) -> Result<Acl, LineFault>
     }
 }
 
-/// The edit that puts a list.
 fn put_of(which: Which, acl: Acl) -> Edit
     ensures { result ≡ put_of which acl }
 {

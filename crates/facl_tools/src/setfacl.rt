@@ -17,7 +17,7 @@ use facl_output::{LineFault, Source};
 use facl_script::{LineFiles, OperandRow, OptionRow, Syntax, WordRef, Words};
 use std::alloc::Global;
 
-/// What a line does with the lists of a file: its options, and its entries.
+/// Makes the edit of a line's options and entries.
 fn edit_of(flags: ChangeFlags, entries: ChangeEntries) -> Edit
     ensures { result ≡ edit_of flags entries }
 {
@@ -74,7 +74,7 @@ fn change(
     }
 }
 
-/// The records of a dump that is restored.
+/// Reads the records of a dump that is restored.
 #[tactic(auto, unfolding(crate::specs::Setfacl::records_or_fault))]
 fn records_of(alloc: Global, people: &People, dump: &[u8]) -> Result<DumpRecords, LineFault>
     ensures { Gives (λ records. records) result (records_or_fault people.now dump.now) }
@@ -85,7 +85,6 @@ fn records_of(alloc: Global, people: &People, dump: &[u8]) -> Result<DumpRecords
     }
 }
 
-/// Restores the files of records.
 fn restore_records(
     alloc: Global,
     state: &State,
@@ -164,7 +163,7 @@ pub struct ChangeFlags {
     pub as_default: bool,
     /// `-n`: no mask is recalculated.
     pub no_mask: bool,
-    /// `--mask`: the mask is recalculated even where one was given.
+    /// `--mask`: the mask is recalculated even if one was given.
     pub remask: bool,
 }
 
@@ -194,7 +193,7 @@ pub enum SetfaclLine<'a> {
     Restore { test: bool },
 }
 
-/// The entries of an option: those of its word, or those of the text after the line.
+/// Returns where the entries of an option are: in its word, or in the text after the line.
 fn entries_from<'a>(word: Option<WordRef<'a>>, in_text: bool) -> Option<EntrySource<'a>>
     ensures { result ≡ entries_from word.entry in_text }
 {
@@ -205,7 +204,7 @@ fn entries_from<'a>(word: Option<WordRef<'a>>, in_text: bool) -> Option<EntrySou
     }
 }
 
-/// Whether entries are removed or modified.
+/// Tells whether entries are removed or modified.
 fn changes_entries(words: &Words) -> bool
     ensures { result ≡ changes_entries words.now }
 {
@@ -218,7 +217,6 @@ fn changes_entries(words: &Words) -> bool
         || words.gives(syntax, "remove-file")
 }
 
-/// Whether whole lists are replaced.
 fn replaces_lists(words: &Words) -> bool
     ensures { result ≡ replaces_lists words.now }
 {
@@ -226,7 +224,7 @@ fn replaces_lists(words: &Words) -> bool
     words.gives(syntax, "set") || words.gives(syntax, "set-file")
 }
 
-/// Whether one thing is given in two ways.
+/// Tells whether one thing is given in two ways.
 fn contradicts_itself(words: &Words) -> bool
     ensures { result ≡ contradicts_itself words.now }
 {
@@ -237,7 +235,7 @@ fn contradicts_itself(words: &Words) -> bool
         || (words.has(syntax, "no-mask") && words.has(syntax, "mask"))
 }
 
-/// Whether a flag determines how lists are changed.
+/// Tells whether a flag determines how lists are changed.
 fn has_edit_flag(words: &Words) -> bool
     ensures { result ≡ has_edit_flag words.now }
 {
@@ -248,7 +246,7 @@ fn has_edit_flag(words: &Words) -> bool
         || words.has(syntax, "recursive")
 }
 
-/// The flags that say how lists are changed.
+/// Returns the flags that say how lists are changed.
 fn flags_of(words: &Words) -> ChangeFlags
     ensures { result ≡ flags_of words.now }
 {
@@ -262,7 +260,7 @@ fn flags_of(words: &Words) -> ChangeFlags
     }
 }
 
-/// The line that changes these files.
+/// Makes the line that changes these files.
 fn change_of<'a>(words: &'a Words, files: LineFiles<'a>) -> ChangeLine<'a>
     ensures { result ≡ change_of words.now files.entry }
 {
@@ -284,7 +282,7 @@ fn change_of<'a>(words: &'a Words, files: LineFiles<'a>) -> ChangeLine<'a>
     }
 }
 
-/// A dump is put back, with nothing else but `--test`.
+/// Reads a line that restores a dump, with nothing else but `--test`.
 fn read_restore(words: &Words) -> Option<SetfaclLine<'_>>
     ensures { result ≡ read_restore words.now }
 {
@@ -302,7 +300,7 @@ fn read_restore(words: &Words) -> Option<SetfaclLine<'_>>
     }
 }
 
-/// Entries are changed, or whole lists replaced.
+/// Reads a line that changes entries or replaces whole lists.
 fn read_change(words: &Words) -> Option<SetfaclLine<'_>>
     ensures { result ≡ read_change words.now }
 {
@@ -314,7 +312,7 @@ fn read_change(words: &Words) -> Option<SetfaclLine<'_>>
     }
 }
 
-/// The line that words give. `None` where they are usage.
+/// Reads the line of words. `None` if they are usage.
 pub fn read(words: &Words) -> Option<SetfaclLine<'_>>
     ensures { result ≡ read words.now }
 {

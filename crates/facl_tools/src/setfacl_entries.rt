@@ -25,7 +25,7 @@ pub struct ChangeEntries {
     pub modify: Specs,
 }
 
-/// The entries of a text.
+/// Reads the entries of a text.
 fn entries_in(
     alloc: Global,
     people: &People,
@@ -41,7 +41,7 @@ fn entries_in(
     }
 }
 
-/// The entries of an option, if it is given.
+/// Reads the entries of an option, if it is given.
 fn entries_given(
     alloc: Global,
     people: &People,
@@ -60,7 +60,7 @@ fn entries_given(
     }
 }
 
-/// The place of the first entry whose key is removed.
+/// Returns the place of the first entry whose key is removed.
 fn first_removed(removed: &RemovedKeys, as_default: bool, specs: &[Spec]) -> Option<usize>
     ensures { result ≡ option_map (λ s. s.at) (find (λ s. removes as_default removed.now s) specs.now) }
 {
@@ -74,7 +74,7 @@ fn has_default(specs: &[Spec]) -> bool
     specs.iter().any(|spec| spec.dflt)
 }
 
-/// The entries of a line.
+/// Reads the entries of a line.
 pub(crate) fn entries_of_line(
     alloc: Global,
     people: &People,
@@ -93,7 +93,7 @@ pub(crate) fn entries_of_line(
     })
 }
 
-/// The place of the first modified entry that is removed too. Fails only if memory runs out.
+/// Returns the place of the first modified entry that is removed too.
 pub(crate) fn both_at(
     alloc: Global,
     as_default: bool,
@@ -105,7 +105,7 @@ pub(crate) fn both_at(
     Ok(first_removed(&removed, as_default, entries.modify.as_slice()))
 }
 
-/// Whether `-d` drops a default entry.
+/// Tells whether `-d` drops a default entry.
 pub(crate) fn drops(as_default: bool, entries: &ChangeEntries) -> bool
     ensures { result ≡ drops as_default entries.now }
 {
@@ -115,7 +115,7 @@ pub(crate) fn drops(as_default: bool, entries: &ChangeEntries) -> bool
             || has_default(entries.set.as_slice()))
 }
 
-/// The keys that are removed from each list, so that one is found by search.
+/// The keys that are removed from each list, which are found by binary search.
 #[derive(Drop)]
 pub(crate) struct RemovedKeys {
     access: Draft,
@@ -132,7 +132,7 @@ fn insert_key(keys: &mut Draft, dflt: bool, spec: &Spec) -> Result<(), AllocErro
     Ok(())
 }
 
-/// The keys of the entries of one list.
+/// Collects the keys of the entries of one list.
 fn keys_of(alloc: Global, dflt: bool, specs: &[Spec]) -> Result<Draft, AllocError>
     ensures { IfOk result (λ keys. keys ≡ keys_of dflt specs.now) }
 {
@@ -144,7 +144,7 @@ fn keys_of(alloc: Global, dflt: bool, specs: &[Spec]) -> Result<Draft, AllocErro
 }
 
 impl RemovedKeys {
-    /// The keys of these entries.
+    /// Collects the keys of these entries.
     pub fn of(alloc: Global, removed: &[Spec]) -> Result<RemovedKeys, AllocError>
         ensures access { IfOk result (λ keys. keys.access ≡ keys_of false removed.now) }
         ensures dflt { IfOk result (λ keys. keys.dflt ≡ keys_of true removed.now) }
@@ -155,7 +155,7 @@ impl RemovedKeys {
         })
     }
 
-    /// Whether the key of an entry is removed from its list, where `-d` does not drop the entry.
+    /// Tells whether the key of an entry is removed from its list, unless `-d` drops the entry.
     pub fn removes(&self, as_default: bool, spec: &Spec) -> bool
         ensures { result ≡ removes as_default self.now spec.now }
     {

@@ -38,7 +38,7 @@ macro_rules! by_letter {
     };
 }
 
-/// A flag or an option with a long name alone, and for an option its value where it is absent.
+/// A flag or an option with a long name alone, and for an option its value if it is absent.
 #[macro_export]
 macro_rules! by_name {
     ($name:literal) => {

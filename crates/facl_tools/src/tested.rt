@@ -18,7 +18,6 @@ use acl_tree::{
 use facl_output::{LineFault, append_test_listing};
 use std::alloc::{AllocError, Global};
 
-/// The paths of records.
 fn paths_of(alloc: Global, records: &[DumpRecord]) -> Result<Vec<Path>, AllocError>
     ensures { IfOk result (λ paths. paths.items ≡ paths_of records.now) }
 {
@@ -29,7 +28,7 @@ fn paths_of(alloc: Global, records: &[DumpRecord]) -> Result<Vec<Path>, AllocErr
     Ok(paths)
 }
 
-/// The files of operands that are recorded.
+/// Returns the files of operands that are recorded.
 fn files_of<'a>(
     alloc: Global,
     tree: &'a Tree,
@@ -41,7 +40,7 @@ fn files_of<'a>(
     Ok(tree.files(alloc, selection)?)
 }
 
-/// The files of records that are recorded.
+/// Returns the files of records that are recorded.
 fn files_of_records<'a>(
     alloc: Global,
     tree: &'a Tree,
@@ -58,7 +57,7 @@ fn files_of_records<'a>(
     files_of(alloc, tree, &selection)
 }
 
-/// The files of a command, as they are after it.
+/// Returns the files of a command, as they are after it.
 fn files_after<'a>(
     alloc: Global,
     state: &State,
@@ -94,7 +93,7 @@ fn files_after<'a>(
     }
 }
 
-/// What is printed of a command that is tried out.
+/// Prints a command that is tried out.
 fn listed(
     alloc: Global,
     state: &State,
@@ -110,7 +109,7 @@ fn listed(
     Ok(out)
 }
 
-/// What a command would leave of its files. The state stays.
+/// Returns what a command would leave of its files. The state stays.
 fn test(alloc: Global, state: &State, command: &Command<'_>) -> Result<Effect, LineFault>
     ensures { Replies state.now result (command_tested state.now command.now) }
 {

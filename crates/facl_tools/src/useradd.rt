@@ -34,14 +34,14 @@ pub struct UseraddLine<'a> {
     pub group: WordRef<'a>,
 }
 
-/// The id that a line gives: digits alone.
+/// Reads the id that a line gives: digits alone.
 fn uid_of(words: &Words) -> Option<Id>
     ensures { result ≡ uid_of words.now }
 {
     read_id(words.value(&SYNTAX, "u")?.as_bytes())
 }
 
-/// The name of the new user, where it may be one. Fails only if memory runs out.
+/// Reads the name of the new user, if it may be one.
 fn decoded_name(alloc: Global, words: &Words) -> Result<Option<UserName>, AllocError>
     ensures { IfOk result (λ name. name ≡ decoded_name words.now) }
 {
@@ -49,7 +49,6 @@ fn decoded_name(alloc: Global, words: &Words) -> Result<Option<UserName>, AllocE
     Ok(UserName::new(name))
 }
 
-/// The line with this name.
 fn line_with(words: &Words, name: UserName) -> Option<UseraddLine<'_>>
     ensures { result ≡ line_with words.now name }
 {
@@ -58,7 +57,7 @@ fn line_with(words: &Words, name: UserName) -> Option<UseraddLine<'_>>
     Some(UseraddLine { name, uid, group })
 }
 
-/// The line that words give. `None` where they are usage. Fails only if memory runs out.
+/// Reads the line of words. `None` if they are usage.
 pub fn read(alloc: Global, words: &Words) -> Result<Option<UseraddLine<'_>>, AllocError>
     ensures { IfOk result (λ line. line ≡ read words.now) }
 {
@@ -68,7 +67,7 @@ pub fn read(alloc: Global, words: &Words) -> Result<Option<UseraddLine<'_>>, All
     }
 }
 
-/// The new user of a line. Fails only if memory runs out.
+/// Makes the new user of a line.
 fn new_user(alloc: Global, line: UseraddLine<'_>) -> Result<NewUser, AllocError>
     ensures { IfOk result (λ new. new ≡ new_user line.entry) }
 {

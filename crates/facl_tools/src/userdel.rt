@@ -25,7 +25,7 @@ pub struct UserdelLine<'a> {
     pub user: WordRef<'a>,
 }
 
-/// The line that words give.
+/// Reads the line of words.
 pub fn read(words: &Words) -> UserdelLine<'_>
     ensures { result ≡ read words.now }
 {

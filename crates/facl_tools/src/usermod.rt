@@ -27,7 +27,7 @@ pub struct UsermodLine<'a> {
     pub group: WordRef<'a>,
 }
 
-/// The line that words give. `None` where they are usage.
+/// Reads the line of words. `None` if they are usage.
 pub fn read(words: &Words) -> Option<UsermodLine<'_>>
     ensures { result ≡ read words.now }
 {
