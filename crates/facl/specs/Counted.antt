@@ -32,7 +32,7 @@ abbrev pub answer_of_words : Verdict → ScriptUnit → States → Result (List 
 answer_of_words verdict u w (Ok words) = answer_of u.number (tool_word words) w (reply verdict w u.text words)
 answer_of_words verdict u w (Err fault) = refused u.number [] fault w
 
--- where memory runs out for a line, the verdicts for its change may have been asked for by then
+-- where memory runs out for a line, the judge may have given the verdicts for its change by then
 abbrev pub unless_out_of_memory : Bool → ℕ → States → Answer States → Answer States
 unless_out_of_memory ran_out number w a = if ran_out then costing a.cost (units.refused number [] NoMemory w) else a
 

@@ -39,8 +39,8 @@ use Rattle.facl.specs.declared.tools.ToolLine.TheVariants as lines
 
 -- Where a fault of a line is. Its texts: of setfacl(1) the entries that are removed, modified and set, or the dump; of
 -- chacl(1) the access list and then the default list, or the one list that is given; of setattr the attribute. Then an
--- entry that is both removed and modified, the word of an operand that so many others come before, the user whom a
--- question names, the file of such an operand where files are looked at, and else what is done with all of this.
+-- entry that is both removed and modified, the word of an operand at a place counted from 0, the user whom a
+-- question names, the file of such an operand if files are looked at, and else what is done with all of this.
 pub data Part : Type 0 where
   in_first_text : Part
   in_second_text : Part
@@ -70,7 +70,7 @@ place part = 0
 
 -- ---- what a fault is about
 
--- the operand that so many others come before is no path
+-- operand `n`, counted from 0, is no path
 pub record IsNoPath (words : List Text) (n : ℕ) : Type 0 where
   pub word : Text
   pub at : slice_get words n ≡ Some word
@@ -80,7 +80,7 @@ pub record IsNoPath (words : List Text) (n : ℕ) : Type 0 where
 abbrev pub IsBadOperand : List Text → ℕ → LineFault → Type 0
 IsBadOperand words n fault = (fault ≡ bad_operand (1 + n)) × IsNoPath words n
 
--- the operand that so many others come before is the path of no recorded file
+-- operand `n`, counted from 0, is the path of no recorded file
 pub record IsUnrecorded (t : Files) (words : List Text) (n : ℕ) (fault : LineFault) : Type 0 where
   pub word : Text
   pub path : PathOf

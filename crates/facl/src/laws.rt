@@ -1,5 +1,5 @@
-//! Why lines are refused, and where memory ran out: laws of the definitions, each proved as the contract of a function that
-//! does nothing.
+//! Why lines are refused, and for which lines memory ran out: laws of the definitions, each proved as the contract of
+//! a function that does nothing.
 
 ghost use Rattle.std.specs.Prelude.{◌≡◌, false};
 ghost use Rattle.facl_script.specs.Units.{ScriptUnit};
@@ -9,16 +9,16 @@ ghost use Rattle.facl.specs.LineParts.{IsAnsweredByFirst};
 ghost use Rattle.acl_rights.specs.declared.indexed.States.{States};
 ghost use Rattle.facl.specs.Units.{is_silent};
 
-/// Proof only: which parts of a line are at fault is defined for each part by itself, without an order: its length, its
-/// bytes, its quotes, its tool, the text after it, its words, and each part of what it asks for; neither a judge's
-/// verdict nor the state after the texts were loaded matters. A line that is neither blank nor a comment is
-/// refused exactly if one of them is at fault, and for the first of those in one order.
+/// Proof only: which parts of a line are at fault is defined for each part by itself, without an order: its length,
+/// its bytes, its quotes, its tool, the text after it, its words, and each part of what it means; neither a judge's
+/// verdict nor the state after the texts were loaded matters. A line that is neither blank nor a comment is refused
+/// exactly if one of them is at fault, and for the first of those in one order.
 pub fn lines_are_refused_for_their_first_fault()
     ensures { (verdict : Verdict) (w : States) (u : ScriptUnit) → is_silent u.line ≡ false → IsAnsweredByFirst verdict w u }
 {}
 
-/// Proof only: where no line of a session's messages ends in `: facl: no memory`, memory ran out for none of its lines: what
-/// it writes is then what the session writes for which memory never runs out.
+/// Proof only: if no line of a session's messages ends in `: facl: no memory`, memory ran out for none of its lines:
+/// what it writes is then what the session writes for which memory never runs out.
 pub fn session_says_where_memory_ran_out()
     ensures { NoMemoryIsSaid }
 {}

@@ -5,11 +5,13 @@
 //! whole: what is written are the bytes of a session made from scratch. [`initial_state`] and [`run_from`] are its two
 //! steps, for a caller that frees the texts between them.
 //!
-//! Each tool has one file, in `facl_tools` or, where it asks who may do what, below `tools`: its syntax, its reader from
+//! Each tool has one file, in `facl_tools` or, if it asks who may do what, below `tools`: its syntax, its reader from
 //! the words of a line to a value of its own type (`None`: usage), and what it does at a state. `tool_line` reads a
 //! line's words and does it; its effect is what is printed, and the state that is to replace the present one. It changes
 //! nothing; the session puts the effect in place. [`read_words`] uses the same readers. What the questions print is in
 //! `facl_answers` and `facl_counts`.
+//!
+//! A call whose only error is `AllocError` or `NoMemory` fails only if memory runs out.
 #![tactic(auto)]
 
 mod laws;

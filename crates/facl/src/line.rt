@@ -15,14 +15,14 @@ use facl_script::{HeldLine, HeldText, split_words};
 use facl_tools::Effect;
 use std::alloc::Global;
 
-/// Whether a line within the limit is blank or a comment.
+/// Tells whether a line within the limit is blank or a comment.
 pub(crate) fn is_silent(line: &HeldLine<'_>) -> bool
     ensures { (content : Option (List ℕ)) → IsLineHeld line.now content → result ≡ is_silent content }
 {
     matches!(line, HeldLine::Silent(_))
 }
 
-/// The words of a line. That a line is too long is returned whatever memory there is.
+/// Splits a line into words. That a line is too long is returned whatever memory there is.
 pub(crate) fn words_of_line(alloc: Global, line: &HeldLine<'_>) -> Result<Vec<String>, LineFault>
     ensures words { (content : Option (List ℕ)) → IsLineHeld line.now content
         → Gives (λ words. map string_bytes words.items) result (words_of_line content) }
@@ -35,7 +35,7 @@ pub(crate) fn words_of_line(alloc: Global, line: &HeldLine<'_>) -> Result<Vec<St
     }
 }
 
-/// The text of a line.
+/// Returns the text of a line.
 fn text_of_unit<'a>(text: &HeldText<'a>) -> Result<&'a [u8], LineFault>
     ensures { (content : UnitText) → IsTextHeld text.now content → Gives (λ t. t.now) result (text_or_fault content) }
 {
@@ -48,8 +48,8 @@ fn text_of_unit<'a>(text: &HeldText<'a>) -> Result<&'a [u8], LineFault>
     }
 }
 
-/// What a tool does with the words after its name and a text. `changes` and `gains` look at the state after the texts were
-/// loaded.
+/// Does what a tool does with the words after its name and a text. `changes` and `gains` look at the state after the
+/// texts were loaded.
 fn tool_effect<J: Judge>(
     alloc: Global,
     indexed_states: &IndexedStates<J>,
@@ -62,7 +62,7 @@ fn tool_effect<J: Judge>(
     tool_line(alloc, indexed_states, tool, words, text)
 }
 
-/// What a tool does with the text of a line and the words after its name.
+/// Does what a tool does with the text of a line and the words after its name.
 pub(crate) fn tool_reply<J: Judge>(
     alloc: Global,
     indexed_states: &IndexedStates<J>,

@@ -45,12 +45,12 @@ pub fn run_from<J: Judge, R: Feed, O: Sink, E: Sink>(
         (devices (R.remaining reader.old) (O.contents out.old) (E.contents err.old))
         (devices (R.remaining reader.new) (O.contents out.new) (E.contents err.new))) }
 
-    // A status comes only once the reader is at its end, and where no device has failed.
+    // A status comes only once the reader is at its end, and if no device has failed.
     ensures end { OnOk result (IsAtEnd (R.remaining reader.new)) }
     ensures works { OnOk result ((R.has_failed reader.new ≡ false)
         × (O.has_failed out.new ≡ false) × (E.has_failed err.new ≡ false)) }
 
-    // A fault of a device is returned only where that device has failed.
+    // A fault of a device is returned only if that device has failed.
     ensures read { result ≡ Err RunFault.Read → R.has_failed reader.new ≡ true }
     ensures write { result ≡ Err RunFault.Write → (O.has_failed out.new ≡ true) ⊎ (E.has_failed err.new ≡ true) }
 {
@@ -89,12 +89,12 @@ pub fn run_judged<J: Judge, R: Feed, O: Sink, E: Sink>(
         (devices (R.remaining reader.old) (O.contents out.old) (E.contents err.old))
         (devices (R.remaining reader.new) (O.contents out.new) (E.contents err.new))) }
 
-    // A status comes only once the reader is at its end, and where no device has failed.
+    // A status comes only once the reader is at its end, and if no device has failed.
     ensures end { OnOk result (IsAtEnd (R.remaining reader.new)) }
     ensures works { OnOk result ((R.has_failed reader.new ≡ false)
         × (O.has_failed out.new ≡ false) × (E.has_failed err.new ≡ false)) }
 
-    // A fault of a device is returned only where that device has failed.
+    // A fault of a device is returned only if that device has failed.
     ensures read { result ≡ Err RunFault.Read → R.has_failed reader.new ≡ true }
     ensures write { result ≡ Err RunFault.Write → (O.has_failed out.new ≡ true) ⊎ (E.has_failed err.new ≡ true) }
 {
@@ -115,7 +115,7 @@ pub fn run_judged<J: Judge, R: Feed, O: Sink, E: Sink>(
 ///
 /// `Setup` is the first text that is refused: nothing is read or written then. `Read`, `Write` and `ScriptTooLong`
 /// are why the script was not answered to its end. `NoMemory`: memory ran out for the setup, for the room of the
-/// `no memory` message, or for a line while it was read (where it runs out for a line's answer, that line alone is
+/// `no memory` message, or for a line while it was read (if it runs out for a line's answer, that line alone is
 /// refused). What was written by then is the start of the session.
 pub fn run<R: Feed, O: Sink, E: Sink>(
     alloc: Global,
@@ -136,12 +136,12 @@ pub fn run<R: Feed, O: Sink, E: Sink>(
         (devices (R.remaining reader.old) (O.contents out.old) (E.contents err.old))
         (devices (R.remaining reader.new) (O.contents out.new) (E.contents err.new))) }
 
-    // A status comes only once the reader is at its end, and where no device has failed.
+    // A status comes only once the reader is at its end, and if no device has failed.
     ensures end { OnOk result (IsAtEnd (R.remaining reader.new)) }
     ensures works { OnOk result ((R.has_failed reader.new ≡ false)
         × (O.has_failed out.new ≡ false) × (E.has_failed err.new ≡ false)) }
 
-    // A fault of a device is returned only where that device has failed.
+    // A fault of a device is returned only if that device has failed.
     ensures read { result ≡ Err RunFault.Read → R.has_failed reader.new ≡ true }
     ensures write { result ≡ Err RunFault.Write → (O.has_failed out.new ≡ true) ⊎ (E.has_failed err.new ≡ true) }
 {

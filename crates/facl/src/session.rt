@@ -35,7 +35,7 @@ pub(crate) struct FaclSession<J: Judge> {
     lacks_memory: bool,
 }
 
-/// The warning of a line, where it warns.
+/// Writes the warning of a line, if it warns.
 fn warning_if(alloc: Global, warns: bool, number: u64) -> Result<Vec<u8>, AllocError>
     ensures { IfOk result (λ text. text.items ≡ warning_if warns number) }
 {
@@ -47,7 +47,7 @@ fn warning_if(alloc: Global, warns: bool, number: u64) -> Result<Vec<u8>, AllocE
 }
 
 impl<J: Judge> FaclSession<J> {
-    /// A session that starts at a state: the judge is asked about every user and every file.
+    /// Starts a session at a state: the judge is asked about every user and every file.
     pub fn new(alloc: Global, judge: &mut J, state: State) -> Result<FaclSession<J>, AllocError>
         requires { J.asked_of judge.old ≡ 0 }
         ensures state { IfOk result (λ facl. states_of facl ≡ from_start state) }
@@ -92,8 +92,7 @@ impl<J: Judge> FaclSession<J> {
         }
     }
 
-    /// Does what an accepted line does, and keeps its output and its warning. Fails only if memory runs out; then
-    /// nothing is done.
+    /// Does what an accepted line does, and keeps its output and its warning. If memory runs out, nothing is done.
     fn apply_effect(
         &mut self,
         judge: &mut J,
@@ -240,14 +239,14 @@ impl<J: Judge> FaclSession<J> {
         }
     }
 
-    /// What the last line prints.
+    /// Returns what the last line prints.
     pub fn printed(&self) -> &[u8]
         ensures { result.now ≡ out_of self.now }
     {
         &self.out
     }
 
-    /// The message of the last line.
+    /// Returns the message of the last line.
     pub fn message(&self) -> &[u8]
         ensures { result.now ≡ err_of self.now }
     {
@@ -259,8 +258,8 @@ impl<J: Judge> FaclSession<J> {
     }
 }
 
-/// A session with the judge that it asks, who is borrowed for the whole script. The session is a type parameter so that
-/// the owner of the borrowed judge learns what became of it.
+/// A session with its judge, who is borrowed for the whole script. The session is a type parameter so that the owner
+/// of the borrowed judge learns what became of it.
 pub(crate) struct JudgedSession<'a, J, S> {
     pub judge: &'a mut J,
     pub session: S,

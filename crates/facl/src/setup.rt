@@ -19,7 +19,7 @@ pub struct Setup<'a> {
     pub dump: Option<&'a [u8]>,
 }
 
-/// The fault of a setup whose text is refused so.
+/// Makes the fault of a setup whose text is refused so.
 fn setup_fault(which: Table, fault: TreeFault) -> RunFault
     ensures memory { fault ≡ TreeFault.NoMemory → result ≡ RunFault.NoMemory }
     ensures setup { result ≢ RunFault.NoMemory → result ≡ RunFault.Setup which fault }
@@ -30,7 +30,7 @@ fn setup_fault(which: Table, fault: TreeFault) -> RunFault
     }
 }
 
-/// The state with a text loaded, prepared.
+/// Prepares the state with a text loaded.
 fn prepared(alloc: Global, which: Table, text: &[u8], state: &State) -> Result<Staged, RunFault>
     ensures { MatchResult result
         (λ staged. set_up which (load state.now which text.now) ≡ Ok staged.state)
@@ -45,7 +45,6 @@ fn prepared(alloc: Global, which: Table, text: &[u8], state: &State) -> Result<S
     }
 }
 
-/// The state with a text loaded.
 fn with_loaded(
     alloc: Global,
     which: Table,
@@ -61,7 +60,7 @@ fn with_loaded(
     Ok(state)
 }
 
-/// The state with a text loaded, if there is one.
+/// Loads a text, if there is one.
 fn with_text(
     alloc: Global,
     which: Table,
@@ -78,8 +77,8 @@ fn with_text(
     }
 }
 
-/// The state before the first line of a script: the texts of a setup, loaded one after another. None of them is needed after
-/// that.
+/// Loads the texts of a setup one after another: the state before the first line of a script. None of the texts is
+/// needed after that.
 ///
 /// # Errors
 ///

@@ -13,7 +13,7 @@ pub enum Status {
 }
 
 impl Status {
-    /// How a run ends, by whether a line was refused.
+    /// Returns how a run ends, by whether a line was refused.
     pub(crate) fn of(is_refused: bool) -> Status
         ensures { has_refused result ≡ is_refused }
     {
@@ -24,7 +24,7 @@ impl Status {
         }
     }
 
-    /// The status that a program ends with: 1 where a line was refused, else 0.
+    /// Returns the status that a program ends with: 1 if a line was refused, else 0.
     pub fn code(self) -> u8
         ensures { result ≡ if has_refused self then 1 else 0 }
     {

@@ -68,7 +68,7 @@ pub enum Tool {
     Index,
     /// What the script has changed so far in who may do what.
     Changes,
-    /// The same by users, with how many files.
+    /// What each user has gained and lost so far, on how many files.
     Gains,
     /// useradd(8).
     Useradd,
@@ -88,7 +88,7 @@ struct ToolRow {
     loads: bool,
 }
 
-/// A row: a tool, its name and its syntax; `loads` where it loads a text.
+/// A row: a tool, its name and its syntax; `loads` if it loads a text.
 macro_rules! row {
     ($tool:ident, $name:literal, $syntax:path) => {
         ToolRow {
@@ -133,28 +133,24 @@ static TOOLS: &[ToolRow] = &[
     row!(Userdel, "userdel", userdel::SYNTAX),
 ];
 
-/// The rows of the table.
 fn rows() -> &'static [ToolRow]
     ensures { map row_view result.now ≡ table }
 {
     TOOLS
 }
 
-/// The first of these rows that is a tool's.
 fn row_with_tool(rows: &[ToolRow], tool: Tool) -> Option<&ToolRow>
     ensures { option_map (λ row. row.now) result ≡ find (λ row. equality.eq row.tool tool) rows.now }
 {
     rows.iter().find(|row| row.tool == tool)
 }
 
-/// The first of these rows that has a name.
 fn row_with_name<'a>(rows: &'a [ToolRow], name: &str) -> Option<&'a ToolRow>
     ensures { option_map (λ row. row.now) result ≡ find (λ row. bytes_eq row.name.now name.now) rows.now }
 {
     rows.iter().find(|row| row.name == name)
 }
 
-/// The row of a tool.
 #[tactic(auto, unfolding(crate::specs::Tools::row_for, crate::specs::Tools::row_of))]
 fn row_of(tool: Tool) -> &'static ToolRow
     ensures { row_view result.now ≡ row_of tool }
@@ -166,14 +162,14 @@ fn row_of(tool: Tool) -> &'static ToolRow
 }
 
 impl Tool {
-    /// The tool's name: the first word of its lines.
+    /// Returns the tool's name: the first word of its lines.
     pub fn name(self) -> &'static str
         ensures { result.now ≡ tool_name self }
     {
         row_of(self).name
     }
 
-    /// The tool of this name.
+    /// Returns the tool of this name.
     pub fn named(name: &str) -> Option<Tool>
         ensures { result ≡ tool_named name.now }
     {
@@ -183,7 +179,7 @@ impl Tool {
         }
     }
 
-    /// Whether the tool loads a text: after a line of it, what a script has changed is counted from there.
+    /// Tells whether the tool loads a text: after a line of it, what a script has changed is counted from there.
     pub fn loads(self) -> bool
         ensures { result ≡ loads self }
     {
@@ -191,7 +187,7 @@ impl Tool {
     }
 }
 
-/// The words that a tool takes: flags, options and operands.
+/// Returns the words that a tool takes: flags, options and operands.
 pub fn syntax_of(tool: Tool) -> &'static Syntax
     ensures { syntax_view result.now ≡ syntax_of tool }
 {
@@ -224,7 +220,7 @@ pub(crate) enum ToolLine<'a> {
     Userdel(userdel::UserdelLine<'a>),
 }
 
-/// The line of `load`, which borrows nothing from its words.
+/// Reads the line of `load`, which borrows nothing from its words.
 fn load_line(words: &Words) -> Option<ToolLine<'_>>
     ensures { result ≡ read_line Tool.Load words.now }
 {
@@ -232,7 +228,7 @@ fn load_line(words: &Words) -> Option<ToolLine<'_>>
     Some(ToolLine::Load(line))
 }
 
-/// The line of a tool that words give. `None` where they are usage. Fails only if memory runs out.
+/// Reads the line of a tool. `None` if its words are usage.
 fn read_line(alloc: Global, tool: Tool, words: &Words) -> Result<Option<ToolLine<'_>>, AllocError>
     ensures { IfOk result (λ line. line ≡ read_line tool words.now) }
 {
@@ -261,7 +257,7 @@ fn read_line(alloc: Global, tool: Tool, words: &Words) -> Result<Option<ToolLine
     }
 }
 
-/// The line of a tool that words give, or usage.
+/// Reads the line of a tool, or returns usage.
 #[tactic(auto, unfolding(crate::specs::Tools::line_or_fault))]
 fn line_of(alloc: Global, tool: Tool, words: &Words) -> Result<ToolLine<'_>, LineFault>
     ensures { Gives (λ line. line) result (line_or_fault tool words.now) }
@@ -272,14 +268,14 @@ fn line_of(alloc: Global, tool: Tool, words: &Words) -> Result<ToolLine<'_>, Lin
     }
 }
 
-/// Whether words are a line of their tool. Fails only if memory runs out.
+/// Tells whether words are a line of their tool.
 fn is_line(alloc: Global, tool: Tool, words: &Words) -> Result<bool, AllocError>
     ensures { IfOk result (λ is_line. is_line ≡ is_some (read_line tool words.now)) }
 {
     Ok(read_line(alloc, tool, words)?.is_some())
 }
 
-/// The words after a tool's name by its syntax.
+/// Reads the words after a tool's name by its syntax.
 #[tactic(auto, unfolding(crate::specs::Tools::row_for, crate::specs::Tools::row_of, crate::specs::Tools::words_of))]
 fn words_of(alloc: Global, tool: Tool, words: &[String]) -> Result<Words, LineFault>
     ensures { Gives (λ w. w) result (words_of tool (map string_bytes words.now)) }
@@ -287,11 +283,12 @@ fn words_of(alloc: Global, tool: Tool, words: &[String]) -> Result<Words, LineFa
     Ok(read_by(alloc, syntax_of(tool), words)?)
 }
 
-/// The words after a tool's name as flags, the values of options and operands, each in the order of the tool's syntax.
+/// Reads the words after a tool's name as flags, the values of options and operands, each in the order of the tool's
+/// syntax.
 ///
 /// # Errors
 ///
-/// `Usage` where `clap` or the tool's own rules refuse the words; `NoMemory` only if memory runs out.
+/// `Usage` if `clap` or the tool's own rules refuse the words; `NoMemory` only if memory runs out.
 #[tactic(auto, unfolding(crate::specs::Tools::line_or_fault))]
 pub fn read_words(alloc: Global, tool: Tool, words: &[String]) -> Result<Words, LineFault>
     ensures { Gives (λ w. w) result (words_or_fault tool (map string_bytes words.now)) }
@@ -304,7 +301,7 @@ pub fn read_words(alloc: Global, tool: Tool, words: &[String]) -> Result<Words, 
     }
 }
 
-/// What a line does at a state. Questions of who may do what are answered from the index of the state.
+/// Does what a line does at a state. Questions of who may do what are answered from the index of the state.
 #[tactic(auto, unfolding(crate::specs::Tools::answered))]
 fn answer<J: Judge>(
     alloc: Global,
@@ -341,7 +338,7 @@ fn answer<J: Judge>(
     }
 }
 
-/// What the line of a tool that words give does at a state.
+/// Does what the line of these words does at a state.
 fn words_answer<J: Judge>(
     alloc: Global,
     indexed_states: &IndexedStates<J>,
@@ -355,7 +352,7 @@ fn words_answer<J: Judge>(
     answer(alloc, indexed_states, line, text)
 }
 
-/// What a tool does at a state, by the words after its name and the text after the line. `changes` and `gains`
+/// Does what a tool does at a state, by the words after its name and the text after the line. `changes` and `gains`
 /// alone look at the state after the texts were loaded.
 pub(crate) fn tool_line<J: Judge>(
     alloc: Global,

@@ -7,12 +7,12 @@ ghost use Rattle.facl.specs.Units.{args_or_fault};
 use facl_output::LineFault;
 use std::alloc::Global;
 
-/// The FILEs of `--passwd`, `--group` and `--dump`, in this order, from the words after the program's name; `None` for
-/// an absent option.
+/// Returns the FILEs of `--passwd`, `--group` and `--dump`, in this order, from the words after the program's name;
+/// `None` for an absent option.
 ///
 /// # Errors
 ///
-/// `Usage` where `clap` refuses the words: another word, an option without its value, or one that is given twice;
+/// `Usage` if `clap` refuses the words: another word, an option without its value, or one that is given twice;
 /// `NoMemory` only if memory runs out.
 pub fn read_args(alloc: Global, words: &[String]) -> Result<[Option<String>; 3], LineFault>
     ensures { Gives (map (option_map string_bytes)) result (args_or_fault (map string_bytes words.now)) }

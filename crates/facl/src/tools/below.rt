@@ -30,7 +30,7 @@ pub(crate) struct BelowLine<'a> {
     pub files: LineFiles<'a>,
 }
 
-/// The line that words give. `None` where they are usage.
+/// Reads the line of words. `None` if they are usage.
 pub(crate) fn read(words: &Words) -> Option<BelowLine<'_>>
     ensures { result ≡ read words.now }
 {
@@ -44,8 +44,8 @@ pub(crate) fn read(words: &Words) -> Option<BelowLine<'_>>
     })
 }
 
-/// The users who may do something with a file at or below some paths, each with the number of these files and the first
-/// of them; with `--reach` a file counts only where the user can search each recorded directory above it.
+/// Prints the users who may do something with a file at or below some paths, each with the number of these files and
+/// the first of them; with `--reach` a file counts only if the user can search each recorded directory above it.
 pub(crate) fn answer<J: Judge>(
     alloc: Global,
     indexed: &IndexedState<J>,

@@ -29,7 +29,7 @@ pub(crate) struct CanLine<'a> {
     pub file: WordRef<'a>,
 }
 
-/// The line that words give. `None` where they are usage.
+/// Reads the line of words. `None` if they are usage.
 pub(crate) fn read(words: &Words) -> Option<CanLine<'_>>
     ensures { result ≡ read words.now }
 {
@@ -42,7 +42,7 @@ pub(crate) fn read(words: &Words) -> Option<CanLine<'_>>
     })
 }
 
-/// The line of what the user at a place may do with the file of a path.
+/// Prints what the user at a place may do with the file of a path.
 fn requests_at<J: Judge>(
     alloc: Global,
     verdicts: &Verdicts<'_, J>,
@@ -60,7 +60,7 @@ fn requests_at<J: Judge>(
     Ok(out)
 }
 
-/// The line of what the user that a word means may do with the file of a path.
+/// Prints what the user that a word means may do with the file of a path.
 fn can_of<J: Judge>(
     alloc: Global,
     verdicts: &Verdicts<'_, J>,
@@ -74,7 +74,8 @@ fn can_of<J: Judge>(
     requests_at(alloc, verdicts, path, user)
 }
 
-/// What a user may do with a file; with `--reach` only where the user can search each recorded directory above it.
+/// Prints what a user may do with a file; with `--reach` only if the user can search each recorded directory above
+/// it.
 pub(crate) fn answer<J: Judge>(
     alloc: Global,
     indexed: &IndexedState<J>,

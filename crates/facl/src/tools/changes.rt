@@ -26,7 +26,7 @@ pub(crate) struct ChangesLine {
     pub reach: bool,
 }
 
-/// The line that words give.
+/// Reads the line of words.
 pub(crate) fn read(words: &Words) -> ChangesLine
     ensures { result ≡ read words.now }
 {
@@ -35,7 +35,8 @@ pub(crate) fn read(words: &Words) -> ChangesLine
     }
 }
 
-/// What users gained and lost since the texts were loaded; with `--reach` what they gained and lost along paths.
+/// Prints what users gained and lost since the texts were loaded; with `--reach` what they gained and lost along
+/// paths.
 pub(crate) fn answer<J: Judge>(
     alloc: Global,
     indexed_states: &IndexedStates<J>,

@@ -26,7 +26,7 @@ pub(crate) struct GainsLine {
     pub reach: bool,
 }
 
-/// The line that words give.
+/// Reads the line of words.
 pub(crate) fn read(words: &Words) -> GainsLine
     ensures { result ≡ read words.now }
 {
@@ -35,8 +35,8 @@ pub(crate) fn read(words: &Words) -> GainsLine
     }
 }
 
-/// What users gained and lost since the texts were loaded, and on how many files; with `--reach` what they gained and lost
-/// along paths.
+/// Prints what users gained and lost since the texts were loaded, and on how many files; with `--reach` what they
+/// gained and lost along paths.
 pub(crate) fn answer<J: Judge>(
     alloc: Global,
     indexed_states: &IndexedStates<J>,

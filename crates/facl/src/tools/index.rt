@@ -17,7 +17,7 @@ pub(crate) const SYNTAX: Syntax = Syntax {
     operands: &[],
 };
 
-/// What each user may do with each file.
+/// Prints what each user may do with each file.
 pub(crate) fn answer<J: Judge>(
     alloc: Global,
     indexed: &IndexedState<J>,

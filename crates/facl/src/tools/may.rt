@@ -32,7 +32,7 @@ pub(crate) struct MayLine<'a> {
     pub request: Perm,
 }
 
-/// The line that words give. `None` where they are usage.
+/// Reads the line of words. `None` if they are usage.
 pub(crate) fn read(words: &Words) -> Option<MayLine<'_>>
     ensures { result ≡ read words.now }
 {
@@ -45,7 +45,7 @@ pub(crate) fn read(words: &Words) -> Option<MayLine<'_>>
     })
 }
 
-/// The files on which a request is granted to the user of a name, if there is one.
+/// Prints the files on which a request is granted to the user of a name, if there is one.
 fn may_text_of<J: Judge>(
     alloc: Global,
     verdicts: &Verdicts<'_, J>,
@@ -61,7 +61,7 @@ fn may_text_of<J: Judge>(
     }
 }
 
-/// The files on which a request is granted to the user that a word means.
+/// Prints the files on which a request is granted to the user that a word means.
 fn may_of<J: Judge>(
     alloc: Global,
     verdicts: &Verdicts<'_, J>,
@@ -78,8 +78,8 @@ fn may_of<J: Judge>(
     }
 }
 
-/// The files with which a user may do something; with `--reach` only those whose recorded directories above the user
-/// can search.
+/// Prints the files with which a user may do something; with `--reach` only those whose recorded directories above
+/// the user can search.
 pub(crate) fn answer<J: Judge>(
     alloc: Global,
     indexed: &IndexedState<J>,

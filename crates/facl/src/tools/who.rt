@@ -32,7 +32,7 @@ pub(crate) struct WhoLine<'a> {
     pub file: WordRef<'a>,
 }
 
-/// The line that words give. `None` where they are usage.
+/// Reads the line of words. `None` if they are usage.
 pub(crate) fn read(words: &Words) -> Option<WhoLine<'_>>
     ensures { result ≡ read words.now }
 {
@@ -46,7 +46,7 @@ pub(crate) fn read(words: &Words) -> Option<WhoLine<'_>>
     })
 }
 
-/// The users who are granted a request on the file of a path.
+/// Prints the users who are granted a request on the file of a path.
 fn who_at<J: Judge>(
     alloc: Global,
     verdicts: &Verdicts<'_, J>,
@@ -62,7 +62,7 @@ fn who_at<J: Judge>(
     }
 }
 
-/// The users who are granted a request on the file that a word means.
+/// Prints the users who are granted a request on the file that a word means.
 fn who_of<J: Judge>(
     alloc: Global,
     verdicts: &Verdicts<'_, J>,
@@ -76,8 +76,8 @@ fn who_of<J: Judge>(
     who_at(alloc, verdicts, request, path)
 }
 
-/// The users who may do something with a file; with `--reach` only those who can search each recorded directory above
-/// it.
+/// Prints the users who may do something with a file; with `--reach` only those who can search each recorded
+/// directory above it.
 pub(crate) fn answer<J: Judge>(
     alloc: Global,
     indexed: &IndexedState<J>,

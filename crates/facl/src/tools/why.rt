@@ -31,7 +31,7 @@ pub(crate) struct WhyLine<'a> {
     pub files: LineFiles<'a>,
 }
 
-/// The line that words give. `None` where they are usage.
+/// Reads the line of words. `None` if they are usage.
 pub(crate) fn read(words: &Words) -> Option<WhyLine<'_>>
     ensures { result ≡ read words.now }
 {
@@ -44,7 +44,7 @@ pub(crate) fn read(words: &Words) -> Option<WhyLine<'_>>
     })
 }
 
-/// The user of a name, as the check sees one, if there is one.
+/// Returns the user of a name, as the check sees one, if there is one.
 fn subject_named<'a>(people: &'a People, name: &Name) -> Option<&'a Subject>
     ensures { option_copied result ≡ person_named people.now name.now }
 {
@@ -52,7 +52,7 @@ fn subject_named<'a>(people: &'a People, name: &Name) -> Option<&'a Subject>
     people.subject_at(user)
 }
 
-/// What decides on a user on the files of these paths.
+/// Prints what decides on a user on the files of these paths.
 fn why_at(
     alloc: Global,
     state: &State,
@@ -67,7 +67,7 @@ fn why_at(
     Ok(out)
 }
 
-/// What decides on the user that a word means, on the files of these paths.
+/// Prints what decides on the user that a word means, on the files of these paths.
 fn why_of(
     alloc: Global,
     state: &State,
@@ -84,7 +84,7 @@ fn why_of(
     }
 }
 
-/// The entries that decide on a user, on files; with `--reach` on the recorded directories above them too.
+/// Prints the entries that decide on a user, on files; with `--reach` on the recorded directories above them too.
 pub(crate) fn answer(alloc: Global, state: &State, line: WhyLine<'_>) -> Result<Effect, LineFault>
     ensures { Replies state.now result (answered state.now line.entry) }
 {
