@@ -12,7 +12,7 @@ use std::env::Env;
 use std::io::ErrorKind;
 use std::{env, io};
 
-/// The fault of words that cannot be read: one of them is not text, or memory ran out.
+/// Returns the fault of words that cannot be read: one of them is not text, or memory ran out.
 fn words_fault(error: &io::Error) -> ProgramFault
     ensures { result ≡ if ran_out_of_memory (error_kind error.now) then ProgramFault.NoMemory else ProgramFault.Usage }
 {
@@ -22,7 +22,7 @@ fn words_fault(error: &io::Error) -> ProgramFault
     }
 }
 
-/// The words of the program, its name first. No contract can state which words the system gives.
+/// Returns the words of the program, its name first. No contract can state which words the system gives.
 pub(crate) fn words_given(rt: &(impl Env + AllocGlobal)) -> Result<Vec<String>, ProgramFault> {
     match env::args(rt) {
         Ok(words) => Ok(words.collect(rt.alloc())?),
@@ -41,7 +41,7 @@ pub(crate) struct Files {
     pub dump: Option<String>,
 }
 
-/// The files that the words name. The first of the words is the program's name.
+/// Reads the files that the words name. The first of the words is the program's name.
 pub(crate) fn files_named(alloc: Global, words: &[String]) -> Result<Files, ProgramFault>
     ensures { MatchResult result
         (λ files. files_named (map string_bytes words.now) ≡ Some (names_of files))

@@ -49,7 +49,7 @@ impl From<RunFault> for ProgramFault {
     }
 }
 
-/// The line of a fault of the setup. Fails only if memory runs out.
+/// Writes the line of a fault of the setup.
 fn setup_line(alloc: Global, fault: &RunFault) -> Result<Vec<u8>, AllocError>
     ensures { IfOk result (λ line. line.items ≡ fault_line (ProgramFault.Run fault.now)) }
 {
@@ -90,7 +90,7 @@ fn write_unread<E: Sink>(file: &str, err: &mut E) -> Result<(), ScriptFault>
     write_whole(err, b": cannot read\n")
 }
 
-/// Writes the line of a fault. It allocates nothing, but for a fault of the setup: where memory runs out for its line,
+/// Writes the line of a fault. It allocates nothing, but for a fault of the setup: if memory runs out for its line,
 /// that of `no memory` is written.
 pub(crate) fn write_fault<E: Sink>(
     alloc: Global,

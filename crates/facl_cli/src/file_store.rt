@@ -1,4 +1,4 @@
-//! What opens files by their names and reads them.
+//! Opens files by their names and reads them.
 
 ghost use Rattle.std.specs.Prelude.{◌≡◌, true, false, Bool, List, ℕ, is_err, is_ok, is_some};
 ghost use Rattle.std.specs.Io.{ReadsAtMost};
@@ -8,8 +8,8 @@ use std::fs::File;
 use std::io;
 use std::io::Read;
 
-/// What opens files by their names, one at a time, and reads the one that is open. It remembers whether it failed:
-/// after a failure nothing is opened or read.
+/// Opens files by their names, one at a time, and reads the one that is open. It remembers whether it failed: after a
+/// failure nothing is opened or read.
 pub(crate) trait FileStore {
     /// What is known of the bytes of the file of a name.
     ghost bytes_of: { Self → List ℕ → Bytes };
@@ -23,7 +23,7 @@ pub(crate) trait FileStore {
     /// Whether a file is open.
     ghost is_open: { Self → Bool };
 
-    /// Opens a file, where none is open. Its first byte is read next.
+    /// Opens a file, if none is open. Its first byte is read next.
     fn open(&mut self, file: &str) -> io::Result<()>
         requires works { has_failed self.old ≡ false }
         requires closed { is_open self.old ≡ false }
@@ -63,7 +63,7 @@ pub(crate) struct SystemFiles<'a> {
 }
 
 impl SystemFiles<'_> {
-    /// The files of the system, of which none is open.
+    /// Returns the files of the system, of which none is open.
     pub fn new(rt: &HostRuntime) -> SystemFiles<'_>
         ensures works { result.is_broken ≡ false }
         ensures closed { is_some result.open_file ≡ false }

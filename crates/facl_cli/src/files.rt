@@ -39,7 +39,7 @@ impl From<AllocError> for Unread {
     }
 }
 
-/// The system's error where it ran out of memory is `NoMemory`, and every other one is `NoText`.
+/// Makes `NoMemory` of the system's error that it ran out of memory, and `NoText` of every other one.
 impl From<io::Error> for Unread {
     ghost from_gives = { λ error why. why ≡ (if ran_out_of_memory (error_kind error) then Unread.NoMemory else Unread.NoText) };
 
@@ -60,7 +60,7 @@ pub(crate) struct Texts {
 }
 
 impl Texts {
-    /// What the run loads first.
+    /// Borrows the texts as what the run loads first.
     pub fn setup(&self) -> Setup<'_>
         ensures { setup_texts result ≡ texts_of self.now }
     {
@@ -72,7 +72,7 @@ impl Texts {
     }
 }
 
-/// All bytes that the open file has left. Past the limit one byte is read.
+/// Reads all that is left of the open file. Past the limit one byte is read.
 fn read_within<S: FileStore>(alloc: Global, store: &mut S) -> Result<Vec<u8>, Unread>
     requires works { S.has_failed store.old ≡ false }
     requires open { S.is_open store.old ≡ true }
@@ -98,8 +98,8 @@ fn read_within<S: FileStore>(alloc: Global, store: &mut S) -> Result<Vec<u8>, Un
     }
 }
 
-/// All bytes of a file, which is then closed. Where the program is started with a closed standard input, the system
-/// gives its descriptor to the file, and the script must not be read from there.
+/// Reads all of a file, and closes it. If the program is started with a closed standard input, the system gives its
+/// descriptor to the file, and the script must not be read from there.
 fn read_file<S: FileStore>(alloc: Global, store: &mut S, file: &str) -> Result<Vec<u8>, Unread>
     requires works { S.has_failed store.old ≡ false }
     requires closed { S.is_open store.old ≡ false }
@@ -116,7 +116,7 @@ fn read_file<S: FileStore>(alloc: Global, store: &mut S, file: &str) -> Result<V
     text
 }
 
-/// The text of a file. Where there is none, the fault names the file, unless memory ran out.
+/// Reads the text of a file. If there is none, the fault names the file, unless memory ran out.
 fn read_text<S: FileStore>(
     alloc: Global,
     store: &mut S,
@@ -138,7 +138,7 @@ fn read_text<S: FileStore>(
     }
 }
 
-/// The text of a file, if one is given.
+/// Reads the text of a file, if one is given.
 fn read_given<S: FileStore>(
     alloc: Global,
     store: &mut S,
@@ -160,7 +160,7 @@ fn read_given<S: FileStore>(
     }
 }
 
-/// The texts of the files of users, of groups and of a dump, each if it is given, read in this order. Each is closed
+/// Reads the texts of the files of users, of groups and of a dump, each if it is given, in this order. Each is closed
 /// before the next one is opened. The fault is that of the first file that has no text; after it none is opened.
 pub(crate) fn read_texts<S: FileStore>(
     alloc: Global,

@@ -1,4 +1,4 @@
-//! The program over any words, files and devices: how its parts are joined.
+//! The program over any words, files and devices: joins its parts.
 
 ghost use Rattle.std.specs.Prelude.{◌≡◌, ◌⊎◌, false, Err, IfErr, IfOk, IfSome, OnOk, true, map, string_bytes};
 ghost use Rattle.std.specs.Io.KnownBytes.{IsAtEnd};
@@ -48,12 +48,12 @@ pub(crate) fn answer_words<S: FileStore, R: Feed, O: Sink, E: Sink>(
     // No file is open when the program ends, nor, by `read_texts`, when the script is read.
     ensures closed { S.is_open store.new ≡ false }
 
-    // A status is returned only once the reader is at its end, and where no device has failed.
+    // A status is returned only once the reader is at its end, and if no device has failed.
     ensures end { OnOk result (IsAtEnd (R.remaining reader.new)) }
     ensures works { OnOk result ((R.has_failed reader.new ≡ false)
         × (O.has_failed out.new ≡ false) × (E.has_failed err.new ≡ false)) }
 
-    // A fault of a device is returned only where that device has failed.
+    // A fault of a device is returned only if that device has failed.
     ensures read { result ≡ Err (ProgramFault.Run runs.Read) → R.has_failed reader.new ≡ true }
     ensures write { result ≡ Err (ProgramFault.Run runs.Write)
         → (O.has_failed out.new ≡ true) ⊎ (E.has_failed err.new ≡ true) }
@@ -67,8 +67,8 @@ pub(crate) fn answer_words<S: FileStore, R: Feed, O: Sink, E: Sink>(
     Ok(status)
 }
 
-/// Prints the line of a fault, and returns what the program ends with: 0 where every line was accepted, 1 where some
-/// line was refused, 2 at a fault. A fault of standard error itself cannot be printed.
+/// Prints the line of a fault, and returns what the program ends with: 0 if every line was accepted, 1 if some line
+/// was refused, 2 at a fault. A fault of standard error itself cannot be printed.
 pub(crate) fn end<E: Sink>(
     alloc: Global,
     outcome: &Result<Status, ProgramFault>,
