@@ -22,7 +22,8 @@
 //! - If rows change, the classes of their labels are renewed: who can search is found again for each, and for those right
 //!   below one that changes. Classes are found by tags: the class above, a hash of this and their label, and the label of
 //!   those that say who can search. If all rows change, each class is searched again once, after the one above it.
-//! - How many files' answers were found again is the sum of the counts of classes.
+//! - How many files' answers were found again: after rows changed the sum of the counts of classes; after files changed
+//!   these are compared one by one.
 //!
 //! A call whose only error is `AllocError` fails only if memory runs out, or if a number or a count would be too large. A
 //! function that returns no `Result` allocates nothing.
