@@ -36,7 +36,7 @@ is_noted id at notes = list_any (of_both id at) notes
 abbrev pub noted_for : PlacesById → ℕ → List ℕ
 noted_for n id = option_map_or (λ places. places.value.items) (get nat_cmp n.lists id) []
 
--- whether a place is listed for a group, if it was, after the user who is here or not became u in place of w
+-- whether a place is listed for a group after user u replaced w at one place: `was` says whether it was listed, `here` whether it is that place
 abbrev pub after_move : ℕ → Person → Person → Bool → Bool → Bool
 after_move group w u here was = (was && not ((is_in group w && not (is_in group u)) && here)) || ((is_in group u && not (is_in group w)) && here)
 

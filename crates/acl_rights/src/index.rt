@@ -23,6 +23,7 @@ use std::mem;
 #[derive(Drop)]
 pub(crate) struct VerdictTable {
     pub users: usize,
+    /// Only the model reads it: contracts see the files of the table.
     tree: Tree,
     pub rows: KindRows,
 }

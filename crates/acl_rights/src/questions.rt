@@ -1,4 +1,6 @@
 //! What an index answers: who may do what, with and without search along the files' paths.
+//!
+//! Beside each public call is a private one that is proved over the table; the public one adds what that means of a state.
 
 ghost use Rattle.std.specs.Prelude.{◌≡◌, [], map, slice_get, IfOk};
 ghost use Rattle.std.specs.Option.{option_copied};

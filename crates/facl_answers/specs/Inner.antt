@@ -1,4 +1,4 @@
--- For inner functions: no public contract names these definitions.
+-- For inner functions, and those that facl_counts calls: no contract of a question names these definitions.
 use Rattle.std.specs.Prelude.{◌≡◌, ℕ, ◌==◌, ◌<◌, Bool, true, false, not, if◌then◌else◌, List, [], ◌∷◌, ◌++◌, get_or, length, map, zip, position, slice_get}
 use Rattle.std.specs.Prelude.{Option, Some, None, is_some, option_and_then, unwrap_or}
 use Rattle.std.specs.List.{flat_map, list_any}

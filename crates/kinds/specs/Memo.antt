@@ -1,5 +1,5 @@
--- Edits of nodes by their numbers: what an edit makes of a number is computed once. For inner functions: no public contract
--- names these definitions.
+-- Edits of nodes by their numbers: what an edit makes of a number is computed once. For inner functions; of public contracts
+-- those of `KindMap::edited` and `KindMap::edited_all` name `edit_each`.
 use Rattle.std.specs.Prelude.{◌≡◌, ℕ, ◌+◌, ◌-◌, ◌<◌, ◌≤◌, ◌==◌, ◌||◌, Bool, false, if◌then◌else◌, List, [], ◌∷◌, ◌++◌, length, get_or, slice_set, Option, Some, Result, Ok, Err}
 use Rattle.std.specs.List.{AllByRecursion}
 use Rattle.acl_names.specs.Paths.{PathOf}
