@@ -21,7 +21,7 @@ use crate::judge::Judge;
 use acl_entry::{Perm, Requests};
 use acl_names::Path;
 use acl_tree::{FilesIter, Staged, State};
-use path_classes::{ClassFiles, FileClasses};
+use path_classes::{ClassFiles, FileClasses, UserPlace};
 use std::alloc::{AllocError, Global};
 use std::marker::Model;
 use std::mem;
@@ -127,7 +127,7 @@ pub struct Verdicts<'a, J: Judge> {
 
 impl<'a, J: Judge> Verdicts<'a, J> {
     /// Returns what a user may do with a file, if both are there.
-    pub fn get(&self, user: usize, path: &Path) -> Option<Requests>
+    pub fn get(&self, user: UserPlace, path: &Path) -> Option<Requests>
         ensures { result ≡ can_requests J.verdict_of self.now.along self.now.state.now user path.now }
     {
         let index = self.state.index();

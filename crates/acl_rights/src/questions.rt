@@ -14,7 +14,7 @@ use crate::index::Index;
 use crate::judge::Judge;
 use acl_entry::{NoMemory, Perm, Requests};
 use acl_names::Path;
-use path_classes::{ClassFiles, FileClasses, granted_users};
+use path_classes::{ClassFiles, FileClasses, UserPlace, granted_users};
 use std::alloc::{AllocError, Global};
 
 impl<J: Judge> Index<J> {
@@ -23,7 +23,7 @@ impl<J: Judge> Index<J> {
     ghost use Rattle.acl_rights.specs.Reach.{reach_at, users_reaching, files_reached};
 
     /// Returns the verdict on a user and a file.
-    fn cell(&self, user: usize, path: &Path) -> Option<Requests>
+    fn cell(&self, user: UserPlace, path: &Path) -> Option<Requests>
         ensures { result ≡ cell_at self.now user path.now }
     {
         let now = &self.table;
@@ -34,7 +34,7 @@ impl<J: Judge> Index<J> {
     }
 
     /// Returns what a user may do with a file, if both are there.
-    pub fn get(&self, user: usize, path: &Path) -> Option<Requests>
+    pub fn get(&self, user: UserPlace, path: &Path) -> Option<Requests>
         ensures cell { result ≡ cell_at self.now user path.now }
         ensures verdict { (s : states.State) → IsWhole J.verdict_of s self.now → result ≡ verdict_at J.verdict_of s user path.now }
     {
@@ -74,7 +74,7 @@ impl<J: Judge> Index<J> {
     fn paths(
         &self,
         alloc: Global,
-        user: usize,
+        user: UserPlace,
         request: Perm,
     ) -> Result<Option<Vec<&Path>>, NoMemory>
         ensures { FindsFiles result (files_at self.now.users self.now.rows user request) }
@@ -91,7 +91,7 @@ impl<J: Judge> Index<J> {
     pub fn may(
         &self,
         alloc: Global,
-        user: usize,
+        user: UserPlace,
         request: Perm,
     ) -> Result<Option<Vec<&Path>>, NoMemory>
         ensures reported { FindsFiles result (files_at self.now.users self.now.rows user request) }
@@ -101,7 +101,7 @@ impl<J: Judge> Index<J> {
     }
 
     /// Returns the verdict on a user and a file, with search along its path.
-    fn reach_cell(&self, user: usize, path: &Path) -> Option<Requests>
+    fn reach_cell(&self, user: UserPlace, path: &Path) -> Option<Requests>
         ensures { result ≡ reached_at self.now.rows user path.now }
     {
         let now = &self.table;
@@ -110,7 +110,7 @@ impl<J: Judge> Index<J> {
 
     /// Returns what a user may do with a file, if both are there and the user can search each recorded directory
     /// above; else nothing.
-    pub fn get_reach(&self, user: usize, path: &Path) -> Option<Requests>
+    pub fn get_reach(&self, user: UserPlace, path: &Path) -> Option<Requests>
         ensures cell { result ≡ reached_at self.now.rows user path.now }
         ensures reach { (s : states.State) → IsWhole J.verdict_of s self.now → result ≡ reach_at J.verdict_of s user path.now }
     {
@@ -151,7 +151,7 @@ impl<J: Judge> Index<J> {
     fn reached_paths(
         &self,
         alloc: Global,
-        user: usize,
+        user: UserPlace,
         request: Perm,
     ) -> Result<Option<Vec<&Path>>, NoMemory>
         ensures { FindsFiles result (files_at self.now.users (reached_rows self.now.rows) user request) }
@@ -168,7 +168,7 @@ impl<J: Judge> Index<J> {
     pub fn may_reach(
         &self,
         alloc: Global,
-        user: usize,
+        user: UserPlace,
         request: Perm,
     ) -> Result<Option<Vec<&Path>>, NoMemory>
         ensures reported { FindsFiles result (files_at self.now.users (reached_rows self.now.rows) user request) }

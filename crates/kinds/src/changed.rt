@@ -5,7 +5,7 @@ ghost use Rattle.std.specs.Option.{option_map_or};
 ghost use Rattle.kinds.specs.Kinds.{kinds_of, node_at, count_at, IsNode};
 ghost use Rattle.kinds.specs.Tagged.{ChangesEach, AreNoted};
 
-use crate::kinds::{Kinds, NONE, Slot};
+use crate::kinds::{KindNumber, Kinds, NONE, Slot};
 use crate::list::SharedList;
 use crate::map::KindMap;
 use std::alloc::{AllocError, Global};
@@ -33,7 +33,7 @@ impl<N: Drop> Kinds<N> {
         alloc: Global,
         state: &mut S,
         change: &C,
-        number: usize,
+        number: KindNumber,
     ) -> Result<Option<Slot<N>>, AllocError>
         requires room { C.counted state.old + 1 < 2 ^ 64 }
         ensures slot { IfOk result (λ some. MatchOption some
@@ -63,7 +63,7 @@ impl<N: Drop> Kinds<N> {
         state: &mut S,
         change: &C,
         slots: SharedList<Slot<N>>,
-        number: usize,
+        number: KindNumber,
         changed: &mut Vec<usize>,
     ) -> Result<SharedList<Slot<N>>, AllocError>
         requires room { C.counted state.old + 1 < 2 ^ 64 }

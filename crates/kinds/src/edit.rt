@@ -11,7 +11,7 @@ ghost use Rattle.kinds.specs.Memo.{NodeEdit, edit_each, EditsUsed, EditsOneMore,
 ghost use Rattle.kinds.specs.Stops.{GivesOr, StopsAt, EditsEntry};
 ghost use Rattle.kinds.specs.declared.edit.Stop.{Stop};
 
-use crate::kinds::Kinds;
+use crate::kinds::{KindNumber, Kinds};
 use crate::map::KindMap;
 use crate::memo::{Memo, count_again, settle};
 use acl_names::Path;
@@ -59,7 +59,7 @@ fn edit_one<N: Drop, E: KindEdit<N>>(
     alloc: Global,
     kinds: &Kinds<N>,
     path: &Path,
-    number: usize,
+    number: KindNumber,
     edit: &E,
 ) -> Result<Rc<N>, Stop<(Path, E::Fault)>>
     requires { IsNode kinds.now number }
@@ -116,7 +116,7 @@ fn edit_entry<'a, N: Drop, E: KindEdit<N>>(
     memo: &mut Memo,
     puts: &mut Vec<(&'a Path, usize)>,
     path: &'a Path,
-    number: usize,
+    number: KindNumber,
     edit: &E,
 ) -> Result<Kinds<N>, Stop<(Path, E::Fault)>>
     requires { IsNode kinds number }
@@ -173,7 +173,7 @@ pub struct EditedMap<'a, N> {
 fn edit_used<N: Drop, E: KindEdit<N>>(
     alloc: Global,
     map: &KindMap<N>,
-    number: usize,
+    number: KindNumber,
     edit: &E,
 ) -> Result<Option<Rc<N>>, Stop<E::Fault>>
     ensures { IfOk result (λ node. EditsUsed (E.edited edit.now) map.now.0 number (option_map (λ r. r.value) node)) }

@@ -7,7 +7,7 @@ ghost use Rattle.kinds.specs.Renewed.{renewed_if, Renews};
 ghost use Rattle.kinds.specs.Placed.{placed, IsOfEntry};
 ghost use Rattle.kinds.specs.Given.{used_at, shared_nodes, HaveNodes};
 
-use crate::kinds::{Kinds, NONE, Slot, shared};
+use crate::kinds::{KindNumber, Kinds, NONE, Slot, shared};
 use crate::list::SharedList;
 use crate::map::KindMap;
 use std::alloc::{AllocError, Global};
@@ -24,7 +24,7 @@ impl<N: Drop> Slot<N> {
 
 impl<N: Drop> Kinds<N> {
     /// Shares the node of a number, if it has one.
-    pub(crate) fn shared_node(&self, number: usize) -> Result<Option<Rc<N>>, AllocError>
+    pub(crate) fn shared_node(&self, number: KindNumber) -> Result<Option<Rc<N>>, AllocError>
         ensures { IfOk result (λ some. option_map (λ r. r.value) some ≡ node_at self.now number) }
     {
         match self.slots.get(number) {
@@ -37,7 +37,7 @@ impl<N: Drop> Kinds<N> {
 impl<N> Kinds<N> {
     /// Returns the slot of a number with this node, if a path has the number; else a slot that is free if this one
     /// is.
-    fn slot_with<M: Drop>(&self, number: usize, node: Option<Rc<M>>) -> Slot<M>
+    fn slot_with<M: Drop>(&self, number: KindNumber, node: Option<Rc<M>>) -> Slot<M>
         ensures { result ≡ (renewed_if (λ x. x) (option_map (λ r. r.value) node) (count_at self.now number), count_at self.now number) }
     {
         let count = self.count(number);
@@ -85,7 +85,7 @@ impl<N> KindMap<N> {
 
 impl<N: Drop> KindMap<N> {
     /// Shares the node of a number, if a path has the number.
-    pub fn shared_node(&self, number: usize) -> Result<Option<Rc<N>>, AllocError>
+    pub fn shared_node(&self, number: KindNumber) -> Result<Option<Rc<N>>, AllocError>
         ensures node { IfOk result (λ some. option_map (λ r. r.value) some ≡ used_at self.now.0 number) }
         ensures entry { IfOk result (λ some. IfSome some (λ node. IsOfEntry node.value (entries_in self.now))) }
     {

@@ -57,6 +57,9 @@ impl Same for usize {
     ghost same = { λ x y h. h };
 }
 
+/// The number of a kind: its place in [`Kinds`].
+pub type KindNumber = usize;
+
 /// The end of the free list: no slot has this number.
 pub(crate) const NONE: usize = usize::MAX;
 
@@ -86,7 +89,7 @@ impl<N> Kinds<N> {
     }
 
     /// Returns the node of a number, if it has one.
-    pub fn get(&self, number: usize) -> Option<&N>
+    pub fn get(&self, number: KindNumber) -> Option<&N>
         ensures { option_copied result ≡ node_at self.now number }
     {
         match self.slots.get(number) {
@@ -104,14 +107,14 @@ impl<N> Kinds<N> {
     }
 
     /// Returns how many paths have a number.
-    pub fn count(&self, number: usize) -> usize
+    pub fn count(&self, number: KindNumber) -> usize
         ensures { result ≡ count_at self.now number }
     {
         count_in(&self.slots, number)
     }
 
     /// Returns the node of a number that has one.
-    pub fn node(&self, number: usize) -> &N
+    pub fn node(&self, number: KindNumber) -> &N
         requires { IsNode self.now number }
         ensures { node_at self.now number ≡ Some result.now }
     {
@@ -186,7 +189,7 @@ impl<N: Drop> Kinds<N> {
     }
 
     /// Adds `more` to the number's count of paths.
-    pub fn grant(self, number: usize, more: usize) -> Result<Kinds<N>, AllocError>
+    pub fn grant(self, number: KindNumber, more: usize) -> Result<Kinds<N>, AllocError>
         requires { IsNode self number }
         ensures { IfOk result (λ new. Grants self number more new) }
     {
@@ -199,7 +202,7 @@ impl<N: Drop> Kinds<N> {
     }
 
     /// Takes `fewer` from the number's count of paths; at 0 its node is dropped, and the number is free.
-    pub fn release(self, number: usize, fewer: usize) -> Result<Kinds<N>, AllocError>
+    pub fn release(self, number: KindNumber, fewer: usize) -> Result<Kinds<N>, AllocError>
         ensures { IfOk result (λ new. Releases self number fewer new) }
     {
         let Kinds { slots, free } = self;
@@ -229,7 +232,7 @@ impl<N> Kinds<N> {
         alloc: Global,
         state: &mut S,
         renewal: &R,
-        number: usize,
+        number: KindNumber,
     ) -> Result<Slot<M>, AllocError>
         requires room { R.counted state.old + weight_at (R.weight renewal.now) self.now number < 2 ^ 64 }
         ensures slot { IfOk result (λ slot. slot ≡ (renewed_if (R.renewed renewal.now) (node_at self.now number) (count_at self.now number), count_at self.now number)) }
@@ -255,7 +258,7 @@ impl<N> Kinds<N> {
     }
 
     /// Returns the number after a free one in the free list.
-    pub(crate) fn next_of(&self, number: usize) -> usize {
+    pub(crate) fn next_of(&self, number: KindNumber) -> usize {
         match self.slots.get(number) {
             Some(slot) => slot.next,
             None => NONE,
@@ -297,7 +300,7 @@ fn next_free<N>(slots: &SharedList<Slot<N>>, free: usize) -> Option<usize>
     Some(slot.next)
 }
 
-fn count_in<N>(slots: &SharedList<Slot<N>>, number: usize) -> usize
+fn count_in<N>(slots: &SharedList<Slot<N>>, number: KindNumber) -> usize
     ensures { result ≡ count_at (kinds_of slots.now) number }
 {
     match slots.get(number) {
@@ -309,7 +312,7 @@ fn count_in<N>(slots: &SharedList<Slot<N>>, number: usize) -> usize
 /// Gives a number this count.
 fn slots_with_count<N: Drop>(
     slots: SharedList<Slot<N>>,
-    number: usize,
+    number: KindNumber,
     count: usize,
 ) -> Result<SharedList<Slot<N>>, AllocError>
     ensures { IfOk result (λ new. kinds_of new ≡ ((kinds_of slots).0, slice_set (kinds_of slots).1 number count)) }

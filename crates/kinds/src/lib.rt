@@ -37,7 +37,7 @@ pub use changed::NodeChange;
 pub use edit::{EditedMap, KindEdit, Stop};
 pub use finder::KindsFinder;
 pub use iter::KindsIter;
-pub use kinds::Kinds;
+pub use kinds::{KindNumber, Kinds};
 pub use list::SharedList;
 pub use map::KindMap;
 pub use memo::{Memo, Met};

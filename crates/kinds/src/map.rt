@@ -16,7 +16,7 @@ ghost use Rattle.kinds.specs.Given.{used_at};
 ghost use Rattle.kinds.specs.Tagged.{SameBut, numbers_found};
 
 use crate::iter::KindsIter;
-use crate::kinds::Kinds;
+use crate::kinds::{KindNumber, Kinds};
 use crate::release::release_all;
 use acl_names::Path;
 use path_map::{PathMap, Within};
@@ -85,7 +85,7 @@ impl<N> KindMap<N> {
     }
 
     /// Returns the node of a number, if a path has it.
-    pub fn used(&self, number: usize) -> Option<&N>
+    pub fn used(&self, number: KindNumber) -> Option<&N>
         ensures node { IfSome result (λ node. node_at self.now.0 number ≡ Some node.now) }
         ensures entry { IfSome result (λ node. IsOfEntry node.now (entries_in self.now)) }
         ensures exact { option_copied result ≡ used_at self.now.0 number }

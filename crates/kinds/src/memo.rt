@@ -5,7 +5,7 @@ ghost use Rattle.std.specs.List.{AllByRecursion};
 ghost use Rattle.kinds.specs.Kinds.{IsNode};
 ghost use Rattle.kinds.specs.Memo.{IsMetAt, CountsAgain, GrantsMet, ReleasesMet, Moves};
 
-use crate::kinds::Kinds;
+use crate::kinds::{KindNumber, Kinds};
 use std::alloc::{AllocError, Global};
 use std::collections::BTreeMap;
 
@@ -39,7 +39,7 @@ impl Memo {
     }
 
     /// Returns the place of a number, if it was edited: `last` is tried first.
-    pub fn place(&self, number: usize) -> Option<usize>
+    pub fn place(&self, number: KindNumber) -> Option<usize>
         ensures { IfSome result (λ at. IsMetAt self.now.met.items number at) }
     {
         if self.has_at(self.last, number) {
@@ -53,7 +53,7 @@ impl Memo {
     }
 
     /// Tells whether `number` is the one at the place `at`.
-    fn has_at(&self, at: usize, number: usize) -> bool
+    fn has_at(&self, at: usize, number: KindNumber) -> bool
         ensures { result ≡ true → IsMetAt self.now.met.items number at }
     {
         at < self.met.len() && self.met[at].old == number

@@ -5,7 +5,7 @@ ghost use Rattle.kinds.specs.Kinds.{node_at, IsNode, Grants};
 ghost use Rattle.kinds.specs.Inner.{HasNumber, CountsRun, GivesNumber};
 ghost use Rattle.kinds.specs.Counted.{AreNodes, GrantsEach};
 
-use crate::kinds::Kinds;
+use crate::kinds::{KindNumber, Kinds};
 use std::alloc::{AllocError, Global};
 use std::collections::BTreeMap;
 use std::rc::Rc;
@@ -48,7 +48,7 @@ pub(crate) struct Numbering<N> {
 /// Returns the number, if its node is the same.
 fn number_if<N, L: Likeness<N>>(
     kinds: &Kinds<N>,
-    number: usize,
+    number: KindNumber,
     node: &N,
     likeness: &L,
 ) -> Option<usize>
@@ -159,7 +159,11 @@ fn number_for<N: Drop, L: Likeness<N>>(
 }
 
 /// Adds `more` to the number's count of paths, if it is not 0.
-fn grant_if<N: Drop>(kinds: Kinds<N>, number: usize, more: usize) -> Result<Kinds<N>, AllocError>
+fn grant_if<N: Drop>(
+    kinds: Kinds<N>,
+    number: KindNumber,
+    more: usize,
+) -> Result<Kinds<N>, AllocError>
     requires { 0 < more → IsNode kinds number }
     ensures { IfOk result (λ new. Grants kinds number more new) }
 {
@@ -187,7 +191,7 @@ fn count_run<N: Drop>(
     kinds: Kinds<N>,
     last: usize,
     pending: usize,
-    number: usize,
+    number: KindNumber,
 ) -> Result<(Kinds<N>, usize), AllocError>
     requires { 0 < pending → IsNode kinds last }
     ensures { IfOk result (λ new. CountsRun kinds last pending number new.0 new.1) }
@@ -285,7 +289,7 @@ impl<N: Drop> Numbering<N> {
     }
 
     /// Counts a further path for a number that has a node.
-    pub(crate) fn give_at(self, number: usize) -> Result<Numbering<N>, AllocError>
+    pub(crate) fn give_at(self, number: KindNumber) -> Result<Numbering<N>, AllocError>
         requires { 0 < self.pending → IsNode self.kinds self.last }
         ensures run { IfOk result (λ new. CountsRun self.kinds self.last self.pending number new.kinds new.pending) }
         ensures last { IfOk result (λ new. new.last ≡ number) }

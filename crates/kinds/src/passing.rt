@@ -5,7 +5,7 @@ ghost use Rattle.kinds.specs.Numbered.{entries_in};
 ghost use Rattle.kinds.specs.Kinds.{node_at};
 ghost use Rattle.kinds.specs.Passing.{passed, count_passed};
 
-use crate::kinds::Kinds;
+use crate::kinds::{KindNumber, Kinds};
 use crate::map::KindMap;
 use crate::renew::KindTest;
 use acl_names::Path;
@@ -13,7 +13,7 @@ use path_map::PathMap;
 use std::alloc::{AllocError, Global};
 
 /// Tells whether a number has a node that passes the test.
-fn passes<N, T: KindTest<N>>(kinds: &Kinds<N>, test: &T, number: usize) -> bool
+fn passes<N, T: KindTest<N>>(kinds: &Kinds<N>, test: &T, number: KindNumber) -> bool
     ensures { result ≡ passed (T.passes test.now) (node_at kinds.now number) }
 {
     match kinds.get(number) {
@@ -23,7 +23,7 @@ fn passes<N, T: KindTest<N>>(kinds: &Kinds<N>, test: &T, number: usize) -> bool
 }
 
 /// Returns how many paths have a number, if its node passes a test.
-fn count_passing<N, T: KindTest<N>>(kinds: &Kinds<N>, test: &T, number: usize) -> usize
+fn count_passing<N, T: KindTest<N>>(kinds: &Kinds<N>, test: &T, number: KindNumber) -> usize
     ensures { result ≡ count_passed (T.passes test.now) kinds.now number }
 {
     if passes(kinds, test, number) {
@@ -49,7 +49,7 @@ fn table_of<N, T: KindTest<N>>(
 }
 
 /// Returns what a table has for a number.
-fn is_set(table: &[bool], number: usize) -> bool
+fn is_set(table: &[bool], number: KindNumber) -> bool
     ensures { result ≡ get_or table.now number false }
 {
     number < table.len() && table[number]

@@ -6,11 +6,15 @@ ghost use Rattle.kinds.specs.Inner.{ReleasesAll, ReleasesRun};
 ghost use Rattle.kinds.specs.Counted.{ReleasesEach};
 
 use crate::counted::counts_found;
-use crate::kinds::Kinds;
+use crate::kinds::{KindNumber, Kinds};
 use std::alloc::{AllocError, Global};
 
 /// Takes `fewer` from the number's count of paths, if it is not 0.
-fn release_if<N: Drop>(kinds: Kinds<N>, number: usize, fewer: usize) -> Result<Kinds<N>, AllocError>
+fn release_if<N: Drop>(
+    kinds: Kinds<N>,
+    number: KindNumber,
+    fewer: usize,
+) -> Result<Kinds<N>, AllocError>
     ensures { IfOk result (λ new. Releases kinds number fewer new) }
 {
     if fewer == 0 {

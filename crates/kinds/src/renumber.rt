@@ -9,7 +9,7 @@ ghost use Rattle.kinds.specs.Tagged.{is_one, numbers_found};
 ghost use Rattle.kinds.specs.Renumbered.{Replaces, SamePaths, IsRenumbered, IsPut};
 
 use crate::counted::count_entries;
-use crate::kinds::{Kinds, NONE, Slot};
+use crate::kinds::{KindNumber, Kinds, NONE, Slot};
 use crate::map::KindMap;
 use crate::put::numbers_with;
 use crate::release::release_all;
@@ -20,7 +20,7 @@ use std::rc::Rc;
 
 impl<N: Drop> Kinds<N> {
     /// Replaces the node of a number that has one; its paths keep the number.
-    pub fn with_node(self, number: usize, node: Rc<N>) -> Result<Kinds<N>, AllocError>
+    pub fn with_node(self, number: KindNumber, node: Rc<N>) -> Result<Kinds<N>, AllocError>
         requires { IsNode self number }
         ensures { IfOk result (λ new. Replaces self node.value number new) }
     {

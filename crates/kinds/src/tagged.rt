@@ -11,7 +11,7 @@ ghost use Rattle.kinds.specs.Renewed.{renewed, weight_of, changed_where, Renews}
 ghost use Rattle.kinds.specs.Tagged.{is_one, meets, tags_at, AreTagsOf, SameBut, SameTagsBut, AreSettled, ChangesTagged, numbers_found};
 
 use crate::changed::NodeChange;
-use crate::kinds::Kinds;
+use crate::kinds::{KindNumber, Kinds};
 use crate::map::KindMap;
 use crate::pairs::pair::Pair;
 use crate::pairs::set::PairSet;
@@ -93,7 +93,7 @@ pub fn push_found(new: &mut Vec<usize>, found: &[Option<usize>]) -> Result<(), A
 fn tags_at<N: Tagged>(
     alloc: Global,
     map: &KindMap<N>,
-    number: usize,
+    number: KindNumber,
 ) -> Result<Vec<usize>, AllocError>
     ensures { IfOk result (λ tags. tags.items ≡ tags_at N.tags_of map.now.0 number) }
 {
@@ -105,7 +105,7 @@ fn tags_at<N: Tagged>(
 }
 
 /// Adds the pairs of some tags and a number.
-fn push_pairs(pairs: &mut Vec<Pair>, tags: &[usize], number: usize) -> Result<(), AllocError>
+fn push_pairs(pairs: &mut Vec<Pair>, tags: &[usize], number: KindNumber) -> Result<(), AllocError>
     ensures { OnOk result (pairs.new.items ≡ pairs.old.items ++ tagged_pairs tags.now number) }
 {
     for tag in tags {
@@ -121,7 +121,7 @@ fn push_changed<N: Tagged>(
     new: &mut Vec<Pair>,
     before: &KindMap<N>,
     after: &KindMap<N>,
-    number: usize,
+    number: KindNumber,
 ) -> Result<(), AllocError>
     ensures { OnOk result ((done : List ℕ) → AreSettled N.tags_of before.now.0 after.now.0 done gone.old.items new.old.items
         → AreSettled N.tags_of before.now.0 after.now.0 (done ++ number ∷ []) gone.new.items new.new.items) }

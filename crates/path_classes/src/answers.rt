@@ -5,7 +5,7 @@ ghost use Rattle.kinds.specs.Numbered.{entries_in};
 ghost use Rattle.path_classes.specs.KindRows.{rows_at};
 ghost use Rattle.path_classes.specs.Rows.{who_in, may_in, grants};
 
-use crate::cells::Cells;
+use crate::cells::{Cells, UserPlace};
 use crate::classed_rows::ClassedRows;
 use crate::label_row::LabelRow;
 use acl_entry::{Perm, Requests};
@@ -31,7 +31,7 @@ pub fn granted_users(
 }
 
 /// Tells whether a row grants a user a request.
-pub(crate) fn row_grants(row: &Cells, user: usize, request: Perm) -> bool
+pub(crate) fn row_grants(row: &Cells, user: UserPlace, request: Perm) -> bool
     ensures { result ≡ grants request user row.now }
 {
     match row.get(user) {
@@ -43,7 +43,7 @@ pub(crate) fn row_grants(row: &Cells, user: usize, request: Perm) -> bool
 /// The test that a row grants a user a request.
 #[derive(Drop)]
 struct Granting {
-    user: usize,
+    user: UserPlace,
     request: Perm,
 }
 
@@ -61,7 +61,7 @@ impl ClassedRows {
     pub fn granted_paths(
         &self,
         alloc: Global,
-        user: usize,
+        user: UserPlace,
         request: Perm,
     ) -> Result<Vec<&Path>, AllocError>
         ensures { IfOk result (λ paths. map (λ p. p.now) paths.items ≡ may_in request user (rows_at (entries_in self.now))) }

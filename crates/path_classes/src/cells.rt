@@ -8,6 +8,9 @@ use std::alloc::{AllocError, Global};
 use std::marker::Model;
 use std::rc::Rc;
 
+/// The place of a user among all users, from 0.
+pub type UserPlace = usize;
+
 /// What each user may do with a file, in the order of the users. Files of equal verdicts can share them.
 #[derive(Drop)]
 pub struct Cells {
@@ -92,7 +95,7 @@ impl Cells {
     }
 
     /// Returns what a user may do.
-    pub fn get(&self, user: usize) -> Option<Requests>
+    pub fn get(&self, user: UserPlace) -> Option<Requests>
         ensures { result ≡ slice_get self.now user }
     {
         match self.as_slice().get(user) {

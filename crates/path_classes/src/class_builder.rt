@@ -9,9 +9,9 @@ ghost use Rattle.path_classes.specs.ClassBuilding.{IsKnown, IsRightAt, IsRightAb
 use crate::class_hints::ClassHints;
 use crate::kept_classes::{KeptClasses, is_class_of};
 use crate::label_row::LabelRow;
-use crate::path_class::PathClass;
+use crate::path_class::{ClassNumber, PathClass};
 use crate::searchers::{Searchers, searchers_below};
-use kinds::{Kinds, push_found};
+use kinds::{KindNumber, Kinds, push_found};
 use std::alloc::{AllocError, Global};
 use std::rc::Rc;
 
@@ -31,8 +31,8 @@ fn known_at(
     classes: &Kinds<PathClass>,
     known: &[usize],
     place: usize,
-    above: Option<usize>,
-    kind: usize,
+    above: Option<ClassNumber>,
+    kind: KindNumber,
 ) -> Option<(usize, usize)>
     ensures { IfSome result (λ found. IsKnown classes.now known.now above kind found.1) }
 {
@@ -49,8 +49,8 @@ fn known_class(
     classes: &Kinds<PathClass>,
     known: &[usize],
     hints: &ClassHints,
-    above: Option<usize>,
-    kind: usize,
+    above: Option<ClassNumber>,
+    kind: KindNumber,
 ) -> Option<(usize, usize)>
     ensures { IfSome result (λ found. IsKnown classes.now known.now above kind found.1) }
 {
@@ -64,7 +64,10 @@ fn known_class(
 }
 
 /// Returns who gets through the class `above`, if there is one.
-pub(crate) fn search_of(classes: &Kinds<PathClass>, above: Option<usize>) -> Option<&Searchers>
+pub(crate) fn search_of(
+    classes: &Kinds<PathClass>,
+    above: Option<ClassNumber>,
+) -> Option<&Searchers>
     requires { AboveKeeps classes.now above }
     ensures { option_copied result ≡ search_above classes.now above }
 {
@@ -125,7 +128,7 @@ fn above_keeping(
     alloc: Global,
     rows: &Kinds<LabelRow>,
     classes: Kinds<PathClass>,
-    above: Option<usize>,
+    above: Option<ClassNumber>,
 ) -> Result<Kinds<PathClass>, AllocError>
     requires { IsRightAbove rows.now classes above }
     ensures { IfOk result (Keeps rows.now classes above) }
@@ -137,7 +140,7 @@ fn above_keeping(
 }
 
 /// Returns how many directories are above a file right below a class, or below none.
-fn depth_below(classes: &Kinds<PathClass>, above: Option<usize>) -> Result<usize, AllocError>
+fn depth_below(classes: &Kinds<PathClass>, above: Option<ClassNumber>) -> Result<usize, AllocError>
     requires { IsThere classes.now above }
     ensures { IfOk result (λ depth. depth ≡ depth_below classes.now above) }
 {
@@ -155,8 +158,8 @@ fn added(
     alloc: Global,
     rows: &Kinds<LabelRow>,
     classes: Kinds<PathClass>,
-    above: Option<usize>,
-    kind: usize,
+    above: Option<ClassNumber>,
+    kind: KindNumber,
 ) -> Result<(Kinds<PathClass>, usize), AllocError>
     requires row { IsNode rows.now kind }
     requires above { AboveKeeps classes above }
@@ -179,8 +182,8 @@ fn kept_or_added(
     rows: &Kinds<LabelRow>,
     kept: &KeptClasses,
     classes: Kinds<PathClass>,
-    above: Option<usize>,
-    kind: usize,
+    above: Option<ClassNumber>,
+    kind: KindNumber,
 ) -> Result<(Kinds<PathClass>, usize), AllocError>
     requires row { IsNode rows.now kind }
     requires above { IsRightAbove rows.now classes above }
@@ -215,8 +218,8 @@ impl ClassBuilder {
         alloc: Global,
         rows: &Kinds<LabelRow>,
         kept: &KeptClasses,
-        above: Option<usize>,
-        kind: usize,
+        above: Option<ClassNumber>,
+        kind: KindNumber,
     ) -> Result<(ClassBuilder, usize), AllocError>
         requires row { IsNode rows.now kind }
         requires above { IsRightAbove rows.now self.classes above }

@@ -15,6 +15,7 @@ use crate::classed_rows::ClassedRows;
 use crate::file_classes::FileClasses;
 use crate::met_rows::MetRows;
 use crate::numbered_files::NumberedFiles;
+use crate::path_class::ClassNumber;
 use acl_names::Path;
 use std::alloc::{AllocError, Global};
 
@@ -22,7 +23,7 @@ use std::alloc::{AllocError, Global};
 #[derive(Clone, Copy)]
 pub struct ClassFiles<'a> {
     /// The number of the class.
-    pub class: usize,
+    pub class: ClassNumber,
     /// How many files there are.
     pub count: usize,
     /// The first of them in path order.

@@ -1,11 +1,13 @@
 //! A cache from a key (the class of the parent directory, the label's number) to the place of its class. Correctness
 //! does not depend on it: callers compare what they find there.
 
+use crate::path_class::ClassNumber;
+use kinds::KindNumber;
 use std::alloc::{AllocError, Global};
 use std::collections::BTreeMap;
 
 /// Hashes a key. If two keys have the same hash, the first is not found again.
-fn key(above: Option<usize>, kind: usize) -> u64 {
+fn key(above: Option<ClassNumber>, kind: KindNumber) -> u64 {
     let above = match above {
         Some(class) => (class as u64).wrapping_add(1),
         None => 0,
@@ -31,7 +33,7 @@ impl ClassHints {
     }
 
     /// Returns the place of the class of a label that was found last.
-    pub fn last(&self, kind: usize) -> Option<usize> {
+    pub fn last(&self, kind: KindNumber) -> Option<usize> {
         let slot = kind.checked_rem(self.last.len())?;
         match self.last.get(slot) {
             Some(place) => place.checked_sub(1),
@@ -40,7 +42,7 @@ impl ClassHints {
     }
 
     /// Returns the place of the class of a key.
-    pub fn place(&self, above: Option<usize>, kind: usize) -> Option<usize> {
+    pub fn place(&self, above: Option<ClassNumber>, kind: KindNumber) -> Option<usize> {
         match self.all.get(&key(above, kind)) {
             Some(place) => Some(*place),
             None => None,
@@ -48,7 +50,7 @@ impl ClassHints {
     }
 
     /// Records the place of the class of a label that was found last.
-    pub fn set_last(&mut self, kind: usize, place: usize) -> Result<(), AllocError> {
+    pub fn set_last(&mut self, kind: KindNumber, place: usize) -> Result<(), AllocError> {
         if place >= self.last.len() {
             let len = place.saturating_add(1).saturating_mul(2).max(16);
             self.last.resize(len, 0)?;
@@ -65,8 +67,8 @@ impl ClassHints {
     /// Adds the place of the class of a key, which was found last.
     pub fn add(
         &mut self,
-        above: Option<usize>,
-        kind: usize,
+        above: Option<ClassNumber>,
+        kind: KindNumber,
         place: usize,
     ) -> Result<(), AllocError> {
         let _before = self.all.insert(key(above, kind), place)?;

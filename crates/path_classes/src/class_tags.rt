@@ -5,14 +5,14 @@ ghost use Rattle.std.specs.Prelude.{◌≡◌, ◌++◌, map, is_some, IfOk, OnO
 ghost use Rattle.path_classes.specs.ClassTags.{label_tag, below_tag, search_tags, above_tags, pair_hash, pair_tag, class_tags};
 
 use crate::hash::mixed;
-use crate::path_class::PathClass;
+use crate::path_class::{ClassNumber, PathClass};
 use crate::searchers::Searchers;
-use kinds::Tagged;
+use kinds::{KindNumber, Tagged};
 use std::alloc::{AllocError, Global};
 
 /// Returns the tag of the classes of a label that keep who can search down to them. Fails, as if memory ran out, if
 /// it is too large.
-pub(crate) fn label_tag(kind: usize) -> Result<usize, AllocError>
+pub(crate) fn label_tag(kind: KindNumber) -> Result<usize, AllocError>
     ensures { IfOk result (λ tag. tag ≡ label_tag kind) }
 {
     match kind.checked_mul(3) {
@@ -22,7 +22,7 @@ pub(crate) fn label_tag(kind: usize) -> Result<usize, AllocError>
 }
 
 /// Returns the tag of the classes right below a class. Fails, as if memory ran out, if it is too large.
-pub(crate) fn below_tag(above: usize) -> Result<usize, AllocError>
+pub(crate) fn below_tag(above: ClassNumber) -> Result<usize, AllocError>
     ensures { IfOk result (λ tag. tag ≡ below_tag above) }
 {
     let tag = label_tag(above)?;
@@ -33,7 +33,7 @@ pub(crate) fn below_tag(above: usize) -> Result<usize, AllocError>
 }
 
 /// Hashes a label and the class above.
-fn pair_hash(above: Option<usize>, kind: usize) -> u64
+fn pair_hash(above: Option<ClassNumber>, kind: KindNumber) -> u64
     ensures { result ≡ pair_hash above kind }
 {
     let hash = mixed(0, kind as u64);
@@ -44,7 +44,7 @@ fn pair_hash(above: Option<usize>, kind: usize) -> u64
 }
 
 /// Returns the tag of the class of a key. Others may have it too.
-pub(crate) fn pair_tag(above: Option<usize>, kind: usize) -> usize
+pub(crate) fn pair_tag(above: Option<ClassNumber>, kind: KindNumber) -> usize
     ensures { result ≡ pair_tag above kind }
 {
     let hash = (pair_hash(above, kind) % (1 << 30)) as usize;
@@ -55,7 +55,7 @@ pub(crate) fn pair_tag(above: Option<usize>, kind: usize) -> usize
 fn push_label(
     new: &mut Vec<usize>,
     search: &Option<Searchers>,
-    kind: usize,
+    kind: KindNumber,
 ) -> Result<(), AllocError>
     ensures { OnOk result (new.new.items ≡ new.old.items ++ search_tags (is_some search.now) kind) }
 {
@@ -66,7 +66,7 @@ fn push_label(
 }
 
 /// Adds the tag of the class above, if there is one.
-fn push_above(new: &mut Vec<usize>, above: Option<usize>) -> Result<(), AllocError>
+fn push_above(new: &mut Vec<usize>, above: Option<ClassNumber>) -> Result<(), AllocError>
     ensures { OnOk result (new.new.items ≡ new.old.items ++ above_tags above) }
 {
     if let Some(above) = above {

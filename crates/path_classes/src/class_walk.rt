@@ -12,6 +12,7 @@ ghost use Rattle.path_classes.specs.PathClasses.{ClassKinds};
 use crate::class_builder::ClassBuilder;
 use crate::kept_classes::KeptClasses;
 use crate::label_row::LabelRow;
+use crate::path_class::ClassNumber;
 use crate::stack::{depth_above, last};
 use acl_names::Path;
 use kinds::Kinds;
@@ -19,7 +20,7 @@ use path_map::Within;
 use std::alloc::{AllocError, Global};
 
 /// Returns the class of the last of the first `depth` files of a stack; `over` if there is none.
-fn last_class(files: &[(&Path, usize)], depth: usize, over: Option<usize>) -> Option<usize>
+fn last_class(files: &[(&Path, usize)], depth: usize, over: Option<ClassNumber>) -> Option<usize>
     requires { depth ≤ length files.now }
     ensures { result ≡ option_or (last_of (take depth (map seen files.now))) over }
 {
@@ -34,7 +35,7 @@ fn put<'a>(
     files: &mut Vec<(&'a Path, usize)>,
     depth: usize,
     path: &'a Path,
-    class: usize,
+    class: ClassNumber,
 ) -> Result<(), AllocError>
     requires { depth ≤ length files.old.items }
     ensures { map seen files.new.items ≡ (if is_ok result then take depth (map seen files.old.items) ++ (path.now, class) ∷ [] else take depth (map seen files.old.items)) }
@@ -51,7 +52,7 @@ pub(crate) fn walk<'a, 'p>(
     rows: &Kinds<LabelRow>,
     kept: &KeptClasses,
     builder: ClassBuilder,
-    over: Option<usize>,
+    over: Option<ClassNumber>,
     files: Within<'a, 'p, usize>,
 ) -> Result<(ClassBuilder, Vec<(&'a Path, usize)>), AllocError>
     requires order { IsInOrder files }

@@ -9,10 +9,11 @@ ghost use Rattle.path_classes.specs.KindRows.{rows_at};
 ghost use Rattle.path_classes.specs.ReachedRows.{rows_along};
 ghost use Rattle.path_classes.specs.Classes.{KeepRows, TakesFile};
 
-use crate::cells::Cells;
+use crate::cells::{Cells, UserPlace};
 use crate::classed_rows::ClassedRows;
 use crate::met_rows::MetRows;
 use crate::numbered_files::NumberedFiles;
+use crate::path_class::ClassNumber;
 use acl_entry::Requests;
 use acl_names::Path;
 use std::alloc::{AllocError, Global};
@@ -70,7 +71,7 @@ impl<'a> FileClasses<'a> {
     }
 
     /// Tells whether a class has the row that a class of other files has, as far as that is seen without the rows.
-    pub fn has_row_of(&self, class: usize, others: &FileClasses<'_>, other: usize) -> bool
+    pub fn has_row_of(&self, class: ClassNumber, others: &FileClasses<'_>, other: usize) -> bool
         ensures { result ≡ true → slice_get self.now.0 class ≡ slice_get others.now.0 other }
     {
         let Some(number) = self.met.number(class) else {
@@ -83,7 +84,7 @@ impl<'a> FileClasses<'a> {
     }
 
     /// Returns what the user at a place may do with the files of a class, if both are there. Makes no row.
-    pub fn cell(&self, class: usize, user: usize) -> Option<Requests>
+    pub fn cell(&self, class: ClassNumber, user: UserPlace) -> Option<Requests>
         ensures { result ≡ option_and_then (λ row. slice_get row user) (slice_get self.now.0 class) }
     {
         match self.met.number(class) {
@@ -94,7 +95,7 @@ impl<'a> FileClasses<'a> {
 
     /// Returns the row of a class, if there is one: what each user may do with its files, in the order of the users.
     /// It shares that of a label if nobody is kept out above.
-    pub fn row(&self, alloc: Global, class: usize) -> Result<Option<Cells>, AllocError>
+    pub fn row(&self, alloc: Global, class: ClassNumber) -> Result<Option<Cells>, AllocError>
         ensures { IfOk result (λ row. row ≡ slice_get self.now.0 class) }
     {
         match self.met.number(class) {

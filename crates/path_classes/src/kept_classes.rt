@@ -8,9 +8,9 @@ ghost use Rattle.kinds.specs.Numbered.{one_if, paths_with};
 ghost use Rattle.path_classes.specs.ClassBuilding.{IsClassOf, IsKeptClass};
 
 use crate::class_tags::pair_tag;
-use crate::path_class::PathClass;
+use crate::path_class::{ClassNumber, PathClass};
 use acl_names::Path;
-use kinds::{Kinds, TaggedMap};
+use kinds::{KindNumber, Kinds, TaggedMap};
 use std::alloc::{AllocError, Global};
 
 /// Classes with their tags, and how many paths outside have each.
@@ -36,8 +36,8 @@ fn is_same_class(some: Option<usize>, other: Option<usize>) -> bool
 pub(crate) fn is_class_of(
     classes: &Kinds<PathClass>,
     number: usize,
-    above: Option<usize>,
-    kind: usize,
+    above: Option<ClassNumber>,
+    kind: KindNumber,
 ) -> bool
     ensures { result ≡ true → IsClassOf classes.now above kind number }
 {
@@ -128,8 +128,8 @@ impl KeptClasses {
         &self,
         classes: &Kinds<PathClass>,
         number: usize,
-        above: Option<usize>,
-        kind: usize,
+        above: Option<ClassNumber>,
+        kind: KindNumber,
     ) -> Result<bool, AllocError>
         ensures { IfOk result (λ kept. kept ≡ true → IsKeptClass classes.now self.now.outside above kind number) }
     {
@@ -142,8 +142,8 @@ impl KeptClasses {
         &self,
         alloc: Global,
         classes: &Kinds<PathClass>,
-        above: Option<usize>,
-        kind: usize,
+        above: Option<ClassNumber>,
+        kind: KindNumber,
     ) -> Result<Option<usize>, AllocError>
         ensures { IfOk result (λ found. IfSome found (IsKeptClass classes.now self.now.outside above kind)) }
     {

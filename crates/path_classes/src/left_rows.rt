@@ -7,9 +7,10 @@ ghost use Rattle.path_classes.specs.NumberedRows.{left_from, left_to, label_row,
 ghost use Rattle.path_classes.specs.PathClasses.{search_above};
 ghost use Rattle.path_classes.specs.Searching.{gets_through};
 
+use crate::cells::UserPlace;
 use crate::class_builder::search_of;
 use crate::label_row::LabelRow;
-use crate::path_class::PathClass;
+use crate::path_class::{ClassNumber, PathClass};
 use crate::searchers::Searchers;
 use acl_entry::Requests;
 use kinds::Kinds;
@@ -83,7 +84,11 @@ pub(crate) fn class_row(
 
 /// Tells whether a user gets through the class above, if there is one: nobody does if it does not keep who can
 /// search.
-pub(crate) fn passes_above(classes: &Kinds<PathClass>, above: Option<usize>, user: usize) -> bool
+pub(crate) fn passes_above(
+    classes: &Kinds<PathClass>,
+    above: Option<ClassNumber>,
+    user: UserPlace,
+) -> bool
     ensures { result ≡ gets_through (search_above classes.now above) user }
 {
     let Some(number) = above else {
@@ -99,7 +104,11 @@ pub(crate) fn passes_above(classes: &Kinds<PathClass>, above: Option<usize>, use
 }
 
 /// Returns the verdict on a user in the row of a label, if both are there.
-pub(crate) fn label_cell(labels: &Kinds<LabelRow>, number: usize, user: usize) -> Option<Requests>
+pub(crate) fn label_cell(
+    labels: &Kinds<LabelRow>,
+    number: usize,
+    user: UserPlace,
+) -> Option<Requests>
     ensures { result ≡ slice_get (label_row labels.now number) user }
 {
     match labels.get(number) {
@@ -114,7 +123,7 @@ pub(crate) fn class_cell(
     labels: &Kinds<LabelRow>,
     classes: &Kinds<PathClass>,
     number: usize,
-    user: usize,
+    user: UserPlace,
 ) -> Option<Requests>
     ensures { result ≡ slice_get (class_row labels.now classes.now number) user }
 {

@@ -65,12 +65,12 @@ mod tagged_classes;
 mod top_paths;
 
 pub use answers::granted_users;
-pub use cells::{Cells, same_row};
+pub use cells::{Cells, UserPlace, same_row};
 pub use class_counts::ClassFiles;
 pub use classed_rows::ClassedRows;
 pub use file_classes::FileClasses;
 pub use hash::mixed;
 pub use label_row::{LabelRow, push_groups};
-pub use path_class::PathClass;
+pub use path_class::{ClassNumber, PathClass};
 pub use searchers::Searchers;
 pub use top_paths::tops_of;

@@ -9,7 +9,7 @@ ghost use Rattle.path_classes.specs.PathClasses.{AreClasses, kept_search, search
 
 use crate::cells::same_row;
 use crate::label_row::LabelRow;
-use crate::path_class::PathClass;
+use crate::path_class::{ClassNumber, PathClass};
 use crate::searchers::Searchers;
 use kinds::{KindMap, KindTest, Kinds, TaggedMap};
 use std::alloc::{AllocError, Global};
@@ -98,7 +98,7 @@ fn is_marked(marks: &[bool], number: usize) -> bool
 }
 
 /// Tells whether the class above is marked, if there is one.
-fn is_marked_above(marks: &[bool], above: Option<usize>) -> bool
+fn is_marked_above(marks: &[bool], above: Option<ClassNumber>) -> bool
     ensures { result ≡ option_map_or (λ a. get_or marks.now a true) above false }
 {
     match above {

@@ -13,11 +13,11 @@ ghost use Rattle.path_classes.specs.ClassBuilding.{IsRightAt};
 ghost use Rattle.path_classes.specs.ClassCounts.{AreAll};
 ghost use Rattle.path_classes.specs.NumberedRows.{label_row, class_row, files_with, HasRow, HaveRows, AreNumbers, row_at, rows_left};
 
-use crate::cells::Cells;
+use crate::cells::{Cells, UserPlace};
 use crate::classed_rows::ClassedRows;
 use crate::label_row::LabelRow;
 use crate::left_rows::{class_cell, class_row, label_cell};
-use crate::path_class::PathClass;
+use crate::path_class::{ClassNumber, PathClass};
 use crate::same_rows::{has_same_cells, is_same_row, kept_search, leaves_same_row};
 use acl_entry::Requests;
 use acl_names::Path;
@@ -141,7 +141,7 @@ impl<'a> NumberedFiles<'a> {
     }
 
     /// Returns a hash of who gets through a path class.
-    pub fn searchers_hash(&self, above: usize) -> u64 {
+    pub fn searchers_hash(&self, above: ClassNumber) -> u64 {
         let Some(classes) = self.classes else {
             return 0;
         };
@@ -196,7 +196,7 @@ impl<'a> NumberedFiles<'a> {
     }
 
     /// Returns the verdict on a user in the row of a number, if both are there. Makes no row.
-    pub fn cell(&self, number: usize, user: usize) -> Option<Requests>
+    pub fn cell(&self, number: usize, user: UserPlace) -> Option<Requests>
         ensures { result ≡ slice_get (row_at self.now number) user }
     {
         match self.classes {

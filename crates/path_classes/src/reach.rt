@@ -5,6 +5,7 @@ ghost use Rattle.kinds.specs.Numbered.{entries_in};
 ghost use Rattle.path_classes.specs.KindRows.{rows_at};
 ghost use Rattle.path_classes.specs.ReachedRows.{reached_at};
 
+use crate::cells::UserPlace;
 use crate::classed_rows::ClassedRows;
 use crate::left_rows::class_cell;
 use acl_entry::Requests;
@@ -13,7 +14,7 @@ use acl_names::Path;
 impl ClassedRows {
     /// Returns what the user at a place may do with a file if each recorded directory above the file lets the user
     /// search; else nothing. `None` if there is no such file or user. One look-up, whatever the depth.
-    pub fn reach(&self, user: usize, path: &Path) -> Option<Requests>
+    pub fn reach(&self, user: UserPlace, path: &Path) -> Option<Requests>
         ensures { result ≡ reached_at (rows_at (entries_in self.now)) user path.now }
     {
         let rows = self.rows();

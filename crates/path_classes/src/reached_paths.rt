@@ -8,6 +8,7 @@ ghost use Rattle.path_classes.specs.ReachedRows.{reached_rows};
 ghost use Rattle.path_classes.specs.NumberedRows.{row_below};
 
 use crate::answers::row_grants;
+use crate::cells::UserPlace;
 use crate::classed_rows::ClassedRows;
 use crate::label_row::LabelRow;
 use crate::left_rows::passes_above;
@@ -22,7 +23,7 @@ use std::alloc::{AllocError, Global};
 struct Reached<'a> {
     labels: &'a Kinds<LabelRow>,
     classes: &'a Kinds<PathClass>,
-    user: usize,
+    user: UserPlace,
     request: Perm,
 }
 
@@ -46,7 +47,7 @@ impl ClassedRows {
     pub fn reached_paths(
         &self,
         alloc: Global,
-        user: usize,
+        user: UserPlace,
         request: Perm,
     ) -> Result<Vec<&Path>, AllocError>
         ensures { IfOk result (λ paths. map (λ p. p.now) paths.items ≡ may_in request user (reached_rows (rows_at (entries_in self.now)))) }

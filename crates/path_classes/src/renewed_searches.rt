@@ -13,7 +13,7 @@ use crate::label_row::LabelRow;
 use crate::path_class::PathClass;
 use crate::searchers::{Searchers, searchers_below};
 use crate::tagged_classes::classes_below;
-use kinds::{KindMap, Kinds, TaggedMap};
+use kinds::{KindMap, KindNumber, Kinds, TaggedMap};
 use std::alloc::{AllocError, Global};
 use std::rc::Rc;
 
@@ -189,7 +189,7 @@ fn with_kind(
     alloc: Global,
     before: &TaggedMap<PathClass>,
     number: usize,
-    kind: usize,
+    kind: KindNumber,
 ) -> Result<KindMap<PathClass>, AllocError>
     requires { IsNode before.now.0 number }
     ensures { IfOk result (HasKind before.now number kind) }
@@ -217,7 +217,7 @@ pub(crate) fn relabelled_classes(
     rows: &KindMap<LabelRow>,
     before: &TaggedMap<PathClass>,
     number: usize,
-    kind: usize,
+    kind: KindNumber,
 ) -> Result<(TaggedMap<PathClass>, Vec<usize>), AllocError>
     requires { AreRelabelled before.now number kind rows.now }
     ensures classes { IfOk result (λ new. AreClasses rows.now new.0) }

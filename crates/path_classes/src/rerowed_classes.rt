@@ -15,7 +15,7 @@ ghost use Rattle.path_classes.specs.Renewing.{AreSearched, is_one};
 
 use crate::class_tags::below_tag;
 use crate::label_row::LabelRow;
-use crate::path_class::PathClass;
+use crate::path_class::{ClassNumber, PathClass};
 use crate::renewed_searches::{renewed_classes, with_searches};
 use crate::searched_once::searched_once;
 use crate::tagged_classes::classes_of_labels;
@@ -23,7 +23,7 @@ use kinds::{KindMap, Kinds, TaggedMap, rising_numbers};
 use std::alloc::{AllocError, Global};
 
 /// Adds the tags of the classes right below those of `above`.
-fn push_below_tags(tags: &mut Vec<usize>, above: &[usize]) -> Result<(), AllocError>
+fn push_below_tags(tags: &mut Vec<usize>, above: &[ClassNumber]) -> Result<(), AllocError>
     ensures { OnOk result (tags.new.items ≡ tags.old.items ++ map below_tag above.now) }
 {
     for class in above {
@@ -36,7 +36,7 @@ fn push_below_tags(tags: &mut Vec<usize>, above: &[usize]) -> Result<(), AllocEr
 fn classes_below_some(
     alloc: Global,
     classes: &TaggedMap<PathClass>,
-    above: &[usize],
+    above: &[ClassNumber],
 ) -> Result<Vec<usize>, AllocError>
     ensures { IfOk result (λ below. (n : ℕ) → is_one n below.items ≡ option_map_or (is_below_some above.now) (used_at classes.now.0 n) false) }
 {
@@ -107,7 +107,7 @@ fn touched_paths(
     rows: &KindMap<LabelRow>,
     classes: &TaggedMap<PathClass>,
     labels: &[usize],
-    above: &[usize],
+    above: &[ClassNumber],
 ) -> Result<usize, AllocError>
     requires rising { IsStrictlyIncreasing labels.now }
     requires kinds { map (λ e. (e.0, kind_at classes.now.0 e.1)) classes.now.1 ≡ rows.now.1 }
@@ -128,7 +128,7 @@ fn touched_paths(
 pub(crate) fn paths_below(
     alloc: Global,
     classes: &TaggedMap<PathClass>,
-    above: Vec<usize>,
+    above: Vec<ClassNumber>,
 ) -> Result<usize, AllocError>
     ensures { IfOk result (λ count. count ≡ count_by (λ e. is_below_some above.items e.1) (entries_in classes.now)) }
 {

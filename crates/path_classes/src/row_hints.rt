@@ -3,6 +3,7 @@
 
 use crate::hash::mixed;
 use crate::numbered_files::NumberedFiles;
+use crate::path_class::ClassNumber;
 use std::alloc::{AllocError, Global};
 
 /// The places of rows by a hash of their label and of who gets through from above.
@@ -35,7 +36,7 @@ impl RowHints {
     fn searchers_hash(
         &mut self,
         files: &NumberedFiles<'_>,
-        above: usize,
+        above: ClassNumber,
     ) -> Result<u64, AllocError> {
         if above >= self.searchers.len() {
             self.searchers.resize(above.saturating_add(1), None)?;

@@ -8,12 +8,15 @@ ghost use Rattle.path_classes.specs.NumberedRows.{label_row, class_row};
 
 use crate::cells::same_row;
 use crate::label_row::LabelRow;
-use crate::path_class::PathClass;
+use crate::path_class::{ClassNumber, PathClass};
 use crate::searchers::Searchers;
 use kinds::Kinds;
 
 /// Returns who gets through the class above, if there is one that keeps it.
-pub(crate) fn kept_search(classes: &Kinds<PathClass>, above: Option<usize>) -> Option<&Searchers>
+pub(crate) fn kept_search(
+    classes: &Kinds<PathClass>,
+    above: Option<ClassNumber>,
+) -> Option<&Searchers>
     ensures { IfSome result (λ search. search_above classes.now above ≡ Some search.now) }
 {
     match &classes.get(above?)?.search {
@@ -25,7 +28,7 @@ pub(crate) fn kept_search(classes: &Kinds<PathClass>, above: Option<usize>) -> O
 /// Tells whether the same users get through the two classes above, if any. Compares the users, not the classes.
 fn is_same_search(
     classes: &Kinds<PathClass>,
-    above: Option<usize>,
+    above: Option<ClassNumber>,
     others: &Kinds<PathClass>,
     other: Option<usize>,
 ) -> bool

@@ -6,7 +6,7 @@ ghost use Rattle.kinds.specs.Kinds.{node_at};
 ghost use Rattle.path_classes.specs.Renewing.{AreLinked, AreSearched, AreRenewed, IsLinkedAt, Marks, SearchesOne, is_marked_above, is_next};
 
 use crate::label_row::LabelRow;
-use crate::path_class::PathClass;
+use crate::path_class::{ClassNumber, PathClass};
 use crate::renewed_searches::searched_again;
 use kinds::{Kinds, TaggedMap};
 use std::alloc::{AllocError, Global};
@@ -22,7 +22,7 @@ fn is_marked(marks: &[bool], number: usize) -> bool
 }
 
 /// Tells whether the class above is marked, if there is one.
-fn is_marked_above(marks: &[bool], above: Option<usize>) -> bool
+fn is_marked_above(marks: &[bool], above: Option<ClassNumber>) -> bool
     ensures { result ≡ is_marked_above marks.now above }
 {
     match above {

@@ -6,7 +6,7 @@ ghost use Rattle.acl_entry.specs.Check.{has};
 ghost use Rattle.path_classes.specs.ReachedRows.{execute};
 ghost use Rattle.path_classes.specs.Searching.{searches_kept, through_from, searchers};
 
-use crate::cells::search;
+use crate::cells::{UserPlace, search};
 use crate::hash::mixed;
 use acl_entry::Requests;
 use std::alloc::{AllocError, Global};
@@ -33,7 +33,7 @@ impl Searchers {
     }
 
     /// Tells whether a user gets through.
-    pub fn has(&self, user: usize) -> bool
+    pub fn has(&self, user: UserPlace) -> bool
         ensures { result ≡ get_or self.now user false }
     {
         let users = self.as_slice();

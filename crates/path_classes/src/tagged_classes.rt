@@ -7,7 +7,7 @@ ghost use Rattle.path_classes.specs.FoundClasses.{is_searched_of};
 ghost use Rattle.path_classes.specs.Renewing.{is_one, AreBelow};
 
 use crate::class_tags::{below_tag, label_tags};
-use crate::path_class::PathClass;
+use crate::path_class::{ClassNumber, PathClass};
 use kinds::TaggedMap;
 use std::alloc::{AllocError, Global};
 
@@ -15,7 +15,7 @@ use std::alloc::{AllocError, Global};
 pub(crate) fn classes_below(
     alloc: Global,
     classes: &TaggedMap<PathClass>,
-    above: usize,
+    above: ClassNumber,
 ) -> Result<Vec<usize>, AllocError>
     ensures { IfOk result (λ below. AreBelow classes.now.0 above below.items) }
 {
