@@ -134,7 +134,7 @@ pub enum Key {
 }
 
 impl Key {
-    /// List order: by kind, and within a kind by id. `cmp` gives it too.
+    /// Compares in list order: by kind, and within a kind by id. `cmp` does the same.
     pub fn order(self, other: Key) -> Ordering
         ensures { result ≡ key_cmp self other }
     {

@@ -82,7 +82,7 @@ impl<'a> PathRef<'a> {
         self.components().is_empty()
     }
 
-    /// Path order: by components, bytewise, parents first.
+    /// Compares in path order: by components, bytewise, parents first.
     #[inline]
     pub fn order(&self, other: &Path) -> Ordering
         ensures { result ≡ path_cmp self.now other.now }

@@ -180,7 +180,6 @@ fn given_rows<J: Judge>(
     Ok(nodes)
 }
 
-/// Tells whether a path has a row.
 fn has_row(rows: &KindRows, path: &Path) -> bool
     ensures { result ≡ has path.now (entries_in rows.now.rows) }
 {

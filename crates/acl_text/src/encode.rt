@@ -9,7 +9,6 @@ use acl_entry::{Acl, Entry};
 use byteorder::{ByteOrder, LittleEndian};
 use std::alloc::{AllocError, Global};
 
-/// Returns the eight bytes of an entry.
 fn entry_bytes(entry: &Entry) -> [u8; ENTRY_BYTES]
     ensures { result ≡ entry_bytes entry.now }
 {

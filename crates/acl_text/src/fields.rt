@@ -40,7 +40,6 @@ fn is_one_of(word: &[u8], short: &[u8], long: &[u8]) -> bool
     word == short || word == long
 }
 
-/// Returns the tag that a word names.
 fn tag_named(word: &[u8]) -> Option<Tag>
     ensures { result ≡ tag_named word.now }
 {

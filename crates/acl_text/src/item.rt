@@ -35,7 +35,6 @@ fn flag_of(letter: u8, b: u8) -> Option<bool>
     }
 }
 
-/// Returns the flags of three bytes.
 fn flags_of(value: &[u8]) -> Option<[bool; 3]>
     ensures { result ≡ flags_of value.now }
 {

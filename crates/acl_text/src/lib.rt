@@ -5,7 +5,8 @@
 //! them. Attribute bytes are those of `system.posix_acl_access` and `system.posix_acl_default`, in which Linux keeps lists
 //! (linux/posix_acl_xattr.h).
 //!
-//! A call whose only error is `AllocError` or `NoMemory` fails only if memory runs out.
+//! A call whose only error is `AllocError` or `NoMemory` fails only if memory runs out. An `append_..` adds its text whole or
+//! not at all.
 #![tactic(auto)]
 
 mod apart;

@@ -49,7 +49,6 @@ fn exists(tree: &Files, path: &Path) -> bool
     tree.files_by_path().has_within(path)
 }
 
-/// Finds the directory of a new file.
 fn directory_of<'a>(alloc: Global, tree: &'a Files, path: &Path) -> Result<&'a Node, TreeFault>
     ensures { Gives (λ node. node.now) result (directory_at (parent path.now) tree.now.files) }
 {
@@ -61,7 +60,6 @@ fn directory_of<'a>(alloc: Global, tree: &'a Files, path: &Path) -> Result<&'a N
     }
 }
 
-/// Makes the node of a new file.
 fn node_of(
     alloc: Global,
     directory: &Node,

@@ -97,7 +97,6 @@ impl<'a> Iterator for Differences<'a> {
 
     ghost remaining = { item_count (λ files. files) };
 
-    /// Returns the next file in path order.
     fn next(&mut self) -> Option<(&'a Path, &'a Node)> {
         next_differing(&mut self.walk, self.kinds, &mut self.other, self.by_label)
     }

@@ -18,7 +18,6 @@ use crate::user_change::UserChange;
 use acl_people::People;
 use std::alloc::Global;
 
-/// Adds a user to the people.
 fn add_user(alloc: Global, people: &People, new: &NewUser) -> Result<People, TreeFault>
     ensures made { Gives (λ next. record { user = length people.now.users; people = next }) result (useradd new.now people.now) }
     ensures joins { IfOk result (λ next. JoinsUser (persons people.now) (persons next)) }

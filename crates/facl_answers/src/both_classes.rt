@@ -71,7 +71,6 @@ impl<'a> BothClasses<'a> {
         BothClasses { before, after }
     }
 
-    /// Returns the next file, which is gone.
     fn next_gone(&mut self, alloc: Global) -> Result<Option<(&'a Path, Sides)>, AllocError>
         requires before { IsInOrder self.old.before.1 }
         requires after { IsInOrder self.old.after.1 }
@@ -84,7 +83,6 @@ impl<'a> BothClasses<'a> {
         }
     }
 
-    /// Returns the next file, which is new.
     fn next_new(&mut self, alloc: Global) -> Result<Option<(&'a Path, Sides)>, AllocError>
         requires before { IsInOrder self.old.before.1 }
         requires after { IsInOrder self.old.after.1 }

@@ -12,7 +12,6 @@ use acl_people::People;
 use acl_rights::{Judge, Verdicts};
 use std::alloc::{AllocError, Global};
 
-/// Adds the line of a user.
 fn push_user(text: &mut Vec<u8>, people: &People, user: usize) -> Result<(), AllocError>
     ensures { Appends result text.old text.new (line_at people.now user) }
 {

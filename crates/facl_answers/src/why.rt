@@ -83,7 +83,6 @@ fn push_deciding<N: Names>(
     Ok(())
 }
 
-/// Adds the record of a file.
 fn push_record<N: Names>(
     text: &mut Vec<u8>,
     names: &N,

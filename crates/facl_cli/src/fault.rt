@@ -59,7 +59,6 @@ fn setup_line(alloc: Global, fault: &RunFault) -> Result<Vec<u8>, AllocError>
     Ok(line)
 }
 
-/// Writes the line of a run's fault.
 fn write_run_fault<E: Sink>(alloc: Global, fault: &RunFault, err: &mut E) -> Result<(), ScriptFault>
     requires { E.has_failed err.old ≡ false }
     ensures ok { OnOk result (IsLineReported (ProgramFault.Run fault.now) (E.contents err.old) (E.contents err.new)) }

@@ -17,7 +17,6 @@ fn push_number(text: &mut Vec<u8>, number: u64) -> Result<(), AllocError>
     Ok(())
 }
 
-/// Adds a number, and a space.
 fn push_spaced_number(text: &mut Vec<u8>, number: u64) -> Result<(), AllocError>
     ensures { Appends result text.old text.new (spaced (decimal number)) }
 {
@@ -26,7 +25,6 @@ fn push_spaced_number(text: &mut Vec<u8>, number: u64) -> Result<(), AllocError>
     Ok(())
 }
 
-/// Adds a user, and a space.
 fn push_spaced(text: &mut Vec<u8>, user: &[u8]) -> Result<(), AllocError>
     ensures { Appends result text.old text.new (spaced user.now) }
 {

@@ -32,7 +32,6 @@ fn push_attr(text: &mut Vec<u8>, name: &[u8], digits: &[u8]) -> Result<(), Alloc
     Ok(())
 }
 
-/// Adds the line of one attribute.
 fn push_line(alloc: Global, text: &mut Vec<u8>, name: &[u8], acl: &Acl) -> Result<(), AllocError>
     ensures { Appends result text.old text.new (attr_line name.now acl.now) }
 {
@@ -50,7 +49,6 @@ fn push_default(alloc: Global, text: &mut Vec<u8>, dacl: &Option<Acl>) -> Result
     }
 }
 
-/// Adds the lines of a file's attributes.
 fn push_attributes(alloc: Global, text: &mut Vec<u8>, node: &Node) -> Result<(), AllocError>
     ensures { Appends result text.old text.new (attr_lines node.now) }
 {
@@ -59,7 +57,6 @@ fn push_attributes(alloc: Global, text: &mut Vec<u8>, node: &Node) -> Result<(),
     Ok(())
 }
 
-/// Adds what `attr` prints of a file.
 fn push_file(alloc: Global, text: &mut Vec<u8>, file: &FoundFile<'_>) -> Result<(), AllocError>
     ensures { Appends result text.old text.new (attr_text file.now) }
 {
@@ -69,7 +66,6 @@ fn push_file(alloc: Global, text: &mut Vec<u8>, file: &FoundFile<'_>) -> Result<
     Ok(())
 }
 
-/// Adds what `attr` prints of files.
 fn push_files(alloc: Global, text: &mut Vec<u8>, files: &[FoundFile<'_>]) -> Result<(), AllocError>
     ensures { Appends result text.old text.new (attr_listing files.now) }
 {

@@ -54,7 +54,6 @@ impl<'n, N: Names> NodeText for BracketedLists<'n, N> {
     }
 }
 
-/// Adds the line of a file.
 fn push_line<'a, N: Names>(
     text: &mut Vec<u8>,
     kept: &mut KeptTexts<'a>,

@@ -153,7 +153,6 @@ fn push_lists<N: Names>(
     push_last(text, names, options, node)
 }
 
-/// Adds the record of a file.
 fn push_record<N: Names>(
     text: &mut Vec<u8>,
     names: &N,

@@ -92,7 +92,6 @@ impl<'n, N: Names> NodeText for TestedLists<'n, N> {
     }
 }
 
-/// Adds the line of a file.
 fn push_file<'a, N: Names>(
     text: &mut Vec<u8>,
     kept: &mut KeptTexts<'a>,

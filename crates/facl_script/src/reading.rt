@@ -81,7 +81,6 @@ fn push_words(alloc: Global, items: &mut Vec<Word>, texts: &[&str]) -> Result<()
     Ok(())
 }
 
-/// Adds the words of one operand.
 fn push_operand(
     alloc: Global,
     items: &mut Vec<Word>,
@@ -113,7 +112,6 @@ fn operands_of(
     Ok(Operands::new(items))
 }
 
-/// Returns the words that `clap` found.
 fn words_found(
     alloc: Global,
     syntax: &Syntax,

@@ -156,7 +156,6 @@ pub fn read(words: &Words) -> Option<ChaclLine<'_>>
     }
 }
 
-/// Puts an access list into the files.
 fn put_access(
     alloc: Global,
     state: &State,
@@ -174,7 +173,6 @@ fn put_access(
     edit_files(alloc, state, files, edit)
 }
 
-/// Puts a default list into the files.
 fn put_default(
     alloc: Global,
     state: &State,

@@ -74,7 +74,6 @@ pub fn read(words: &Words) -> Option<CreatLine<'_>>
     })
 }
 
-/// Makes the new file of a line.
 fn new_file(alloc: Global, line: CreatLine<'_>) -> Result<NewFile, LineFault>
     ensures { Gives (λ new. new) result (new_file line.entry) }
 {

@@ -24,7 +24,6 @@ fn entry_of(spec: &Spec) -> Entry
     }
 }
 
-/// Collects the entries that entry texts give.
 fn entries_of(alloc: Global, specs: &[Spec]) -> Result<Vec<Entry>, AllocError>
     ensures { IfOk result (λ entries. entries.items ≡ map entry_of specs.now) }
 {
@@ -52,7 +51,6 @@ fn list_from(
     }
 }
 
-/// Reads the entries of a text.
 fn specs_of(
     alloc: Global,
     people: &People,

@@ -25,7 +25,6 @@ pub struct LoadLine {
     pub table: Table,
 }
 
-/// Returns the text that a word names.
 fn table_named(name: &[u8]) -> Option<Table>
     ensures { result ≡ table_named name.now }
 {

@@ -60,7 +60,6 @@ fn digits_of<'a>(word: &'a [u8], lower: &[u8], upper: &[u8]) -> Option<&'a [u8]>
     }
 }
 
-/// Reads the attribute of a word `NAME=0xHEX`.
 fn attribute_of(word: &[u8]) -> Option<Attribute<'_>>
     ensures { result ≡ attribute_of word.now }
 {
@@ -112,7 +111,6 @@ fn bytes_of(alloc: Global, digits: &[u8]) -> Result<Vec<u8>, LineFault>
     }
 }
 
-/// Reads the list of hex digits.
 fn list_of_digits(alloc: Global, digits: &[u8]) -> Result<Acl, LineFault>
     ensures { Gives (λ acl. acl) result (list_of_digits digits.now) }
 {

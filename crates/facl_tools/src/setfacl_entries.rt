@@ -25,7 +25,6 @@ pub struct ChangeEntries {
     pub modify: Specs,
 }
 
-/// Reads the entries of a text.
 fn entries_in(
     alloc: Global,
     people: &People,

@@ -67,7 +67,6 @@ pub fn read(alloc: Global, words: &Words) -> Result<Option<UseraddLine<'_>>, All
     }
 }
 
-/// Makes the new user of a line.
 fn new_user(alloc: Global, line: UseraddLine<'_>) -> Result<NewUser, AllocError>
     ensures { IfOk result (λ new. new ≡ new_user line.entry) }
 {

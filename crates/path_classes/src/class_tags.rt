@@ -32,7 +32,6 @@ pub(crate) fn below_tag(above: ClassNumber) -> Result<usize, AllocError>
     }
 }
 
-/// Hashes a label and the class above.
 fn pair_hash(above: Option<ClassNumber>, kind: KindNumber) -> u64
     ensures { result ≡ pair_hash above kind }
 {

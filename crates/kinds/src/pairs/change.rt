@@ -22,7 +22,7 @@ fn piece_length(count: usize, limit: usize) -> usize
     last / pieces + 1
 }
 
-/// Pairs as one chunk.
+/// Makes pairs one chunk.
 fn chunk_of(alloc: Global, pairs: &[Pair]) -> Result<Rc<Chunk>, AllocError>
     requires rising { AreRising pairs.now }
     requires some { 0 < length pairs.now }
