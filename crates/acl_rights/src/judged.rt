@@ -31,7 +31,7 @@ pub(crate) fn judged<J: Judge>(
     Cells::new_or_shared(alloc, requests, other)
 }
 
-/// Judges one user again, and returns the verdicts if that one is another.
+/// Judges one user again, and returns the verdicts if that verdict is another one.
 pub(crate) fn judged_again<J: Judge>(
     alloc: Global,
     judge: &mut J,

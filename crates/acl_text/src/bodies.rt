@@ -20,7 +20,7 @@ const MISSES_BEFORE_SAMPLING: usize = 64;
 /// See [`MISSES_BEFORE_SAMPLING`].
 const SAMPLING_INTERVAL: usize = 32;
 
-/// After this many bodies in a row that are not one of the recent ones, these are no longer tried first.
+/// After more than this many bodies in a row that are not one of the recent ones, these are not tried first.
 const MAX_STRAYED: usize = 8;
 
 /// How many bytes of a body its front has, by which it is looked up. A body of lists that getfacl(1) writes has

@@ -15,8 +15,8 @@ const MAX_PLACES: usize = 1 << 16;
 /// The most bytes of kept texts, except that one text may be longer.
 const MAX_BYTES: usize = 1 << 24;
 
-/// The most misses after which only one file in [`SAMPLING_INTERVAL`] is looked up. Each look-up costs 1 of this
-/// credit, and a hit brings [`CREDIT_PER_HIT`] back.
+/// The most look-ups without a hit before only one file in [`SAMPLING_INTERVAL`] is looked up. Each look-up costs
+/// 1 of this credit, and a hit brings [`CREDIT_PER_HIT`] back.
 const MAX_CREDIT: usize = 1 << 10;
 
 /// See [`MAX_CREDIT`].
