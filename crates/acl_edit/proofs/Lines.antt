@@ -16,7 +16,6 @@ use Rattle.acl_edit.specs.Nodes.{IsSound, HasValidLists, with_lists}
 use Rattle.acl_edit.specs.Parts.{Part, part, names, puts, is_given, is_mask}
 use Rattle.acl_edit.specs.Steps.{gives_execute, perms_of, strip, replace, fill_from}
 use Rattle.acl_edit.specs.Masks.{takes_mask, with_mask, add_mask, recalculate, is_recalculated}
-use Rattle.acl_text.specs.InTurn.{◌>>=◌}
 use Rattle.acl_edit.specs.Edits.{worked, checked, checked_default, access_after, default_after, access_before, default_before, changed_access, changed_default}
 use Rattle.acl_edit.specs.Laws.{HidesNothing, LeavesUnnamed, ShowsRecalculated, KeepsGranted, GivesModified, GoesByKey, LeavesByKey, CopiesBase, MakesMask}
 use Rattle.acl_edit.specs.Laws.{BoundsRecalculated, MasksNoMore, DropsDefault, last_for, given, has_entry, left_at, mask_made, mask_after, had_access}
@@ -31,6 +30,7 @@ use Rattle.acl_edit.proofs.Kept.{checked_is, access_unnamed, default_unnamed, ch
 use Rattle.acl_edit.proofs.Shown.{recalculate_shows, masks_no_more}
 use Rattle.acl_edit.proofs.Given.{get-with_mask, get-fill_from, get-modified, puts_some, names_some, get-masked, get-steps, unnamed_key}
 use Rattle.acl_text.specs.declared.entries.Spec.{Spec}
+use Rattle.acl_text.specs.Results.{◌>>=◌}
 use Rattle.acl_edit.proofs.Left.{had_access_is, had_default_is, access_key, access_mask, default_key, default_mask}
 use Rattle.acl_edit.proofs.Stripped.{get-strip_base, get-strip_other}
 

@@ -5,7 +5,6 @@ use Rattle.acl_entry.specs.Lists.{KeyMap, or_else}
 use Rattle.acl_entry.proofs.Basics.{err_is_not_ok}
 use Rattle.acl_edit.specs.Nodes.{IsSound, with_lists}
 use Rattle.acl_edit.specs.Edits as steps
-use Rattle.acl_text.specs.InTurn.{◌>>=◌}
 use Rattle.acl_edit.specs.Edits.{edit, allowed, changed_access, changed_default, is_misplaced}
 use Rattle.acl_edit.specs.Changes.{Change, options}
 use Rattle.acl_edit.specs.declared.edit.Edit.{Edit}
@@ -15,6 +14,7 @@ use Rattle.acl_edit.specs.declared.edit.EditFault.TheVariants.{DefaultOnFile}
 use Rattle.acl_edit.specs.declared.node.Kind.{Kind}
 use Rattle.acl_edit.specs.declared.node.Kind.TheVariants.{Plain, Directory}
 use Rattle.acl_edit.specs.declared.node.Node.{Node}
+use Rattle.acl_text.specs.Results.{◌>>=◌}
 
 -- a file of the same kind, and sound where the old one is
 pub record KeepsKind (old new : Node) : Type 0 where

@@ -2,11 +2,11 @@
 use Rattle.std.proofs.Common.{◌≡◌, Bool, Option, Some, None, Ok, refl, sym, ap, subst, ◌∙◌}
 use Rattle.acl_entry.specs.Lists.{KeyMap}
 use Rattle.acl_edit.specs.Nodes.{IsSound}
-use Rattle.acl_text.specs.InTurn.{◌>>=◌}
 use Rattle.acl_edit.specs.Edits.{allowed, restore}
 use Rattle.acl_edit.specs.declared.node.Kind.{Kind}
 use Rattle.acl_edit.specs.declared.node.Kind.TheVariants.{Plain, Directory}
 use Rattle.acl_edit.specs.declared.node.Node.{Node}
+use Rattle.acl_text.specs.Results.{◌>>=◌}
 
 pub own_list : (k : Kind) (o : Option KeyMap) (in_recursion : Bool) → (k ≡ Plain → o ≡ None) → allowed k in_recursion o ≡ Ok o
 own_list Plain o in_recursion h = subst (λ z. allowed Plain in_recursion z ≡ Ok z) (sym (h refl)) refl

@@ -5,7 +5,8 @@ use Rattle.std.specs.FinMap as maps
 use Rattle.acl_entry.specs.Lists.{KeyMap, entries, fault, minimal, mode, or_else}
 use Rattle.acl_text.specs.declared.fault.Which.{Which}
 use Rattle.acl_text.specs.declared.fault.Which.TheVariants.{Access, Default}
-use Rattle.acl_text.specs.InTurn.{◌>>=◌, GivesUnless}
+use Rattle.acl_text.specs.InTurn.{GivesUnless}
+use Rattle.acl_text.specs.Results.{◌>>=◌}
 use Rattle.acl_edit.specs.Nodes.{is_directory, with_lists}
 use Rattle.acl_edit.specs.Parts.{Part, part, puts, names}
 use Rattle.acl_edit.specs.Steps.{gives_execute, strip, remove, modify, replace, fill_from}

@@ -1,11 +1,12 @@
 -- The first fault of a dump is returned, and what is returned is the first fault.
 use Rattle.std.proofs.Common.{◌≡◌, ℕ, Bool, true, false, List, [], ◌∷◌, ◌++◌, Option, Some, None, Result, Ok, Err, refl, sym, ap, subst, ◌∙◌, inl, inr}
-use Rattle.std.specs.Prelude.{◌⊎◌, if◌then◌else◌}
+use Rattle.std.specs.Prelude.{◌⊎◌, if◌then◌else◌, ok_or}
 use Rattle.acl_text.specs.Naming.{Naming}
 use Rattle.acl_text.specs.declared.fault.FaultKind.{FaultKind}
 use Rattle.acl_text.specs.declared.fault.FaultKind.TheVariants.{BadHeader, BadPath, RepeatedFile}
 use Rattle.acl_text.specs.declared.fault.TextFault.{TextFault}
-use Rattle.acl_text.specs.InTurn.{at_place, ◌>>=◌, or_fault}
+use Rattle.acl_text.specs.InTurn.{at_place}
+use Rattle.acl_text.specs.Results.{◌>>=◌}
 use Rattle.acl_names.specs.Paths.{path_of}
 use Rattle.acl_names.proofs.Basics.{cases_Result}
 use Rattle.acl_text.specs.declared.record.DumpUse.{DumpUse}
@@ -125,7 +126,7 @@ module _ (naming : Naming) where
     opened_at records l d e = from_value (content_of l.1).1 d e
       where
         from_path : (bytes : List ℕ) (o : Option (List (List ℕ))) (d : Option RecordDraft)
-            → at_place l.0 (or_fault o BadPath >>= new_draft records l.0 bytes) (λ draft. Ok (Some draft)) ≡ Ok d → IsAtLine l.0 d
+            → at_place l.0 (ok_or o BadPath >>= new_draft records l.0 bytes) (λ draft. Ok (Some draft)) ≡ Ok d → IsAtLine l.0 d
         from_path bytes None d e = absurd cc
         from_path bytes (Some path) d e = by (is_repeated records path) e
           where

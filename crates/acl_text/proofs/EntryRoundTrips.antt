@@ -1,7 +1,7 @@
 -- What is written is read as it was.
 use Rattle.std.proofs.Common.{◌≡◌, IsTrue, ℕ, ◌+◌, ◌<◌, ◌≤◌, ◌^◌, Bool, true, false, cond, ltb, List, [], ◌∷◌, ◌++◌, map, length, drop, Option, Some, None, Ok}
 use Rattle.std.proofs.Common.{Err, Less, Greater, refl, sym, ap, subst, ◌∙◌, arith, inl, inr, append_assoc}
-use Rattle.std.specs.Prelude.{◌&&◌, is_some, ◌||◌, option_map, option_and_then}
+use Rattle.std.specs.Prelude.{◌&&◌, is_some, ◌||◌, option_map, option_and_then, ok_or}
 use Rattle.std.specs.List.{flat_map, AllByRecursion}
 use Rattle.std.specs.Ordering.{nat_cmp, is_eq, ordering_then}
 use Rattle.std.specs.FinMap as maps
@@ -25,7 +25,7 @@ use Rattle.acl_entry.proofs.KeyLaws.{key_total, exact_keys, above}
 use Rattle.acl_entry.proofs.Maps.{get-map_of, map_of-entries, in_order-entries}
 use Rattle.acl_entry.proofs.Faults.{pairs-append}
 use Rattle.acl_entry.proofs.Basics.{is_less}
-use Rattle.acl_text.specs.InTurn.{at_place, read_each_from, or_fault}
+use Rattle.acl_text.specs.InTurn.{at_place, read_each_from}
 use Rattle.acl_text.specs.declared.fault.FaultKind.TheVariants.{BadAttr}
 use Rattle.byteorder.specs.Endian.{little_number, little_bytes}
 use Rattle.byteorder.specs.Numbers.{little_number-reads_back}
@@ -93,7 +93,7 @@ added : (at : ℕ) (reading : Reading) (e : Entry) → at ≤ most_entries → i
     → one_entry at reading (entry_bytes e) ≡ Ok (record { entries = maps.insert reading.entries e.key e.perm; last_tag = tag_of e.key })
 added at reading e le lt rises new =
     let more = with_key reading (tag_of e.key) in
-    ap (λ o. or_fault o BadAttr) (
+    ap (λ o. ok_or o BadAttr) (
     entry_again at reading e le lt
     ∙ ap (λ b. cond b None (option_and_then (λ p. option_and_then (more p) (key_of (tag_of e.key) (written_id e.key))) (perm_of (number e.perm)))) (le-ltb (tag_of e.key) reading.last_tag rises)
     ∙ ap (λ o. option_and_then (λ p. option_and_then (more p) (key_of (tag_of e.key) (written_id e.key))) o) (perm_again e.perm.read e.perm.write e.perm.execute)

@@ -5,9 +5,9 @@ use Rattle.std.specs.List.{AllByRecursion}
 use Rattle.std.proofs.lemmas.Bool.{cases_Bool}
 use Rattle.acl_names.proofs.Basics.{cases_Result}
 use Rattle.acl_text.specs.declared.fault.TextFault.{TextFault}
-use Rattle.acl_text.specs.InTurn.{◌>>=◌}
 use Rattle.acl_text.specs.Groups.{in_turn, streamed}
 use Rattle.acl_text.proofs.Streams.{next_assoc}
+use Rattle.acl_text.specs.Results.{◌>>=◌}
 
 same_fault : {A : Type 0} (e f : TextFault) → (let r : Result A TextFault = Err e in r ≡ Err f) → e ≡ f
 same_fault e f h = cc

@@ -6,7 +6,8 @@ use Rattle.std.proofs.Math.Seq.{get_or-append_seam}
 use Rattle.acl_names.specs.Pieces.{pieces, BeginsWithPiece}
 use Rattle.acl_text.specs.Naming.{Naming}
 use Rattle.acl_text.specs.declared.fault.TextFault.{TextFault}
-use Rattle.acl_text.specs.InTurn.{at_place, ◌>>=◌}
+use Rattle.acl_text.specs.InTurn.{at_place}
+use Rattle.acl_text.specs.Results.{◌>>=◌}
 use Rattle.acl_text.specs.declared.bodies.Known.{Known}
 use Rattle.acl_text.specs.declared.record.DumpUse.{DumpUse}
 use Rattle.acl_text.specs.declared.record.DumpRecord.{DumpRecord}

@@ -1,6 +1,6 @@
 -- Faults that are looked for in the order of their kinds: the first that is found is the lowest.
 use Rattle.std.proofs.Common.{◌≡◌, ℕ, ◌<◌, ◌≤◌, Bool, false, leb, List, [], ◌∷◌, ◌++◌, length, Option, Some, None, Result, Ok, Err, refl, sym, ap, ◌∙◌, arith, inl, inr}
-use Rattle.std.specs.Prelude.{◌⊎◌, ◌==◌, ◌&&◌, not, nat_le, if◌then◌else◌}
+use Rattle.std.specs.Prelude.{◌⊎◌, ◌==◌, ◌&&◌, not, nat_le, if◌then◌else◌, ok_or}
 use Rattle.std.proofs.lemmas.Bool.{cases_Bool, ne_eqb, le-leb, leb-true}
 use Rattle.acl_entry.specs.Keys.{is_base}
 use Rattle.acl_entry.specs.declared.entry.Key.{Key}
@@ -13,11 +13,11 @@ use Rattle.acl_text.specs.declared.entries.PermSpec.{PermSpec}
 use Rattle.acl_text.specs.declared.entries.Spec.{Spec}
 use Rattle.acl_text.specs.declared.fields.Tag.{Tag}
 use Rattle.acl_text.specs.declared.fields.Tag.TheVariants as tags
-use Rattle.acl_text.specs.InTurn.{◌>>=◌, or_fault}
 use Rattle.acl_text.specs.Blanks.{trimmed}
 use Rattle.acl_text.specs.Fields.{EntryRow, default_of, entry_fields}
 use Rattle.acl_text.specs.Entries.{tagged, given_perms, no_perms, wanted_perms, allowed_key, content, with_entry, key_of, entry_from, entry_of, most_text_entries, one_more}
 use Rattle.acl_text.specs.Lowest.{number, ReportsLowest, HasBadTag, HasBadPerms, HasUnknownWord, HasBaseKey, HasNoRoom, FieldsHave, EntryHas, NextEntryHas}
+use Rattle.acl_text.specs.Results.{◌>>=◌}
 
 -- ---- one check, and one after another
 
@@ -77,21 +77,21 @@ some_number (kinds.List which fault) = omega arith
 some_number kinds.TooMany = omega arith
 some_number kinds.NoMemory = omega arith
 
-pub or_fault-kind : {A : Type 0} (o : Option A) (kind k : FaultKind) → or_fault o kind ≡ Err k → kind ≡ k
-or_fault-kind None kind k e = cc
-or_fault-kind (Some x) kind k e = absurd cc
+pub ok_or-kind : {A : Type 0} (o : Option A) (kind k : FaultKind) → ok_or o kind ≡ Err k → kind ≡ k
+ok_or-kind None kind k e = cc
+ok_or-kind (Some x) kind k e = absurd cc
 
-pub or_fault-none : {A : Type 0} (o : Option A) (kind k : FaultKind) → or_fault o kind ≡ Err k → o ≡ None
-or_fault-none None kind k e = refl
-or_fault-none (Some x) kind k e = absurd cc
+pub ok_or-none : {A : Type 0} (o : Option A) (kind k : FaultKind) → ok_or o kind ≡ Err k → o ≡ None
+ok_or-none None kind k e = refl
+ok_or-none (Some x) kind k e = absurd cc
 
-pub or_fault-some : {A : Type 0} (o : Option A) (kind : FaultKind) (x : A) → or_fault o kind ≡ Ok x → o ≡ Some x
-or_fault-some None kind x e = absurd cc
-or_fault-some (Some y) kind x e = let same : y ≡ x = cc in ap (λ z. Some z) same
+pub ok_or-some : {A : Type 0} (o : Option A) (kind : FaultKind) (x : A) → ok_or o kind ≡ Ok x → o ≡ Some x
+ok_or-some None kind x e = absurd cc
+ok_or-some (Some y) kind x e = let same : y ≡ x = cc in ap (λ z. Some z) same
 
 given-kind : (takes_x : Bool) (field : Option (List ℕ)) (k : FaultKind) → given_perms takes_x field ≡ Err k → number k ≤ 4
 given-kind takes_x None k e = let same : kinds.MissingPerms ≡ k = cc in omega (arith, ap number same)
-given-kind takes_x (Some field) k e = omega (arith, ap number (or_fault-kind _ kinds.BadPerms k e))
+given-kind takes_x (Some field) k e = omega (arith, ap number (ok_or-kind _ kinds.BadPerms k e))
 
 no_perms-kind : (field : Option (List ℕ)) (k : FaultKind) → no_perms field ≡ Err k → number k ≤ 4
 no_perms-kind None k e = absurd cc
@@ -107,9 +107,9 @@ perms-kind rules field k e =
 
 word-kind : (naming : Naming) (tag : Tag) (word : List ℕ) (k : FaultKind) → key_of naming tag word ≡ Err k → (5 ≤ number k) × (number k ≤ 6)
 word-kind naming tags.User [] k e = absurd cc
-word-kind naming tags.User (b ∷ bs) k e = let same = ap number (or_fault-kind _ kinds.UnknownUser k e) in (omega (arith, same), omega (arith, same))
+word-kind naming tags.User (b ∷ bs) k e = let same = ap number (ok_or-kind _ kinds.UnknownUser k e) in (omega (arith, same), omega (arith, same))
 word-kind naming tags.Group [] k e = absurd cc
-word-kind naming tags.Group (b ∷ bs) k e = let same = ap number (or_fault-kind _ kinds.UnknownGroup k e) in (omega (arith, same), omega (arith, same))
+word-kind naming tags.Group (b ∷ bs) k e = let same = ap number (ok_or-kind _ kinds.UnknownGroup k e) in (omega (arith, same), omega (arith, same))
 word-kind naming tags.Mask word k e = absurd cc
 word-kind naming tags.Other word k e = absurd cc
 
@@ -126,10 +126,10 @@ module _ (naming : Naming) (rules : Rules) (fields : Bool × List (List ℕ)) wh
   same_row : (a b : EntryRow) → tagged rules fields ≡ Some a → tagged rules fields ≡ Some b → b ≡ a
   same_row a b ea eb = let both : Some b ≡ Some a = sym eb ∙ ea in cc
 
-  tag_check : ReportsLowest (HasBadTag naming rules fields) (or_fault (tagged rules fields) kinds.BadTag)
-  tag_check = alone (HasBadTag naming rules fields) (or_fault (tagged rules fields) kinds.BadTag)
-      (λ k h. ap (λ o. or_fault o kinds.BadTag) h.no_row ∙ ap (λ j. Err j) (sym h.is))
-      (λ k e. record { is = sym (or_fault-kind (tagged rules fields) kinds.BadTag k e); no_row = or_fault-none (tagged rules fields) kinds.BadTag k e })
+  tag_check : ReportsLowest (HasBadTag naming rules fields) (ok_or (tagged rules fields) kinds.BadTag)
+  tag_check = alone (HasBadTag naming rules fields) (ok_or (tagged rules fields) kinds.BadTag)
+      (λ k h. ap (λ o. ok_or o kinds.BadTag) h.no_row ∙ ap (λ j. Err j) (sym h.is))
+      (λ k e. record { is = sym (ok_or-kind (tagged rules fields) kinds.BadTag k e); no_row = ok_or-none (tagged rules fields) kinds.BadTag k e })
 
   module _ (row : EntryRow) (is_row : tagged rules fields ≡ Some row) where
     perms_check : ReportsLowest (HasBadPerms naming rules fields) (wanted_perms rules row.perms)
@@ -209,10 +209,10 @@ module _ (naming : Naming) (rules : Rules) (at : ℕ) (fs : List (List ℕ)) whe
 
   fields_lowest : ReportsLowest (FieldsHave naming rules (default_of fs)) (entry_from naming rules at fs)
   fields_lowest =
-      in_turn (HasBadTag naming rules (default_of fs)) (λ k. HasBadPerms naming rules (default_of fs) k ⊎ KeyHas k) (or_fault (tagged rules (default_of fs)) kinds.BadTag)
+      in_turn (HasBadTag naming rules (default_of fs)) (λ k. HasBadPerms naming rules (default_of fs) k ⊎ KeyHas k) (ok_or (tagged rules (default_of fs)) kinds.BadTag)
       (λ row. wanted_perms rules row.perms >>= (λ perm. key_of naming row.tag row.word >>= (λ key. allowed_key rules key >>= (λ allowed. Ok (spec_with perm allowed)))))
       (λ j k h later. tag_below naming rules (default_of fs) j k h) (tag_check naming rules (default_of fs))
-      (λ row is. perms_step row (or_fault-some (tagged rules (default_of fs)) kinds.BadTag row is))
+      (λ row is. perms_step row (ok_or-some (tagged rules (default_of fs)) kinds.BadTag row is))
 
 -- an entry by itself
 pub entry_lowest : (naming : Naming) (rules : Rules) (at : ℕ) (entry : List ℕ) → ReportsLowest (EntryHas naming rules entry) (entry_of naming rules at entry)

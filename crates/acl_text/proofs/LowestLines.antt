@@ -1,6 +1,6 @@
 -- The fault of a line is the lowest that it has.
 use Rattle.std.proofs.Common.{◌≡◌, ℕ, ◌≤◌, Bool, true, false, List, [], ◌∷◌, map, Option, Some, None, is_some, Result, Ok, Err, refl, sym, ap, ◌∙◌, arith, inl, inr}
-use Rattle.std.specs.Prelude.{◌⊎◌, not, if◌then◌else◌}
+use Rattle.std.specs.Prelude.{◌⊎◌, not, if◌then◌else◌, ok_or}
 use Rattle.std.specs.List.{Contains}
 use Rattle.std.specs.Ordering.{is_eq}
 use Rattle.std.proofs.lemmas.Bool.{cases_Bool, or_left, or_right}
@@ -12,12 +12,11 @@ use Rattle.acl_names.proofs.Basics.{is_equal}
 use Rattle.acl_text.specs.Naming.{Naming}
 use Rattle.acl_text.specs.declared.fault.FaultKind.{FaultKind}
 use Rattle.acl_text.specs.declared.fault.FaultKind.TheVariants as kinds
-use Rattle.acl_text.specs.InTurn.{◌>>=◌, or_fault}
 use Rattle.acl_text.specs.Entries.{entry_of}
 use Rattle.acl_text.specs.Fields.{default_of, entry_fields}
 use Rattle.acl_text.specs.Words.{word_id}
 use Rattle.acl_text.specs.Lowest.{number, ReportsLowest, EntryHas}
-use Rattle.acl_text.proofs.Lowest.{alone, in_turn, made, or_fault-kind, fields-kind, entry_lowest, or_fault-none, or_fault-some}
+use Rattle.acl_text.proofs.Lowest.{alone, in_turn, made, ok_or-kind, fields-kind, entry_lowest, ok_or-none, ok_or-some}
 use Rattle.acl_text.specs.declared.line.LineKind.{LineKind}
 use Rattle.acl_text.specs.declared.line.LineKind.TheVariants.{Nothing, File, Owner, OwningGroup, Flags, Entry}
 use Rattle.acl_text.specs.declared.draft.RecordDraft.{RecordDraft}
@@ -27,6 +26,7 @@ use Rattle.acl_text.specs.declared.item.Item.TheVariants as item
 use Rattle.acl_text.specs.Lines.{content_of}
 use Rattle.acl_text.specs.Records.{Numbered, rules, named, flags_of, entry_item, item_of, judged, may_head, add, same_path, is_repeated, ends_in_slash, opened_draft}
 use Rattle.acl_text.specs.DumpLowest.{belongs, is_late, IsEmpty, NamesNobody, AreNoFlags, IsNoPath, IsOfAnEarlier, FileHas, HasInItself, HasNoRecord, IsLate, LineHas}
+use Rattle.acl_text.specs.Results.{◌>>=◌}
 
 -- ---- the value of a header
 
@@ -37,14 +37,14 @@ named_check look_up unknown [] =
     (λ k e. let same : kinds.BadHeader ≡ k = cc in inl (record { is = sym same; empty = refl }))
 named_check look_up unknown (b ∷ bs) =
     alone (λ k. IsEmpty (b ∷ bs) k ⊎ NamesNobody look_up unknown (b ∷ bs) k) (named look_up unknown (b ∷ bs))
-    (λ k h. elim h [ inl e ↦ let no = e.empty in absurd cc | inr n ↦ ap (λ o. or_fault o unknown) n.nobody ∙ ap (λ j. Err j) (sym n.is) ])
-    (λ k e. inr (record { is = sym (or_fault-kind (word_id look_up (b ∷ bs)) unknown k e); some = omega arith; nobody = or_fault-none (word_id look_up (b ∷ bs)) unknown k e }))
+    (λ k h. elim h [ inl e ↦ let no = e.empty in absurd cc | inr n ↦ ap (λ o. ok_or o unknown) n.nobody ∙ ap (λ j. Err j) (sym n.is) ])
+    (λ k e. inr (record { is = sym (ok_or-kind (word_id look_up (b ∷ bs)) unknown k e); some = omega arith; nobody = ok_or-none (word_id look_up (b ∷ bs)) unknown k e }))
 
-flags_check : (value : List ℕ) → ReportsLowest (AreNoFlags value) (or_fault (flags_of value) kinds.BadHeader)
+flags_check : (value : List ℕ) → ReportsLowest (AreNoFlags value) (ok_or (flags_of value) kinds.BadHeader)
 flags_check value =
-    alone (AreNoFlags value) (or_fault (flags_of value) kinds.BadHeader)
-    (λ k h. ap (λ o. or_fault o kinds.BadHeader) h.no_flags ∙ ap (λ j. Err j) (sym h.is))
-    (λ k e. record { is = sym (or_fault-kind (flags_of value) kinds.BadHeader k e); no_flags = or_fault-none (flags_of value) kinds.BadHeader k e })
+    alone (AreNoFlags value) (ok_or (flags_of value) kinds.BadHeader)
+    (λ k h. ap (λ o. ok_or o kinds.BadHeader) h.no_flags ∙ ap (λ j. Err j) (sym h.is))
+    (λ k e. record { is = sym (ok_or-kind (flags_of value) kinds.BadHeader k e); no_flags = ok_or-none (flags_of value) kinds.BadHeader k e })
 
 -- ---- a `file:` line
 
@@ -77,11 +77,11 @@ module _ (records : List DumpRecord) (at : ℕ) where
   abbrev opened_with : List ℕ → List (List ℕ) → RecordDraft
   opened_with value path = record { at = at; path = path; slash = ends_in_slash value; owner = None; group = None; flags = None; access = []; dacl = [] }
 
-  no_path_check : (value : List ℕ) → ReportsLowest (IsNoPath records value) (or_fault (path_of value) kinds.BadPath)
+  no_path_check : (value : List ℕ) → ReportsLowest (IsNoPath records value) (ok_or (path_of value) kinds.BadPath)
   no_path_check value =
-      alone (IsNoPath records value) (or_fault (path_of value) kinds.BadPath)
-      (λ k h. ap (λ o. or_fault o kinds.BadPath) h.no_path ∙ ap (λ j. Err j) (sym h.is))
-      (λ k e. record { is = sym (or_fault-kind (path_of value) kinds.BadPath k e); no_path = or_fault-none (path_of value) kinds.BadPath k e })
+      alone (IsNoPath records value) (ok_or (path_of value) kinds.BadPath)
+      (λ k h. ap (λ o. ok_or o kinds.BadPath) h.no_path ∙ ap (λ j. Err j) (sym h.is))
+      (λ k e. record { is = sym (ok_or-kind (path_of value) kinds.BadPath k e); no_path = ok_or-none (path_of value) kinds.BadPath k e })
 
   new_check : (value : List ℕ) (path : List (List ℕ)) (draft : RecordDraft) → path_of value ≡ Some path
       → ReportsLowest (IsOfAnEarlier records value) (if is_repeated records path then Err kinds.RepeatedFile else Ok draft)
@@ -102,10 +102,10 @@ module _ (records : List DumpRecord) (at : ℕ) where
 
   not_empty_check : (b : ℕ) (bs : List ℕ) → ReportsLowest (NotEmptyHas (b ∷ bs)) (opened_draft records at (b ∷ bs))
   not_empty_check b bs =
-      in_turn (IsNoPath records (b ∷ bs)) (IsOfAnEarlier records (b ∷ bs)) (or_fault (path_of (b ∷ bs)) kinds.BadPath)
+      in_turn (IsNoPath records (b ∷ bs)) (IsOfAnEarlier records (b ∷ bs)) (ok_or (path_of (b ∷ bs)) kinds.BadPath)
       (λ path. if is_repeated records path then Err kinds.RepeatedFile else Ok (opened_with (b ∷ bs) path))
       (λ j k h later. omega (arith, ap number h.is, ap number later.is)) (no_path_check (b ∷ bs))
-      (λ path is. new_check (b ∷ bs) path (opened_with (b ∷ bs) path) (or_fault-some (path_of (b ∷ bs)) kinds.BadPath path is))
+      (λ path is. new_check (b ∷ bs) path (opened_with (b ∷ bs) path) (ok_or-some (path_of (b ∷ bs)) kinds.BadPath path is))
 
   file_kind : (value : List ℕ) (k : FaultKind) → FileHas records value k → 8 ≤ number k
   file_kind value k h =
@@ -166,7 +166,7 @@ module _ (naming : Naming) (at : ℕ) where
   itself_check Owner value = made (HasInItself naming Owner value) (named naming.user_id kinds.UnknownUser value) (λ id. Some (item.Owner id)) (named_check naming.user_id kinds.UnknownUser value)
   itself_check OwningGroup value = made (HasInItself naming OwningGroup value) (named naming.group_id kinds.UnknownGroup value)
       (λ id. Some (item.OwningGroup id)) (named_check naming.group_id kinds.UnknownGroup value)
-  itself_check Flags value = made (HasInItself naming Flags value) (or_fault (flags_of value) kinds.BadHeader) (λ flags. Some (item.Flags flags)) (flags_check value)
+  itself_check Flags value = made (HasInItself naming Flags value) (ok_or (flags_of value) kinds.BadHeader) (λ flags. Some (item.Flags flags)) (flags_check value)
   itself_check Entry value = made (EntryHas naming rules value) (entry_of naming rules at value) (λ spec. Some (entry_item spec)) (entry_lowest naming rules at value)
 
   -- the kinds that a line has in itself
@@ -183,7 +183,7 @@ module _ (naming : Naming) (at : ℕ) where
   of_kind File value s e = let same : None ≡ s = cc in rw (← same) (record { lone = refl; late_is = λ draft. refl })
   of_kind Owner value s e = reads_of_kind (named naming.user_id kinds.UnknownUser value) (λ id. item.Owner id) Owner s (λ id. record { lone = refl; late_is = λ draft. refl }) e
   of_kind OwningGroup value s e = reads_of_kind (named naming.group_id kinds.UnknownGroup value) (λ id. item.OwningGroup id) OwningGroup s (λ id. record { lone = refl; late_is = λ draft. refl }) e
-  of_kind Flags value s e = reads_of_kind (or_fault (flags_of value) kinds.BadHeader) (λ flags. item.Flags flags) Flags s (λ flags. record { lone = refl; late_is = λ draft. refl }) e
+  of_kind Flags value s e = reads_of_kind (ok_or (flags_of value) kinds.BadHeader) (λ flags. item.Flags flags) Flags s (λ flags. record { lone = refl; late_is = λ draft. refl }) e
   of_kind Entry value s e = reads_of_kind (entry_of naming rules at value) entry_item Entry s (λ spec. record { lone = refl; late_is = λ draft. refl }) e
 
 -- ---- the place of a line

@@ -1,6 +1,6 @@
 -- An entry is read as what it means by the table.
 use Rattle.std.proofs.Common.{◌≡◌, ℕ, ◌+◌, ◌-◌, ◌<◌, ◌≤◌, Bool, true, false, leb, List, [], ◌∷◌, length, Option, Some, None, Result, Ok, Err, refl, sym, ap, ◌∙◌, inl, inr, arith}
-use Rattle.std.specs.Prelude.{◌⊎◌, ◌↔◌, ◌||◌, ◌&&◌, not, codes, if◌then◌else◌}
+use Rattle.std.specs.Prelude.{◌⊎◌, ◌↔◌, ◌||◌, ◌&&◌, not, codes, if◌then◌else◌, ok_or}
 use Rattle.std.specs.Str.{bytes_eq}
 use Rattle.std.specs.List.{list_all}
 use Rattle.std.proofs.lemmas.Bool.{cases_Bool, and_parts, and_from, or_cases, le-leb, leb-true, ne_eqb}
@@ -17,14 +17,14 @@ use Rattle.acl_text.specs.declared.fault.FaultKind.{FaultKind}
 use Rattle.acl_text.specs.declared.fault.FaultKind.TheVariants as kinds
 use Rattle.acl_text.specs.declared.fields.Tag.{Tag}
 use Rattle.acl_text.specs.declared.fields.Tag.TheVariants as tags
-use Rattle.acl_text.specs.InTurn.{◌>>=◌, or_fault}
 use Rattle.acl_text.specs.Words.{word_id}
 use Rattle.acl_text.specs.Letters.{is_letter, is_octal_digit, letter_set, holds, letters_of, perms_of}
 use Rattle.acl_text.specs.Fields.{EntryRow, tag_named, one_field, two_fields, three_fields, row_of, is_default_word, default_of, entry_fields}
 use Rattle.acl_text.specs.Entries.{tagged, given_perms, no_perms, wanted_perms, key_of, allowed_key, entry_of}
 use Rattle.acl_text.specs.Means.{IsWordFor, IsDefaultWord, last, WaysOf, IsWritten, IsOfList, IsFor, AreLetters, Grants, HasPerms, Means}
 use Rattle.acl_text.proofs.FieldCounts.{default_taken}
-use Rattle.acl_text.proofs.Lowest.{or_fault-some}
+use Rattle.acl_text.proofs.Lowest.{ok_or-some}
+use Rattle.acl_text.specs.Results.{◌>>=◌}
 
 -- ---- the words for tags
 
@@ -403,7 +403,7 @@ module _ (naming : Naming) (rules : Rules) (at : ℕ) (entry : List ℕ) (spec :
 
   means : entry_of naming rules at entry ≡ Ok spec → Means naming rules at entry spec
   means e =
-      let tag = bound (or_fault (tagged rules (default_of all)) kinds.BadTag)
+      let tag = bound (ok_or (tagged rules (default_of all)) kinds.BadTag)
       (λ row. wanted_perms rules row.perms >>= (λ perm. key_of naming row.tag row.word >>= (λ key. allowed_key rules key >>= (λ allowed. Ok (spec_with perm allowed))))) spec e in
       let row = tag.value in
       let perms = bound (wanted_perms rules row.perms) (λ perm. key_of naming row.tag row.word >>= (λ key. allowed_key rules key >>= (λ allowed. Ok (spec_with perm allowed)))) spec tag.after in
@@ -411,7 +411,7 @@ module _ (naming : Naming) (rules : Rules) (at : ℕ) (entry : List ℕ) (spec :
       let base = bound (allowed_key rules key.value) (λ allowed. Ok (spec_with perms.value allowed)) spec key.after in
       let same : spec_with perms.value base.value ≡ spec = cc (base.after) in
       let allowed = base_allowed rules key.value base.value base.is in
-      let split = is_split rules all row (or_fault-some (tagged rules (default_of all)) kinds.BadTag row tag.is) in
+      let split = is_split rules all row (ok_or-some (tagged rules (default_of all)) kinds.BadTag row tag.is) in
       rw (← same) (record {
         place = refl {a = at};
         fields = split.fields;

@@ -1,6 +1,6 @@
 -- The records of a dump have different paths: a record is opened only where no earlier record has its path.
 use Rattle.std.proofs.Common.{◌≡◌, ℕ, List, [], ◌∷◌, ◌++◌, Bool, true, false, cond, not, Option, Some, None, Result, Ok, Err, refl, sym, ap, subst, ◌∙◌}
-use Rattle.std.specs.Prelude.{IfOk, ◌||◌, ◌&&◌}
+use Rattle.std.specs.Prelude.{IfOk, ◌||◌, ◌&&◌, ok_or}
 use Rattle.std.proofs.lemmas.List.Folds.{list_any-append}
 use Rattle.acl_entry.proofs.Basics.{first_false, second_false}
 use Rattle.acl_names.specs.Paths.{path_of}
@@ -10,7 +10,8 @@ use Rattle.acl_text.specs.declared.fault.FaultKind.{FaultKind}
 use Rattle.acl_text.specs.declared.fault.FaultKind.TheVariants.{BadHeader, BadPath, MissingHeader, RepeatedFile}
 use Rattle.acl_text.specs.declared.fault.TextFault.{TextFault}
 use Rattle.acl_text.specs.declared.fault.Which.TheVariants.{Access}
-use Rattle.acl_text.specs.InTurn.{at_place, ◌>>=◌, or_fault, Gives}
+use Rattle.acl_text.specs.InTurn.{at_place, Gives}
+use Rattle.acl_text.specs.Results.{◌>>=◌}
 use Rattle.acl_text.specs.declared.draft.RecordDraft.{RecordDraft}
 use Rattle.acl_text.specs.declared.record.DumpRecord.{DumpRecord}
 use Rattle.acl_text.specs.declared.record.DumpUse.{DumpUse}
@@ -101,7 +102,7 @@ opened_fresh records at (b ∷ bs) = by_path (path_of (b ∷ bs))
     by_test path true is = tt
     by_test path false is = is
 
-    by_path : (o : Option (List (List ℕ))) → IfOk (or_fault o BadPath >>= λ path. cond (is_repeated records path) (Err RepeatedFile) (Ok (draft_of path)))
+    by_path : (o : Option (List (List ℕ))) → IfOk (ok_or o BadPath >>= λ path. cond (is_repeated records path) (Err RepeatedFile) (Ok (draft_of path)))
         (λ draft. is_repeated records draft.path ≡ false)
     by_path None = tt
     by_path (Some path) = by_test path (is_repeated records path) refl

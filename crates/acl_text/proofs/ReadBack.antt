@@ -1,7 +1,7 @@
 -- An attribute is read as a list exactly where its bytes are that list's entries.
 use Rattle.std.proofs.Common.{◌≡◌, ℕ, zero, suc, ◌+◌, ◌*◌, ◌/◌, ◌≤◌, true, false, cond, eqb, List, [], ◌∷◌, ◌++◌, length, take, drop, Option, Some, None}
 use Rattle.std.proofs.Common.{is_some, Result, Ok, Err, refl, sym, ap, subst, ◌∙◌, arith, inl, inr, append_assoc, length-append, length-drop}
-use Rattle.std.specs.Prelude.{◌⊎◌, ◌||◌, not, option_map, option_and_then}
+use Rattle.std.specs.Prelude.{◌⊎◌, ◌||◌, not, option_map, option_and_then, ok_or}
 use Rattle.std.specs.List.{flat_map}
 use Rattle.std.specs.Simd.{first_chunks}
 use Rattle.std.specs.FinMap as maps
@@ -22,7 +22,7 @@ use Rattle.acl_entry.proofs.Faults.{is_among-keys, keys-append}
 use Rattle.acl_text.specs.declared.fault.FaultKind.{FaultKind}
 use Rattle.acl_text.specs.declared.fault.FaultKind.TheVariants.{BadAttr}
 use Rattle.acl_text.specs.declared.fault.TextFault.{TextFault}
-use Rattle.acl_text.specs.InTurn.{at_place, read_each_from, read_each, or_fault, IsFirstFault}
+use Rattle.acl_text.specs.InTurn.{at_place, read_each_from, read_each, IsFirstFault}
 use Rattle.acl_text.proofs.Judging.{fault_is_first}
 use Rattle.byteorder.specs.Endian.{little_number}
 use Rattle.acl_text.specs.declared.decode.Reading.{Reading}
@@ -94,12 +94,12 @@ read_encoded at tag done [] new fits e =
     record { es = []; encoded = tt; few = omega arith; tags = tt; once = λ n. refl; list = ap (λ (r : Reading). r.entries) (sym same) ∙ ap map_of (sym (append-nil done)) }
 read_encoded at tag done (p ∷ ps) new fits e =
     elim (cases_Option (with_entry at (reading_of tag done) p)) [
-      | inr none ↦ absurd (cc (ap (λ o. at_place at (or_fault o BadAttr) (λ more. read_each_from one_entry (at + 1) more ps)) none))
+      | inr none ↦ absurd (cc (ap (λ o. at_place at (ok_or o BadAttr) (λ more. read_each_from one_entry (at + 1) more ps)) none))
       | inl mid ↦
           let r = is_read at (reading_of tag done) mid.0 p mid.1 in
           let next : mid.0 ≡ reading_of (tag_of r.entry.key) (done ++ r.entry ∷ []) = r.is
           ∙ ap (λ m. record { entries = m; last_tag = tag_of r.entry.key }) (one_more done r.entry (not_found done r.entry.key r.apart)) in
-          let rest : read_each_from one_entry (at + 1) mid.0 ps ≡ Ok new = sym (ap (λ o. at_place at (or_fault o BadAttr) (λ more. read_each_from one_entry (at + 1) more ps)) mid.1) ∙ e in
+          let rest : read_each_from one_entry (at + 1) mid.0 ps ≡ Ok new = sym (ap (λ o. at_place at (ok_or o BadAttr) (λ more. read_each_from one_entry (at + 1) more ps)) mid.1) ∙ e in
           let later = read_encoded (at + 1) (tag_of r.entry.key) (done ++ r.entry ∷ []) ps new (omega (arith, r.few))
           (sym (ap (λ (x : Reading). read_each_from one_entry (at + 1) x ps) next) ∙ rest) in
           record {
@@ -139,7 +139,7 @@ module _ (at : ℕ) (reading : Reading) (piece : List ℕ) (e : Entry) where
   encoded_entry : Encodes piece e → at ≤ most_entries → reading.last_tag ≤ tag_of e.key → maps.contains_key reading.entries e.key ≡ false → one_entry at reading piece ≡ Ok after
   encoded_entry encoded few rises apart =
       let numbers = with_numbers reading (little_number 2 piece) (little_number 2 (drop 2 piece)) (little_number 4 (drop 4 piece)) in
-      ap (λ o. or_fault o BadAttr) (
+      ap (λ o. ok_or o BadAttr) (
       ap (λ b. cond (b || not (eqb (length piece) 8)) None numbers) (le-ltb most_entries at few)
       ∙ ap (λ b. cond (not b) None numbers) (eq-eqb (length piece) 8 encoded.eight)
       ∙ encoded_numbers (little_number 2 piece) (little_number 2 (drop 2 piece)) (little_number 4 (drop 4 piece)) encoded.tag encoded.perm encoded.id rises apart
@@ -275,7 +275,7 @@ of_entry bytes reported_fault head first =
           cc (sym (read_on first.before first.piece r.es e read all) ∙ bad);
     }
 
-bad_kind : (o : Option Reading) (k : FaultKind) → or_fault o BadAttr ≡ Err k → k ≡ BadAttr
+bad_kind : (o : Option Reading) (k : FaultKind) → ok_or o BadAttr ≡ Err k → k ≡ BadAttr
 bad_kind None k e = cc
 bad_kind (Some x) k e = absurd cc
 

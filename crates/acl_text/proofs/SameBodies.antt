@@ -1,6 +1,6 @@
 -- What the body of a record says is the same for each file and at each place.
 use Rattle.std.proofs.Common.{◌≡◌, ℕ, ◌+◌, Bool, true, false, List, [], ◌∷◌, ◌++◌, Option, Some, None, Result, Ok, Err, refl, sym, ap, subst, ◌∙◌}
-use Rattle.std.specs.Prelude.{if◌then◌else◌}
+use Rattle.std.specs.Prelude.{if◌then◌else◌, ok_or}
 use Rattle.std.specs.List.{enumerate_from}
 use Rattle.acl_names.specs.Pieces.{pieces}
 use Rattle.acl_text.specs.Naming.{Naming}
@@ -8,7 +8,8 @@ use Rattle.acl_text.specs.declared.fault.FaultKind.{FaultKind}
 use Rattle.acl_text.specs.declared.fault.FaultKind.TheVariants as kinds
 use Rattle.acl_text.specs.declared.fault.TextFault.{TextFault}
 use Rattle.acl_text.specs.declared.fault.Which.TheVariants.{Access}
-use Rattle.acl_text.specs.InTurn.{at_place, ◌>>=◌, or_fault}
+use Rattle.acl_text.specs.InTurn.{at_place}
+use Rattle.acl_text.specs.Results.{◌>>=◌}
 use Rattle.acl_entry.specs.declared.entry.Key.{Key}
 use Rattle.acl_text.specs.declared.entries.PermSpec.{PermSpec}
 use Rattle.acl_text.specs.declared.entries.Spec.{Spec}
@@ -45,7 +46,7 @@ then_same (Err e) f g h same = refl
 entry_at : (naming : Naming) (k n : ℕ) (value : List ℕ) → (entry_of naming rules k value >>= (λ spec. given spec)) ≡ (entry_of naming rules n value >>= (λ spec. given spec))
 entry_at naming k n value =
     let fields = entry_fields value in
-    then_same (or_fault (tagged rules (default_of fields)) kinds.BadTag) _ _ given
+    then_same (ok_or (tagged rules (default_of fields)) kinds.BadTag) _ _ given
     (λ row. then_same (wanted_perms rules row.perms) _ _ given
     (λ perm. then_same (key_of naming row.tag row.word) _ _ given
     (λ key. then_same (allowed_key rules key) (spec_at k (default_of fields).0 perm) (spec_at n (default_of fields).0 perm) given (λ allowed. refl))))
@@ -175,6 +176,6 @@ module _ (naming : Naming) (dump_use : DumpUse) where
 pub opened_is : (records : List DumpRecord) (at : ℕ) (value : List ℕ) (draft : RecordDraft) → watched.opened_draft false records at value ≡ Ok draft → draft ≡ opened draft.at draft.path draft.slash
 opened_is records at [] draft e = absurd cc
 opened_is records at (b ∷ bs) draft e =
-    let s = bind-ok (or_fault (path_of (b ∷ bs)) kinds.BadPath) _ draft e in
+    let s = bind-ok (ok_or (path_of (b ∷ bs)) kinds.BadPath) _ draft e in
     let is = ok-is (opened at s.0 (ends_in_slash (b ∷ bs))) draft s.1.1 in
     subst (λ d. d ≡ opened d.at d.path d.slash) is refl

@@ -1,8 +1,8 @@
 -- Groups that are read as a stream.
 use Rattle.std.proofs.Common.{◌≡◌, List, [], ◌∷◌, Bool, true, false, cond, Result, Ok, Err, refl, sym, ◌∙◌}
 use Rattle.acl_text.specs.declared.fault.TextFault.{TextFault}
-use Rattle.acl_text.specs.InTurn.{◌>>=◌}
 use Rattle.acl_text.specs.Groups.{in_turn, grouped, put_front, group_of, by_groups, streamed}
+use Rattle.acl_text.specs.Results.{◌>>=◌}
 
 pub next_assoc : {A B C : Type 0} (r : Result A TextFault) (f : A → Result B TextFault) (g : B → Result C TextFault) → ((r >>= f) >>= g) ≡ (r >>= (λ x. f x >>= g))
 next_assoc (Ok x) f g = refl

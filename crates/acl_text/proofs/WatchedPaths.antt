@@ -1,6 +1,6 @@
 -- A dump whose records have paths that are apart is read alike whether paths are watched or not.
 use Rattle.std.proofs.Common.{◌≡◌, ℕ, Bool, true, false, cond, List, [], ◌∷◌, ◌++◌, Option, Some, None, Result, Ok, Err, refl, sym, ap, subst, ◌∙◌, append_assoc}
-use Rattle.std.specs.Prelude.{◌||◌, if◌then◌else◌}
+use Rattle.std.specs.Prelude.{◌||◌, if◌then◌else◌, ok_or}
 use Rattle.std.specs.List.{AllByRecursion, IsDistinct}
 use Rattle.std.proofs.lemmas.List.{append-nil, map-append}
 use Rattle.std.proofs.lemmas.Map.Keys.{IsDistinct-head, IsDistinct-tail}
@@ -10,7 +10,8 @@ use Rattle.acl_text.specs.declared.fault.FaultKind.{FaultKind}
 use Rattle.acl_text.specs.declared.fault.FaultKind.TheVariants as kinds
 use Rattle.acl_text.specs.declared.fault.TextFault.{TextFault}
 use Rattle.acl_text.specs.declared.fault.Which.TheVariants.{Access}
-use Rattle.acl_text.specs.InTurn.{at_place, ◌>>=◌, or_fault}
+use Rattle.acl_text.specs.InTurn.{at_place}
+use Rattle.acl_text.specs.Results.{◌>>=◌}
 use Rattle.acl_text.specs.declared.record.DumpUse.{DumpUse}
 use Rattle.acl_text.specs.declared.record.DumpRecord.{DumpRecord}
 use Rattle.acl_text.specs.declared.draft.RecordDraft.{RecordDraft}
@@ -108,7 +109,7 @@ opened_apart : (records : List DumpRecord) (at : ℕ) (value : List ℕ) (draft 
     → is_repeated records draft.path ≡ false → watched.opened_draft true records at value ≡ Ok draft
 opened_apart records at [] draft e new = absurd cc
 opened_apart records at (b ∷ bs) draft e new =
-    let s = bind-ok (or_fault (path_of (b ∷ bs)) kinds.BadPath) _ draft e in
+    let s = bind-ok (ok_or (path_of (b ∷ bs)) kinds.BadPath) _ draft e in
     let made = ok-is _ draft s.1.1 in
     let fresh = ap (λ (d : RecordDraft). is_repeated records d.path) made ∙ new in
     rw (s.1.0, fresh) (ap (λ d. Ok d) made)

@@ -1,7 +1,7 @@
 -- What is written of an entry of a record is read as that entry.
 use Rattle.std.proofs.Common.{◌≡◌, ℕ, zero, suc, ◌+◌, ◌<◌, Bool, true, false, cond, List, [], ◌∷◌, ◌++◌, length, take, Option, Some, None, Result, Ok, Err}
 use Rattle.std.proofs.Common.{refl, sym, ap, subst, ◌∙◌, append_assoc, arith, inl, inr}
-use Rattle.std.specs.Prelude.{◌==◌, ◌&&◌, codes, reverse, map}
+use Rattle.std.specs.Prelude.{◌==◌, ◌&&◌, codes, reverse, map, ok_or}
 use Rattle.std.specs.List.{list_all, before_first, position_or_len, AllByRecursion}
 use Rattle.std.proofs.lemmas.Bool.{cases_Bool, eqb-true}
 use Rattle.std.proofs.lemmas.List.{reverse-append}
@@ -23,7 +23,6 @@ use Rattle.acl_text.specs.declared.entries.Form.TheVariants.{Long}
 use Rattle.acl_text.specs.declared.entries.Sep.TheVariants.{Line}
 use Rattle.acl_text.specs.declared.entries.PermSpec.{PermSpec}
 use Rattle.acl_text.specs.declared.entries.Spec.{Spec}
-use Rattle.acl_text.specs.InTurn.{◌>>=◌, or_fault}
 use Rattle.acl_text.specs.Blanks.{is_blank, trim_front, trim_back, trimmed}
 use Rattle.acl_text.specs.Fields.{EntryRow, entry_fields, row_of, is_default_word}
 use Rattle.acl_text.specs.Entries.{content, tagged, entry_from, wanted_perms, key_of, allowed_key}
@@ -36,6 +35,7 @@ use Rattle.acl_text.specs.declared.item.Item.TheVariants as item
 use Rattle.acl_text.specs.Lines.{content_of}
 use Rattle.acl_text.specs.Records.{rules, entry_item, item_of}
 use Rattle.acl_text.specs.DumpWriting.{is_shown, tab_count, tabs, effective_text, front, shown}
+use Rattle.acl_text.specs.Results.{◌>>=◌}
 
 -- ---- blanks after a field
 
@@ -156,11 +156,11 @@ module _ (naming : Naming) where
       → entry_from naming rules at (codes "default" ∷ tag ∷ word ∷ perm ∷ []) ≡ as_default (entry_from naming rules at (tag ∷ word ∷ perm ∷ []))
   default_again at tag word perm plain =
       let fields = tag ∷ word ∷ perm ∷ [] in
-      bind_same (or_fault (row_of fields) BadTag) (from_row at true) (from_row at false)
+      bind_same (ok_or (row_of fields) BadTag) (from_row at true) (from_row at false)
       (λ row. bind_same (wanted_perms rules row.perms) (from_perm at true row) (from_perm at false row)
       (λ p. bind_same (key_of naming row.tag row.word) (from_key at true p) (from_key at false p)
       (λ k. bind_same (allowed_key rules k) (from_allowed at true p) (from_allowed at false p) (λ a. refl))))
-      ∙ ap (λ d. as_default (or_fault (tagged rules d) BadTag >>= from_row at d.0)) (ap (λ b. cond b (true, word ∷ perm ∷ []) (false, fields)) (sym plain))
+      ∙ ap (λ d. as_default (ok_or (tagged rules d) BadTag >>= from_row at d.0)) (ap (λ b. cond b (true, word ∷ perm ∷ []) (false, fields)) (sym plain))
 
   default_tag : (k : Key) → is_default_word (tag_text Long k) ≡ false
   default_tag keys.Owner = refl

@@ -1,6 +1,6 @@
 -- What is written of records is read as those records.
 use Rattle.std.proofs.Common.{◌≡◌, ℕ, ◌+◌, ◌<◌, Bool, true, false, cond, List, [], ◌∷◌, ◌++◌, length, Option, Some, None, Result, Ok, Err, refl, sym, ap, subst, ◌∙◌, append_assoc, arith}
-use Rattle.std.specs.Prelude.{◌==◌, ◌||◌, ◌&&◌, codes, is_some}
+use Rattle.std.specs.Prelude.{◌==◌, ◌||◌, ◌&&◌, codes, is_some, ok_or}
 use Rattle.std.specs.List.{list_all, list_any, flat_map, enumerate_from, AllByRecursion}
 use Rattle.std.specs.FinMap as maps
 use Rattle.std.proofs.lemmas.List.{append-nil, map-append}
@@ -20,7 +20,8 @@ use Rattle.acl_text.specs.declared.fault.FaultKind.TheVariants.{UnknownUser, Unk
 use Rattle.acl_text.specs.declared.fault.TextFault.{TextFault}
 use Rattle.acl_text.specs.declared.fault.Which.{Which}
 use Rattle.acl_text.specs.declared.fault.Which.TheVariants.{Access, Default}
-use Rattle.acl_text.specs.InTurn.{at_place, ◌>>=◌, or_fault}
+use Rattle.acl_text.specs.InTurn.{at_place}
+use Rattle.acl_text.specs.Results.{◌>>=◌}
 use Rattle.acl_text.specs.Blanks.{is_blank, trimmed}
 use Rattle.acl_text.specs.Writing.{id_text, IsKeyNamed}
 use Rattle.acl_text.proofs.Plain.{is_plain, plain-line, plain-blank, none_of, trimmed_none, pieces_at}
@@ -133,7 +134,7 @@ module _ (dump_use : DumpUse) (naming : Naming) where
   opened_from records at r [] some is slash new = absurd (omega arith)
   opened_from records at r (b ∷ bs) some is slash new =
       let make : List (List ℕ) → Bool → RecordDraft = λ path slash. record { at = at; path = path; slash = slash; owner = None; group = None; flags = None; access = []; dacl = [] } in
-      ap (λ o. or_fault o BadPath >>= (λ path. cond (is_repeated records path) (Err RepeatedFile) (Ok (make path (ends_in_slash (b ∷ bs)))))) is
+      ap (λ o. ok_or o BadPath >>= (λ path. cond (is_repeated records path) (Err RepeatedFile) (Ok (make path (ends_in_slash (b ∷ bs)))))) is
       ∙ (ap (λ c. cond c (Err RepeatedFile) (Ok (make r.path (ends_in_slash (b ∷ bs))))) new ∙ ap (λ c. Ok (make r.path c)) slash)
 
   file_chunk : (records more : List DumpRecord) (draft : Option RecordDraft) (at : ℕ) (r : DumpRecord) (rest : List ℕ) → close dump_use records draft ≡ Ok more
@@ -152,7 +153,7 @@ module _ (dump_use : DumpUse) (naming : Naming) where
 
   named_again : (look_up : List ℕ → Option ℕ) (unknown : FaultKind) (id : ℕ) (w : List ℕ) → IsWordOf look_up id w → named look_up unknown w ≡ Ok id
   named_again look_up unknown id [] is = absurd (omega (arith, is.some))
-  named_again look_up unknown id (b ∷ bs) is = ap (λ o. or_fault o unknown) is.again
+  named_again look_up unknown id (b ∷ bs) is = ap (λ o. ok_or o unknown) is.again
 
   bare : (w : List ℕ) → list_all is_plain w ≡ true → trimmed w ≡ w
   bare w plain = trimmed_none w (none_of is_plain is_blank plain-blank w plain)
@@ -209,7 +210,7 @@ module _ (dump_use : DumpUse) (naming : Naming) where
       read_one_item records (drafted first r owner group None [] []) (drafted first r owner group (Some flags) [] []) at
       (codes "# flags: " ++ marks flags) rest lines.Flags (trimmed (32 ∷ marks flags)) (Some (item.Flags flags))
       (refl, (refl, (refl, (refl, (refl, (refl, (refl, (refl, (refl, ((mark_clean a).0, ((mark_clean b).0, ((mark_clean c).1, tt))))))))))))
-      refl refl (ap (λ f. or_fault f BadHeader >>= (λ flags. Ok (Some (item.Flags flags)))) (flags_again a b c)) refl
+      refl refl (ap (λ f. ok_or f BadHeader >>= (λ flags. Ok (Some (item.Flags flags)))) (flags_again a b c)) refl
   flags_chunk records first at r owner group (Some (a ∷ b ∷ c ∷ d ∷ more)) rest three = absurd (omega arith)
 
   -- ---- entries

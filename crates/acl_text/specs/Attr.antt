@@ -1,6 +1,6 @@
 -- Lists as extended attributes: the number 2 in four bytes, then eight bytes for each entry, its tag, its
 -- permissions and an id (linux/posix_acl_xattr.h). All numbers are little-endian.
-use Rattle.std.specs.Prelude.{ℕ, ◌+◌, ◌/◌, List, ◌++◌, length, drop, Bool, ◌&&◌, ◌||◌, ◌==◌, not, nat_le, nat_lt, if◌then◌else◌, Option, Some, None, option_map}
+use Rattle.std.specs.Prelude.{ℕ, ◌+◌, ◌/◌, List, ◌++◌, length, drop, Bool, ◌&&◌, ◌||◌, ◌==◌, not, nat_le, nat_lt, if◌then◌else◌, Option, Some, None, option_map, ok_or}
 use Rattle.std.specs.Prelude.{option_and_then, unwrap_or, Result, Ok, Err}
 use Rattle.std.specs.FinMap as maps
 use Rattle.std.specs.List.{flat_map}
@@ -16,7 +16,7 @@ use Rattle.acl_entry.specs.Perms.{Perms, number, numbered}
 use Rattle.acl_text.specs.declared.fault.FaultKind.{FaultKind}
 use Rattle.acl_text.specs.declared.fault.FaultKind.TheVariants.{BadAttr}
 use Rattle.acl_text.specs.declared.fault.TextFault.{TextFault}
-use Rattle.acl_text.specs.InTurn.{read_each, or_fault}
+use Rattle.acl_text.specs.InTurn.{read_each}
 use Rattle.byteorder.specs.Endian.{little_number, little_bytes}
 use Rattle.acl_text.specs.declared.decode.Reading.{Reading}
 
@@ -85,7 +85,7 @@ with_entry at reading bytes =
     else with_numbers reading (little_number 2 bytes) (little_number 2 (drop 2 bytes)) (little_number 4 (drop 4 bytes))
 
 abbrev pub one_entry : ℕ → Reading → List ℕ → Result Reading FaultKind
-one_entry at reading bytes = or_fault (with_entry at reading bytes) BadAttr
+one_entry at reading bytes = ok_or (with_entry at reading bytes) BadAttr
 
 -- the bytes of the entries, eight for each; the last may be cut
 abbrev pub entries_in : List ℕ → List (List ℕ)

@@ -1,5 +1,5 @@
 -- Entry texts: the entries of a list as they are written (setfacl(1), "ACL entries").
-use Rattle.std.specs.Prelude.{ℕ, List, [], ◌∷◌, ◌++◌, length, Bool, true, false, not, ◌&&◌, ◌==◌, nat_le, if◌then◌else◌, Option, Some, None, Result, Ok, Err, option_map}
+use Rattle.std.specs.Prelude.{ℕ, List, [], ◌∷◌, ◌++◌, length, Bool, true, false, not, ◌&&◌, ◌==◌, nat_le, if◌then◌else◌, Option, Some, None, Result, Ok, Err, option_map, ok_or}
 use Rattle.std.specs.List.{before_first}
 use Rattle.acl_entry.specs.Keys.{is_base}
 use Rattle.acl_entry.specs.declared.entry.Key.{Key}
@@ -18,7 +18,8 @@ use Rattle.acl_text.specs.declared.entries.PermSpec.{PermSpec}
 use Rattle.acl_text.specs.declared.entries.Spec.{Spec}
 use Rattle.acl_text.specs.declared.fields.Tag.{Tag}
 use Rattle.acl_text.specs.declared.fields.Tag.TheVariants as tags
-use Rattle.acl_text.specs.InTurn.{read_each, ◌>>=◌, or_fault}
+use Rattle.acl_text.specs.InTurn.{read_each}
+use Rattle.acl_text.specs.Results.{◌>>=◌}
 use Rattle.acl_text.specs.Blanks.{trimmed}
 use Rattle.acl_text.specs.Words.{word_id}
 use Rattle.acl_text.specs.Fields.{EntryRow, row_of, default_of, entry_fields}
@@ -35,7 +36,7 @@ tagged rules d = if d.0 && not rules.takes_default then None else row_of d.1
 
 abbrev pub given_perms : Bool → Option (List ℕ) → Result (Option PermSpec) FaultKind
 given_perms takes_x None = Err MissingPerms
-given_perms takes_x (Some field) = or_fault (option_map Some (perms_of takes_x field)) BadPerms
+given_perms takes_x (Some field) = ok_or (option_map Some (perms_of takes_x field)) BadPerms
 
 abbrev pub no_perms : Option (List ℕ) → Result (Option PermSpec) FaultKind
 no_perms None = Ok None
@@ -71,16 +72,16 @@ module _ (naming : Naming) where
   -- an empty user or group word is the owner or the owning group
   abbrev pub key_of : Tag → List ℕ → Result Key FaultKind
   key_of tags.User [] = Ok keys.Owner
-  key_of tags.User (b ∷ bs) = or_fault (option_map keys.User (word_id naming.user_id (b ∷ bs))) UnknownUser
+  key_of tags.User (b ∷ bs) = ok_or (option_map keys.User (word_id naming.user_id (b ∷ bs))) UnknownUser
   key_of tags.Group [] = Ok keys.OwningGroup
-  key_of tags.Group (b ∷ bs) = or_fault (option_map keys.Group (word_id naming.group_id (b ∷ bs))) UnknownGroup
+  key_of tags.Group (b ∷ bs) = ok_or (option_map keys.Group (word_id naming.group_id (b ∷ bs))) UnknownGroup
   key_of tags.Mask word = Ok keys.Mask
   key_of tags.Other word = Ok keys.Other
 
   -- what the fields of an entry mean; of its faults the first in the order of their kinds is returned
   abbrev pub entry_from : Rules → ℕ → List (List ℕ) → Result Spec FaultKind
   entry_from rules at fields = do
-    row ← or_fault (tagged rules (default_of fields)) BadTag
+    row ← ok_or (tagged rules (default_of fields)) BadTag
     perm ← wanted_perms rules row.perms
     key ← key_of row.tag row.word
     allowed ← allowed_key rules key

@@ -1,7 +1,7 @@
 -- Lines in groups: the first line opens a group, each later one adds to it, and it is closed as a whole.
 use Rattle.std.specs.Prelude.{List, [], ◌∷◌, Bool, true, false, if◌then◌else◌, Result, Ok}
 use Rattle.acl_text.specs.declared.fault.TextFault.{TextFault}
-use Rattle.acl_text.specs.InTurn.{◌>>=◌}
+use Rattle.acl_text.specs.Results.{◌>>=◌}
 
 -- the pieces in turn, or the first fault
 abbrev pub in_turn : {S P : Type 0} → (S → P → Result S TextFault) → S → List P → Result S TextFault

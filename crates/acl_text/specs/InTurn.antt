@@ -1,5 +1,5 @@
 -- What a text means, piece by piece, and which fault is returned.
-use Rattle.std.specs.Prelude.{◌≡◌, ◌≢◌, ℕ, ◌+◌, List, [], ◌∷◌, ◌++◌, length, Option, Some, None, Result, Ok, Err, MatchResult}
+use Rattle.std.specs.Prelude.{◌≡◌, ◌≢◌, ℕ, ◌+◌, List, [], ◌∷◌, ◌++◌, length, Result, Ok, Err, MatchResult}
 use Rattle.acl_text.specs.declared.fault.FaultKind.{FaultKind}
 use Rattle.acl_text.specs.declared.fault.FaultKind.TheVariants.{NoMemory}
 use Rattle.acl_text.specs.declared.fault.FaultKind.TheVariants as kinds
@@ -30,18 +30,6 @@ read_each_from judge at state (p ∷ ps) = at_place at (judge at state p) (λ mo
 -- what a text means, whose pieces count from 1
 abbrev pub read_each : {S P : Type 0} → (ℕ → S → P → Result S FaultKind) → S → List P → Result S TextFault
 read_each judge start ps = read_each_from judge 1 start ps
-
--- Goes on with the value, unless there is a fault. So the first fault in this order is returned; of
--- one piece that is the order of their kinds, and the lowest.
-infixl 10 ◌>>=◌
-abbrev pub ◌>>=◌ : {A B F : Type 0} → Result A F → (A → Result B F) → Result B F
-(Ok x) >>= f = f x
-(Err fault) >>= f = Err fault
-
--- a value, or a fault
-abbrev pub or_fault : {A F : Type 0} → Option A → F → Result A F
-or_fault None fault = Err fault
-or_fault (Some x) fault = Ok x
 
 -- the first faulty piece: what is before it has no fault, and it has this one
 pub record IsFirstFault {S P : Type 0} (judge : ℕ → S → P → Result S FaultKind) (from : ℕ) (start : S) (ps : List P) (fault : TextFault) : Type 0 where

@@ -1,3 +1,4 @@
+pub mod Results
 pub mod InTurn
 pub mod Blanks
 pub mod Ids

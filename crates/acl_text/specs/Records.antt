@@ -1,5 +1,5 @@
 -- The records of a dump (getfacl(1), setfacl(1) --restore).
-use Rattle.std.specs.Prelude.{ℕ, List, [], ◌∷◌, ◌++◌, length, Bool, true, false, not, ◌&&◌, ◌==◌, if◌then◌else◌, Option, Some, None, is_some, Result, Ok, Err, nat_eq, codes}
+use Rattle.std.specs.Prelude.{ℕ, List, [], ◌∷◌, ◌++◌, length, Bool, true, false, not, ◌&&◌, ◌==◌, if◌then◌else◌, Option, Some, None, is_some, Result, Ok, Err, nat_eq, codes, ok_or}
 use Rattle.std.specs.List.{list_any, enumerate_from, ends_with}
 use Rattle.std.specs.Ordering.{eq_by_cmp}
 use Rattle.acl_entry.specs.declared.entry.Entry as entries
@@ -18,7 +18,8 @@ use Rattle.acl_text.specs.declared.fault.Which.TheVariants.{Access, Default}
 use Rattle.acl_text.specs.declared.entries.PermSpec.{PermSpec}
 use Rattle.acl_text.specs.declared.entries.Rules.{Rules}
 use Rattle.acl_text.specs.declared.entries.Spec.{Spec}
-use Rattle.acl_text.specs.InTurn.{at_place, ◌>>=◌, or_fault}
+use Rattle.acl_text.specs.InTurn.{at_place}
+use Rattle.acl_text.specs.Results.{◌>>=◌}
 use Rattle.acl_text.specs.Entries.{entry_of}
 use Rattle.acl_text.specs.Words.{word_id}
 use Rattle.acl_text.specs.declared.line.LineKind.{LineKind}
@@ -51,7 +52,7 @@ flags_of _ = None
 -- a word that names a user or a group
 abbrev pub named : (List ℕ → Option ℕ) → FaultKind → List ℕ → Result ℕ FaultKind
 named look_up unknown [] = Err BadHeader
-named look_up unknown (b ∷ bs) = or_fault (word_id look_up (b ∷ bs)) unknown
+named look_up unknown (b ∷ bs) = ok_or (word_id look_up (b ∷ bs)) unknown
 
 -- entries have permissions, may be default entries, and have no `X`
 abbrev pub rules : Rules
@@ -76,7 +77,7 @@ module _ (naming : Naming) where
     id ← named naming.group_id UnknownGroup value
     Ok (Some (item.OwningGroup id))
   item_of at Flags value = do
-    flags ← or_fault (flags_of value) BadHeader
+    flags ← ok_or (flags_of value) BadHeader
     Ok (Some (item.Flags flags))
   item_of at Entry value = do
     spec ← entry_of naming rules at value
@@ -123,7 +124,7 @@ is_repeated records path = list_any (λ r. same_path path r.path) records
 abbrev pub opened_draft : List DumpRecord → ℕ → List ℕ → Result RecordDraft FaultKind
 opened_draft records at [] = Err BadHeader
 opened_draft records at (b ∷ bs) = do
-  path ← or_fault (path_of (b ∷ bs)) BadPath
+  path ← ok_or (path_of (b ∷ bs)) BadPath
   if is_repeated records path then Err RepeatedFile else Ok (record { at = at; path = path; slash = ends_in_slash (b ∷ bs); owner = None; group = None; flags = None; access = []; dacl = [] })
 
 -- ---- a record as a whole

@@ -4,7 +4,8 @@ use Rattle.std.specs.List.{AllByRecursion, enumerate_from}
 use Rattle.acl_names.specs.Pieces.{pieces}
 use Rattle.acl_text.specs.Naming.{Naming}
 use Rattle.acl_text.specs.declared.fault.TextFault.{TextFault}
-use Rattle.acl_text.specs.InTurn.{at_place, ◌>>=◌}
+use Rattle.acl_text.specs.InTurn.{at_place}
+use Rattle.acl_text.specs.Results.{◌>>=◌}
 use Rattle.acl_text.specs.declared.record.DumpUse.{DumpUse}
 use Rattle.acl_text.specs.declared.record.DumpRecord.{DumpRecord}
 use Rattle.acl_text.specs.declared.draft.RecordDraft.{RecordDraft}

@@ -1,11 +1,12 @@
 -- A dump read line by line, where the paths of earlier records are watched or not. Only the clauses of inner functions name it.
-use Rattle.std.specs.Prelude.{ℕ, List, [], ◌∷◌, Bool, ◌&&◌, if◌then◌else◌, Option, Some, None, Result, Ok, Err}
+use Rattle.std.specs.Prelude.{ℕ, List, [], ◌∷◌, Bool, ◌&&◌, if◌then◌else◌, Option, Some, None, Result, Ok, Err, ok_or}
 use Rattle.acl_names.specs.Paths.{path_of}
 use Rattle.acl_text.specs.Naming.{Naming}
 use Rattle.acl_text.specs.declared.fault.FaultKind.{FaultKind}
 use Rattle.acl_text.specs.declared.fault.FaultKind.TheVariants.{BadHeader, BadPath, RepeatedFile}
 use Rattle.acl_text.specs.declared.fault.TextFault.{TextFault}
-use Rattle.acl_text.specs.InTurn.{at_place, ◌>>=◌, or_fault}
+use Rattle.acl_text.specs.InTurn.{at_place}
+use Rattle.acl_text.specs.Results.{◌>>=◌}
 use Rattle.acl_text.specs.declared.record.DumpUse.{DumpUse}
 use Rattle.acl_text.specs.declared.record.DumpRecord.{DumpRecord}
 use Rattle.acl_text.specs.declared.draft.RecordDraft.{RecordDraft}
@@ -17,7 +18,7 @@ use Rattle.acl_text.specs.Records.{Numbered, is_repeated, ends_in_slash, begins,
 abbrev pub opened_draft : Bool → List DumpRecord → ℕ → List ℕ → Result RecordDraft FaultKind
 opened_draft watched records at [] = Err BadHeader
 opened_draft watched records at (b ∷ bs) = do
-  path ← or_fault (path_of (b ∷ bs)) BadPath
+  path ← ok_or (path_of (b ∷ bs)) BadPath
   if watched && is_repeated records path then Err RepeatedFile
       else Ok (record { at = at; path = path; slash = ends_in_slash (b ∷ bs); owner = None; group = None; flags = None; access = []; dacl = [] })
 

@@ -1,7 +1,7 @@
 //! The content of a line: what it gives the record that it belongs to.
 
-ghost use Rattle.std.specs.Prelude.{◌≡◌};
-ghost use Rattle.acl_text.specs.InTurn.{GivesAt, or_fault};
+ghost use Rattle.std.specs.Prelude.{◌≡◌, ok_or};
+ghost use Rattle.acl_text.specs.InTurn.{GivesAt};
 ghost use Rattle.acl_text.specs.Records.{rules, perm_of_spec, entry_item, flag_of, flags_of, named, item_of};
 
 use crate::entries::{PermSpec, Rules, Spec, entry_of};
@@ -117,7 +117,7 @@ fn read_group<N: Names>(alloc: Global, names: &N, at: usize, value: &[u8]) -> Re
 
 /// Returns the flags that a `# flags:` line gives.
 fn read_flags(at: usize, value: &[u8]) -> Result<[bool; 3], TextFault>
-    ensures { GivesAt at (λ flags. flags) result (or_fault (flags_of value.now) FaultKind.BadHeader) }
+    ensures { GivesAt at (λ flags. flags) result (ok_or (flags_of value.now) FaultKind.BadHeader) }
 {
     match flags_of(value) {
         Some(flags) => Ok(flags),

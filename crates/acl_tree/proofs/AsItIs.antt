@@ -9,8 +9,8 @@ use Rattle.acl_entry.specs.Lists.{KeyMap}
 use Rattle.acl_names.specs.Paths.{path_cmp, PathOf}
 use Rattle.acl_names.proofs.Basics.{some_eq}
 use Rattle.acl_text.specs.declared.record.DumpRecord.{DumpRecord}
+use Rattle.acl_text.specs.Results.{◌>>=◌}
 use Rattle.acl_edit.specs.Nodes.{IsSound}
-use Rattle.acl_text.specs.InTurn.{◌>>=◌}
 use Rattle.acl_edit.specs.Edits.{allowed, edit, restore}
 use Rattle.acl_edit.specs.declared.node.Kind.{Kind}
 use Rattle.acl_edit.specs.declared.node.Kind.TheVariants.{Plain, Directory}

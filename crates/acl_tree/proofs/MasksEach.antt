@@ -2,7 +2,6 @@
 use Rattle.std.proofs.Common.{◌≡◌, Bool, true, false, List, Option, Result, Ok, Err, if◌then◌else◌, refl, sym, ap, subst, ◌∙◌}
 use Rattle.std.specs.Prelude.{option_map}
 use Rattle.acl_entry.specs.Lists.{KeyMap}
-use Rattle.acl_text.specs.InTurn.{◌>>=◌}
 use Rattle.acl_edit.specs.Edits.{edit, change, changed_access, changed_default, is_misplaced}
 use Rattle.acl_edit.specs.Nodes.{with_lists}
 use Rattle.acl_edit.specs.Changes.{Change, edit_of}
@@ -17,6 +16,7 @@ use Rattle.path_map.specs.Entries.{IsInOrder}
 use Rattle.acl_tree.specs.EditCommand.{edited_tree}
 use Rattle.acl_tree.specs.Laws.{KeepsMaskRules, MasksEach}
 use Rattle.acl_tree.proofs.Each.{edit_each_file}
+use Rattle.acl_text.specs.Results.{◌>>=◌}
 
 abbrev node_or : Node → Result Node EditFault → Node
 node_or n (Ok m) = m

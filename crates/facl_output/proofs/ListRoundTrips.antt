@@ -1,7 +1,7 @@
 -- The texts that are printed of lists in the short form are read as the entries of these lists.
 use Rattle.std.proofs.Common.{◌≡◌, ℕ, ◌+◌, ◌<◌, ◌≤◌, Bool, true, false, cond, leb, List, [], ◌∷◌, ◌++◌, map, length, Option, Some, None, Result, Ok, Err, refl}
 use Rattle.std.proofs.Common.{sym, ap, ◌∙◌, append_assoc, length-append, arith}
-use Rattle.std.specs.Prelude.{◌==◌, codes}
+use Rattle.std.specs.Prelude.{◌==◌, codes, ok_or}
 use Rattle.std.specs.List.{flat_map, AllByRecursion}
 use Rattle.std.proofs.lemmas.Bool.{ne_eqb, lt-leb}
 use Rattle.std.proofs.lemmas.Grind.{flat_map-append}
@@ -24,7 +24,8 @@ use Rattle.acl_people.specs.KnownPeople.{KnownPeople, naming_of}
 use Rattle.acl_text.specs.Blanks.{is_blank, trimmed}
 use Rattle.acl_text.specs.Entries.{rules_of, tagged, entry_from, entry_of, wanted_perms, key_of, allowed_key, most_text_entries, one_more, entries_of}
 use Rattle.acl_text.specs.Fields.{EntryRow, entry_fields, row_of, is_default_word}
-use Rattle.acl_text.specs.InTurn.{at_place, read_each_from, or_fault, ◌>>=◌}
+use Rattle.acl_text.specs.InTurn.{at_place, read_each_from}
+use Rattle.acl_text.specs.Results.{◌>>=◌}
 use Rattle.acl_text.specs.Naming.{Naming}
 use Rattle.acl_text.specs.Writing.{tag_text, qualifier, entry_text, after_comma, short, spec_of, IsKeyNamed, AreNamed}
 use Rattle.acl_text.specs.declared.entries.PermSpec.{PermSpec}
@@ -74,11 +75,11 @@ module _ (naming : Naming) where
       → entry_from naming rules at (codes "d" ∷ tag ∷ word ∷ perm ∷ []) ≡ as_default (entry_from naming rules at (tag ∷ word ∷ perm ∷ []))
   default_again at tag word perm plain =
       let fields = tag ∷ word ∷ perm ∷ [] in
-      bind_same (or_fault (row_of fields) BadTag) (from_row at true) (from_row at false)
+      bind_same (ok_or (row_of fields) BadTag) (from_row at true) (from_row at false)
       (λ row. bind_same (wanted_perms rules row.perms) (from_perm at true row) (from_perm at false row)
       (λ p. bind_same (key_of naming row.tag row.word) (from_key at true p) (from_key at false p)
       (λ k. bind_same (allowed_key rules k) (from_allowed at true p) (from_allowed at false p) (λ a. refl))))
-      ∙ ap (λ d. as_default (or_fault (tagged rules d) BadTag >>= from_row at d.0)) (ap (λ b. cond b (true, word ∷ perm ∷ []) (false, fields)) (sym plain))
+      ∙ ap (λ d. as_default (ok_or (tagged rules d) BadTag >>= from_row at d.0)) (ap (λ b. cond b (true, word ∷ perm ∷ []) (false, fields)) (sym plain))
 
   -- ---- one entry of one of the lists
 

@@ -1,12 +1,12 @@
 -- The lists of a file, put into this file, leave it as it is.
 use Rattle.std.proofs.Common.{◌≡◌, Bool, Option, Some, None, Ok, refl, sym, ap, ◌∙◌}
-use Rattle.acl_text.specs.InTurn.{◌>>=◌}
 use Rattle.acl_edit.specs.Edits.{edit, put}
 use Rattle.acl_edit.specs.Nodes.{IsSound, with_lists}
 use Rattle.acl_edit.specs.declared.edit.Edit.TheVariants.{Put}
 use Rattle.acl_edit.specs.declared.node.Node.{Node}
 use Rattle.acl_edit.proofs.Restored.{own_list}
 use Rattle.acl_entry.specs.Lists.{KeyMap, or_else}
+use Rattle.acl_text.specs.Results.{◌>>=◌}
 
 either : (o : Option KeyMap) → or_else o o ≡ o
 either None = refl

@@ -12,7 +12,6 @@ use Rattle.acl_entry.proofs.Maps.{map_of-entries, in_order-entries}
 use Rattle.acl_edit.proofs.Kept.{checked_valid, default_unnamed}
 use Rattle.acl_text.specs.RoundTrips.{IsListIf}
 use Rattle.acl_edit.specs.Changes.{Change, options}
-use Rattle.acl_text.specs.InTurn.{◌>>=◌}
 use Rattle.acl_edit.specs.Edits.{worked, access_after, default_after, checked, checked_default, changed_access, changed_default, change}
 use Rattle.acl_edit.specs.Masks.{has_mask, has_named, add_mask, recalculate, is_recalculated, takes_mask, with_mask}
 use Rattle.acl_edit.specs.Nodes.{IsSound, is_directory, with_lists}
@@ -37,6 +36,7 @@ use Rattle.acl_text.specs.declared.entries.Spec.{Spec}
 use Rattle.acl_text.specs.declared.fault.Which.{Which}
 use Rattle.acl_text.specs.declared.fault.Which.TheVariants.{Access, Default}
 use Rattle.acl_text.specs.Writing.{spec_of}
+use Rattle.acl_text.specs.Results.{◌>>=◌}
 use Rattle.acl_names.specs.Paths.{PathOf}
 use Rattle.acl_names.proofs.Basics.{and_false}
 use Rattle.acl_tree.specs.Files.{Files}

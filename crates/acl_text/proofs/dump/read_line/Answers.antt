@@ -1,6 +1,7 @@
 use Rattle.std.proofs.Common.{◌≡◌, ℕ, Bool, List, Option, is_some, Result, Ok, sym, ap, subst, ◌∙◌}
 use Rattle.std.specs.Prelude.{if◌then◌else◌}
-use Rattle.acl_text.specs.InTurn.{Gives, ◌>>=◌}
+use Rattle.acl_text.specs.InTurn.{Gives}
+use Rattle.acl_text.specs.Results.{◌>>=◌}
 use Rattle.acl_text.specs.declared.fault.TextFault.{TextFault}
 use Rattle.acl_text.specs.declared.line.LineKind.{LineKind}
 use Rattle.acl_text.specs.declared.line.LineKind.TheVariants.{File}
