@@ -9,7 +9,7 @@ use Rattle.acl_entry.specs.Lists.{KeyMap}
 use Rattle.acl_names.specs.Paths.{path_cmp, PathOf}
 use Rattle.acl_names.proofs.Basics.{some_eq}
 use Rattle.acl_text.specs.declared.record.DumpRecord.{DumpRecord}
-use Rattle.acl_text.specs.Results.{◌>>=◌}
+use Rattle.acl_text.specs.Results.{◌>>=◌, unless, map_err}
 use Rattle.acl_edit.specs.Nodes.{IsSound}
 use Rattle.acl_edit.specs.Edits.{allowed, edit, restore}
 use Rattle.acl_edit.specs.declared.node.Kind.{Kind}
@@ -21,7 +21,7 @@ use Rattle.path_map.proofs.Edits.{put_edited}
 use Rattle.acl_tree.specs.declared.command.Command.TheVariants.{Restore}
 use Rattle.acl_tree.specs.Files.{Files}
 use Rattle.path_map.specs.Entries.{IsInOrder}
-use Rattle.acl_tree.specs.Edits.{unless_missing, and_others, edit_each, edit_all, with_edits}
+use Rattle.acl_tree.specs.Edits.{and_others, edit_each, edit_all, with_edits, file_fault}
 use Rattle.acl_tree.specs.Laws.{Contains, IsAsRecorded}
 use Rattle.acl_tree.specs.Loading.{record_at}
 use Rattle.acl_tree.specs.Operands.{is_file, first_missing, files_meant}
@@ -30,6 +30,7 @@ use Rattle.acl_tree.specs.Sound.{ArePlaced, IsSoundTree}
 use Rattle.acl_tree.specs.State.{State, with_tree}
 use Rattle.acl_tree.specs.Step.{step}
 use Rattle.acl_tree.proofs.Selected.{same_path}
+use Rattle.acl_tree.specs.declared.fault.TreeFault.TheVariants.{NoSuchFile}
 
 -- ---- one file
 
@@ -111,6 +112,6 @@ pub restored_as_is : (records : List DumpRecord) (state : State) → IsSoundTree
 restored_as_is records state sound all =
     let t = state.tree.files in
     let paths = paths_of records in
-    ap (λ o. with_tree state (unless_missing o (edit_all (restore_one records) false paths state.tree))) (none_missing t records all records all)
-    ∙ ap (λ r. with_tree state (unless_missing None (with_edits state.tree r))) (each t records all t (leads_all t sound.order) sound.placed)
+    ap (λ o. unless (option_map NoSuchFile o) (map_err file_fault (edit_all (restore_one records) false paths state.tree)) >>= with_tree state) (none_missing t records all records all)
+    ∙ ap (λ r. unless (option_map NoSuchFile None) (map_err file_fault (r >>= with_edits state.tree)) >>= with_tree state) (each t records all t (leads_all t sound.order) sound.placed)
     ∙ ap (λ (es : Files). let s : State = record state { tree = record state.tree { files = es } } in Ok s) (put_themselves (is_file false paths) t sound.order)

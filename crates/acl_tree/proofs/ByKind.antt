@@ -25,6 +25,7 @@ use Rattle.acl_tree.specs.Edits.{OneEdit, KeepsPlaces, of_each, and_others, edit
 use Rattle.acl_tree.proofs.Kept.{edited_sound}
 use Rattle.acl_tree.proofs.Edits.{keeps_after, put_edits}
 use Rattle.acl_tree.specs.Inner.{node_after, fault_of}
+use Rattle.acl_text.specs.Results.{◌>>=◌}
 
 -- ---- edits and faults
 
@@ -64,7 +65,7 @@ module _ (edit : OneEdit) (recursive : Bool) (paths : List PathOf) (k0 : KindsOf
 
   pub stops_for : (stop : Stop (PathOf × EditFault)) → IsFaultOf stop (by_kind.edit_each edit (entries_by k0 olds)) → fault_of stop ≢ NoMemory
       → edit_all (of_each edit) recursive paths t ≡ Err (fault_of stop)
-  stops_for stop h some = ap (λ r. with_edits t r) (ap (λ es. edit_each (of_each edit) es) (sym seen_files) ∙ stops_as edit (entries_by k0 olds) stop h some)
+  stops_for stop h some = ap (λ r. r >>= with_edits t) (ap (λ es. edit_each (of_each edit) es) (sym seen_files) ∙ stops_as edit (entries_by k0 olds) stop h some)
 
   module _ (new : Kept Node) (puts : Numbers) (made : by_kind.edit_each edit (entries_by k0 olds) ≡ Ok (entries_by new.0 puts)) (put : ArePut (k0, ns) new puts) (order : IsInOrder t.files) where
     abbrev test : PathOf → Bool
@@ -83,7 +84,7 @@ module _ (edit : OneEdit) (recursive : Bool) (paths : List PathOf) (k0 : KindsOf
     edited_are = put_among ∙ put_edits (of_each edit) recursive paths t.files (entries_by new.0 puts) order each
 
     pub edited_all : edit_all (of_each edit) recursive paths t ≡ Ok (record { files = entries_in new; loaded = t.loaded })
-    edited_all = ap (λ r. with_edits t r) each ∙ ap (λ (es : Files). let u : Recorded = record { files = es; loaded = t.loaded } in Ok u) (sym put_among)
+    edited_all = ap (λ r. r >>= with_edits t) each ∙ ap (λ (es : Files). let u : Recorded = record { files = es; loaded = t.loaded } in Ok u) (sym put_among)
 
     pub sound_edited : KeepsPlaces (of_each edit) → IsSoundTree t → IsSoundTree (record { files = entries_in new; loaded = t.loaded })
     sound_edited keeps sound = subst (λ (es : Files). IsSoundTree (record { files = es; loaded = t.loaded })) (sym edited_are) (edited_sound test after (keeps_after (of_each edit) keeps) t sound)

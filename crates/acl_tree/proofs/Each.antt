@@ -7,6 +7,7 @@ use Rattle.acl_names.specs.Paths.{path_cmp, PathOf}
 use Rattle.acl_names.proofs.PathOrder.{exact_paths}
 use Rattle.acl_names.proofs.Basics.{err_is_not_ok, none_is_not_some, false_is_not_true}
 use Rattle.acl_text.specs.declared.record.DumpRecord.{DumpRecord}
+use Rattle.acl_text.specs.Results.{◌>>=◌, unless, map_err}
 use Rattle.acl_edit.specs.declared.edit.Edit.{Edit}
 use Rattle.acl_edit.specs.declared.edit.EditFault.{EditFault}
 use Rattle.acl_edit.specs.declared.node.Node.{Node}
@@ -15,7 +16,7 @@ use Rattle.acl_tree.specs.declared.edit.FileFault.{FileFault}
 use Rattle.acl_tree.specs.Files.{Files, Recorded}
 use Rattle.path_map.specs.Entries.{IsInOrder}
 use Rattle.acl_tree.specs.Operands.{is_file, edit_files, files_meant, first_missing}
-use Rattle.acl_tree.specs.Edits.{and_others, edit_each, edit_all, with_edits, unless_missing}
+use Rattle.acl_tree.specs.Edits.{and_others, edit_each, edit_all, with_edits, file_fault}
 use Rattle.acl_tree.specs.EditCommand.{edit_one, edited_tree}
 use Rattle.acl_tree.specs.Restoring.{restore_one, paths_of, restored_tree}
 use Rattle.acl_tree.specs.Inner.{ok_or, node_after}
@@ -24,6 +25,7 @@ use Rattle.acl_tree.specs.Changed.{gone_between}
 use Rattle.acl_tree.proofs.Changes.{gone-edited}
 use Rattle.acl_tree.proofs.Edits.{put_edits}
 use Rattle.acl_tree.proofs.Selected.{filter_alike}
+use Rattle.acl_tree.specs.declared.fault.TreeFault.TheVariants.{NoSuchFile}
 
 pub same : {A : Type 0} (o : Option A) → option_map (λ a. a) o ≡ o
 same None = refl
@@ -92,7 +94,7 @@ module _ (edit : PathOf → Node → Result Node EditFault) where
       → new.files ≡ edit_files (is_file recursive paths) (node_after edit) old.files
   edited_files recursive paths old new order h = by (edit_each edit (files_meant recursive paths old.files)) refl h
     where
-      by : (r : Result Files FileFault) → edit_each edit (files_meant recursive paths old.files) ≡ r → with_edits old r ≡ Ok new
+      by : (r : Result Files FileFault) → edit_each edit (files_meant recursive paths old.files) ≡ r → (r >>= with_edits old) ≡ Ok new
           → new.files ≡ edit_files (is_file recursive paths) (node_after edit) old.files
       by (Err f) is h = absurd (err_is_not_ok _ _ h)
       by (Ok ns) is h = ap (files_in old.files) (sym h) ∙ put_edits edit recursive paths old.files ns order is
@@ -103,12 +105,12 @@ module _ (edit : PathOf → Node → Result Node EditFault) where
 
   -- the same files are edited by other words
   pub edit_alike : (r s : Bool) (ps qs : List PathOf) (t : Recorded) → ((q : PathOf) → is_file r ps q ≡ is_file s qs q) → edit_all edit r ps t ≡ edit_all edit s qs t
-  edit_alike r s ps qs t same = ap (λ es. with_edits t (edit_each edit es)) (filter_alike (is_file r ps) (is_file s qs) same t.files)
+  edit_alike r s ps qs t same = ap (λ es. edit_each edit es >>= with_edits t) (filter_alike (is_file r ps) (is_file s qs) same t.files)
 
   pub edits_each : (recursive : Bool) (paths : List PathOf) (old new : Recorded) → IsInOrder old.files → edit_all edit recursive paths old ≡ Ok new → EditsEach edit recursive paths old new
   edits_each recursive paths old new order h = by (edit_each edit (files_meant recursive paths old.files)) refl h
     where
-      by : (r : Result Files FileFault) → edit_each edit (files_meant recursive paths old.files) ≡ r → with_edits old r ≡ Ok new → EditsEach edit recursive paths old new
+      by : (r : Result Files FileFault) → edit_each edit (files_meant recursive paths old.files) ≡ r → (r >>= with_edits old) ≡ Ok new → EditsEach edit recursive paths old new
       by (Err f) is h = absurd (err_is_not_ok _ _ h)
       by (Ok ns) is h = record {
         edited = λ p n hit at.
@@ -119,10 +121,10 @@ module _ (edit : PathOf → Node → Result Node EditFault) where
         where
           found : (p : PathOf) → find path_cmp p new.files ≡ option_map (λ n. if is_file recursive paths p then node_after edit p n else n) (find path_cmp p old.files)
           found p =
-              ap (λ es. find path_cmp p es) (edited_files recursive paths old new order (ap (with_edits old) is ∙ h))
+              ap (λ es. find path_cmp p es) (edited_files recursive paths old new order (ap (λ r. r >>= with_edits old) is ∙ h))
               ∙ find-edited p (is_file recursive paths) (node_after edit) old.files
 
-none_missing : (missing : Option PathOf) (r : Result Recorded FileFault) (new : Recorded) → unless_missing missing r ≡ Ok new → r ≡ Ok new
+none_missing : (missing : Option PathOf) (r : Result Recorded FileFault) (new : Recorded) → unless (option_map NoSuchFile missing) (map_err file_fault r) ≡ Ok new → r ≡ Ok new
 none_missing (Some p) r new h = absurd (err_is_not_ok _ _ h)
 none_missing None (Ok t) new h = ap (λ t. Ok t) (ap (tree_in t) h)
   where

@@ -12,6 +12,7 @@ use Rattle.path_map.specs.Entries.{IsInOrder}
 use Rattle.acl_tree.specs.Operands.{is_file, edit_files, files_meant}
 use Rattle.acl_tree.specs.Edits.{KeepsPlace, and_others, edit_each, edit_all, with_edits}
 use Rattle.acl_tree.specs.Inner.{ok_or, node_after}
+use Rattle.acl_text.specs.Results.{◌>>=◌}
 
 -- the edits, where there is no fault
 abbrev edits_of : Result Files FileFault → Files
@@ -53,7 +54,7 @@ module _ (f : PathOf → Node → Node) where
   all_edited : (recursive : Bool) (paths : List PathOf) (t : Recorded) → IsInOrder t.files
       → edit_all (λ p n. Ok (f p n)) recursive paths t ≡ Ok (record t { files = edit_files (is_file recursive paths) f t.files })
   all_edited recursive paths t order =
-      ap (λ r. with_edits t r) (each_edited (files_meant recursive paths t.files))
+      ap (λ r. r >>= with_edits t) (each_edited (files_meant recursive paths t.files))
       ∙ ap (λ es. Ok (record t { files = es })) (put_edited (is_file recursive paths) f t.files order)
 
   abbrev tree_or : Recorded → Result Recorded FileFault → Recorded

@@ -13,6 +13,7 @@ use Rattle.acl_people.specs.Entries.{user_entry}
 use Rattle.acl_people.specs.KnownPeople.{KnownPeople, users_of, names_user}
 use Rattle.acl_people.specs.NameTables.{Named, is_name, is_id, has_name, has_id}
 use Rattle.acl_text.specs.UserNames.{cuts_row, is_user_name}
+use Rattle.acl_text.specs.Results.{◌>>=◌}
 use Rattle.acl_people.proofs.Places.{position-push}
 use Rattle.acl_people.proofs.Undone.{user_again}
 use Rattle.acl_tree.specs.declared.command.Command.TheVariants.{Useradd, Userdel}
@@ -54,7 +55,7 @@ module _ (new : NewUser) (old made : State) (allowed : is_user_name new.name ≡
   removed group fresh =
       let known : KnownPeople = with_user new.name new.uid group old.people in
       let again = user_again new.name new.uid group old.people unnamed in
-      ap (λ o. with_change (record old { people = known }) (remove_at known o)) (found group fresh)
+      ap (λ o. remove_at known o >>= with_change (record old { people = known })) (found group fresh)
       ∙ (λ i.
       let people : KnownPeople = record { users = again.0 i; groups = again.1 i; passwd_loaded = true; group_loaded = old.people.group_loaded } in
       let s : State = record { tree = old.tree; people = people } in
@@ -64,13 +65,14 @@ module _ (new : NewUser) (old made : State) (allowed : is_user_name new.name ≡
   user_removed h = by (has_name new.name (users_of old.people)) refl (has_id new.uid (users_of old.people)) (group_at old.people new.group) h
     where
       at : (group : ℕ) → has_name new.name (users_of old.people) ≡ false → (d : Bool)
-          → with_change old (if d then Err TooManyUsers
-          else Ok (record { user = length old.people.users; people = with_user new.name new.uid group old.people })) ≡ Ok made → step made (Userdel new.name) ≡ Ok (with_users_loaded old)
+          → ((if d then Err TooManyUsers
+          else Ok (record { user = length old.people.users; people = with_user new.name new.uid group old.people })) >>= with_change old) ≡ Ok made
+          → step made (Userdel new.name) ≡ Ok (with_users_loaded old)
       at group fresh true h = absurd (err_is_not_ok _ _ h)
       at group fresh false h = ap (λ s. step s (Userdel new.name)) (sym (ap (λ r. state_or old r) h)) ∙ removed group fresh
 
       by : (b : Bool) → has_name new.name (users_of old.people) ≡ b → (c : Bool) (g : Result ℕ TreeFault)
-          → with_change old (if b then Err (UserExists new.name) else (if c then Err (UidExists new.uid) else add_to new old.people g)) ≡ Ok made
+          → ((if b then Err (UserExists new.name) else (if c then Err (UidExists new.uid) else add_to new old.people g)) >>= with_change old) ≡ Ok made
           → step made (Userdel new.name) ≡ Ok (with_users_loaded old)
       by true is c g h = absurd (err_is_not_ok _ _ h)
       by false is true g h = absurd (err_is_not_ok _ _ h)

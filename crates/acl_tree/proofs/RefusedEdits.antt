@@ -3,10 +3,12 @@ use Rattle.std.proofs.Common.{◌≡◌, ◌≤◌, Bool, true, false, cond, ◌
 use Rattle.std.specs.Option.{option_or}
 use Rattle.std.specs.Ordering.{is_eq}
 use Rattle.std.specs.FinMap.{find}
+use Rattle.std.specs.Prelude.{option_map}
 use Rattle.acl_names.specs.Paths.{path_cmp, PathOf}
 use Rattle.acl_names.proofs.Basics.{none_is_not_some, some_eq}
 use Rattle.path_map.proofs.Differences.{Leads, leads_all}
 use Rattle.acl_text.specs.declared.record.DumpRecord.{DumpRecord}
+use Rattle.acl_text.specs.Results.{◌>>=◌, unless, map_err}
 use Rattle.acl_edit.specs.declared.edit.Edit.{Edit}
 use Rattle.acl_edit.specs.declared.edit.EditFault.{EditFault}
 use Rattle.acl_edit.specs.declared.node.Node.{Node}
@@ -17,7 +19,7 @@ use Rattle.acl_tree.specs.declared.fault.TreeFault.TheVariants as faults
 use Rattle.acl_tree.specs.Files.{Files}
 use Rattle.path_map.specs.Entries.{IsInOrder}
 use Rattle.acl_tree.specs.Operands.{is_file, files_meant, first_missing}
-use Rattle.acl_tree.specs.Edits.{and_others, edit_each, with_edits, file_fault, unless_missing}
+use Rattle.acl_tree.specs.Edits.{and_others, edit_each, with_edits, file_fault}
 use Rattle.acl_tree.specs.Inner.{paths_in}
 use Rattle.acl_tree.specs.Restoring.{restore_one, paths_of}
 use Rattle.acl_tree.specs.declared.command.Command.{Command}
@@ -120,7 +122,7 @@ module _ (s : State) (c : Command) (edit : PathOf → Node → Result Node EditF
     at_operand p q le = subst (λ ps. place p ps ≤ place q ps) (sym law.operands) le
 
     decides : (o : Option PathOf) → first_missing paths s.tree.files ≡ o → (r : Result Files FileFault) → edit_each edit (files_meant recursive paths s.tree.files) ≡ r
-        → Decides s c (with_tree s (unless_missing o (with_edits s.tree r)))
+        → Decides s c (unless (option_map faults.NoSuchFile o) (map_err file_fault (r >>= with_edits s.tree)) >>= with_tree s)
     decides (Some p) is r _ =
         let f = is_first_missing s.tree.files paths p is in
         decides_err s c (faults.NoSuchFile p) (law.missing p f.among f.missing)
@@ -163,7 +165,9 @@ module _ (s : State) (c : Command) (edit : PathOf → Node → Result Node EditF
         f fa g ga
 
     abbrev pub Decided : Type 0
-    Decided = Decides s c (with_tree s (unless_missing (first_missing paths s.tree.files) (with_edits s.tree (edit_each edit (files_meant recursive paths s.tree.files)))))
+    Decided = Decides s c
+        (unless (option_map faults.NoSuchFile (first_missing paths s.tree.files))
+        (map_err file_fault (edit_each edit (files_meant recursive paths s.tree.files) >>= with_edits s.tree)) >>= with_tree s)
 
     pub decided : AreApart s c × Decided
     decided = (apart, decides (first_missing paths s.tree.files) refl (edit_each edit (files_meant recursive paths s.tree.files)) refl)

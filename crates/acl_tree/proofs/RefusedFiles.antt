@@ -15,6 +15,7 @@ use Rattle.acl_names.specs.Below.{encloses, parent}
 use Rattle.acl_names.proofs.Basics.{some_is_not_none, none_is_not_some, not_both}
 use Rattle.acl_text.specs.Ids.{is_number, id_of}
 use Rattle.acl_text.specs.declared.rows.PasswdRow.{PasswdRow}
+use Rattle.acl_text.specs.Results.{◌>>=◌}
 use Rattle.acl_edit.specs.Creation.{inherit}
 use Rattle.acl_edit.specs.Nodes.{is_directory}
 use Rattle.acl_edit.specs.declared.node.Kind.{Kind}
@@ -118,7 +119,7 @@ module _ (s : State) (order : IsInOrder s.tree.files) (new : NewFile) where
   -- in a directory
   in_directory : (row : PasswdRow) (n : Node) (d : Bool) → row_of s.people new.user ≡ Some row → exists new.path s.tree.files ≡ false
       → find path_cmp (parent new.path) s.tree.files ≡ Some n → n.kind ≡ Directory → nat_lt (length s.tree.files) max_files ≡ d
-      → Decides s creates (with_tree s (if d then Ok (record s.tree { files = put path_cmp new.path (inherit n new.kind new.mode new.umask row.uid row.gid) s.tree.files }) else Err TooMany))
+      → Decides s creates ((if d then Ok (record s.tree { files = put path_cmp new.path (inherit n new.kind new.mode new.umask row.uid row.gid) s.tree.files }) else Err TooMany) >>= with_tree s)
   in_directory row n false user_is fresh at is full =
       decides_err s creates TooMany (ltb-false _ _ full) (creat_cases (λ g. IsNotAfter s creates TooMany g)
       (λ h. absurd (some_row s.people new.user row user_is h)) (λ h. absurd (not_both _ h fresh)) (λ h. absurd (some_is_not_none _ n at h))
@@ -128,14 +129,14 @@ module _ (s : State) (order : IsInOrder s.tree.files) (new : NewFile) where
       (λ h. some_row s.people new.user row user_is h) (λ h. not_both _ h fresh) (λ h. some_is_not_none _ n at h) (λ h. not_plain n at is h) (λ h. not_both _ room (le-ltb _ _ h)))
 
   in_parent : (row : PasswdRow) (o : Option Node) → row_of s.people new.user ≡ Some row → exists new.path s.tree.files ≡ false
-      → find path_cmp (parent new.path) s.tree.files ≡ o → Decides s creates (with_tree s (creat_in new row s.tree (only_directory (parent new.path) o)))
+      → find path_cmp (parent new.path) s.tree.files ≡ o → Decides s creates (creat_in new row s.tree (only_directory (parent new.path) o) >>= with_tree s)
   in_parent row None user_is fresh missing =
       decides_err s creates (NoSuchFile (parent new.path)) (refl, missing) (creat_cases (λ g. IsNotAfter s creates (NoSuchFile (parent new.path)) g)
       (λ h. absurd (some_row s.people new.user row user_is h)) (λ h. absurd (not_both _ h fresh)) (λ _. ranked s creates _ _ refl (omega arith))
       (λ _. ranked s creates _ _ refl (omega arith)) (λ _. ranked s creates _ _ refl (omega arith)))
   in_parent row (Some n) user_is fresh at = by n.kind refl
     where
-      by : (k : Kind) → n.kind ≡ k → Decides s creates (with_tree s (creat_in new row s.tree (if is_directory k then Ok n else Err (NotDirectory (parent new.path)))))
+      by : (k : Kind) → n.kind ≡ k → Decides s creates (creat_in new row s.tree (if is_directory k then Ok n else Err (NotDirectory (parent new.path))) >>= with_tree s)
       by Plain is =
           decides_err s creates (NotDirectory (parent new.path)) (refl, record { node = n; recorded = at; is = is }) (creat_cases (λ g. IsNotAfter s creates (NotDirectory (parent new.path)) g)
           (λ h. absurd (some_row s.people new.user row user_is h)) (λ h. absurd (not_both _ h fresh)) (λ h. absurd (some_is_not_none _ n at h))
@@ -152,7 +153,7 @@ module _ (s : State) (order : IsInOrder s.tree.files) (new : NewFile) where
   outcome_is (Some row) = refl
 
   by_user : (o : Option PasswdRow) (b : Bool) → row_of s.people new.user ≡ o → exists new.path s.tree.files ≡ b
-      → Decides s creates (with_tree s (outcome o b))
+      → Decides s creates (outcome o b >>= with_tree s)
   by_user None b no_user _ =
       decides_err s creates (NoSuchUser new.user) (refl, no_row s.people new.user no_user) (creat_cases (λ g. IsNotAfter s creates (NoSuchUser new.user) g)
       (λ _. ranked s creates _ _ refl (omega arith)) (λ _. ranked s creates _ _ refl (omega arith)) (λ _. ranked s creates _ _ refl (omega arith))
@@ -167,5 +168,5 @@ module _ (s : State) (order : IsInOrder s.tree.files) (new : NewFile) where
   creat_refused =
       refused_for_first s creates
       (apart_by s creates of_rank (creat_cases (λ g. g ≡ of_rank (rank g)) (λ _. refl) (λ _. refl) (λ _. refl) (λ _. refl) (λ _. refl)))
-      (subst (λ r. Decides s creates (with_tree s r)) (outcome_is (row_of s.people new.user))
+      (subst (λ r. Decides s creates (r >>= with_tree s)) (outcome_is (row_of s.people new.user))
       (by_user (row_of s.people new.user) (exists new.path s.tree.files) refl refl))

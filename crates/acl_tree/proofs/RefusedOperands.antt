@@ -2,6 +2,7 @@
 use Rattle.std.proofs.Common.{◌≡◌, ◌≤◌, ℕ, Bool, true, false, List, [], ◌∷◌, Option, Some, None, is_some, if◌then◌else◌, refl, sym, ap, subst, ◌∙◌, arith}
 use Rattle.std.specs.Option.{option_or}
 use Rattle.std.specs.FinMap.{find}
+use Rattle.std.specs.Prelude.{option_map, Ok}
 use Rattle.acl_names.specs.Paths.{path_cmp, PathOf}
 use Rattle.acl_names.proofs.Basics.{none_is_not_some, some_eq}
 use Rattle.acl_edit.specs.declared.node.Node.{Node}
@@ -12,10 +13,11 @@ use Rattle.acl_tree.specs.Operands.{first_missing}
 use Rattle.acl_tree.specs.declared.command.Command.{Command}
 use Rattle.acl_tree.specs.declared.command.Command.TheVariants.{Chmod}
 use Rattle.acl_tree.specs.State.{State}
-use Rattle.acl_tree.specs.Chmod.{or_missing, chmod_all}
+use Rattle.acl_tree.specs.Chmod.{chmod_all}
 use Rattle.acl_tree.specs.Refusals.{IsAmong, IsMissing, Applies, rank, place, place_of, IsNotAfter, IsRefusedForFirst}
 use Rattle.acl_tree.proofs.Refused.{Decides, decides_err, decides_ok, AreApart, refused_for_first}
 use Rattle.acl_tree.proofs.FirstAmong.{first_of, none_among, first_among, one_place}
+use Rattle.acl_text.specs.Results.{unless}
 
 module _ (t : Files) where
   abbrev check : PathOf → Option PathOf
@@ -69,7 +71,7 @@ module _ (s : State) (paths : List PathOf) (mode : ℕ) (recursive : Bool) where
   chmod_cases Q missing (NoSuchFile p) h = missing p h.0 h.1
   chmod_cases Q missing g h = absurd h
 
-  decides : (o : Option PathOf) → first_missing paths s.tree.files ≡ o → Decides s puts (or_missing o (record s { tree = chmod_all recursive paths mode s.tree }))
+  decides : (o : Option PathOf) → first_missing paths s.tree.files ≡ o → Decides s puts (unless (option_map NoSuchFile o) (Ok (record s { tree = chmod_all recursive paths mode s.tree })))
   decides None is = decides_ok s puts _ (chmod_cases (λ g. ⊥) (λ q among missing. none_is_missing s.tree.files paths is q among missing))
   decides (Some p) is =
       let f = is_first_missing s.tree.files paths p is in

@@ -5,6 +5,7 @@ use Rattle.std.proofs.lemmas.Bool.{leb-true, le-leb}
 use Rattle.std.specs.Option.{ok_or}
 use Rattle.acl_names.proofs.Basics.{some_is_not_none, not_both}
 use Rattle.acl_text.specs.Rows.{most_rows}
+use Rattle.acl_text.specs.Results.{◌>>=◌}
 use Rattle.acl_tree.specs.declared.fault.TreeFault.{TreeFault}
 use Rattle.acl_tree.specs.declared.fault.TreeFault.TheVariants.{NoSuchUser, NoSuchGroup, NotMember, UserExists, UidExists, TooManyUsers}
 use Rattle.acl_people.specs.Changes.{is_member, without_member, with_primary_group, with_user}
@@ -16,9 +17,10 @@ use Rattle.acl_tree.specs.declared.command.Membership.{Membership}
 use Rattle.acl_tree.specs.declared.command.Membership.TheVariants.{Add, Remove}
 use Rattle.acl_tree.specs.declared.command.NewUser.{NewUser}
 use Rattle.acl_tree.specs.Accounts.{add_to, remove_at}
-use Rattle.acl_tree.specs.Memberships.{ChangedUser, change_found, change_of, membership_changed}
+use Rattle.acl_tree.specs.Memberships.{ChangedUser, membership_changed}
 use Rattle.acl_tree.specs.State.{State, with_change}
 use Rattle.acl_tree.specs.Refusals.{MeansNoUser, MeansNoGroup, MeanNoMember, Applies, rank, IsNotAfter, IsRefusedForFirst}
+use Rattle.acl_tree.proofs.AtOnce.{of_user}
 use Rattle.acl_tree.proofs.Refused.{Decides, decides_err, decides_ok, refused_for_first, ranked, apart_by}
 
 add_is_not_remove : Add ≡ Remove → ⊥
@@ -39,7 +41,7 @@ module _ (s : State) where
     userdel_cases Q none (NoSuchUser word) h = subst (λ w. Q (NoSuchUser w)) (sym h.0) (none h.1)
     userdel_cases Q none g h = absurd h
 
-    userdel_decides : (o : Option ℕ) → place_of_word user (users_of s.people) ≡ o → Decides s deletes (with_change s (remove_at s.people (ok_or o (NoSuchUser user))))
+    userdel_decides : (o : Option ℕ) → place_of_word user (users_of s.people) ≡ o → Decides s deletes (remove_at s.people (ok_or o (NoSuchUser user)) >>= with_change s)
     userdel_decides None is = decides_err s deletes (NoSuchUser user) (refl, is) (userdel_cases (λ g. IsNotAfter s deletes (NoSuchUser user) g) (λ h. ranked s deletes _ _ refl (omega arith)))
     userdel_decides (Some at) is = decides_ok s deletes _ (userdel_cases (λ g. ⊥) (λ h. some_is_not_none _ at is h))
 
@@ -61,7 +63,7 @@ module _ (s : State) where
     usermod_cases Q no_user no_group g h = absurd h
 
     usermod_decides : (u g : Option ℕ) → place_of_word user (users_of s.people) ≡ u → place_of_word group (groups_of s.people) ≡ g
-        → Decides s moves (with_change s (change_found (ok_or u (NoSuchUser user)) (ok_or g (NoSuchGroup group)) (λ u g. Ok (with_primary_group u g s.people))))
+        → Decides s moves ((ok_or u (NoSuchUser user) >>= λ u. ok_or g (NoSuchGroup group) >>= λ g. of_user u (with_primary_group u g s.people)) >>= with_change s)
     usermod_decides None g no_user is =
         decides_err s moves (NoSuchUser user) (refl, no_user) (usermod_cases (λ g. IsNotAfter s moves (NoSuchUser user) g)
         (λ h. ranked s moves _ _ refl (omega arith)) (λ h. ranked s moves _ _ refl (omega arith)))
@@ -100,12 +102,12 @@ module _ (s : State) where
 
     -- of a user and a group that are found
     member_decides : (change : Membership) (u g : ℕ) → place_of_word user (users_of s.people) ≡ Some u → place_of_word group (groups_of s.people) ≡ Some g
-        → Decides s (changes change) (with_change s (change_of u (membership_changed u g change s.people)))
+        → Decides s (changes change) (membership_changed u g change s.people >>= of_user u >>= with_change s)
     member_decides Add u g user_is group_is =
         decides_ok s (changes Add) _ (gpasswd_cases Add (λ g. ⊥) (λ h. some_is_not_none _ u user_is h) (λ h. some_is_not_none _ g group_is h) (λ h _. add_is_not_remove h))
     member_decides Remove u g user_is group_is = by (is_member u g s.people) refl
       where
-        by : (b : Bool) → is_member u g s.people ≡ b → Decides s (changes Remove) (with_change s (change_of u (if b then Ok (without_member u g s.people) else Err NotMember)))
+        by : (b : Bool) → is_member u g s.people ≡ b → Decides s (changes Remove) ((if b then Ok (without_member u g s.people) else Err NotMember) >>= of_user u >>= with_change s)
         by true named =
             decides_ok s (changes Remove) _
             (gpasswd_cases Remove (λ g. ⊥) (λ h. some_is_not_none _ u user_is h) (λ h. some_is_not_none _ g group_is h) (λ _ h. not_named user group u g user_is group_is named h))
@@ -116,7 +118,7 @@ module _ (s : State) where
             (λ h. absurd (some_is_not_none _ u user_is h)) (λ h. absurd (some_is_not_none _ g group_is h)) (λ _ h. ranked s (changes Remove) _ _ refl (omega arith)))
 
     gpasswd_decides : (change : Membership) (u g : Option ℕ) → place_of_word user (users_of s.people) ≡ u → place_of_word group (groups_of s.people) ≡ g
-        → Decides s (changes change) (with_change s (change_found (ok_or u (NoSuchUser user)) (ok_or g (NoSuchGroup group)) (λ u g. membership_changed u g change s.people)))
+        → Decides s (changes change) ((ok_or u (NoSuchUser user) >>= λ u. ok_or g (NoSuchGroup group) >>= λ g. membership_changed u g change s.people >>= of_user u) >>= with_change s)
     gpasswd_decides change None g no_user is =
         decides_err s (changes change) (NoSuchUser user) (refl, no_user) (gpasswd_cases change (λ g. IsNotAfter s (changes change) (NoSuchUser user) g)
         (λ h. ranked s (changes change) _ _ refl (omega arith)) (λ h. ranked s (changes change) _ _ refl (omega arith)) (λ _ h. ranked s (changes change) _ _ refl (omega arith)))
@@ -159,7 +161,7 @@ module _ (s : State) where
 
     useradd_decides : (b c : Bool) (o : Option ℕ) (d : Bool) → has_name new.name (users_of s.people) ≡ b → has_id new.uid (users_of s.people) ≡ c
         → place_of_word new.group (groups_of s.people) ≡ o → nat_le most_rows (length s.people.users) ≡ d
-        → Decides s adds (with_change s (if b then Err (UserExists new.name) else (if c then Err (UidExists new.uid) else added o d)))
+        → Decides s adds ((if b then Err (UserExists new.name) else (if c then Err (UidExists new.uid) else added o d)) >>= with_change s)
     useradd_decides true c o d named _ _ _ =
         decides_err s adds (UserExists new.name) (refl, named) (useradd_cases (λ g. IsNotAfter s adds (UserExists new.name) g)
         (λ h. ranked s adds _ _ refl (omega arith)) (λ h. ranked s adds _ _ refl (omega arith)) (λ h. ranked s adds _ _ refl (omega arith)) (λ h. ranked s adds _ _ refl (omega arith)))
@@ -183,5 +185,5 @@ module _ (s : State) where
         let c : Bool = has_id new.uid (users_of s.people) in
         refused_for_first s adds
         (apart_by s adds added_of_rank (useradd_cases (λ g. g ≡ added_of_rank (rank g)) (λ _. refl) (λ _. refl) (λ _. refl) (λ _. refl)))
-        (subst (λ r. Decides s adds (with_change s (if b then Err (UserExists new.name) else (if c then Err (UidExists new.uid) else r)))) (added_is o)
+        (subst (λ r. Decides s adds ((if b then Err (UserExists new.name) else (if c then Err (UidExists new.uid) else r)) >>= with_change s)) (added_is o)
         (useradd_decides b c o (nat_le most_rows (length s.people.users)) refl refl refl refl))

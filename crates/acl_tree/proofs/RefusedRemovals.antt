@@ -2,6 +2,7 @@
 use Rattle.std.proofs.Common.{◌≡◌, ◌≤◌, ℕ, Bool, true, false, not, ◌&&◌, List, [], ◌∷◌, Option, Some, None, if◌then◌else◌, refl, sym, ap, subst, ◌∙◌, arith}
 use Rattle.std.specs.Option.{option_or}
 use Rattle.std.specs.FinMap.{find}
+use Rattle.std.specs.Prelude.{Ok}
 use Rattle.acl_names.specs.Paths.{path_cmp, PathOf}
 use Rattle.acl_names.proofs.Basics.{some_is_not_none, none_is_not_some}
 use Rattle.acl_edit.specs.Nodes.{is_directory}
@@ -12,11 +13,12 @@ use Rattle.acl_tree.specs.declared.fault.TreeFault.{TreeFault}
 use Rattle.acl_tree.specs.declared.fault.TreeFault.TheVariants.{NoSuchFile, IsDirectory}
 use Rattle.acl_tree.specs.declared.command.Command.{Command}
 use Rattle.acl_tree.specs.declared.command.Command.TheVariants.{Rm}
-use Rattle.acl_tree.specs.Rm.{refusal, first_refused, without_files, or_refused}
+use Rattle.acl_tree.specs.Rm.{refusal, first_refused, without_files}
 use Rattle.acl_tree.specs.State.{State, with_tree}
 use Rattle.acl_tree.specs.Refusals.{IsAmong, Applies, rank, place, place_of, IsRefusedForFirst}
 use Rattle.acl_tree.proofs.Refused.{Decides, decides_err, decides_ok, AreApart, refused_for_first}
 use Rattle.acl_tree.proofs.FirstAmong.{first_of, none_among, first_among, one_place}
+use Rattle.acl_text.specs.Results.{◌>>=◌, unless}
 
 some_eq : {A : Type 0} (o : Option A) (a b : A) → o ≡ Some a → o ≡ Some b → a ≡ b
 some_eq o a b h k = cc
@@ -77,7 +79,7 @@ module _ (s : State) (recursive : Bool) where
   not_after a b c d m n x y z w h = (omega arith, omega arith)
 
   decides : (paths : List PathOf) (o : Option TreeFault) → first_refused recursive paths s.tree.files ≡ o
-      → Decides s (removes paths) (with_tree s (or_refused o (record s.tree { files = without_files recursive paths s.tree.files })))
+      → Decides s (removes paths) (unless o (Ok (record s.tree { files = without_files recursive paths s.tree.files })) >>= with_tree s)
   decides paths None is =
       decides_ok s (removes paths) _
       (λ g h. let of = of_operand paths g h in some_is_not_none _ g of.fails (none_among check paths (first_is paths ∙ is) of.path of.among))

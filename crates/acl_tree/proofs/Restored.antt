@@ -14,6 +14,7 @@ use Rattle.acl_names.specs.Paths.{path_cmp, PathOf}
 use Rattle.acl_names.proofs.PathOrder.{path_total, exact_paths}
 use Rattle.acl_names.proofs.Basics.{err_is_not_ok, to_T}
 use Rattle.acl_text.specs.declared.record.DumpRecord.{DumpRecord}
+use Rattle.acl_text.specs.Results.{unless, map_err}
 use Rattle.acl_edit.specs.declared.edit.EditFault.{EditFault}
 use Rattle.acl_edit.specs.declared.node.Node.{Node}
 use Rattle.path_map.specs.Entries.{IsInOrder}
@@ -28,7 +29,7 @@ use Rattle.acl_tree.specs.declared.edit.FileFault.{FileFault}
 use Rattle.acl_tree.specs.declared.edit.FileFault.TheVariants as of_files
 use Rattle.acl_tree.specs.Files.{Files, Recorded}
 use Rattle.acl_tree.specs.Operands.{is_file, files_meant, first_missing}
-use Rattle.acl_tree.specs.Edits.{and_others, edit_each, edit_all, file_fault, unless_missing}
+use Rattle.acl_tree.specs.Edits.{and_others, edit_each, edit_all, file_fault}
 use Rattle.acl_tree.specs.Restoring.{edit_of, edit_if_some, restore_one, paths_of, restored_tree}
 use Rattle.acl_tree.specs.Inner.{AreFilesOf, RestoredFile, IsFileOf, SomeEdited, restored_by, restored, restore_each, paths_in}
 use Rattle.acl_tree.proofs.Left.{by_path}
@@ -203,6 +204,6 @@ pub fault_reported : (records : List DumpRecord) (t : Recorded) (fault : FileFau
     → (fault ≢ of_files.NoMemory → edit_all (restore_one records) false (paths_of records) t ≡ Err fault)
     → file_fault fault ≢ faults.NoMemory → restored_tree records t ≡ Err (file_fault fault)
 fault_reported records t (of_files.Edit p f) there reported some =
-    ap (λ o. unless_missing o (edit_all (restore_one records) false (paths_of records) t)) there
-    ∙ ap (λ r. unless_missing None r) (reported (λ e. cc))
+    ap (λ o. unless (option_map faults.NoSuchFile o) (map_err file_fault (edit_all (restore_one records) false (paths_of records) t))) there
+    ∙ ap (λ r. unless (option_map faults.NoSuchFile None) (map_err file_fault r)) (reported (λ e. cc))
 fault_reported records t of_files.NoMemory there reported some = absurd (some refl)

@@ -16,13 +16,14 @@ use Rattle.acl_tree.specs.Files.{Files}
 use Rattle.acl_names.specs.Below.{encloses}
 use Rattle.acl_tree.specs.Creat.{row_of, exists, creat}
 use Rattle.acl_tree.specs.Operands.{is_file}
-use Rattle.acl_tree.specs.Rm.{refusal, first_refused, without_files, or_refused}
+use Rattle.acl_tree.specs.Rm.{refusal, first_refused, without_files}
 use Rattle.acl_tree.specs.State.{State, with_tree}
 use Rattle.acl_tree.specs.Step.{step}
 use Rattle.acl_names.proofs.Below.{within_itself}
 use Rattle.acl_names.proofs.Basics.{both_false}
 use Rattle.acl_tree.proofs.Selected.{same_path}
 use Rattle.acl_tree.proofs.Unnamed.{only_tree, puts_by}
+use Rattle.acl_text.specs.Results.{◌>>=◌, unless}
 
 -- what is outside is not meant, with recursion or without
 not_meant : (recursive : Bool) (p q : PathOf) → encloses p q ≡ false → is_file recursive (p ∷ []) q ≡ false
@@ -81,6 +82,6 @@ created_removed new recursive old made may h =
     let after : State = record old { tree = record old.tree { files = files } } in
     let is : made ≡ after = λ i. record { tree = puts.is i; people = only.people i } in
     ap (λ s. step s (Rm (p ∷ []) recursive)) is
-    ∙ ap (λ o. with_tree after (or_refused o (record after.tree { files = without_files recursive (p ∷ []) files })))
+    ∙ ap (λ o. unless o (Ok (record after.tree { files = without_files recursive (p ∷ []) files })) >>= with_tree after)
     (not_refused recursive p n old.tree.files (ap (λ k. is_directory k && not recursive) puts.kind ∙ may))
     ∙ ap (λ (es : Files). let s : State = record old { tree = record old.tree { files = es } } in Ok s) (removed_again recursive p n old.tree.files puts.absent)

@@ -6,6 +6,7 @@ use Rattle.std.specs.FinMap.Entries.{find-put, find-where_key}
 use Rattle.acl_names.specs.Paths.{path_cmp, PathOf}
 use Rattle.acl_names.proofs.PathOrder.{path_total, exact_paths}
 use Rattle.acl_text.specs.declared.rows.PasswdRow.{PasswdRow}
+use Rattle.acl_text.specs.Results.{◌>>=◌, unless}
 use Rattle.acl_edit.specs.Creation.{inherit}
 use Rattle.acl_edit.specs.Nodes as nodes
 use Rattle.acl_edit.specs.declared.node.Node.{Node}
@@ -16,7 +17,7 @@ use Rattle.acl_tree.specs.declared.command.Command.TheVariants.{Load, Chmod, Edi
 use Rattle.acl_tree.specs.declared.command.NewFile.{NewFile}
 use Rattle.acl_tree.specs.declared.command.Table.TheVariants.{Passwd, Group, Dump}
 use Rattle.acl_tree.specs.declared.fault.TreeFault.{TreeFault}
-use Rattle.acl_tree.specs.declared.fault.TreeFault.TheVariants.{Exists, TooMany, AlreadyLoaded}
+use Rattle.acl_tree.specs.declared.fault.TreeFault.TheVariants.{Exists, TooMany, AlreadyLoaded, NoSuchFile}
 use Rattle.acl_tree.specs.Files.{Files, Recorded, max_files}
 use Rattle.path_map.specs.Entries.{IsInOrder}
 use Rattle.acl_names.specs.Below.{parent}
@@ -28,11 +29,11 @@ use Rattle.acl_tree.specs.Laws.{LeavesUnnamed}
 use Rattle.acl_tree.specs.Memberships.{ChangedUser, gpasswd, usermod}
 use Rattle.acl_tree.specs.Operands.{is_file, first_missing}
 use Rattle.acl_tree.specs.Restoring.{restored_tree}
-use Rattle.acl_tree.specs.Rm.{first_refused, without_files, or_refused, rm}
+use Rattle.acl_tree.specs.Rm.{first_refused, without_files, rm}
 use Rattle.acl_tree.specs.State.{State, with_tree, with_change}
 use Rattle.acl_tree.specs.Step.{step}
 use Rattle.acl_tree.specs.Loads.{with_people}
-use Rattle.acl_tree.specs.Chmod.{or_missing, chmod_all}
+use Rattle.acl_tree.specs.Chmod.{chmod_all}
 use Rattle.acl_tree.proofs.Each.{same, find-edited, edit_each_file, restore_each_file}
 
 true_is_not_false : true ≡ false → ⊥
@@ -53,11 +54,11 @@ pub record ChangesTree (s new : State) (r : Result Recorded TreeFault) : Type 0 
   pub tree : r ≡ Ok new.tree
   pub people : new.people ≡ s.people
 
-pub only_tree : (s new : State) (r : Result Recorded TreeFault) → with_tree s r ≡ Ok new → ChangesTree s new r
+pub only_tree : (s new : State) (r : Result Recorded TreeFault) → (r >>= with_tree s) ≡ Ok new → ChangesTree s new r
 only_tree s new (Ok t) h = record { tree = ap (λ (r : Result State TreeFault). Ok (state_or s r).tree) h; people = ap (λ r. (state_or s r).people) (sym h) }
 only_tree s new (Err fault) h = absurd (err_is_not_ok _ _ h)
 
-tree_after : (s new : State) (r : Result Recorded TreeFault) → with_tree s r ≡ Ok new → r ≡ Ok new.tree
+tree_after : (s new : State) (r : Result Recorded TreeFault) → (r >>= with_tree s) ≡ Ok new → r ≡ Ok new.tree
 tree_after s new r h = (only_tree s new r h).tree
 
 -- ---- commands on the people alone
@@ -70,7 +71,7 @@ unless_loaded : (s new : State) (b : Bool) (r : Result KnownPeople LoadFault) �
 unless_loaded s new true r h = absurd (err_is_not_ok _ _ h)
 unless_loaded s new false r h = same_tree s new r h
 
-same_tree_by : (s new : State) (r : Result ChangedUser TreeFault) → with_change s r ≡ Ok new → new.tree ≡ s.tree
+same_tree_by : (s new : State) (r : Result ChangedUser TreeFault) → (r >>= with_change s) ≡ Ok new → new.tree ≡ s.tree
 same_tree_by s new (Ok change) h = ap (λ r. (state_or s r).tree) (sym h)
 same_tree_by s new (Err fault) h = absurd (err_is_not_ok _ _ h)
 
@@ -78,7 +79,7 @@ same_tree_by s new (Err fault) h = absurd (err_is_not_ok _ _ h)
 
 module _ (p : PathOf) (s new : State) where
   chmod_stays : (missing : Option PathOf) (recursive : Bool) (paths : List PathOf) (mode : ℕ) → is_file recursive paths p ≡ false
-      → or_missing missing (record s { tree = chmod_all recursive paths mode s.tree }) ≡ Ok new → find path_cmp p new.tree.files ≡ find path_cmp p s.tree.files
+      → unless (option_map NoSuchFile missing) (Ok (record s { tree = chmod_all recursive paths mode s.tree })) ≡ Ok new → find path_cmp p new.tree.files ≡ find path_cmp p s.tree.files
   chmod_stays (Some q) recursive paths mode out h = absurd (err_is_not_ok _ _ h)
   chmod_stays None recursive paths mode out h =
       ap (λ r. find path_cmp p (state_or s r).tree.files) (sym h)
@@ -119,7 +120,7 @@ not_removed p recursive paths t out =
     find-where_key path_cmp (λ q. not (is_file recursive paths q)) p (λ q tied. ap (λ q. not (is_file recursive paths q)) (sym (exact_paths p q tied))) t
     ∙ ap (λ b. cond (not b) (find path_cmp p t) None) out
 
-removed : (missing : Option TreeFault) (t u : Recorded) → or_refused missing t ≡ Ok u → u ≡ t
+removed : (missing : Option TreeFault) (t u : Recorded) → unless missing (Ok t) ≡ Ok u → u ≡ t
 removed None t u h = sym (ap (tree_or t) h)
 removed (Some fault) t u h = absurd (err_is_not_ok _ _ h)
 

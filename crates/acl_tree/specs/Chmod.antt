@@ -1,7 +1,8 @@
 -- chmod(1): a mode put into the files of a command.
-use Rattle.std.specs.Prelude.{ℕ, List, Bool, Option, Some, None, Result, Ok, Err}
+use Rattle.std.specs.Prelude.{ℕ, List, Bool, option_map, Result, Ok}
 use Rattle.acl_edit.specs.Nodes as nodes
 use Rattle.acl_names.specs.Paths.{PathOf}
+use Rattle.acl_text.specs.Results.{unless}
 use Rattle.acl_tree.specs.Files.{Recorded}
 use Rattle.acl_tree.specs.Operands.{is_file, first_missing, edit_files}
 use Rattle.acl_tree.specs.declared.fault.TreeFault.{TreeFault}
@@ -12,11 +13,6 @@ use Rattle.acl_tree.specs.State.{State}
 abbrev pub chmod_all : Bool → List PathOf → ℕ → Recorded → Recorded
 chmod_all recursive paths mode tree = record tree { files = edit_files (is_file recursive paths) (λ _ n. nodes.chmod n mode) tree.files }
 
--- the state, unless a path is missing
-abbrev pub or_missing : Option PathOf → State → Result State TreeFault
-or_missing None s = Ok s
-or_missing (Some p) s = Err (NoSuchFile p)
-
 -- the state after the command, unless an operand is missing
 abbrev pub chmod : Bool → List PathOf → ℕ → State → Result State TreeFault
-chmod recursive paths mode s = or_missing (first_missing paths s.tree.files) (record s { tree = chmod_all recursive paths mode s.tree })
+chmod recursive paths mode s = unless (option_map NoSuchFile (first_missing paths s.tree.files)) (Ok (record s { tree = chmod_all recursive paths mode s.tree }))

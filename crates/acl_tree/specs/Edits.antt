@@ -1,5 +1,5 @@
 -- Edits of the files of a command.
-use Rattle.std.specs.Prelude.{◌≡◌, List, [], ◌∷◌, Bool, Option, Some, None, Result, Ok, Err}
+use Rattle.std.specs.Prelude.{◌≡◌, List, [], ◌∷◌, Bool, Result, Ok, Err}
 use Rattle.acl_edit.specs.Nodes as nodes
 use Rattle.acl_edit.specs.declared.edit.EditFault.{EditFault}
 use Rattle.acl_edit.specs.declared.node.Node.{Node}
@@ -9,6 +9,7 @@ use Rattle.acl_tree.specs.declared.edit.FileFault.TheVariants as of_files
 use Rattle.acl_tree.specs.declared.fault.TreeFault.{TreeFault}
 use Rattle.acl_tree.specs.declared.fault.TreeFault.TheVariants as faults
 use Rattle.acl_names.specs.Paths.{PathOf}
+use Rattle.acl_text.specs.Results.{◌>>=◌}
 use Rattle.acl_tree.specs.Files.{Files, Recorded}
 use Rattle.acl_tree.specs.Operands.{files_meant}
 
@@ -43,13 +44,12 @@ abbrev pub edit_each : FileEdit → Files → Result Files FileFault
 edit_each edit [] = Ok []
 edit_each edit (e ∷ es) = and_others e.0 (edit e.0 e.1) (edit_each edit es)
 
-abbrev pub with_edits : Recorded → Result Files FileFault → Result Recorded FileFault
-with_edits t (Err fault) = Err fault
-with_edits t (Ok es) = Ok (record t { files = put_all es t.files })
+abbrev pub with_edits : Recorded → Files → Result Recorded FileFault
+with_edits t es = Ok (record t { files = put_all es t.files })
 
 -- the tree with the files of a command edited, or the first fault in path order
 abbrev pub edit_all : FileEdit → Bool → List PathOf → Recorded → Result Recorded FileFault
-edit_all edit recursive paths t = with_edits t (edit_each edit (files_meant recursive paths t.files))
+edit_all edit recursive paths t = edit_each edit (files_meant recursive paths t.files) >>= with_edits t
 
 -- ---- as faults of a command
 
@@ -57,9 +57,3 @@ edit_all edit recursive paths t = with_edits t (edit_each edit (files_meant recu
 abbrev pub file_fault : FileFault → TreeFault
 file_fault (of_files.Edit p fault) = faults.Edit p fault
 file_fault of_files.NoMemory = faults.NoMemory
-
--- operands are looked up before any file is edited
-abbrev pub unless_missing : Option PathOf → Result Recorded FileFault → Result Recorded TreeFault
-unless_missing (Some p) edited = Err (faults.NoSuchFile p)
-unless_missing None (Ok t) = Ok t
-unless_missing None (Err fault) = Err (file_fault fault)

@@ -1,6 +1,6 @@
 -- gpasswd(1) and usermod(8): the groups of one user.
-use Rattle.std.specs.Prelude.{ℕ, List, if◌then◌else◌, Result, Ok, Err}
-use Rattle.std.specs.Option.{ok_or}
+use Rattle.std.specs.Prelude.{ℕ, List, if◌then◌else◌, ok_or, Result, Ok, Err}
+use Rattle.acl_text.specs.Results.{◌>>=◌}
 use Rattle.acl_people.specs.NameTables.{place_of_word}
 use Rattle.acl_people.specs.KnownPeople.{KnownPeople, users_of, groups_of}
 use Rattle.acl_people.specs.Changes.{is_member, with_member, without_member, with_primary_group}
@@ -22,16 +22,6 @@ user_at known word = ok_or (place_of_word word (users_of known)) (NoSuchUser wor
 abbrev pub group_at : KnownPeople → List ℕ → Result ℕ TreeFault
 group_at known word = ok_or (place_of_word word (groups_of known)) (NoSuchGroup word)
 
-abbrev pub change_of : ℕ → Result KnownPeople TreeFault → Result ChangedUser TreeFault
-change_of user (Ok people) = Ok (record { user = user; people = people })
-change_of user (Err fault) = Err fault
-
--- a change of a user and a group, which are looked up in this order
-abbrev pub change_found : Result ℕ TreeFault → Result ℕ TreeFault → (ℕ → ℕ → Result KnownPeople TreeFault) → Result ChangedUser TreeFault
-change_found (Err fault) group change = Err fault
-change_found (Ok user) (Err fault) change = Err fault
-change_found (Ok user) (Ok group) change = change_of user (change user group)
-
 -- the people with a user added to the row of a group, or removed from it
 abbrev pub membership_changed : ℕ → ℕ → Membership → KnownPeople → Result KnownPeople TreeFault
 membership_changed user group Add known = Ok (with_member user group known)
@@ -39,8 +29,15 @@ membership_changed user group Remove known = if is_member user group known then 
 
 -- gpasswd -a, -d
 abbrev pub gpasswd : List ℕ → List ℕ → Membership → KnownPeople → Result ChangedUser TreeFault
-gpasswd user group change known = change_found (user_at known user) (group_at known group) (λ u g. membership_changed u g change known)
+gpasswd user group change known = do
+  u ← user_at known user
+  g ← group_at known group
+  people ← membership_changed u g change known
+  Ok (record { user = u; people = people })
 
 -- usermod -g
 abbrev pub usermod : List ℕ → List ℕ → KnownPeople → Result ChangedUser TreeFault
-usermod user group known = change_found (user_at known user) (group_at known group) (λ u g. Ok (with_primary_group u g known))
+usermod user group known = do
+  u ← user_at known user
+  g ← group_at known group
+  Ok (record { user = u; people = with_primary_group u g known })

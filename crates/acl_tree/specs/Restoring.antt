@@ -6,12 +6,14 @@ use Rattle.acl_edit.specs.declared.edit.Edit.{Edit}
 use Rattle.acl_edit.specs.declared.edit.Edit.TheVariants.{Restore}
 use Rattle.acl_edit.specs.declared.edit.EditFault.{EditFault}
 use Rattle.acl_edit.specs.declared.node.Node.{Node}
+use Rattle.acl_text.specs.Results.{map_err, unless}
 use Rattle.acl_tree.specs.declared.fault.TreeFault.{TreeFault}
+use Rattle.acl_tree.specs.declared.fault.TreeFault.TheVariants.{NoSuchFile}
 use Rattle.acl_names.specs.Paths.{PathOf}
 use Rattle.acl_tree.specs.Files.{Recorded}
 use Rattle.acl_tree.specs.Operands.{first_missing}
 use Rattle.acl_tree.specs.Loading.{record_at}
-use Rattle.acl_tree.specs.Edits.{edit_all, unless_missing}
+use Rattle.acl_tree.specs.Edits.{edit_all, file_fault}
 
 -- the edit of a record's file
 abbrev pub edit_of : DumpRecord → Edit
@@ -32,4 +34,5 @@ paths_of records = map (λ r. r.path) records
 -- the tree after the records are restored, or the first fault: of the records from left to right, one whose path is not
 -- recorded, then of the files in path order
 abbrev pub restored_tree : List DumpRecord → Recorded → Result Recorded TreeFault
-restored_tree records t = unless_missing (first_missing (paths_of records) t.files) (edit_all (restore_one records) false (paths_of records) t)
+restored_tree records t =
+    unless (option_map NoSuchFile (first_missing (paths_of records) t.files)) (map_err file_fault (edit_all (restore_one records) false (paths_of records) t))

@@ -1,8 +1,9 @@
 -- rm: files removed.
-use Rattle.std.specs.Prelude.{List, [], ◌∷◌, Bool, not, ◌&&◌, if◌then◌else◌, Option, Some, None, filter, Result, Ok, Err}
+use Rattle.std.specs.Prelude.{List, [], ◌∷◌, Bool, not, ◌&&◌, if◌then◌else◌, Option, Some, None, filter, Result, Ok}
 use Rattle.std.specs.Option.{option_or}
 use Rattle.std.specs.FinMap.{find}
 use Rattle.acl_names.specs.Paths.{path_cmp, PathOf}
+use Rattle.acl_text.specs.Results.{unless}
 use Rattle.acl_edit.specs.Nodes.{is_directory}
 use Rattle.acl_edit.specs.declared.node.Node.{Node}
 use Rattle.acl_tree.specs.declared.fault.TreeFault.{TreeFault}
@@ -24,10 +25,6 @@ first_refused recursive (p ∷ ps) t = option_or (refusal recursive p (find path
 abbrev pub without_files : Bool → List PathOf → Files → Files
 without_files recursive paths t = filter (λ e. not (is_file recursive paths e.0)) t
 
-abbrev pub or_refused : Option TreeFault → Recorded → Result Recorded TreeFault
-or_refused None t = Ok t
-or_refused (Some fault) t = Err fault
-
 -- the files without the command's, or the first fault
 abbrev pub rm : Bool → List PathOf → Recorded → Result Recorded TreeFault
-rm recursive paths t = or_refused (first_refused recursive paths t.files) (record t { files = without_files recursive paths t.files })
+rm recursive paths t = unless (first_refused recursive paths t.files) (Ok (record t { files = without_files recursive paths t.files }))

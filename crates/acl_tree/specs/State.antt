@@ -1,5 +1,5 @@
 -- The whole state: the recorded files, and the users and groups.
-use Rattle.std.specs.Prelude.{Result, Ok, Err, refl}
+use Rattle.std.specs.Prelude.{Result, Ok, refl}
 use Rattle.std.specs.Coded.{Coded, code_by, coded×}
 use Rattle.acl_tree.specs.Files.{Recorded, coded_recorded, no_files}
 use Rattle.acl_tree.specs.declared.fault.TreeFault.{TreeFault}
@@ -23,12 +23,10 @@ state_from tree people = record { tree = tree; people = people }
 abbrev pub nothing : State
 nothing = state_from no_files nobody
 
--- the state with the tree that a command makes, or the command's fault
-abbrev pub with_tree : State → Result Recorded TreeFault → Result State TreeFault
-with_tree s (Ok tree) = Ok (record s { tree = tree })
-with_tree s (Err fault) = Err fault
+-- the state with the tree that a command makes
+abbrev pub with_tree : State → Recorded → Result State TreeFault
+with_tree s tree = Ok (record s { tree = tree })
 
--- the state with the people that a change of a user makes, or the fault of the change
-abbrev pub with_change : State → Result ChangedUser TreeFault → Result State TreeFault
-with_change s (Ok change) = Ok (record s { people = change.people })
-with_change s (Err fault) = Err fault
+-- the state with the people that a change of a user makes
+abbrev pub with_change : State → ChangedUser → Result State TreeFault
+with_change s change = Ok (record s { people = change.people })

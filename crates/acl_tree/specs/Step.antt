@@ -1,6 +1,7 @@
 -- What a command makes of the state: the step of each.
 use Rattle.std.specs.Prelude.{Bool, true, false, if◌then◌else◌, Option, Some, None, Result, Ok, Err}
 use Rattle.acl_text.specs.InTurn.{GivesUnless}
+use Rattle.acl_text.specs.Results.{◌>>=◌}
 use Rattle.acl_tree.specs.declared.fault.TreeFault.{TreeFault}
 use Rattle.acl_tree.specs.declared.fault.TreeFault.TheVariants.{AlreadyLoaded, NotMember, UidExists, TooManyUsers, NoMemory}
 use Rattle.acl_tree.specs.Restoring.{restored_tree}
@@ -44,14 +45,14 @@ refused_at_once s (Userdel user) = None
 abbrev pub step : State → Command → Result State TreeFault
 step s (Load which bytes) = load s which bytes.now
 step s (Chmod paths mode recursive) = chmod recursive paths mode s
-step s (Edit paths e recursive) = with_tree s (edited_tree recursive paths e s.tree)
-step s (Restore records) = with_tree s (restored_tree records s.tree)
-step s (Creat new) = with_tree s (creat new s.people s.tree)
-step s (Rm paths recursive) = with_tree s (rm recursive paths s.tree)
-step s (Gpasswd user group change) = with_change s (gpasswd user group change s.people)
-step s (Usermod user group) = with_change s (usermod user group s.people)
-step s (Useradd new) = with_change s (useradd new s.people)
-step s (Userdel user) = with_change s (userdel user s.people)
+step s (Edit paths e recursive) = edited_tree recursive paths e s.tree >>= with_tree s
+step s (Restore records) = restored_tree records s.tree >>= with_tree s
+step s (Creat new) = creat new s.people s.tree >>= with_tree s
+step s (Rm paths recursive) = rm recursive paths s.tree >>= with_tree s
+step s (Gpasswd user group change) = gpasswd user group change s.people >>= with_change s
+step s (Usermod user group) = usermod user group s.people >>= with_change s
+step s (Useradd new) = useradd new s.people >>= with_change s
+step s (Userdel user) = userdel user s.people >>= with_change s
 
 -- A call stages the state after a step, or returns exactly its fault, unless memory ran out.
 abbrev pub Stages : {A : Type 0} → (A → State) → Result A TreeFault → Result State TreeFault → Type 0

@@ -8,13 +8,14 @@ use Rattle.std.proofs.lemmas.Cmp.{tied_itself}
 use Rattle.acl_names.specs.Paths.{path_cmp, PathOf}
 use Rattle.acl_names.proofs.PathOrder.{path_total}
 use Rattle.acl_text.specs.declared.record.DumpRecord.{DumpRecord}
+use Rattle.acl_text.specs.Results.{◌>>=◌, unless, map_err}
 use Rattle.acl_edit.specs.declared.edit.Edit.{Edit}
 use Rattle.acl_edit.specs.declared.edit.EditFault.{EditFault}
 use Rattle.acl_edit.specs.declared.node.Node.{Node}
 use Rattle.acl_names.proofs.Below.{within_itself}
 use Rattle.acl_names.proofs.Basics.{err_is_not_ok, or_true}
 use Rattle.acl_tree.specs.EditCommand.{edit_one, edited_tree}
-use Rattle.acl_tree.specs.Edits.{edit_all, unless_missing}
+use Rattle.acl_tree.specs.Edits.{edit_all, file_fault}
 use Rattle.acl_tree.specs.Files.{Recorded}
 use Rattle.path_map.specs.Entries.{IsInOrder}
 use Rattle.acl_tree.specs.Laws.{EditsEach, EachFileIsEdited, EachFileIsRestored}
@@ -24,6 +25,7 @@ use Rattle.acl_tree.specs.State.{State, with_tree}
 use Rattle.acl_tree.specs.Step.{step}
 use Rattle.acl_tree.specs.declared.command.Command.TheVariants.{Edit as EditFiles, Restore}
 use Rattle.acl_tree.specs.declared.fault.TreeFault.{TreeFault}
+use Rattle.acl_tree.specs.declared.fault.TreeFault.TheVariants.{NoSuchFile}
 use Rattle.facl_output.specs.declared.fault.LineFault.{LineFault}
 
 abbrev ok_or : {A : Type 0} → A → Result A LineFault → A
@@ -69,7 +71,7 @@ module _ (edit : PathOf → Node → Result Node EditFault) (recursive : Bool) (
   still_there each h = kept each paths (operands_are_files recursive paths) h
 
 none_missing : (missing : Option PathOf) (edit : PathOf → Node → Result Node EditFault) (recursive : Bool) (paths : List PathOf) (old new : Recorded)
-    → unless_missing missing (edit_all edit recursive paths old) ≡ Ok new → missing ≡ None
+    → unless (option_map NoSuchFile missing) (map_err file_fault (edit_all edit recursive paths old)) ≡ Ok new → missing ≡ None
 none_missing (Some p) edit recursive paths old new h = absurd (err_is_not_ok _ _ h)
 none_missing None edit recursive paths old new h = refl
 
@@ -77,7 +79,7 @@ abbrev tree_in : Recorded → Result State TreeFault → Recorded
 tree_in t (Ok s) = s.tree
 tree_in t (Err fault) = t
 
-tree_after : (s new : State) (r : Result Recorded TreeFault) → with_tree s r ≡ Ok new → r ≡ Ok new.tree
+tree_after : (s new : State) (r : Result Recorded TreeFault) → (r >>= with_tree s) ≡ Ok new → r ≡ Ok new.tree
 tree_after s new (Ok t) h = ap (λ (r : Result State TreeFault). Ok (tree_in t r)) h
 tree_after s new (Err fault) h = absurd (err_is_not_ok _ _ h)
 

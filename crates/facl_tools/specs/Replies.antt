@@ -2,6 +2,7 @@
 use Rattle.std.specs.Option.{option_map_or}
 use Rattle.std.specs.Prelude.{◌≡◌, ◌≢◌, ℕ, Bool, false, List, [], Option, None, Some, Result, Ok, Err, IfSome, MatchResult}
 use Rattle.acl_text.specs.InTurn.{GivesUnless}
+use Rattle.acl_text.specs.Results.{◌>>=◌}
 use Rattle.acl_tree.specs.State.{State, with_change, with_tree}
 use Rattle.acl_tree.specs.Files.{Recorded}
 use Rattle.acl_tree.specs.Memberships.{ChangedUser}
@@ -42,15 +43,15 @@ replied moved (Err fault) = Err (line_fault_of_tree fault)
 
 -- the reply to a line that makes this tree
 abbrev pub replied_tree : State → Result Recorded TreeFault → Result Reply LineFault
-replied_tree s tree = replied Unchanged (with_tree s tree)
+replied_tree s tree = replied Unchanged (tree >>= with_tree s)
 
 -- the reply to a line that changes a user's groups so
 abbrev pub replied_groups : State → Result ChangedUser TreeFault → Result Reply LineFault
-replied_groups s change = replied (change_moves s.people change) (with_change s change)
+replied_groups s change = replied (change_moves s.people change) (change >>= with_change s)
 
 -- the reply to a line that removes a user
 abbrev pub replied_removal : State → Result ChangedUser TreeFault → Result Reply LineFault
-replied_removal s change = replied (user_left change) (with_change s change)
+replied_removal s change = replied (user_left change) (change >>= with_change s)
 
 -- a command is done: what its own tool replies
 abbrev pub done : State → Command → Result Reply LineFault

@@ -10,6 +10,7 @@ use Rattle.acl_text.specs.declared.entries.Spec.{Spec}
 use Rattle.acl_text.specs.declared.entries.Want.{Want}
 use Rattle.acl_text.specs.declared.entries.Want.TheVariants.{WithPerms, WithoutPerms}
 use Rattle.acl_text.specs.Records.{dump_of}
+use Rattle.acl_text.specs.Results.{◌>>=◌}
 use Rattle.acl_text.specs.declared.record.DumpRecord.{DumpRecord}
 use Rattle.acl_text.specs.declared.record.DumpUse.TheVariants as uses
 use Rattle.acl_edit.specs.declared.edit.Edit.{Edit as FileEdit}
@@ -94,7 +95,7 @@ tested s files_of (Err fault) = Err (line_fault_of_tree fault)
 
 -- a line makes this tree of the state's; with `--test` its files are printed, and the state stays
 abbrev pub done_or_tested : (test : Bool) → State → (Files → List FoundFile) → Result Recorded TreeFault → Result Reply LineFault
-done_or_tested test s files_of tree = if test then tested s files_of (with_tree s tree) else replied_tree s tree
+done_or_tested test s files_of tree = if test then tested s files_of (tree >>= with_tree s) else replied_tree s tree
 
 -- the files of these paths are edited, in a recursion also all below them
 abbrev pub edited_or_tested : (test : Bool) → State → Bool → List PathOf → FileEdit → Result Reply LineFault

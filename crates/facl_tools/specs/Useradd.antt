@@ -3,6 +3,7 @@ use Rattle.std.specs.Prelude.{ℕ, [], ◌∷◌, codes, refl, if◌then◌else�
 use Rattle.acl_names.specs.Names.{decoded}
 use Rattle.acl_text.specs.UserNames.{is_user_name}
 use Rattle.acl_text.specs.Ids.{id_of}
+use Rattle.acl_text.specs.Results.{◌>>=◌}
 use Rattle.acl_tree.specs.declared.command.NewUser.{NewUser}
 use Rattle.acl_tree.specs.Accounts.{useradd}
 use Rattle.acl_tree.specs.State.{State, with_change}
@@ -47,4 +48,4 @@ new_user line = record { name = line.name; uid = line.uid; group = name_meant li
 
 -- the user is added
 abbrev pub answered : State → UseraddLine → Result Reply LineFault
-answered s line = replied Added (with_change s (useradd (new_user line) s.people))
+answered s line = replied Added (useradd (new_user line) s.people >>= with_change s)

@@ -14,6 +14,7 @@ use Rattle.acl_tree.specs.Reports.{staged_from}
 use Rattle.acl_tree.specs.declared.user_change.UserChange.TheVariants.{Unchanged}
 use Rattle.acl_tree.proofs.NewFiles.{sound_with, gone_with}
 use Rattle.acl_tree.proofs.Reported.{reported_files}
+use Rattle.acl_text.specs.Results.{◌>>=◌}
 use Rattle.acl_tree.proofs.creat.prepare_creat.Goals as goal
 
 pub of-files-requires : goal.of-files-requires
@@ -49,8 +50,8 @@ returns c =
     ∙ ap (λ (t : Recorded). staged_from tree.files (state_from t c.args.state.now.people.now) Unchanged) made in
     record {
       made =
-          ap (λ row. with_tree old (creat_by c.args.new.now tree row)) c.in_ok-owner.ensures.found
-          ∙ ap (λ r. with_tree old r) c.in_ok-node.ensures.made
+          ap (λ row. creat_by c.args.new.now tree row >>= with_tree old) c.in_ok-owner.ensures.found
+          ∙ ap (λ r. r >>= with_tree old) c.in_ok-node.ensures.made
           ∙ ap (λ (s : State). Ok s) (sym (ap (λ s. s.state) is));
       sound = c.in_ok-staged.ensures.sound;
       reports = reported_files old new c.in_ok-staged.staged is refl (gone_with tree c.files_by_path.ensures.sound e c.in_ok-node.ensures.fits);

@@ -3,6 +3,7 @@ use Rattle.std.specs.Prelude.{option_map}
 use Rattle.std.proofs.lemmas.Result.{err_from_is_err_and}
 use Rattle.acl_text.specs.OwnPaths.{have_own_paths}
 use Rattle.acl_text.specs.declared.record.DumpRecord.{DumpRecord}
+use Rattle.acl_text.specs.Results.{◌>>=◌, unless, map_err}
 use Rattle.path_map.specs.Merged.{put_all}
 use Rattle.kinds.specs.Numbered.{entries_in}
 use Rattle.acl_edit.specs.declared.node.Node.{Node}
@@ -11,7 +12,7 @@ use Rattle.std.specs.FinMap.{find}
 use Rattle.acl_names.specs.Paths.{path_cmp, PathOf}
 use Rattle.acl_tree.specs.Files.{Files, Recorded}
 use Rattle.acl_tree.specs.Sound.{IsSoundTree}
-use Rattle.acl_tree.specs.Edits.{unless_missing, KeepsPlace, edit_each, edit_all, with_edits}
+use Rattle.acl_tree.specs.Edits.{KeepsPlace, edit_each, edit_all, with_edits, file_fault}
 use Rattle.acl_tree.specs.Inner.{RestoredFile, SomeEdited, restore_each, node_after, paths_in}
 use Rattle.acl_tree.specs.Operands.{is_file, edit_files, files_meant, first_missing}
 use Rattle.acl_tree.specs.Restoring.{edit_of, restore_one, paths_of}
@@ -20,6 +21,7 @@ use Rattle.acl_tree.proofs.Edits.{keeps_after, put_edits}
 use Rattle.acl_tree.proofs.Left.{each_some, put_some, in_order-some_meant}
 use Rattle.acl_tree.proofs.Placed.{restore_keeps}
 use Rattle.acl_tree.proofs.Restored.{AreByRecord, are_by_record, some_by_record, restored_are, fault_reported, untouched}
+use Rattle.acl_tree.specs.declared.fault.TreeFault.TheVariants.{NoSuchFile}
 use Rattle.acl_tree.proofs.restore.restore_files.Goals as goal
 
 pub in_path_order-sorted-requires : goal.in_path_order-sorted-requires
@@ -84,8 +86,8 @@ returns-clause-restored c =
     ∙ sym (put_edits edit false (paths_of records) t all_after c.soundness_law.ensures.order each)
     in
     let there : first_missing (paths_of records) t ≡ None = ap (λ rs. first_missing (paths_of rs) t) (sym c.as_slice.ensures.all) ∙ c.in_ok-found.ensures.there in
-    ap (λ missing. unless_missing missing (edit_all edit false (paths_of records) c.args.tree.now)) there
-    ∙ ap (λ r. unless_missing None (with_edits c.args.tree.now r)) each
+    ap (λ missing. unless (option_map NoSuchFile missing) (map_err file_fault (edit_all edit false (paths_of records) c.args.tree.now))) there
+    ∙ ap (λ r. unless (option_map NoSuchFile None) (map_err file_fault (r >>= with_edits c.args.tree.now))) each
     ∙ ap (λ (t : Recorded). Ok t) (sym (c.of-restored.ensures ∙ (λ i. record { files = new i; loaded = c.is_loaded.ensures i })))
 
 pub returns-in_err-made-clause-restored : goal.returns-in_err-made-clause-restored
@@ -103,7 +105,7 @@ returns-in_err-made-clause-restored c =
     let there : first_missing (paths_of records) t ≡ None = ap (λ rs. first_missing (paths_of rs) t) (sym c.as_slice.ensures.all) ∙ c.in_ok-found.ensures.there in
     let each : restore_each xs ≡ edit_each edit meant = restored_are edit xs are.are_restored ∙ ap (λ es. edit_each edit es) are.are_meant in
     let p = err_from_is_err_and c.from_residual-in_err-made.result c.from_residual-in_err-made.ensures.1 in
-    rw (p.1, p.2) (fault_reported records c.args.tree.now c.in_err-made.field-0.0 there (λ some. ap (λ r. with_edits c.args.tree.now r) (sym each ∙ c.in_err-made.ensures.refused some)))
+    rw (p.1, p.2) (fault_reported records c.args.tree.now c.in_err-made.field-0.0 there (λ some. ap (λ r. r >>= with_edits c.args.tree.now) (sym each ∙ c.in_err-made.ensures.refused some)))
 
 pub returns-clause-others : goal.returns-clause-others
 returns-clause-others c = λ p out.

@@ -4,7 +4,7 @@ use Rattle.std.specs.FinMap.{find}
 use Rattle.acl_names.specs.Paths.{path_cmp}
 use Rattle.acl_tree.specs.Files.{Files, Recorded}
 use Rattle.acl_tree.specs.Operands.{is_file, in_region}
-use Rattle.acl_tree.specs.Rm.{first_refused, without_files, or_refused}
+use Rattle.acl_tree.specs.Rm.{first_refused, without_files}
 use Rattle.path_map.specs.Below.{holds_below}
 use Rattle.acl_tree.specs.Sound.{IsSoundTree}
 use Rattle.acl_tree.specs.State.{State, state_from, with_tree}
@@ -14,6 +14,7 @@ use Rattle.acl_tree.proofs.Selected.{filter_alike}
 use Rattle.acl_tree.proofs.Removals.{gone_from, sound_left, apart_all}
 use Rattle.acl_tree.proofs.Reported.{reported_removal}
 use Rattle.acl_tree.proofs.Unnamed.{not_removed}
+use Rattle.acl_text.specs.Results.{◌>>=◌, unless}
 use Rattle.acl_tree.proofs.rm.prepare_rm.Goals as goal
 
 pub of-files-requires : goal.of-files-requires
@@ -53,7 +54,7 @@ returns c =
     let is : c.in_ok-staged.staged ≡ staged_from t new Unchanged = c.in_ok-staged.ensures.all ∙ ap (λ (t' : Recorded). staged_from t (state_from t' c.args.state.now.people.now) Unchanged) made in
     let may : first_refused r paths t ≡ None = c.in_ok-check_all.ensures in
     record {
-      made = ap (λ o. with_tree old (or_refused o after)) may ∙ ap (λ (s : State). Ok s) (sym (ap (λ s. s.state) is));
+      made = ap (λ o. unless o (Ok after) >>= with_tree old) may ∙ ap (λ (s : State). Ok s) (sym (ap (λ s. s.state) is));
       sound = c.in_ok-staged.ensures.sound;
       reports =
           reported_removal old new Unchanged c.in_ok-staged.staged is
