@@ -1,6 +1,6 @@
 -- A line is refused for its first part at fault.
 use Rattle.std.proofs.Common.{◌≡◌, ◌≤◌, ◌+◌, ◌-◌, ℕ, Bool, true, false, List, [], ◌∷◌, Option, Some, None, Result, Ok, Err, if◌then◌else◌, refl, sym, ap, subst, ◌∙◌, true≢false, arith}
-use Rattle.std.specs.Prelude.{◌==◌, IsErr}
+use Rattle.std.specs.Prelude.{◌==◌, IsErr, ok_or}
 use Rattle.std.specs.Str.{is_utf8}
 use Rattle.acl_names.proofs.Basics.{some_is_not_none, ok_is_not_err, ok_or_err}
 use Rattle.facl.proofs.ToolParts.{first_fault_refuses}
@@ -8,6 +8,7 @@ use Rattle.facl.proofs.FirstPart.{accepted, refused_at}
 use Rattle.facl.proofs.Outcomes.{ok_eq, err_eq}
 use Rattle.facl.proofs.Parts as parts
 use Rattle.facl_output.specs.declared.fault.LineFault.{LineFault}
+use Rattle.facl_output.specs.Faults.{line_fault_of_split}
 use Rattle.facl_output.specs.declared.fault.LineFault.TheVariants as faults
 use Rattle.facl_script.specs.Units.{ScriptUnit, UnitText, none, whole, too_long, unended}
 use Rattle.facl_script.specs.Words.{words_of, words_or_open, has_no_words}
@@ -16,7 +17,7 @@ use Rattle.facl_script.specs.Forms.{Text}
 use Rattle.facl.specs.ToolParts as requests
 use Rattle.facl.specs.ToolParts.{Part, in_first_text, in_second_text, in_third_text, in_two_texts, in_operand, in_user, in_file, in_command}
 use Rattle.facl.specs.FirstPart.{IsNotAfter, IsFirst, IsRefusedForFirst}
-use Rattle.facl_tools.specs.Replies.{Reply, after, or_fault}
+use Rattle.facl_tools.specs.Replies.{Reply}
 use Rattle.facl.specs.Tools as tools
 use Rattle.acl_rights.specs.Rows.{Verdict}
 use Rattle.facl.specs.Tools.{tool_named, tool_line}
@@ -26,10 +27,11 @@ use Rattle.facl.specs.LineParts.{LinePart, in_length, in_bytes, in_quotes, in_to
 use Rattle.facl.specs.LineParts.{IsOfTool, line_read, IsRequestAtFault, IsAtFault, outcome, name_in, IsAnsweredByFirst}
 use Rattle.acl_rights.specs.declared.indexed.States.{States}
 use Rattle.facl.specs.Counted.{answered, answer_of, answer_of_words}
-use Rattle.facl.specs.Units.{is_silent, reply, split, text_or_fault, tool_reply, words_of_line}
+use Rattle.facl.specs.Units.{is_silent, reply, text_of, tool_reply, words_of_line}
 use Rattle.facl.proofs.HasWords.{has_a_word}
 use Rattle.facl.proofs.ToolLines.{tool_line_is}
 use Rattle.facl.proofs.Refusing.{not_silent}
+use Rattle.acl_text.specs.Results.{◌>>=◌, map_err}
 
 -- ---- parts by their ranks
 
@@ -162,7 +164,7 @@ module _ (verdict : Verdict) (w : States) (u : ScriptUnit) where
   -- ---- what the words ask for
 
   module _ (tool : Tool) (words : List Text) (line : ToolLine) (text : List ℕ) (names : IsOfTool u tool words)
-      (asks : line_read tool words ≡ Some line) (is_text : text_or_fault u.text ≡ Ok text) (clear : From 7) where
+      (asks : line_read tool words ≡ Some line) (is_text : text_of u.text ≡ Ok text) (clear : From 7) where
     abbrev law : IsRefusedForFirst requests.rank requests.place (requests.IsAtFault w.now line text) (tools.answered verdict w.loaded w.now line text)
     law = first_fault_refuses verdict w.loaded w.now line text
 
@@ -171,7 +173,7 @@ module _ (verdict : Verdict) (w : States) (u : ScriptUnit) where
     moved part g h =
         let same_line : h.line ≡ line =
         one_value_of_two line_read h.tool tool h.words words h.line line (tool_one u h.tool tool h.words words h.names names) (same_words u h.tool tool h.words words h.names names) h.asks asks in
-        let same_text : h.text ≡ text = ok_eq (text_or_fault u.text) h.text text h.is_text is_text in
+        let same_text : h.text ≡ text = ok_eq (text_of u.text) h.text text h.is_text is_text in
         subst (λ t. requests.IsAtFault w.now line t part g) same_text (subst (λ l. requests.IsAtFault w.now l h.text part g) same_line h.at_fault)
 
     here : (part : Part) (g : LineFault) → requests.IsAtFault w.now line text part g → IsRequestAtFault w.now u part g
@@ -214,7 +216,7 @@ module _ (verdict : Verdict) (w : States) (u : ScriptUnit) where
 
   -- ---- the words after a tool's name
 
-  module _ (tool : Tool) (words : List Text) (text : List ℕ) (names : IsOfTool u tool words) (is_text : text_or_fault u.text ≡ Ok text) (clear : From 6) where
+  module _ (tool : Tool) (words : List Text) (text : List ℕ) (names : IsOfTool u tool words) (is_text : text_of u.text ≡ Ok text) (clear : From 6) where
     has_line : (line : ToolLine) → line_read tool words ≡ Some line → Never in_words
     has_line line asks g h =
         let usage = h.1 in
@@ -224,7 +226,7 @@ module _ (verdict : Verdict) (w : States) (u : ScriptUnit) where
     words_refused : Refused (tool_line verdict w.loaded w.now tool words text)
     words_refused = subst Refused (tool_line_is verdict w.loaded w.now tool words text) (by (line_read tool words) refl)
       where
-        by : (o : Option ToolLine) → line_read tool words ≡ o → Refused (after (or_fault faults.Usage o) (λ line. tools.answered verdict w.loaded w.now line text))
+        by : (o : Option ToolLine) → line_read tool words ≡ o → Refused (ok_or o faults.Usage >>= λ line. tools.answered verdict w.loaded w.now line text)
         by None no_line =
             refused_in (Err faults.Usage) in_words faults.Usage refl refl (refl, record { tool = tool; words = words; names = names; no_line = no_line }) (λ g h. h.0) clear
         by (Some line) asks = request_refused tool words line text names asks is_text (from_7 clear (has_line line asks))
@@ -232,13 +234,13 @@ module _ (verdict : Verdict) (w : States) (u : ScriptUnit) where
   -- ---- the text
 
   module _ (tool : Tool) (words : List Text) (names : IsOfTool u tool words) (clear : From 4) where
-    not_unended : (text : List ℕ) → text_or_fault u.text ≡ Ok text → Never in_text_end
-    not_unended text is g h = ok_or_err (text_or_fault u.text) text faults.UnendedText is (ap text_or_fault h.1)
+    not_unended : (text : List ℕ) → text_of u.text ≡ Ok text → Never in_text_end
+    not_unended text is g h = ok_or_err (text_of u.text) text faults.UnendedText is (ap text_of h.1)
 
-    not_too_long : (text : List ℕ) → text_or_fault u.text ≡ Ok text → Never in_text_lines
-    not_too_long text is g h = ok_or_err (text_or_fault u.text) text faults.TextLineTooLong is (ap text_or_fault h.1)
+    not_too_long : (text : List ℕ) → text_of u.text ≡ Ok text → Never in_text_lines
+    not_too_long text is g h = ok_or_err (text_of u.text) text faults.TextLineTooLong is (ap text_of h.1)
 
-    with_text : (text : List ℕ) → text_or_fault u.text ≡ Ok text → Refused (tool_line verdict w.loaded w.now tool words text)
+    with_text : (text : List ℕ) → text_of u.text ≡ Ok text → Refused (tool_line verdict w.loaded w.now tool words text)
     with_text text is = words_refused tool words text names is (from_6 (from_5 clear (not_unended text is)) (not_too_long text is))
 
     unended_or_long : u.text ≡ too_long → Never in_text_end
@@ -247,9 +249,9 @@ module _ (verdict : Verdict) (w : States) (u : ScriptUnit) where
     text_refused : Refused (tool_reply verdict w u.text words tool)
     text_refused = by u.text refl
       where
-        by : (t : UnitText) → u.text ≡ t → Refused (after (text_or_fault t) (λ content. tool_line verdict w.loaded w.now tool words content))
-        by none is = with_text [] (ap text_or_fault is)
-        by (whole text) is = with_text text (ap text_or_fault is)
+        by : (t : UnitText) → u.text ≡ t → Refused (text_of t >>= λ content. tool_line verdict w.loaded w.now tool words content)
+        by none is = with_text [] (ap text_of is)
+        by (whole text) is = with_text text (ap text_of is)
         by unended is = refused_in (Err faults.UnendedText) in_text_end faults.UnendedText refl refl (refl, is) (λ g h. h.0) clear
         by too_long is =
             refused_in (Err faults.TextLineTooLong) in_text_lines faults.TextLineTooLong refl refl (refl, is) (λ g h. h.0) (from_5 clear (unended_or_long is))
@@ -278,7 +280,7 @@ module _ (verdict : Verdict) (w : States) (u : ScriptUnit) where
       tool_refused : Refused (reply verdict w u.text (name ∷ words))
       tool_refused = by (tool_named name) refl
         where
-          by : (t : Option Tool) → tool_named name ≡ t → Refused (after (or_fault faults.UnknownTool t) (tool_reply verdict w u.text words))
+          by : (t : Option Tool) → tool_named name ≡ t → Refused (ok_or t faults.UnknownTool >>= tool_reply verdict w u.text words)
           by None unknown =
               refused_in (Err faults.UnknownTool) in_tool faults.UnknownTool refl refl
               (refl, record { name = name; words = words; has = record { line = line; is_line = is_line; split = is_split }; unknown = unknown }) (λ g h. h.0) clear
@@ -286,7 +288,7 @@ module _ (verdict : Verdict) (w : States) (u : ScriptUnit) where
               text_refused tool words (record { name = name; has = record { line = line; is_line = is_line; split = is_split }; known = is })
               (from_4 clear (known tool is))
 
-    split_refused : has_no_words line ≡ false → (o : Option (List Text)) → words_of line ≡ o → is_utf8 line ≡ true → Refused (after (split (words_or_open o)) (reply verdict w u.text))
+    split_refused : has_no_words line ≡ false → (o : Option (List Text)) → words_of line ≡ o → is_utf8 line ≡ true → Refused (map_err line_fault_of_split (words_or_open o) >>= reply verdict w u.text)
     split_refused some None open_quote good =
         refused_in (Err faults.OpenQuote) in_quotes faults.OpenQuote refl refl (refl, record { line = line; is_line = is_line; open_quote = open_quote }) (λ g h. h.0)
         (from_2 (from_1 not_long) (good_bytes good))
@@ -295,7 +297,7 @@ module _ (verdict : Verdict) (w : States) (u : ScriptUnit) where
         tool_refused name words is (from_3 (from_2 (from_1 not_long) (good_bytes good)) (no_open_quote (name ∷ words) is))
 
     line_refused : has_no_words line ≡ false → (blank good : Bool) → has_no_words line ≡ blank → is_utf8 line ≡ good
-        → Refused (after (split (if blank then Ok [] else (if good then words_or_open (words_of line) else Err splits.NotUtf8))) (reply verdict w u.text))
+        → Refused (map_err line_fault_of_split (if blank then Ok [] else (if good then words_or_open (words_of line) else Err splits.NotUtf8)) >>= reply verdict w u.text)
     line_refused some true good is utf8 = absurd (true≢false (sym is ∙ some))
     line_refused some false true is good = split_refused some (words_of line) refl good
     line_refused some false false is bad =
@@ -304,7 +306,7 @@ module _ (verdict : Verdict) (w : States) (u : ScriptUnit) where
   unit_refused : is_silent u.line ≡ false → Refused (outcome verdict w u)
   unit_refused some = by u.line refl
     where
-      by : (o : Option (List ℕ)) → u.line ≡ o → Refused (after (words_of_line o) (reply verdict w u.text))
+      by : (o : Option (List ℕ)) → u.line ≡ o → Refused (words_of_line o >>= reply verdict w u.text)
       by None is =
           refused_in (Err faults.LineTooLong) in_length faults.LineTooLong refl refl (refl, is) (λ g h. h.0) (λ q g h. at_zero 0 (rank q) refl)
       by (Some line) is = line_refused line is (sym (ap is_silent is) ∙ some) (has_no_words line) (is_utf8 line) refl refl
@@ -312,7 +314,7 @@ module _ (verdict : Verdict) (w : States) (u : ScriptUnit) where
   unit_answered : is_silent u.line ≡ false → answered verdict false u w ≡ answer_of u.number (name_in (words_of_line u.line)) w (outcome verdict w u)
   unit_answered some = not_silent verdict u false w some ∙ by (words_of_line u.line)
     where
-      by : (r : Result (List Text) LineFault) → answer_of_words verdict u w r ≡ answer_of u.number (name_in r) w (after r (reply verdict w u.text))
+      by : (r : Result (List Text) LineFault) → answer_of_words verdict u w r ≡ answer_of u.number (name_in r) w (r >>= reply verdict w u.text)
       by (Ok words) = refl
       by (Err fault) = refl
 

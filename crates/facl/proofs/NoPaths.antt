@@ -1,13 +1,14 @@
 -- The first operand that is no path.
 use Rattle.std.proofs.Common.{◌≡◌, ◌≤◌, ◌+◌, ℕ, zero, suc, List, [], ◌∷◌, Option, Some, None, Result, Ok, Err, refl, sym, ap, ◌∙◌, arith}
+use Rattle.std.specs.Prelude.{ok_or}
 use Rattle.acl_names.specs.Paths.{path_of, PathOf}
 use Rattle.acl_names.proofs.Basics.{none_is_not_some, ok_is_not_err}
 use Rattle.facl_output.specs.declared.fault.LineFault.{LineFault}
 use Rattle.facl_script.specs.Forms.{Text}
 use Rattle.facl.specs.ToolParts.{IsNoPath}
 use Rattle.facl_tools.specs.Operands.{bad_operand, path_at, paths_from}
-use Rattle.facl_tools.specs.Replies.{after, or_fault}
 use Rattle.facl.proofs.Outcomes.{err_eq, err_before, no_value}
+use Rattle.acl_text.specs.Results.{◌>>=◌}
 
 -- the first of some operands that is no path, where the first of them has this place
 pub record IsFirstBad (words : List Text) (at : ℕ) (f : LineFault) : Type 0 where
@@ -55,7 +56,7 @@ first_bad at [] f h = absurd (ok_is_not_err _ f h)
 first_bad at (w ∷ ws) f h = by (path_of w) refl h (λ g k. first_bad (at + 1) ws g k)
   where
     by : (o : Option PathOf) → path_of w ≡ o
-        → after (or_fault (bad_operand at) o) (λ path. after (paths_from (at + 1) ws) (λ paths. Ok (path ∷ paths))) ≡ Err f
+        → (ok_or o (bad_operand at) >>= λ path. paths_from (at + 1) ws >>= λ paths. Ok (path ∷ paths)) ≡ Err f
         → ((g : LineFault) → paths_from (at + 1) ws ≡ Err g → IsFirstBad ws (at + 1) g) → IsFirstBad (w ∷ ws) at f
     by None is h rest = record {
       n = 0;
@@ -70,14 +71,14 @@ all_paths at [] paths h n bad = none_is_not_some bad.word bad.at
 all_paths at (w ∷ ws) paths h n bad = by (path_of w) refl h (λ ps k m bad. all_paths (at + 1) ws ps k m bad)
   where
     inner : (p : PathOf) → path_of w ≡ Some p → (r : Result (List PathOf) LineFault) → paths_from (at + 1) ws ≡ r
-        → after r (λ paths. Ok (p ∷ paths)) ≡ Ok paths
+        → (r >>= λ paths. Ok (p ∷ paths)) ≡ Ok paths
         → ((ps : List PathOf) → paths_from (at + 1) ws ≡ Ok ps → (m : ℕ) → IsNoPath ws m → ⊥) → (m : ℕ) → IsNoPath (w ∷ ws) m → ⊥
     inner p is (Err g) e h rest m bad = ok_is_not_err paths g (sym h)
     inner p is (Ok ps) e h rest zero bad = not_first w ws p is bad
     inner p is (Ok ps) e h rest (suc m) bad = rest ps e m (of_rest w ws m bad)
 
     by : (o : Option PathOf) → path_of w ≡ o
-        → after (or_fault (bad_operand at) o) (λ path. after (paths_from (at + 1) ws) (λ paths. Ok (path ∷ paths))) ≡ Ok paths
+        → (ok_or o (bad_operand at) >>= λ path. paths_from (at + 1) ws >>= λ paths. Ok (path ∷ paths)) ≡ Ok paths
         → ((ps : List PathOf) → paths_from (at + 1) ws ≡ Ok ps → (m : ℕ) → IsNoPath ws m → ⊥) → ⊥
     by None is h rest = ok_is_not_err paths (bad_operand at) (sym h)
     by (Some p) is h rest = inner p is (paths_from (at + 1) ws) refl h rest n bad
@@ -91,7 +92,7 @@ pub reads_files : (words : List Text) → Reads words (paths_from 1 words)
 reads_files words = record { bad = λ f h. first_bad 1 words f h; good = λ paths h n bad. all_paths 1 words paths h n bad }
 
 abbrev one_path : Result PathOf LineFault → Result (List PathOf) LineFault
-one_path r = after r (λ path. Ok (path ∷ []))
+one_path r = r >>= λ path. Ok (path ∷ [])
 
 pub reads_file : (word : Text) → Reads (word ∷ []) (path_at 1 word)
 reads_file word = record {

@@ -1,8 +1,8 @@
 -- Results: what is read next, and which value or fault a result has.
 use Rattle.std.proofs.Common.{◌≡◌, Option, Some, None, Result, Ok, Err, refl, sym, ap}
-use Rattle.std.specs.Prelude.{IsErr}
+use Rattle.std.specs.Prelude.{IsErr, ok_or}
 use Rattle.acl_names.proofs.Basics.{ok_is_not_err}
-use Rattle.facl_tools.specs.Replies.{after, or_fault}
+use Rattle.acl_text.specs.Results.{◌>>=◌}
 
 pub ok_eq : {A E : Type 0} (r : Result A E) (a b : A) → r ≡ Ok a → r ≡ Ok b → a ≡ b
 ok_eq r a b h k = cc
@@ -15,27 +15,27 @@ pub no_value : {A B : Type 0} (t : A → Option B) (a a' : A) (b : B) → Some a
 no_value t a a' b h s n = cc
 
 -- what was there
-pub was_there : {A E : Type 0} (f : E) (o : Option A) (a : A) → or_fault f o ≡ Ok a → o ≡ Some a
+pub was_there : {A E : Type 0} (f : E) (o : Option A) (a : A) → ok_or o f ≡ Ok a → o ≡ Some a
 was_there f None a h = absurd (ok_is_not_err a f (sym h))
-was_there f (Some b) a h = ap (λ b. Some b) (ok_eq (or_fault f (Some b)) b a refl h)
+was_there f (Some b) a h = ap (λ b. Some b) (ok_eq (ok_or (Some b) f) b a refl h)
 
 pub is_err : {A E : Type 0} (r : Result A E) (f : E) → r ≡ Err f → IsErr r
 is_err (Ok a) f h = absurd (ok_is_not_err a f h)
 is_err (Err g) f h = refl
 
 -- what fails after a thing was read, where the next step cannot
-pub err_before : {A B E : Type 0} (k : A → B) (r : Result A E) (f : E) → after r (λ a. Ok (k a)) ≡ Err f → r ≡ Err f
+pub err_before : {A B E : Type 0} (k : A → B) (r : Result A E) (f : E) → (r >>= λ a. Ok (k a)) ≡ Err f → r ≡ Err f
 err_before k (Ok a) f h = absurd (ok_is_not_err (k a) f h)
-err_before k (Err g) f h = ap (λ e. Err e) (err_eq (after (Err g) (λ a. Ok (k a))) g f refl h)
+err_before k (Err g) f h = ap (λ e. Err e) (err_eq (Err g >>= λ a. Ok (k a)) g f refl h)
 
 -- steps one after another
-pub after_after : {A B C E : Type 0} (r : Result A E) (k : A → Result B E) (l : B → Result C E) → after r (λ a. after (k a) l) ≡ after (after r k) l
+pub after_after : {A B C E : Type 0} (r : Result A E) (k : A → Result B E) (l : B → Result C E) → (r >>= λ a. k a >>= l) ≡ ((r >>= k) >>= l)
 after_after (Ok a) k l = refl
 after_after (Err f) k l = refl
 
 -- the same of two things that are read first
 pub after_both : {A B C D E : Type 0} (r : Result A E) (u : Result B E) (k : A → B → Result C E) (l : C → Result D E)
-    → after r (λ a. after u (λ b. after (k a b) l)) ≡ after (after r (λ a. after u (k a))) l
+    → (r >>= λ a. u >>= λ b. k a b >>= l) ≡ ((r >>= λ a. u >>= k a) >>= l)
 after_both (Ok a) (Ok b) k l = refl
 after_both (Ok a) (Err f) k l = refl
 after_both (Err f) u k l = refl

@@ -7,11 +7,12 @@ use Rattle.facl_output.specs.declared.fault.LineFault.{LineFault}
 use Rattle.facl_script.specs.Forms.{Text}
 use Rattle.facl.specs.FirstPart.{IsRefusedForFirst}
 use Rattle.facl.specs.ToolParts.{Part, in_first_text, in_second_text, in_third_text, in_two_texts, in_operand, in_user, in_file, in_command, rank, place, IsBadOperand, IsUnrecorded}
-use Rattle.facl_tools.specs.Replies.{Reply, after}
+use Rattle.facl_tools.specs.Replies.{Reply}
 use Rattle.facl.proofs.FirstPart.{accepted, refused_at}
 use Rattle.facl.proofs.NoPaths.{IsFirstBad, Reads}
 use Rattle.facl.proofs.Unrecorded.{IsFirstUnrecorded, one_unrecorded}
 use Rattle.facl.proofs.Outcomes.{err_eq}
+use Rattle.acl_text.specs.Results.{◌>>=◌}
 
 abbrev pub named : ℕ → ℕ → Part
 named r n =
@@ -51,10 +52,10 @@ module _ (W : Part → LineFault → Type 0) where
   -- what a text or a name is read as, and then the rest
   pub step : {A : Type 0} (p : Part) (read : Result A LineFault) (next : A → Result Reply LineFault) → place p ≡ 0
       → ((f : LineFault) → W p f → read ≡ Err f) → ((f : LineFault) → read ≡ Err f → W p f) → From (rank p)
-      → ((a : A) → read ≡ Ok a → Refused (next a)) → Refused (after read next)
+      → ((a : A) → read ≡ Ok a → Refused (next a)) → Refused (read >>= next)
   step {A = A} p read next none there back clear rest = by read refl
     where
-      by : (r : Result A LineFault) → read ≡ r → Refused (after r next)
+      by : (r : Result A LineFault) → read ≡ r → Refused (r >>= next)
       by (Ok a) is = rest a is
       by (Err f) is = refused_in (Err f) p f none refl (back f is) (λ g h. err_eq read f g is (there g h)) clear
 
@@ -106,10 +107,10 @@ module _ (W : Part → LineFault → Type 0) where
   -- the operands, and then the rest
   pub operands : {A : Type 0} (words : List Text) (read : Result A LineFault) (next : A → Result Reply LineFault) → Reads words read
       → ((n : ℕ) (g : LineFault) → W (in_operand n) g → IsBadOperand words n g) → ((n : ℕ) (g : LineFault) → IsBadOperand words n g → W (in_operand n) g)
-      → From 4 → ((a : A) → read ≡ Ok a → Refused (next a)) → Refused (after read next)
+      → From 4 → ((a : A) → read ≡ Ok a → Refused (next a)) → Refused (read >>= next)
   operands {A = A} words read next reads there back clear rest = by read refl
     where
-      by : (r : Result A LineFault) → read ≡ r → Refused (after r next)
+      by : (r : Result A LineFault) → read ≡ r → Refused (r >>= next)
       by (Ok a) is = rest a is
       by (Err f) is = refused_operand words (Err f) f refl (reads.bad f is) there back clear
 

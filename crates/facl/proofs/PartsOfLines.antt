@@ -1,7 +1,9 @@
 -- Lines of each form are refused for their first part at fault.
 use Rattle.std.proofs.Common.{◌≡◌, ◌≤◌, ℕ, List, Option, Some, None, Result, Ok, Err, refl, sym, ap, ◌∙◌, arith}
+use Rattle.std.specs.Prelude.{option_map}
 use Rattle.acl_text.specs.declared.entries.Spec.{Spec}
 use Rattle.acl_text.specs.declared.entries.Want.TheVariants.{WithPerms, WithoutPerms}
+use Rattle.acl_text.specs.Results.{◌>>=◌, unless}
 use Rattle.acl_names.specs.Paths.{PathOf}
 use Rattle.acl_names.proofs.Basics.{ok_or_err, some_is_not_none}
 use Rattle.acl_tree.specs.State.{State}
@@ -11,8 +13,8 @@ use Rattle.facl_script.specs.Forms.{Text}
 use Rattle.facl.specs.ToolParts.{Part, in_first_text, in_second_text, in_third_text, in_two_texts, in_operand, in_user, in_file, in_command, rank, OfCommand}
 use Rattle.facl.specs.ToolParts.{OfPaths, OfText, OfTextAndFiles, OfTwoTextsAndFiles, OfChange, both_of, entries_put}
 use Rattle.facl_tools.specs.Operands.{paths_from}
-use Rattle.facl_tools.specs.Replies.{Reply, after}
-use Rattle.facl_tools.specs.Setfacl.{entries_given, entries_of_line, both_at, unless_both, change_files, change_line, drops, with_warning_if}
+use Rattle.facl_tools.specs.Replies.{Reply}
+use Rattle.facl_tools.specs.Setfacl.{entries_given, entries_of_line, both_at, change_files, change_line, drops}
 use Rattle.facl_tools.specs.declared.setfacl.ChangeLine.{ChangeLine}
 use Rattle.facl_tools.specs.declared.setfacl_entries.ChangeEntries.{ChangeEntries}
 use Rattle.facl.proofs.NoPaths.{Reads, reads_files}
@@ -42,7 +44,7 @@ module _ {A : Type 0} (words : List Text) (paths : Result A LineFault) (reads : 
   after_operands a is in_command g h = omega arith
   after_operands a is q g h = absurd h
 
-  pub paths_refused : Refused (OfPaths words paths use_of) (after paths use_of)
+  pub paths_refused : Refused (OfPaths words paths use_of) (paths >>= use_of)
   paths_refused =
       operands (OfPaths words paths use_of) words paths use_of reads (λ n g h. h) (λ n g h. h) from_operands
       (λ a is. last (OfPaths words paths use_of) (use_of a)
@@ -58,7 +60,7 @@ module _ {A : Type 0} (text : Result A LineFault) (use_of : A → Result Reply L
   after_text a is in_command g h = omega arith
   after_text a is q g h = absurd h
 
-  pub text_refused : Refused (OfText text use_of) (after text use_of)
+  pub text_refused : Refused (OfText text use_of) (text >>= use_of)
   text_refused =
       step (OfText text use_of) in_first_text text use_of refl (λ f h. h) (λ f h. h) (λ q g h. from_zero (rank q))
       (λ a is. last (OfText text use_of) (use_of a)
@@ -84,9 +86,9 @@ module _ {A : Type 0} (text : Result A LineFault) (files : List Text) (use_of : 
   then_use a is ps are in_command g h = omega arith
   then_use a is ps are q g h = absurd h
 
-  pub text_and_files_refused : Refused (OfTextAndFiles text files use_of) (after text (λ a. after (paths_from 1 files) (use_of a)))
+  pub text_and_files_refused : Refused (OfTextAndFiles text files use_of) (text >>= λ a. paths_from 1 files >>= use_of a)
   text_and_files_refused =
-      step OfThem in_first_text text (λ a. after (paths_from 1 files) (use_of a)) refl (λ f h. h) (λ f h. h) (λ q g h. from_zero (rank q))
+      step OfThem in_first_text text (λ a. paths_from 1 files >>= use_of a) refl (λ f h. h) (λ f h. h) (λ q g h. from_zero (rank q))
       (λ a is. operands OfThem files (paths_from 1 files) (use_of a) (reads_files files) (λ n g h. h) (λ n g h. h) (then_files a is)
       (λ ps are. last OfThem (use_of a ps)
       (λ f h. same_two use_of a h.value ps h.other_value (ok_eq text a h.value is h.is_read) (ok_eq (paths_from 1 files) ps h.other_value are h.is_other_read) ∙ h.refused)
@@ -121,10 +123,10 @@ module _ {A B : Type 0} (text : Result A LineFault) (other : Result B LineFault)
   both_then_use a is b also ps are in_command g h = omega arith
   both_then_use a is b also ps are q g h = absurd h
 
-  pub two_texts_refused : Refused (OfTwoTextsAndFiles text other files use_of) (after text (λ a. after other (λ b. after (paths_from 1 files) (use_of a b))))
+  pub two_texts_refused : Refused (OfTwoTextsAndFiles text other files use_of) (text >>= λ a. other >>= λ b. paths_from 1 files >>= use_of a b)
   two_texts_refused =
-      step OfBoth in_first_text text (λ a. after other (λ b. after (paths_from 1 files) (use_of a b))) refl (λ f h. h) (λ f h. h) (λ q g h. from_zero (rank q))
-      (λ a is. step OfBoth in_second_text other (λ b. after (paths_from 1 files) (use_of a b)) refl (λ f h. h) (λ f h. h) (then_other a is)
+      step OfBoth in_first_text text (λ a. other >>= λ b. paths_from 1 files >>= use_of a b) refl (λ f h. h) (λ f h. h) (λ q g h. from_zero (rank q))
+      (λ a is. step OfBoth in_second_text other (λ b. paths_from 1 files >>= use_of a b) refl (λ f h. h) (λ f h. h) (then_other a is)
       (λ b also. operands OfBoth files (paths_from 1 files) (use_of a b) (reads_files files) (λ n g h. h) (λ n g h. h) (both_then_files a is b also)
       (λ ps are. last OfBoth (use_of a b ps)
       (λ f h. same_three use_of a h.value b h.other_value ps h.third_value
@@ -148,10 +150,10 @@ module _ (s : State) (line : ChangeLine) (text : List ℕ) where
   set_text = entries_given s.people WithPerms line.set text
 
   abbrev given_of : Result (List Spec) LineFault → Result (List Spec) LineFault → Result (List Spec) LineFault → Result ChangeEntries LineFault
-  given_of r m t = after r (λ removed. after m (λ modified. after t (λ set. Ok (record { remove = removed; modify = modified; set = set }))))
+  given_of r m t = r >>= λ removed. m >>= λ modified. t >>= λ set. Ok (record { remove = removed; modify = modified; set = set })
 
   abbrev changed : ChangeEntries → Result Reply LineFault
-  changed entries = unless_both (both_at line.flags.as_default entries) (change_files s line entries)
+  changed entries = unless (option_map Both (both_at line.flags.as_default entries)) (change_files s line entries)
 
   modified_next : (r : List Spec) → entries_given s.people WithoutPerms line.removed text ≡ Ok r → (q : Part) (g : LineFault) → OfChange s line text q g → 1 ≤ rank q
   modified_next r is in_first_text g h = absurd (ok_or_err removed_text r g is h)
@@ -209,7 +211,7 @@ module _ (s : State) (line : ChangeLine) (text : List ℕ) where
     with_warning reply = record reply { warns = drops line.flags.as_default entries }
 
     abbrev warned : Result Reply LineFault → Result Reply LineFault
-    warned reply = with_warning_if (drops line.flags.as_default entries) reply
+    warned made = made >>= λ reply. Ok (with_warning reply)
 
     put_refused : both_of line r m ≡ None → (ps : List PathOf) → paths_from 1 line.files ≡ Ok ps → Refused OfLine (warned (entries_put s line entries ps))
     put_refused none ps are =
@@ -219,7 +221,7 @@ module _ (s : State) (line : ChangeLine) (text : List ℕ) where
         (λ f e. record { value = entries; other_value = ps; is_read = given_is; is_other_read = are; refused = err_before with_warning (entries_put s line entries ps) f e })
         (put_next none ps are)
 
-    both_refused : (o : Option ℕ) → both_of line r m ≡ o → Refused OfLine (unless_both o (change_files s line entries))
+    both_refused : (o : Option ℕ) → both_of line r m ≡ o → Refused OfLine (unless (option_map Both o) (change_files s line entries))
     both_refused None none =
         operands OfLine line.files (paths_from 1 line.files) (λ paths. warned (entries_put s line entries paths)) (reads_files line.files) (λ n g h. h) (λ n g h. h)
         (files_next none) (put_refused none)
@@ -235,7 +237,7 @@ module _ (s : State) (line : ChangeLine) (text : List ℕ) where
   change_refused = by removed_text modified_text set_text refl refl refl
     where
       by : (r m t : Result (List Spec) LineFault) → entries_given s.people WithoutPerms line.removed text ≡ r → entries_given s.people WithPerms line.modified text ≡ m
-          → entries_given s.people WithPerms line.set text ≡ t → Refused OfLine (after (given_of r m t) changed)
+          → entries_given s.people WithPerms line.set text ≡ t → Refused OfLine (given_of r m t >>= changed)
       by (Err f) m t is also and_set =
           refused_in OfLine (Err f) in_first_text f refl refl is (λ g h. err_eq removed_text f g is h) (λ q g h. from_zero (rank q))
       by (Ok r) (Err f) t is also and_set =

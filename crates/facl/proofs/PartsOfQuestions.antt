@@ -1,6 +1,7 @@
 -- Listings and questions are refused for their first part at fault.
 use Rattle.std.proofs.Common.{◌≡◌, ◌≤◌, ℕ, List, [], ◌∷◌, slice_get, Option, Some, None, option_map, option_and_then, Result, Ok, Err, refl, sym, subst, arith}
 use Rattle.std.specs.FinMap.{find}
+use Rattle.std.specs.Prelude.{ok_or}
 use Rattle.facl_answers.specs.Requests.{requests_line}
 use Rattle.acl_edit.specs.declared.node.Node.{Node}
 use Rattle.acl_entry.specs.Person.{Person}
@@ -10,6 +11,7 @@ use Rattle.acl_names.proofs.Basics.{ok_or_err, some_is_not_none}
 use Rattle.acl_people.specs.KnownPeople.{KnownPeople, users_of}
 use Rattle.acl_people.specs.NameTables.{place_of_word}
 use Rattle.acl_text.specs.declared.rows.PasswdRow.{PasswdRow}
+use Rattle.acl_text.specs.Results.{◌>>=◌, unless}
 use Rattle.acl_tree.specs.Files.{Files}
 use Rattle.acl_tree.specs.Operands.{first_missing}
 use Rattle.acl_tree.specs.State.{State}
@@ -17,8 +19,8 @@ use Rattle.facl_output.specs.declared.fault.LineFault.{LineFault}
 use Rattle.facl_output.specs.declared.fault.LineFault.TheVariants.{Tree}
 use Rattle.facl_script.specs.Forms.{Text}
 use Rattle.facl.specs.ToolParts.{Part, in_operand, in_user, in_file, rank, place, OfListing, OfUser, OfUserAndFiles, IsUnrecorded}
-use Rattle.facl_tools.specs.Operands.{path_at, paths_from, name_meant, user_or_fault, recorded_or_fault}
-use Rattle.facl_tools.specs.Replies.{Reply, after, or_fault, printed, printed_or_fault}
+use Rattle.facl_tools.specs.Operands.{path_at, paths_from, name_meant, user_at, not_recorded}
+use Rattle.facl_tools.specs.Replies.{Reply, printed}
 use Rattle.facl.specs.Why.{person_named}
 use Rattle.facl.proofs.FirstPart.{accepted}
 use Rattle.facl.proofs.NoPaths.{Reads, reads_files, reads_file}
@@ -47,12 +49,12 @@ module _ (t : Files) (words : List Text) (use_of : List PathOf → Reply) where
   all_are_there ps are found (in_file n) g h = all_recorded t 1 words ps are found n g h
   all_are_there ps are found q g h = h
 
-  pub listing_refused : Refused (OfListing t words) (after (paths_from 1 words) (λ ps. recorded_or_fault (first_missing ps t) (use_of ps)))
+  pub listing_refused : Refused (OfListing t words) (paths_from 1 words >>= λ ps. unless (not_recorded ps t) (Ok (use_of ps)))
   listing_refused =
-      operands OfThese words (paths_from 1 words) (λ ps. recorded_or_fault (first_missing ps t) (use_of ps)) (reads_files words) (λ n g h. h) (λ n g h. h) listing_from
+      operands OfThese words (paths_from 1 words) (λ ps. unless (not_recorded ps t) (Ok (use_of ps))) (reads_files words) (λ n g h. h) (λ n g h. h) listing_from
       (λ ps are. by ps are (first_missing ps t) refl)
     where
-      by : (ps : List PathOf) → paths_from 1 words ≡ Ok ps → (o : Option PathOf) → first_missing ps t ≡ o → Refused OfThese (recorded_or_fault o (use_of ps))
+      by : (ps : List PathOf) → paths_from 1 words ≡ Ok ps → (o : Option PathOf) → first_missing ps t ≡ o → Refused OfThese (unless (option_map (λ path. Tree (NoSuchFile path)) o) (Ok (use_of ps)))
       by ps are None found = accepted rank place named is_named OfThese (Ok (use_of ps)) (use_of ps) refl (all_are_there ps are found)
       by ps are (Some p) missing =
           refused_file OfThese t words (Err (Tree (NoSuchFile p))) (Tree (NoSuchFile p)) refl (first_unrecorded t 1 words ps p are missing) (λ n g h. h) (λ n g h. h) (listing_next ps are)
@@ -79,9 +81,9 @@ module _ (t : Files) (word : Text) (look : PathOf → Node → List ℕ) (s : St
   it_is_there path is node found q g h = h
 
   abbrev looked_at : PathOf → Option Node → Result Reply LineFault
-  looked_at path o = printed_or_fault s (or_fault (Tree (NoSuchFile path)) (option_map (look path) o))
+  looked_at path o = ok_or (option_map (look path) o) (Tree (NoSuchFile path)) >>= λ out. Ok (printed s out)
 
-  pub one_file_refused : Refused (OfListing t (word ∷ [])) (after (path_at 1 word) (λ path. printed_or_fault s (or_fault (Tree (NoSuchFile path)) (option_map (look path) (find path_cmp path t)))))
+  pub one_file_refused : Refused (OfListing t (word ∷ [])) (path_at 1 word >>= λ path. ok_or (option_map (look path) (find path_cmp path t)) (Tree (NoSuchFile path)) >>= λ out. Ok (printed s out))
   one_file_refused =
       operands OfOne (word ∷ []) (path_at 1 word) (λ path. looked_at path (find path_cmp path t)) (reads_file word) (λ n g h. h) (λ n g h. h) one_from
       (λ path is. by path is (find path_cmp path t) refl)
@@ -106,13 +108,13 @@ module _ (known : KnownPeople) (word : Text) (look : PasswdRow → List ℕ) (s 
   user_is_there i is q g h = h
 
   abbrev asked : Option ℕ → Result Reply LineFault
-  asked o = printed_or_fault s (or_fault (Tree (NoSuchUser (name_meant word))) (option_and_then (λ i. option_map look (slice_get known.users i)) o))
+  asked o = ok_or (option_and_then (λ i. option_map look (slice_get known.users i)) o) (Tree (NoSuchUser (name_meant word))) >>= λ out. Ok (printed s out)
 
   pub user_refused : Refused (OfUser known word) (asked (place_of_word (name_meant word) (users_of known)))
   user_refused = by (place_of_word (name_meant word) (users_of known)) refl
     where
       by_row : (i : ℕ) → place_of_word (name_meant word) (users_of known) ≡ Some i → (o : Option PasswdRow) → slice_get known.users i ≡ o
-          → Refused OfAsked (printed_or_fault s (or_fault (Tree (NoSuchUser (name_meant word))) (option_map look o)))
+          → Refused OfAsked (ok_or (option_map look o) (Tree (NoSuchUser (name_meant word))) >>= λ out. Ok (printed s out))
       by_row i is None none = absurd (has_row known (name_meant word) i is none)
       by_row i is (Some row) found = accepted rank place named is_named OfAsked (Ok (printed s (look row))) (printed s (look row)) refl (user_is_there i is)
 
@@ -154,12 +156,12 @@ module _ (s : State) (word : Text) (files : List Text) where
     both_are_there a is b also recorded q g h = h
 
     -- the operands are read, then the user, and then the files are looked at
-    both_refused : (look : A → B → Result Text LineFault) → ((a : A) → paths ≡ Ok a → (b : B) → user ≡ Ok b → Refused OfThem (printed_or_fault s (look a b)))
-        → Refused OfThem (printed_or_fault s (after paths (λ a. after user (look a))))
+    both_refused : (look : A → B → Result Text LineFault) → ((a : A) → paths ≡ Ok a → (b : B) → user ≡ Ok b → Refused OfThem (look a b >>= λ out. Ok (printed s out)))
+        → Refused OfThem ((paths >>= λ a. user >>= look a) >>= λ out. Ok (printed s out))
     both_refused look rest =
         subst (Refused OfThem) (after_both paths user look (λ out. Ok (printed s out)))
-        (operands OfThem files paths (λ a. after user (λ b. printed_or_fault s (look a b))) reads (λ n g h. h) (λ n g h. h) both_from
-        (λ a is. step OfThem in_user user (λ b. printed_or_fault s (look a b)) refl reads_user.bad reads_user.only (user_next a is) (rest a is)))
+        (operands OfThem files paths (λ a. user >>= λ b. look a b >>= λ out. Ok (printed s out)) reads (λ n g h. h) (λ n g h. h) both_from
+        (λ a is. step OfThem in_user user (λ b. look a b >>= λ out. Ok (printed s out)) refl reads_user.bad reads_user.only (user_next a is) (rest a is)))
 
 -- one file, by the row of the user
 
@@ -168,16 +170,16 @@ module _ (s : State) (word file : Text) (look : PathOf → Node → PasswdRow �
   OfIt = OfUserAndFiles s word (file ∷ [])
 
   abbrev place_read : Result ℕ LineFault
-  place_read = user_or_fault s.people (name_meant word)
+  place_read = user_at s.people (name_meant word)
 
   abbrev shown : PathOf → Option Node → Option PasswdRow → Result Text LineFault
-  shown path o row = after (or_fault (Tree (NoSuchFile path)) (option_and_then (λ n. option_map (look path n) row) o)) (λ granted. Ok (requests_line granted))
+  shown path o row = ok_or (option_and_then (λ n. option_map (look path n) row) o) (Tree (NoSuchFile path)) >>= λ granted. Ok (requests_line granted)
 
   abbrev shown_at : PathOf → ℕ → Result Text LineFault
   shown_at path i = shown path (find path_cmp path s.tree.files) (slice_get s.people.users i)
 
-  by_node : (path : PathOf) → path_at 1 file ≡ Ok path → (i : ℕ) → user_or_fault s.people (name_meant word) ≡ Ok i
-      → (o : Option Node) → find path_cmp path s.tree.files ≡ o → (row : Option PasswdRow) → slice_get s.people.users i ≡ row → Refused OfIt (printed_or_fault s (shown path o row))
+  by_node : (path : PathOf) → path_at 1 file ≡ Ok path → (i : ℕ) → user_at s.people (name_meant word) ≡ Ok i
+      → (o : Option Node) → find path_cmp path s.tree.files ≡ o → (row : Option PasswdRow) → slice_get s.people.users i ≡ row → Refused OfIt (shown path o row >>= λ out. Ok (printed s out))
   by_node path is i also None missing row are =
       refused_file OfIt s.tree.files (file ∷ []) (Err (Tree (NoSuchFile path))) (Tree (NoSuchFile path)) refl (one_missing s.tree.files file path is missing) (λ n g h. h) (λ n g h. h)
       (files_next s word (file ∷ []) (path_at 1 file) (reads_file file) place_read (reads_place s.people word) path is i also)
@@ -187,7 +189,7 @@ module _ (s : State) (word file : Text) (look : PathOf → Node → PasswdRow �
       accepted rank place named is_named OfIt (Ok (printed s (requests_line (look path node row)))) (printed s (requests_line (look path node row))) refl
       (both_are_there s word (file ∷ []) (path_at 1 file) (reads_file file) place_read (reads_place s.people word) path is i also (one_recorded s.tree.files file path node is found))
 
-  pub user_and_file_refused : Refused (OfUserAndFiles s word (file ∷ [])) (printed_or_fault s (after (path_at 1 file) (λ path. after (user_or_fault s.people (name_meant word)) (shown_at path))))
+  pub user_and_file_refused : Refused (OfUserAndFiles s word (file ∷ [])) ((path_at 1 file >>= λ path. user_at s.people (name_meant word) >>= shown_at path) >>= λ out. Ok (printed s out))
   user_and_file_refused =
       both_refused s word (file ∷ []) (path_at 1 file) (reads_file file) place_read (reads_place s.people word) shown_at
       (λ path is i also. by_node path is i also (find path_cmp path s.tree.files) refl (slice_get s.people.users i) refl)
@@ -199,13 +201,13 @@ module _ (s : State) (word : Text) (files : List Text) (look : List PathOf → P
   OfAll = OfUserAndFiles s word files
 
   abbrev person_read : Result Person LineFault
-  person_read = or_fault (Tree (NoSuchUser (name_meant word))) (person_named s.people (name_meant word))
+  person_read = ok_or (person_named s.people (name_meant word)) (Tree (NoSuchUser (name_meant word)))
 
   abbrev looked_at_all : List PathOf → Person → Result Text LineFault
-  looked_at_all ps u = recorded_or_fault (first_missing ps s.tree.files) (look ps u)
+  looked_at_all ps u = unless (not_recorded ps s.tree.files) (Ok (look ps u))
 
-  by_missing : (ps : List PathOf) → paths_from 1 files ≡ Ok ps → (u : Person) → or_fault (Tree (NoSuchUser (name_meant word))) (person_named s.people (name_meant word)) ≡ Ok u
-      → (o : Option PathOf) → first_missing ps s.tree.files ≡ o → Refused OfAll (printed_or_fault s (recorded_or_fault o (look ps u)))
+  by_missing : (ps : List PathOf) → paths_from 1 files ≡ Ok ps → (u : Person) → ok_or (person_named s.people (name_meant word)) (Tree (NoSuchUser (name_meant word))) ≡ Ok u
+      → (o : Option PathOf) → first_missing ps s.tree.files ≡ o → Refused OfAll (unless (option_map (λ path. Tree (NoSuchFile path)) o) (Ok (look ps u)) >>= λ out. Ok (printed s out))
   by_missing ps are u also None found =
       accepted rank place named is_named OfAll (Ok (printed s (look ps u))) (printed s (look ps u)) refl
       (both_are_there s word files (paths_from 1 files) (reads_files files) person_read (reads_person s.people word) ps are u also (all_recorded s.tree.files 1 files ps are found))
@@ -214,7 +216,7 @@ module _ (s : State) (word : Text) (files : List Text) (look : List PathOf → P
       (files_next s word files (paths_from 1 files) (reads_files files) person_read (reads_person s.people word) ps are u also)
 
   pub user_and_files_refused : Refused (OfUserAndFiles s word files)
-      (printed_or_fault s (after (paths_from 1 files) (λ ps. after (or_fault (Tree (NoSuchUser (name_meant word))) (person_named s.people (name_meant word))) (looked_at_all ps))))
+      ((paths_from 1 files >>= λ ps. ok_or (person_named s.people (name_meant word)) (Tree (NoSuchUser (name_meant word))) >>= looked_at_all ps) >>= λ out. Ok (printed s out))
   user_and_files_refused =
       both_refused s word files (paths_from 1 files) (reads_files files) person_read (reads_person s.people word) looked_at_all
       (λ ps are u also. by_missing ps are u also (first_missing ps s.tree.files) refl)

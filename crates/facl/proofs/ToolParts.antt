@@ -13,6 +13,7 @@ use Rattle.acl_entry.specs.Check.{has}
 use Rattle.acl_entry.specs.Perms.{Perms}
 use Rattle.acl_edit.specs.declared.node.Node.{Node}
 use Rattle.acl_text.specs.declared.rows.PasswdRow.{PasswdRow}
+use Rattle.acl_text.specs.Results.{◌>>=◌}
 use Rattle.std.specs.Prelude.{filter}
 use Rattle.std.specs.List.{flat_map}
 use Rattle.facl_output.specs.AttrListings.{attr_listing}
@@ -33,10 +34,10 @@ use Rattle.facl_tools.specs.Lists.{list_of_text}
 use Rattle.facl_tools.specs.Load as load
 use Rattle.facl.specs.May as may
 use Rattle.facl_tools.specs.Operands.{path_at, paths_from, name_meant}
-use Rattle.facl_tools.specs.Replies.{Reply, after, done, printed}
+use Rattle.facl_tools.specs.Replies.{Reply, done, printed}
 use Rattle.facl_tools.specs.Setattr as setattr
 use Rattle.facl_tools.specs.Setfacl as setfacl_line
-use Rattle.facl_tools.specs.Setfacl.{records_or_fault, restored_or_tested}
+use Rattle.facl_tools.specs.Setfacl.{records_of, restored_or_tested}
 use Rattle.acl_rights.specs.Rows.{Verdict}
 use Rattle.facl.specs.Tools.{answered}
 use Rattle.facl_tools.specs.Useradd.{new_user}
@@ -63,15 +64,15 @@ use Rattle.facl.proofs.PartsOfLines.{command_refused, paths_refused, text_refuse
 use Rattle.facl.proofs.PartsOfQuestions.{listing_refused, one_file_refused, user_refused, user_and_file_refused, user_and_files_refused}
 
 -- the files of a line, and what is done with them
-files_refused : (files : List Text) (use_of : List PathOf → Result Reply LineFault) → Refused (OfPaths files (paths_from 1 files) use_of) (after (paths_from 1 files) use_of)
+files_refused : (files : List Text) (use_of : List PathOf → Result Reply LineFault) → Refused (OfPaths files (paths_from 1 files) use_of) (paths_from 1 files >>= use_of)
 files_refused files use_of = paths_refused files (paths_from 1 files) (reads_files files) use_of
 
 setfacl_refused : (s : State) (line : SetfaclLine) (text : List ℕ) → Refused (OfSetfacl s line text) (setfacl_line.answered s line text)
 setfacl_refused s (setfacl.Change line) text = change_refused s line text
-setfacl_refused s (setfacl.Restore test) text = text_refused (records_or_fault s.people text) (restored_or_tested test s)
+setfacl_refused s (setfacl.Restore test) text = text_refused (records_of s.people text) (restored_or_tested test s)
 
 edit_refused : (s : State) (recursive : Bool) (edit : Edit) (files : List Text)
-    → Refused (OfPaths files (paths_from 1 files) (λ paths. done s (commands.Edit paths edit recursive))) (after (paths_from 1 files) (λ paths. done s (commands.Edit paths edit recursive)))
+    → Refused (OfPaths files (paths_from 1 files) (λ paths. done s (commands.Edit paths edit recursive))) (paths_from 1 files >>= λ paths. done s (commands.Edit paths edit recursive))
 edit_refused s recursive edit files = files_refused files (λ paths. done s (commands.Edit paths edit recursive))
 
 task_refused : (s : State) (recursive : Bool) (task : Task) (files : List Text) → Refused (OfTask s recursive task files) (chacl.task_done s recursive task files)

@@ -5,6 +5,7 @@ use Rattle.std.specs.FinMap.{find}
 use Rattle.std.proofs.lemmas.List.{length-map}
 use Rattle.std.proofs.lemmas.List.Quantifiers.{position-Some}
 use Rattle.std.proofs.lemmas.Option.{slice_get-get_or}
+use Rattle.std.specs.Prelude.{ok_or}
 use Rattle.acl_edit.specs.declared.node.Node.{Node}
 use Rattle.acl_tree.specs.declared.fault.TreeFault.TheVariants.{NoSuchFile, NoSuchUser}
 use Rattle.acl_names.specs.Paths.{path_of, path_cmp, PathOf}
@@ -14,14 +15,14 @@ use Rattle.acl_people.specs.KnownPeople.{KnownPeople, users_of, person, subject}
 use Rattle.acl_people.specs.NameTables.{Named, is_id, is_name, place_of_word}
 use Rattle.acl_text.specs.Ids.{is_number, id_of}
 use Rattle.acl_text.specs.declared.rows.PasswdRow.{PasswdRow}
+use Rattle.acl_text.specs.Results.{◌>>=◌}
 use Rattle.acl_tree.specs.Files.{Files}
 use Rattle.acl_tree.specs.Operands.{first_missing}
 use Rattle.facl_output.specs.declared.fault.LineFault.{LineFault}
 use Rattle.facl_output.specs.declared.fault.LineFault.TheVariants.{Tree}
 use Rattle.facl_script.specs.Forms.{Text}
 use Rattle.facl.specs.ToolParts.{IsUnrecorded, IsNoUser}
-use Rattle.facl_tools.specs.Operands.{bad_operand, path_at, paths_from, name_meant, user_or_fault}
-use Rattle.facl_tools.specs.Replies.{after, or_fault}
+use Rattle.facl_tools.specs.Operands.{bad_operand, path_at, paths_from, name_meant, user_at}
 use Rattle.facl.specs.Why.{person_named}
 use Rattle.facl.proofs.Outcomes.{ok_eq, err_eq, was_there}
 
@@ -87,7 +88,7 @@ paths_split : (at : ℕ) (w : Text) (ws : List Text) (ps : List PathOf) → path
 paths_split at w ws ps h = by (path_of w) refl (paths_from (at + 1) ws) refl h
   where
     by : (o : Option PathOf) → path_of w ≡ o → (r : Result (List PathOf) LineFault) → paths_from (at + 1) ws ≡ r
-        → after (or_fault (bad_operand at) o) (λ path. after r (λ paths. Ok (path ∷ paths))) ≡ Ok ps → IsSplit at w ws ps
+        → (ok_or o (bad_operand at) >>= λ path. r >>= λ paths. Ok (path ∷ paths)) ≡ Ok ps → IsSplit at w ws ps
     by None is r e h = absurd (ok_is_not_err ps (bad_operand at) (sym h))
     by (Some p) is (Err f) e h = absurd (ok_is_not_err ps f (sym h))
     by (Some p) is (Ok rest) e h = record { path = p; rest = rest; means = is; read = e; all = sym (ok_eq _ (p ∷ rest) ps refl h) }
@@ -165,27 +166,27 @@ module _ (known : KnownPeople) (word : Text) where
   abbrev place_meant : Option ℕ
   place_meant = place_of_word (name_meant word) (users_of known)
 
-  pub reads_place : ReadsUser known word (user_or_fault known (name_meant word))
+  pub reads_place : ReadsUser known word (user_at known (name_meant word))
   reads_place = record {
-    bad = λ f h. ap (λ (o : Option ℕ). or_fault no_user o) h.1 ∙ ap (λ e. Err e) (sym h.0);
+    bad = λ f h. ap (λ (o : Option ℕ). ok_or o no_user) h.1 ∙ ap (λ e. Err e) (sym h.0);
     only = λ f h. by f place_meant refl h;
   }
     where
-      by : (f : LineFault) (o : Option ℕ) → place_of_word (name_meant word) (users_of known) ≡ o → or_fault no_user o ≡ Err f → IsNoUser known word f
-      by f None is h = (sym (err_eq (or_fault no_user None) no_user f refl h), is)
+      by : (f : LineFault) (o : Option ℕ) → place_of_word (name_meant word) (users_of known) ≡ o → ok_or o no_user ≡ Err f → IsNoUser known word f
+      by f None is h = (sym (err_eq (ok_or None no_user) no_user f refl h), is)
       by f (Some i) is h = absurd (ok_is_not_err i f h)
 
-  pub reads_person : ReadsUser known word (or_fault (Tree (NoSuchUser (name_meant word))) (person_named known (name_meant word)))
+  pub reads_person : ReadsUser known word (ok_or (person_named known (name_meant word)) (Tree (NoSuchUser (name_meant word))))
   reads_person = record {
-    bad = λ f h. ap (λ (o : Option ℕ). or_fault no_user (option_and_then (subject known) o)) h.1 ∙ ap (λ e. Err e) (sym h.0);
+    bad = λ f h. ap (λ (o : Option ℕ). ok_or (option_and_then (subject known) o) no_user) h.1 ∙ ap (λ e. Err e) (sym h.0);
     only = λ f h. by f place_meant refl h;
   }
     where
       by_row : (f : LineFault) (i : ℕ) → place_of_word (name_meant word) (users_of known) ≡ Some i → (o : Option PasswdRow) → slice_get known.users i ≡ o
-          → or_fault no_user (option_map (person known.groups) o) ≡ Err f → IsNoUser known word f
+          → ok_or (option_map (person known.groups) o) no_user ≡ Err f → IsNoUser known word f
       by_row f i is None none h = absurd (has_row known (name_meant word) i is none)
       by_row f i is (Some row) found h = absurd (ok_is_not_err (person known.groups row) f h)
 
-      by : (f : LineFault) (o : Option ℕ) → place_of_word (name_meant word) (users_of known) ≡ o → or_fault no_user (option_and_then (subject known) o) ≡ Err f → IsNoUser known word f
-      by f None is h = (sym (err_eq (or_fault no_user (option_and_then (subject known) None)) no_user f refl h), is)
+      by : (f : LineFault) (o : Option ℕ) → place_of_word (name_meant word) (users_of known) ≡ o → ok_or (option_and_then (subject known) o) no_user ≡ Err f → IsNoUser known word f
+      by f None is h = (sym (err_eq (ok_or (option_and_then (subject known) None) no_user) no_user f refl h), is)
       by f (Some i) is h = by_row f i is (slice_get known.users i) refl h

@@ -10,10 +10,10 @@ use Rattle.facl_script.specs.Streams.{Streams}
 use Rattle.facl_script.specs.TextWords.{line_asks}
 use Rattle.facl_script.specs.Units.{ScriptUnit, units_of}
 use Rattle.facl_script.specs.Write.{Writes}
-use Rattle.facl_tools.specs.Replies.{after}
 use Rattle.facl.specs.Units.{UnitAnswer, answered, quiet}
 use Rattle.facl.specs.declared.status.Status.{Status}
 use Rattle.facl.specs.declared.status.Status.TheVariants.{Accepted, Refused}
+use Rattle.acl_text.specs.Results.{◌>>=◌}
 
 -- one after the other
 abbrev pub joined : UnitAnswer → UnitAnswer → UnitAnswer
@@ -26,7 +26,7 @@ play verdict m (u ∷ us) w = joined (answered verdict (m u.number) u w) (play v
 
 -- the session of a script: what its units do in turn, from the state on that the setup gives
 abbrev pub session_of : Verdict → (setup : Result State RunFault) → (script : List ℕ) → (m : ℕ → Bool) → Result UnitAnswer RunFault
-session_of verdict setup script m = after setup (λ start. Ok (play verdict m (units_of line_asks script) (from_start start)))
+session_of verdict setup script m = setup >>= λ start. Ok (play verdict m (units_of line_asks script) (from_start start))
 
 -- a line was refused
 abbrev pub has_refused : Status → Bool

@@ -10,14 +10,15 @@ use Rattle.facl_script.specs.Forms.{Text}
 use Rattle.facl_script.specs.ToolWords.{words_by}
 use Rattle.facl.specs.ToolParts as requests
 use Rattle.facl.specs.FirstPart.{IsRefusedForFirst}
-use Rattle.facl_tools.specs.Replies.{Reply, after}
+use Rattle.facl_tools.specs.Replies.{Reply}
 use Rattle.acl_rights.specs.Rows.{Verdict}
 use Rattle.facl.specs.Tools.{syntax_of, read_line, tool_named}
 use Rattle.facl.specs.declared.tools.Tool.{Tool}
 use Rattle.facl.specs.declared.tools.ToolLine.{ToolLine}
 use Rattle.acl_rights.specs.declared.indexed.States.{States}
 use Rattle.facl.specs.Counted.{answered, answer_of}
-use Rattle.facl.specs.Units.{reply, text_or_fault, tool_word, words_of_line}
+use Rattle.facl.specs.Units.{reply, text_of, tool_word, words_of_line}
+use Rattle.acl_text.specs.Results.{◌>>=◌}
 
 -- ---- the parts of a line, and their order
 
@@ -100,7 +101,7 @@ pub record IsRequestAtFault (s : State) (u : ScriptUnit) (part : requests.Part) 
   pub text : List ℕ
   pub names : IsOfTool u tool words
   pub asks : line_read tool words ≡ Some line
-  pub is_text : text_or_fault u.text ≡ Ok text
+  pub is_text : text_of u.text ≡ Ok text
   pub at_fault : requests.IsAtFault s line text part fault
 
 -- ---- which parts are at fault at the present state, whatever other ones are; neither a judge nor the state after the
@@ -120,7 +121,7 @@ IsAtFault s u (in_request part) fault = IsRequestAtFault s u part fault
 
 -- the reply to a line, or its fault
 abbrev pub outcome : Verdict → States → ScriptUnit → Result Reply LineFault
-outcome verdict w u = after (words_of_line u.line) (reply verdict w u.text)
+outcome verdict w u = words_of_line u.line >>= reply verdict w u.text
 
 -- the name in the words of a line, if it has words
 abbrev pub name_in : Result (List Text) LineFault → Text

@@ -23,7 +23,7 @@ use Rattle.facl_tools.specs.Load as load
 use Rattle.facl_tools.specs.Operands.{bad_operand, path_at, paths_from, name_meant}
 use Rattle.facl_tools.specs.Replies.{Reply, done}
 use Rattle.facl_tools.specs.Setattr as setattr
-use Rattle.facl_tools.specs.Setfacl.{entries_given, entries_of_line, both_at, edit_of, edited_or_tested, records_or_fault, restored_or_tested}
+use Rattle.facl_tools.specs.Setfacl.{entries_given, entries_of_line, both_at, edit_of, edited_or_tested, records_of, restored_or_tested}
 use Rattle.facl_tools.specs.Useradd.{new_user}
 use Rattle.facl_tools.specs.declared.chacl.Task.{Task}
 use Rattle.facl_tools.specs.declared.chacl.Task.TheVariants as tasks
@@ -205,7 +205,7 @@ OfChange s line text part fault = ⊥
 -- of a line of setfacl(1)
 abbrev pub OfSetfacl : State → SetfaclLine → List ℕ → Part → LineFault → Type 0
 OfSetfacl s (setfacl.Change line) text = OfChange s line text
-OfSetfacl s (setfacl.Restore test) text = OfText (records_or_fault s.people text) (restored_or_tested test s)
+OfSetfacl s (setfacl.Restore test) text = OfText (records_of s.people text) (restored_or_tested test s)
 
 -- these files are edited
 abbrev pub OfEdit : State → Bool → Edit → List Text → Part → LineFault → Type 0

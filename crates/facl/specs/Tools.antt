@@ -1,5 +1,5 @@
 -- The tools: a row for each, with its name and the words that it takes; the line that these give as a value of the tool's type; and what it does.
-use Rattle.std.specs.Prelude.{ℕ, Bool, true, false, List, [], ◌∷◌, Option, Some, option_map, unwrap_or, codes, Result, Ok}
+use Rattle.std.specs.Prelude.{ℕ, Bool, true, false, List, [], ◌∷◌, Option, Some, option_map, unwrap_or, codes, Result, Ok, ok_or}
 use Rattle.std.specs.List.{find}
 use Rattle.std.specs.Str.{bytes_eq}
 use Rattle.acl_rights.specs.Rows.{Verdict}
@@ -11,7 +11,7 @@ use Rattle.facl_script.specs.ToolWords.{words_by}
 use Rattle.facl_script.specs.declared.tool_words.Words.{Words}
 use Rattle.facl_output.specs.declared.fault.LineFault.{LineFault}
 use Rattle.facl_output.specs.declared.fault.LineFault.TheVariants.{Usage}
-use Rattle.facl_tools.specs.Replies.{Reply, after, or_fault}
+use Rattle.facl_tools.specs.Replies.{Reply}
 use Rattle.facl_tools.specs.Attr as attr
 use Rattle.facl.specs.Below as below
 use Rattle.facl.specs.Can as can
@@ -39,6 +39,7 @@ use Rattle.facl.specs.declared.tools.Tool.TheVariants as tools
 use Rattle.facl.specs.declared.tools.ToolRow.{ToolRow as DeclaredRow}
 use Rattle.facl.specs.contracts.tools.ToolPartialEq.TheImpl.{ghosts as equality}
 use Rattle.facl.specs.declared.tools.ToolLine.{ToolLine}
+use Rattle.acl_text.specs.Results.{◌>>=◌}
 use Rattle.facl.specs.declared.tools.ToolLine.TheVariants as lines
 
 -- a row of the table of tools: all that is known of a tool but its reader and what it does
@@ -138,15 +139,15 @@ read_line tools.Userdel w = Some (lines.Userdel (userdel.read w))
 
 -- the line of words, or usage
 unfoldable pub line_or_fault : Tool → Words → Result ToolLine LineFault
-line_or_fault tool w = or_fault Usage (read_line tool w)
+line_or_fault tool w = ok_or (read_line tool w) Usage
 
 -- the words after a tool's name by its syntax, or usage
 unfoldable pub words_of : Tool → List Text → Result Words LineFault
-words_of tool words = or_fault Usage (words_by (syntax_of tool) words)
+words_of tool words = ok_or (words_by (syntax_of tool) words) Usage
 
 -- the words, where they are a line of the tool
 abbrev pub words_or_fault : Tool → List Text → Result Words LineFault
-words_or_fault tool words = after (words_of tool words) (λ w. after (line_or_fault tool w) (λ line. Ok w))
+words_or_fault tool words = words_of tool words >>= λ w. line_or_fault tool w >>= λ line. Ok w
 
 -- what a line does at a state; `changes` and `gains` alone look at the state after the texts were loaded
 unfoldable pub answered : Verdict → (loaded now : State) → ToolLine → List ℕ → Result Reply LineFault
@@ -172,7 +173,11 @@ answered verdict loaded s (lines.Gains line) text = gains.answered verdict loade
 answered verdict loaded s (lines.Useradd line) text = useradd.answered s line
 answered verdict loaded s (lines.Userdel line) text = userdel.answered s line
 
+-- what words do that are a line of a tool, or usage
+abbrev pub words_answered : Verdict → (loaded now : State) → Tool → Words → List ℕ → Result Reply LineFault
+words_answered verdict loaded s tool w text = line_or_fault tool w >>= λ line. answered verdict loaded s line text
+
 -- what a tool does at a state with the words after its name and the text after the line, or usage
 abbrev pub tool_line : Verdict → (loaded now : State) → Tool → List Text → List ℕ → Result Reply LineFault
 tool_line verdict loaded s tool words text =
-    after (words_of tool words) (λ w. after (line_or_fault tool w) (λ line. answered verdict loaded s line text))
+    words_of tool words >>= λ w. words_answered verdict loaded s tool w text

@@ -1,21 +1,20 @@
 -- What a unit of a script does: a line, with its text if it takes one.
-use Rattle.std.specs.Prelude.{ℕ, Bool, true, false, if◌then◌else◌, List, [], ◌∷◌, Option, None, Some, Result, Ok, Err}
+use Rattle.std.specs.Prelude.{ℕ, Bool, true, false, if◌then◌else◌, List, [], ◌∷◌, Option, None, Some, Result, Ok, Err, ok_or}
 use Rattle.std.specs.Option.{option_map_or}
 use Rattle.facl_script.specs.Units.{ScriptUnit, UnitText, none, whole, too_long, unended}
 use Rattle.facl_script.specs.Words.{has_no_words, line_words}
-use Rattle.facl_script.specs.declared.words.SplitFault.{SplitFault}
-use Rattle.facl_script.specs.Args.{files_for}
 use Rattle.facl_script.specs.Forms.{Text}
 use Rattle.facl_output.specs.Faults.{line_fault_of_split}
 use Rattle.facl_output.specs.Messages.{message, warning}
 use Rattle.facl_output.specs.declared.fault.LineFault.{LineFault}
-use Rattle.facl_output.specs.declared.fault.LineFault.TheVariants.{LineTooLong, UnknownTool, UnendedText, TextLineTooLong, Usage, NoMemory}
-use Rattle.facl_tools.specs.Replies.{Reply, after, or_fault, printed}
+use Rattle.facl_output.specs.declared.fault.LineFault.TheVariants.{LineTooLong, UnknownTool, UnendedText, TextLineTooLong, NoMemory}
+use Rattle.facl_tools.specs.Replies.{Reply, printed}
 use Rattle.acl_rights.specs.Rows.{Verdict}
 use Rattle.facl.specs.Tools.{loads, tool_line, tool_named}
 use Rattle.facl.specs.declared.tools.Tool.{Tool}
 use Rattle.acl_rights.specs.declared.indexed.States.{States}
 use Rattle.acl_rights.specs.States.{states_after}
+use Rattle.acl_text.specs.Results.{◌>>=◌, map_err}
 
 -- whether the tool of this name loads a text
 abbrev pub loads_by_name : Text → Bool
@@ -28,40 +27,27 @@ is_silent (Some line) = has_no_words line
 
 -- ---- what a line asks for
 
-abbrev pub split : Result (List Text) SplitFault → Result (List Text) LineFault
-split (Ok words) = Ok words
-split (Err fault) = Err (line_fault_of_split fault)
-
 -- the words of a line, or what is wrong with it as a line
 abbrev pub words_of_line : Option (List ℕ) → Result (List Text) LineFault
-words_of_line line = after (or_fault LineTooLong line) (λ text. split (line_words text))
-
--- the tool of a name
-abbrev pub tool_or_fault : Text → Result Tool LineFault
-tool_or_fault name = or_fault UnknownTool (tool_named name)
+words_of_line line = ok_or line LineTooLong >>= λ bytes. map_err line_fault_of_split (line_words bytes)
 
 -- the text of a line, which is empty where it takes none
-abbrev pub text_or_fault : UnitText → Result (List ℕ) LineFault
-text_or_fault none = Ok []
-text_or_fault (whole text) = Ok text
-text_or_fault too_long = Err TextLineTooLong
-text_or_fault unended = Err UnendedText
-
--- the FILEs of the program's words, or usage
-abbrev pub args_or_fault : List Text → Result (List (Option Text)) LineFault
-args_or_fault words = or_fault Usage (files_for words)
+abbrev pub text_of : UnitText → Result (List ℕ) LineFault
+text_of none = Ok []
+text_of (whole text) = Ok text
+text_of too_long = Err TextLineTooLong
+text_of unended = Err UnendedText
 
 -- ---- what is answered
 
 -- what a tool does with the text and the words after its name
 abbrev pub tool_reply : Verdict → States → UnitText → List Text → Tool → Result Reply LineFault
-tool_reply verdict w text words tool =
-    after (text_or_fault text) (λ content. tool_line verdict w.loaded w.now tool words content)
+tool_reply verdict w text words tool = text_of text >>= tool_line verdict w.loaded w.now tool words
 
 -- what the words of a line do: its reply, or its first fault
 abbrev pub reply : Verdict → States → UnitText → List Text → Result Reply LineFault
 reply verdict w text [] = Ok (printed w.now [])
-reply verdict w text (name ∷ words) = after (tool_or_fault name) (tool_reply verdict w text words)
+reply verdict w text (name ∷ words) = ok_or (tool_named name) UnknownTool >>= tool_reply verdict w text words
 
 -- what units write to out and to err, the states that they leave, and whether one of them was refused
 pub record UnitAnswer : Type 0 where

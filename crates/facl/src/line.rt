@@ -6,7 +6,7 @@ ghost use Rattle.facl_script.specs.Held.{IsLineHeld, IsTextHeld};
 ghost use Rattle.acl_rights.specs.States.{IsPrepared, loaded_state, states_in};
 ghost use Rattle.facl_tools.specs.Replies.{Gives, Replies};
 ghost use Rattle.facl.specs.Tools.{tool_line};
-ghost use Rattle.facl.specs.Units.{is_silent, words_of_line, text_or_fault, tool_reply};
+ghost use Rattle.facl.specs.Units.{is_silent, words_of_line, text_of, tool_reply};
 
 use crate::tools::{Tool, tool_line};
 use acl_rights::{IndexedStates, Judge};
@@ -37,7 +37,7 @@ pub(crate) fn words_of_line(alloc: Global, line: &HeldLine<'_>) -> Result<Vec<St
 
 /// Returns the text of a line.
 fn text_of_unit<'a>(text: &HeldText<'a>) -> Result<&'a [u8], LineFault>
-    ensures { (content : UnitText) → IsTextHeld text.now content → Gives (λ t. t.now) result (text_or_fault content) }
+    ensures { (content : UnitText) → IsTextHeld text.now content → Gives (λ t. t.now) result (text_of content) }
 {
     match text {
         HeldText::Absent => Ok(b""),

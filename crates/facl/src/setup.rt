@@ -1,8 +1,9 @@
 //! The texts that are loaded before a script.
 
 ghost use Rattle.std.specs.Prelude.{◌≡◌, ◌≢◌, Ok, Err, MatchResult, option_map};
+ghost use Rattle.acl_text.specs.Results.{map_err};
 ghost use Rattle.acl_tree.specs.Loads.{load};
-ghost use Rattle.facl.specs.Setups.{set_up, with_text, initial_state};
+ghost use Rattle.facl.specs.Setups.{with_text, initial_state};
 
 use acl_tree::{Command, Staged, State, Table, TreeFault};
 use facl_output::RunFault;
@@ -33,8 +34,8 @@ fn setup_fault(which: Table, fault: TreeFault) -> RunFault
 /// Prepares the state with a text loaded.
 fn prepared(alloc: Global, which: Table, text: &[u8], state: &State) -> Result<Staged, RunFault>
     ensures { MatchResult result
-        (λ staged. set_up which (load state.now which text.now) ≡ Ok staged.state)
-        (λ fault. fault ≢ RunFault.NoMemory → set_up which (load state.now which text.now) ≡ Err fault) }
+        (λ staged. map_err (λ fault. RunFault.Setup which fault) (load state.now which text.now) ≡ Ok staged.state)
+        (λ fault. fault ≢ RunFault.NoMemory → map_err (λ fault. RunFault.Setup which fault) (load state.now which text.now) ≡ Err fault) }
 {
     let command = Command::Load { which, bytes: text };
     let outcome = state.prepare(alloc, &command);
@@ -52,8 +53,8 @@ fn with_loaded(
     mut state: State,
 ) -> Result<State, RunFault>
     ensures { MatchResult result
-        (λ new. set_up which (load state which text.now) ≡ Ok new)
-        (λ fault. fault ≢ RunFault.NoMemory → set_up which (load state which text.now) ≡ Err fault) }
+        (λ new. map_err (λ fault. RunFault.Setup which fault) (load state which text.now) ≡ Ok new)
+        (λ fault. fault ≢ RunFault.NoMemory → map_err (λ fault. RunFault.Setup which fault) (load state which text.now) ≡ Err fault) }
 {
     let staged = prepared(alloc, which, text, &state)?;
     state.commit(staged);

@@ -16,8 +16,8 @@ ghost use Rattle.std.specs.List.{find};
 ghost use Rattle.std.specs.Str.{bytes_eq};
 ghost use Rattle.acl_rights.specs.States.{loaded_state};
 ghost use Rattle.facl_script.specs.Rows.{syntax_view};
-ghost use Rattle.facl_tools.specs.Replies.{Gives, Replies, after};
-ghost use Rattle.facl.specs.Tools.{answered, line_or_fault, loads, read_line, row_of, row_view, syntax_of, table, tool_line, tool_name, tool_named, words_of, words_or_fault};
+ghost use Rattle.facl_tools.specs.Replies.{Gives, Replies};
+ghost use Rattle.facl.specs.Tools.{answered, line_or_fault, loads, read_line, row_of, row_view, syntax_of, table, tool_line, tool_name, tool_named, words_answered, words_of, words_or_fault};
 ghost use Rattle.facl.specs.contracts.tools.ToolPartialEq.TheImpl.{ghosts as equality};
 
 use acl_rights::{IndexedStates, Judge};
@@ -346,7 +346,7 @@ fn words_answer<J: Judge>(
     words: &Words,
     text: &[u8],
 ) -> Result<Effect, LineFault>
-    ensures { Replies indexed_states.now.state result (after (line_or_fault tool words.now) (λ line. answered J.verdict_of (loaded_state indexed_states.now) indexed_states.now.state line text.now)) }
+    ensures { Replies indexed_states.now.state result (words_answered J.verdict_of (loaded_state indexed_states.now) indexed_states.now.state tool words.now text.now) }
 {
     let line = line_of(alloc, tool, words)?;
     answer(alloc, indexed_states, line, text)

@@ -1,8 +1,8 @@
 //! The words of the program, with the faults of a line.
 
-ghost use Rattle.std.specs.Prelude.{map, option_map, string_bytes};
+ghost use Rattle.std.specs.Prelude.{map, option_map, string_bytes, ok_or};
 ghost use Rattle.facl_tools.specs.Replies.{Gives};
-ghost use Rattle.facl.specs.Units.{args_or_fault};
+ghost use Rattle.facl_script.specs.Args.{files_for};
 
 use facl_output::LineFault;
 use std::alloc::Global;
@@ -15,7 +15,7 @@ use std::alloc::Global;
 /// `Usage` if `clap` refuses the words: another word, an option without its value, or one that is given twice;
 /// `NoMemory` only if memory runs out.
 pub fn read_args(alloc: Global, words: &[String]) -> Result<[Option<String>; 3], LineFault>
-    ensures { Gives (map (option_map string_bytes)) result (args_or_fault (map string_bytes words.now)) }
+    ensures { Gives (map (option_map string_bytes)) result (ok_or (files_for (map string_bytes words.now)) LineFault.Usage) }
 {
     Ok(facl_script::read_args(alloc, words)?)
 }

@@ -5,7 +5,7 @@ use Rattle.std.specs.List.{AllByRecursion}
 use Rattle.std.specs.Option.{option_map_or}
 use Rattle.acl_entry.proofs.Maps.{map_of-entries}
 use Rattle.facl_output.proofs.ListsPut.{access_put, default_put, both_put}
-use Rattle.acl_text.specs.Attr.{attr_bytes, attr_of}
+use Rattle.acl_text.specs.Attr.{attr_bytes, attr_of, bad_attr}
 use Rattle.acl_edit.specs.Nodes.{IsSound}
 use Rattle.acl_edit.specs.declared.node.Node.{Node}
 use Rattle.acl_entry.specs.Lists.{KeyMap, entries, map_of}
@@ -17,6 +17,7 @@ use Rattle.acl_text.specs.declared.entries.Spec.{Spec}
 use Rattle.acl_text.specs.declared.fault.TextFault.{TextFault}
 use Rattle.acl_text.specs.declared.fault.Which.{Which}
 use Rattle.acl_text.specs.declared.fault.Which.TheVariants.{Access, Default}
+use Rattle.acl_text.specs.Results.{◌>>=◌, map_err}
 use Rattle.acl_names.specs.Paths.{PathOf}
 use Rattle.acl_tree.specs.Files.{Files}
 use Rattle.acl_tree.specs.Sound.{ArePlaced}
@@ -27,15 +28,15 @@ use Rattle.facl_output.specs.TestListing.{lists_text}
 use Rattle.facl_output.specs.Faults.{line_fault_of_text}
 use Rattle.facl_script.specs.Forms.{Text}
 use Rattle.facl_output.specs.declared.fault.LineFault.{LineFault}
+use Rattle.facl_output.specs.declared.fault.LineFault.TheVariants.{Text as BadText}
 use Rattle.facl_output.specs.declared.fault.Source.{Source}
 use Rattle.facl_output.specs.declared.fault.Source.TheVariants.{Entry, DefaultEntry, AttributeEntry}
-use Rattle.facl_tools.specs.Lists.{at_source, entry_of, list_from, list_of_text}
-use Rattle.facl_tools.specs.Replies.{after}
+use Rattle.facl_tools.specs.Lists.{entry_of, list_from, list_of_text}
 use Rattle.facl_tools.specs.RoundTrips.{file_listed, after_slash, IsReadByChacl, IsReadBySetattr, AreReadBySetattr, IsReadBySet}
 use Rattle.facl_tools.specs.Setattr as setattr
-use Rattle.facl_tools.specs.Setattr.{bytes_or_fault}
 use Rattle.facl_tools.specs.declared.setfacl_entries.ChangeEntries.{ChangeEntries}
 use Rattle.hex.specs.Hex.{encode_lower}
+use Rattle.hex.specs.declared.error.FromHexError.{FromHexError}
 
 -- ---- chacl
 
@@ -50,7 +51,7 @@ module _ (known : KnownPeople) where
   list_again : (source : Source) (which : Which) (acl : KeyMap) → IsShortAgain known acl → list_of_text known source which (printed acl) ≡ Ok acl
   unfolding list_of_text
   list_again source which acl is =
-      ap (λ r. after (at_source source r) (λ specs. list_from source which (map entry_of specs))) is.read
+      ap (λ r. map_err (line_fault_of_text source) r >>= λ specs. list_from source which (map entry_of specs)) is.read
       ∙ (ap (list_from source which) (entries_again 1 (entries acl))
       ∙ (ap (λ f. option_map_or (λ f. Err (line_fault_of_text source (record { kind = of_list which f; at = 0 }))) f (Ok (map_of (entries acl)))) is.valid
       ∙ ap (λ m. Ok m) (map_of-entries acl)))
@@ -87,7 +88,7 @@ module _ (known : KnownPeople) where
     lists = lists_text (naming_of known) e.1;
     entries = only_set (specs_of 1 (all_entries e.1));
     line = λ has_below. refl;
-    read = λ files text. ap (λ (r : Result (List Spec) TextFault). after (at_source Entry r) (λ specs. Ok (only_set specs))) is.both;
+    read = λ files text. ap (λ (r : Result (List Spec) TextFault). map_err (line_fault_of_text Entry) r >>= λ specs. Ok (only_set specs)) is.both;
     set = λ files. is.set;
   }
 
@@ -99,8 +100,8 @@ module _ (known : KnownPeople) where
 
 attribute_again : (acl : KeyMap) → IsAttributeAgain acl → setattr.list_of_digits (encode_lower (attr_bytes acl)) ≡ Ok acl
 attribute_again acl is =
-    ap (λ r. after (bytes_or_fault r) (λ bytes. at_source AttributeEntry (attr_of bytes))) is.digits
-    ∙ ap (at_source AttributeEntry) is.list
+    ap (λ (r : Result (List ℕ) FromHexError). map_err (λ e. BadText AttributeEntry (bad_attr 0)) r >>= λ bytes. map_err (line_fault_of_text AttributeEntry) (attr_of bytes)) is.digits
+    ∙ ap (map_err (line_fault_of_text AttributeEntry)) is.list
 
 access_by_setattr : (n : Node) → IsAttributeAgain n.label.acl → IsReadBySetattr n Access (codes "system.posix_acl_access") n.label.acl
 access_by_setattr n is = record {

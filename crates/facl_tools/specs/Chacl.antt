@@ -1,10 +1,10 @@
 -- chacl(1).
-use Rattle.std.specs.Prelude.{ℕ, ◌+◌, List, [], ◌∷◌, Bool, true, false, if◌then◌else◌, nat_le, codes, refl, Option, Some, None, Result}
+use Rattle.std.specs.Prelude.{ℕ, ◌+◌, List, [], ◌∷◌, Bool, true, false, if◌then◌else◌, nat_le, codes, refl, Option, Some, None, option_map, Result, Ok}
 use Rattle.acl_edit.specs.declared.edit.Edit.TheVariants.{Put, Flatten}
 use Rattle.acl_text.specs.declared.fault.Which.TheVariants.{Access, Default}
+use Rattle.acl_text.specs.Results.{◌>>=◌, unless}
 use Rattle.acl_people.specs.KnownPeople.{KnownPeople, naming_of}
 use Rattle.acl_tree.specs.Found.{FoundFile, files_found}
-use Rattle.acl_tree.specs.Operands.{first_missing}
 use Rattle.acl_tree.specs.State.{State}
 use Rattle.facl_script.specs.Forms.{Text, files_of}
 use Rattle.facl_script.specs.Syntax.{Syntax, by_letter, some}
@@ -13,9 +13,8 @@ use Rattle.facl_output.specs.declared.fault.LineFault.{LineFault}
 use Rattle.facl_output.specs.declared.fault.Source.TheVariants.{Entry, DefaultEntry}
 use Rattle.facl_output.specs.ChaclListings.{chacl_listing}
 use Rattle.facl_tools.specs.Asked.{has, operands_from}
-use Rattle.facl_tools.specs.Readers.{and_then}
-use Rattle.facl_tools.specs.Replies.{Reply, after, printed}
-use Rattle.facl_tools.specs.Operands.{paths_from, recorded_or_fault}
+use Rattle.facl_tools.specs.Replies.{Reply, printed}
+use Rattle.facl_tools.specs.Operands.{paths_from, not_recorded}
 use Rattle.facl_tools.specs.Edits.{edited}
 use Rattle.facl_tools.specs.Lists.{list_of_text}
 use Rattle.facl_tools.specs.declared.chacl.ChaclLine.{ChaclLine}
@@ -46,7 +45,7 @@ tasks_given w = one_if (has syntax w (codes "b") refl) + one_if (has syntax w (c
 
 -- a task on these files
 abbrev pub on_files : Task → List Text → Option (Task × List Text)
-on_files task words = and_then (files_of words) (λ files. Some (task, files))
+on_files task words = option_map (λ files. (task, files)) (files_of words)
 
 -- an access list is put into the files that come after it
 abbrev pub read_access : List Text → Option (Task × List Text)
@@ -79,26 +78,23 @@ task_of w operands =
 abbrev pub read : Words → Option ChaclLine
 read w =
     if nat_le (tasks_given w) 1
-    then and_then (task_of w (operands_from syntax w (codes "word") refl))
-    (λ found. Some (record { task = found.0; recursive = has syntax w (codes "r") refl; files = found.1 }))
+    then option_map (λ found. record { task = found.0; recursive = has syntax w (codes "r") refl; files = found.1 }) (task_of w (operands_from syntax w (codes "word") refl))
     else None
 
 -- an access list is put into files
 abbrev pub put_access : State → Bool → Text → List Text → Result Reply LineFault
-put_access s recursive text files =
-    after (list_of_text s.people Entry Access text) (λ access. edited s recursive (Put (Some access) None) files)
+put_access s recursive text files = list_of_text s.people Entry Access text >>= λ access. edited s recursive (Put (Some access) None) files
 
 -- a default list
 abbrev pub put_default : State → Bool → Text → List Text → Result Reply LineFault
-put_default s recursive text files =
-    after (list_of_text s.people DefaultEntry Default text) (λ dacl. edited s recursive (Put None (Some dacl)) files)
+put_default s recursive text files = list_of_text s.people DefaultEntry Default text >>= λ dacl. edited s recursive (Put None (Some dacl)) files
 
 -- an access list and a default list, read in this order
 abbrev pub put_both : State → Bool → Text → Text → List Text → Result Reply LineFault
-put_both s recursive text default_text files =
-    after (list_of_text s.people Entry Access text)
-    (λ access. after (list_of_text s.people DefaultEntry Default default_text)
-    (λ dacl. edited s recursive (Put (Some access) (Some dacl)) files))
+put_both s recursive text default_text files = do
+  access ← list_of_text s.people Entry Access text
+  dacl ← list_of_text s.people DefaultEntry Default default_text
+  edited s recursive (Put (Some access) (Some dacl)) files
 
 -- ids print as the names that these people have
 abbrev pub chacl_text : KnownPeople → List FoundFile → List ℕ
@@ -106,10 +102,9 @@ chacl_text known files = chacl_listing (naming_of known) files
 
 -- the lists of files are printed
 abbrev pub list_files : State → Bool → List Text → Result Reply LineFault
-list_files s recursive files =
-    after (paths_from 1 files)
-    (λ paths. recorded_or_fault (first_missing paths s.tree.files)
-    (printed s (chacl_text s.people (files_found recursive paths s.tree.files))))
+list_files s recursive files = do
+  paths ← paths_from 1 files
+  unless (not_recorded paths s.tree.files) (Ok (printed s (chacl_text s.people (files_found recursive paths s.tree.files))))
 
 -- a task is done with files
 abbrev pub task_done : State → Bool → Task → List Text → Result Reply LineFault

@@ -1,10 +1,10 @@
 -- getfacl(1).
-use Rattle.std.specs.Prelude.{ℕ, List, [], ◌∷◌, Bool, true, false, codes, refl, Option, None, Some, Result}
+use Rattle.std.specs.Prelude.{ℕ, List, [], ◌∷◌, Bool, true, false, codes, refl, Option, None, Some, Result, option_and_then, option_map, Ok}
 use Rattle.acl_text.specs.declared.effective.Effective.{Effective}
 use Rattle.acl_text.specs.declared.effective.Effective.TheVariants.{WhereMasked, Always, Never}
+use Rattle.acl_text.specs.Results.{◌>>=◌, unless}
 use Rattle.acl_people.specs.KnownPeople.{KnownPeople, naming_of}
 use Rattle.acl_tree.specs.Found.{FoundFile, files_found}
-use Rattle.acl_tree.specs.Operands.{first_missing}
 use Rattle.acl_tree.specs.State.{State}
 use Rattle.facl_output.specs.Listings.{listing}
 use Rattle.facl_output.specs.declared.listing.Options.{Options}
@@ -13,9 +13,8 @@ use Rattle.facl_script.specs.Syntax.{Syntax, both, some}
 use Rattle.facl_script.specs.declared.tool_words.Words.{Words}
 use Rattle.facl_output.specs.declared.fault.LineFault.{LineFault}
 use Rattle.facl_tools.specs.Asked.{has, operands_from}
-use Rattle.facl_tools.specs.Operands.{paths_from, recorded_or_fault}
-use Rattle.facl_tools.specs.Readers.{and_then}
-use Rattle.facl_tools.specs.Replies.{Reply, after, printed}
+use Rattle.facl_tools.specs.Operands.{paths_from, not_recorded}
+use Rattle.facl_tools.specs.Replies.{Reply, printed}
 use Rattle.facl_tools.specs.declared.getfacl.GetfaclLine.{GetfaclLine}
 
 abbrev pub syntax : Syntax
@@ -50,9 +49,11 @@ options_of w effective = record {
 -- the line that words give, unless they are usage
 abbrev pub read : Words → Option GetfaclLine
 read w =
-    and_then (effective_for (has syntax w (codes "all-effective") refl) (has syntax w (codes "no-effective") refl))
-    (λ effective. and_then (files_of (operands_from syntax w (codes "file") refl))
-    (λ files. Some (record { options = options_of w effective; recursive = has syntax w (codes "recursive") refl; files = files })))
+    option_and_then
+    (λ effective. option_map
+    (λ files. record { options = options_of w effective; recursive = has syntax w (codes "recursive") refl; files = files })
+    (files_of (operands_from syntax w (codes "file") refl)))
+    (effective_for (has syntax w (codes "all-effective") refl) (has syntax w (codes "no-effective") refl))
 
 -- ids print as the names that these people have
 abbrev pub getfacl_text : KnownPeople → Options → List FoundFile → List ℕ
@@ -60,7 +61,6 @@ getfacl_text known options files = listing (naming_of known) options files
 
 -- the files are listed
 abbrev pub answered : State → GetfaclLine → Result Reply LineFault
-answered s line =
-    after (paths_from 1 line.files)
-    (λ paths. recorded_or_fault (first_missing paths s.tree.files)
-    (printed s (getfacl_text s.people line.options (files_found line.recursive paths s.tree.files))))
+answered s line = do
+  paths ← paths_from 1 line.files
+  unless (not_recorded paths s.tree.files) (Ok (printed s (getfacl_text s.people line.options (files_found line.recursive paths s.tree.files))))

@@ -2,15 +2,17 @@
 use Rattle.std.specs.Prelude.{[], ◌∷◌, codes, refl, Option, None, Some, Result}
 use Rattle.acl_tree.specs.declared.command.Membership.TheVariants.{Add, Remove}
 use Rattle.acl_tree.specs.Memberships.{gpasswd}
-use Rattle.acl_tree.specs.State.{State}
+use Rattle.acl_tree.specs.State.{State, with_change}
+use Rattle.acl_tree.specs.UserMoves.{change_moves}
 use Rattle.facl_script.specs.Forms.{Text}
 use Rattle.facl_script.specs.Syntax.{Syntax, by_letter, one}
 use Rattle.facl_script.specs.declared.tool_words.Words.{Words}
 use Rattle.facl_output.specs.declared.fault.LineFault.{LineFault}
 use Rattle.facl_tools.specs.Asked.{operand, value}
 use Rattle.facl_tools.specs.Operands.{name_meant}
-use Rattle.facl_tools.specs.Replies.{Reply, replied_groups}
+use Rattle.facl_tools.specs.Replies.{Reply, replied}
 use Rattle.facl_tools.specs.declared.gpasswd.GpasswdLine.{GpasswdLine}
+use Rattle.acl_text.specs.Results.{◌>>=◌}
 
 abbrev pub syntax : Syntax
 syntax = record { flags = []; options = by_letter (codes "a") ∷ by_letter (codes "d") ∷ []; operands = one (codes "group") ∷ [] }
@@ -28,4 +30,6 @@ read w = line_of (value syntax w (codes "a") refl) (value syntax w (codes "d") r
 
 -- the user is added to the group, or removed from it
 abbrev pub answered : State → GpasswdLine → Result Reply LineFault
-answered s line = replied_groups s (gpasswd (name_meant line.user) (name_meant line.group) line.change s.people)
+answered s line =
+    let change = gpasswd (name_meant line.user) (name_meant line.group) line.change s.people in
+    replied (change_moves s.people change) (change >>= with_change s)

@@ -6,22 +6,16 @@ use Rattle.acl_entry.specs.Perms.{none}
 use Rattle.acl_entry.specs.declared.entry.Entry.{Entry}
 use Rattle.acl_text.specs.Entries.{entries_of}
 use Rattle.acl_text.specs.InTurn.{of_list}
+use Rattle.acl_text.specs.Results.{◌>>=◌, map_err}
 use Rattle.acl_text.specs.declared.entries.Sep.TheVariants.{Comma}
 use Rattle.acl_text.specs.declared.entries.Spec.{Spec}
 use Rattle.acl_text.specs.declared.entries.Want.TheVariants.{Plain}
-use Rattle.acl_text.specs.declared.fault.TextFault.{TextFault}
 use Rattle.acl_text.specs.declared.fault.Which.{Which}
 use Rattle.acl_people.specs.KnownPeople.{KnownPeople, naming_of}
 use Rattle.facl_script.specs.Forms.{Text}
 use Rattle.facl_output.specs.Faults.{line_fault_of_text}
 use Rattle.facl_output.specs.declared.fault.LineFault.{LineFault}
 use Rattle.facl_output.specs.declared.fault.Source.{Source}
-use Rattle.facl_tools.specs.Replies.{after}
-
--- what a text contains, or its fault as one of the line
-abbrev pub at_source : {A : Type 0} → Source → Result A TextFault → Result A LineFault
-at_source source (Ok a) = Ok a
-at_source source (Err fault) = Err (line_fault_of_text source fault)
 
 -- what a written entry gives
 abbrev pub entry_of : Spec → Entry
@@ -32,9 +26,8 @@ abbrev pub list_from : Source → Which → List Entry → Result KeyMap LineFau
 list_from source which es = option_map_or (λ f. Err (line_fault_of_text source (record { kind = of_list which f; at = 0 }))) (fault es) (Ok (map_of es))
 
 abbrev pub specs_of : KnownPeople → Source → Text → Result (List Spec) LineFault
-specs_of known source text =
-    at_source source (entries_of (naming_of known) Comma Plain text)
+specs_of known source text = map_err (line_fault_of_text source) (entries_of (naming_of known) Comma Plain text)
 
 -- the list that a text names: entries with permissions, with a comma between each two
 unfoldable pub list_of_text : KnownPeople → Source → Which → Text → Result KeyMap LineFault
-list_of_text known source which text = after (specs_of known source text) (λ specs. list_from source which (map entry_of specs))
+list_of_text known source which text = specs_of known source text >>= λ specs. list_from source which (map entry_of specs)

@@ -1,5 +1,5 @@
 -- load: a text is read as users, groups or files.
-use Rattle.std.specs.Prelude.{ℕ, List, [], ◌∷◌, codes, refl, if◌then◌else◌, Option, None, Some, Result}
+use Rattle.std.specs.Prelude.{ℕ, List, [], ◌∷◌, codes, refl, if◌then◌else◌, Option, None, Some, option_map, Result}
 use Rattle.std.specs.Str.{bytes_eq}
 use Rattle.acl_tree.specs.declared.command.Table.{Table}
 use Rattle.acl_tree.specs.declared.command.Table.TheVariants.{Passwd, Group, Dump}
@@ -11,7 +11,6 @@ use Rattle.facl_script.specs.Syntax.{Syntax, one}
 use Rattle.facl_script.specs.declared.tool_words.Words.{Words}
 use Rattle.facl_output.specs.declared.fault.LineFault.{LineFault}
 use Rattle.facl_tools.specs.Asked.{operand}
-use Rattle.facl_tools.specs.Readers.{and_then}
 use Rattle.facl_tools.specs.Replies.{Reply, replied}
 use Rattle.facl_tools.specs.declared.load.LoadLine.{LoadLine}
 
@@ -28,7 +27,7 @@ table_named name =
 
 -- the line that words give, unless they are usage
 abbrev pub read : Words → Option LoadLine
-read w = and_then (table_named (operand syntax w (codes "table") refl)) (λ table. Some (record { table = table }))
+read w = option_map (λ table. record { table = table }) (table_named (operand syntax w (codes "table") refl))
 
 -- the text is read
 abbrev pub answered : State → LoadLine → List ℕ → Result Reply LineFault

@@ -1,12 +1,8 @@
 -- What the readers of the tools have in common.
-use Rattle.std.specs.Prelude.{Option, option_and_then, option_map, false}
+use Rattle.std.specs.Prelude.{Option, option_map, false}
 use Rattle.acl_entry.specs.Perms.{Perms}
 use Rattle.acl_text.specs.Letters.{perms_of}
 use Rattle.facl_script.specs.Forms.{Text}
-
--- what is read next, where this could be read
-abbrev pub and_then : {A B : Type 0} → Option A → (A → Option B) → Option B
-and_then a next = option_and_then next a
 
 -- the permissions that a word gives, without X: one digit 0 to 7, or letters, or nothing
 abbrev pub permissions_of : Text → Option Perms

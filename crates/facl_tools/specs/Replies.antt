@@ -1,13 +1,10 @@
 -- What is answered to a line: a reply, or the line's first fault.
 use Rattle.std.specs.Option.{option_map_or}
-use Rattle.std.specs.Prelude.{◌≡◌, ◌≢◌, ℕ, Bool, false, List, [], Option, None, Some, Result, Ok, Err, IfSome, MatchResult}
+use Rattle.std.specs.Prelude.{◌≡◌, ◌≢◌, ℕ, Bool, false, List, [], Result, Ok, Err, IfSome, MatchResult}
 use Rattle.acl_text.specs.InTurn.{GivesUnless}
-use Rattle.acl_text.specs.Results.{◌>>=◌}
-use Rattle.acl_tree.specs.State.{State, with_change, with_tree}
-use Rattle.acl_tree.specs.Files.{Recorded}
-use Rattle.acl_tree.specs.Memberships.{ChangedUser}
+use Rattle.acl_text.specs.Results.{◌>>=◌, map_err}
+use Rattle.acl_tree.specs.State.{State}
 use Rattle.acl_tree.specs.Step.{step}
-use Rattle.acl_tree.specs.UserMoves.{change_moves, user_left}
 use Rattle.acl_tree.specs.Reports.{Reports, users_move}
 use Rattle.acl_tree.specs.declared.command.Command.{Command}
 use Rattle.acl_tree.specs.declared.fault.TreeFault.{TreeFault}
@@ -26,32 +23,9 @@ pub record Reply : Type 0 where
   pub out : List ℕ
   pub warns : Bool
 
--- what comes next, where nothing was wrong so far
-abbrev pub after : {A B E : Type 0} → Result A E → (A → Result B E) → Result B E
-after (Ok a) next = next a
-after (Err fault) next = Err fault
-
--- what is there, or this fault
-abbrev pub or_fault : {A E : Type 0} → E → Option A → Result A E
-or_fault fault None = Err fault
-or_fault fault (Some a) = Ok a
-
 -- the reply to a line that makes this of the state, and moves the users so; it prints nothing
 abbrev pub replied : UserChange → Result State TreeFault → Result Reply LineFault
-replied moved (Ok s) = Ok (record { state = s; user_change = moved; out = []; warns = false })
-replied moved (Err fault) = Err (line_fault_of_tree fault)
-
--- the reply to a line that makes this tree
-abbrev pub replied_tree : State → Result Recorded TreeFault → Result Reply LineFault
-replied_tree s tree = replied Unchanged (tree >>= with_tree s)
-
--- the reply to a line that changes a user's groups so
-abbrev pub replied_groups : State → Result ChangedUser TreeFault → Result Reply LineFault
-replied_groups s change = replied (change_moves s.people change) (change >>= with_change s)
-
--- the reply to a line that removes a user
-abbrev pub replied_removal : State → Result ChangedUser TreeFault → Result Reply LineFault
-replied_removal s change = replied (user_left change) (change >>= with_change s)
+replied moved made = map_err line_fault_of_tree made >>= λ s. Ok (record { state = s; user_change = moved; out = []; warns = false })
 
 -- a command is done: what its own tool replies
 abbrev pub done : State → Command → Result Reply LineFault
@@ -60,10 +34,6 @@ done s command = replied (users_move s command) (step s command)
 -- the state stays, and this is printed
 abbrev pub printed : State → List ℕ → Reply
 printed s out = record { state = s; user_change = Unchanged; out = out; warns = false }
-
--- the state stays, and this is printed
-abbrev pub printed_or_fault : State → Result (List ℕ) LineFault → Result Reply LineFault
-printed_or_fault s text = after text (λ out. Ok (printed s out))
 
 -- ---- what is done to answer a line
 

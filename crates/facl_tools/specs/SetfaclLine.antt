@@ -1,12 +1,11 @@
 -- The words of setfacl(1), and the line that they give.
-use Rattle.std.specs.Prelude.{List, [], ◌∷◌, ◌&&◌, ◌||◌, Bool, not, codes, refl, if◌then◌else◌, Option, None, Some}
+use Rattle.std.specs.Prelude.{List, [], ◌∷◌, ◌&&◌, ◌||◌, Bool, not, codes, refl, if◌then◌else◌, Option, None, Some, option_map}
 use Rattle.std.specs.Bool.{beq}
 use Rattle.facl_tools.specs.declared.setfacl.ChangeFlags.{ChangeFlags}
 use Rattle.facl_script.specs.Forms.{Text, files_of, is_empty}
 use Rattle.facl_script.specs.Syntax.{Syntax, any, both, by_name, of_text}
 use Rattle.facl_script.specs.declared.tool_words.Words.{Words}
 use Rattle.facl_tools.specs.Asked.{gives, has, operands_from, value}
-use Rattle.facl_tools.specs.Readers.{and_then}
 use Rattle.facl_tools.specs.declared.setfacl.ChangeLine.{ChangeLine}
 use Rattle.facl_tools.specs.declared.setfacl.EntrySource.{EntrySource}
 use Rattle.facl_tools.specs.declared.setfacl.EntrySource.TheVariants.{InText, InWord}
@@ -91,7 +90,7 @@ read_restore w =
 abbrev pub read_change : Words → Option SetfaclLine
 read_change w =
     if contradicts_itself w || beq (changes_entries w) (replaces_lists w)
-    then None else and_then (files_of (operands_from syntax w (codes "file") refl)) (λ files. Some (Change (change_of w files)))
+    then None else option_map (λ files. Change (change_of w files)) (files_of (operands_from syntax w (codes "file") refl))
 
 -- the line that words give, unless they are usage
 abbrev pub read : Words → Option SetfaclLine

@@ -1,5 +1,5 @@
 -- useradd(8): a new user.
-use Rattle.std.specs.Prelude.{ℕ, [], ◌∷◌, codes, refl, if◌then◌else◌, Option, None, Some, Result}
+use Rattle.std.specs.Prelude.{ℕ, [], ◌∷◌, codes, refl, if◌then◌else◌, Option, None, Some, option_and_then, option_map, Result}
 use Rattle.acl_names.specs.Names.{decoded}
 use Rattle.acl_text.specs.UserNames.{is_user_name}
 use Rattle.acl_text.specs.Ids.{id_of}
@@ -14,7 +14,6 @@ use Rattle.facl_script.specs.declared.tool_words.Words.{Words}
 use Rattle.facl_output.specs.declared.fault.LineFault.{LineFault}
 use Rattle.facl_tools.specs.Asked.{operand, value}
 use Rattle.facl_tools.specs.Operands.{name_meant}
-use Rattle.facl_tools.specs.Readers.{and_then}
 use Rattle.facl_tools.specs.Replies.{Reply, replied}
 use Rattle.facl_tools.specs.declared.useradd.UseraddLine.{UseraddLine}
 
@@ -23,7 +22,7 @@ syntax = record { flags = []; options = by_letter (codes "u") ∷ by_letter (cod
 
 -- digits alone
 abbrev pub uid_of : Words → Option ℕ
-uid_of w = and_then (value syntax w (codes "u") refl) id_of
+uid_of w = option_and_then id_of (value syntax w (codes "u") refl)
 
 abbrev pub user_name : Text → Option Text
 user_name name = if is_user_name name then Some name else None
@@ -35,13 +34,11 @@ decoded_name w = user_name (decoded (operand syntax w (codes "name") refl))
 -- the line with this name
 abbrev pub line_with : Words → Text → Option UseraddLine
 line_with w name =
-    and_then (uid_of w)
-    (λ uid. and_then (value syntax w (codes "g") refl)
-    (λ group. Some (record { name = name; uid = uid; group = group })))
+    option_and_then (λ uid. option_map (λ group. record { name = name; uid = uid; group = group }) (value syntax w (codes "g") refl)) (uid_of w)
 
 -- the line that words give, unless they are usage
 abbrev pub read : Words → Option UseraddLine
-read w = and_then (decoded_name w) (line_with w)
+read w = option_and_then (line_with w) (decoded_name w)
 
 abbrev pub new_user : UseraddLine → NewUser
 new_user line = record { name = line.name; uid = line.uid; group = name_meant line.group }

@@ -2,7 +2,7 @@
 
 ghost use Rattle.std.specs.Prelude.{◌≡◌, IfOk};
 ghost use Rattle.facl_tools.specs.Replies.{Gives};
-ghost use Rattle.facl_tools.specs.Operands.{path_at, paths_from, name_meant, user_or_fault};
+ghost use Rattle.facl_tools.specs.Operands.{path_at, paths_from, name_meant, user_at};
 
 use acl_names::{Name, Path, read_name, read_path};
 use acl_people::People;
@@ -50,7 +50,7 @@ pub fn name_meant(alloc: Global, word: &WordRef<'_>) -> Result<Name, AllocError>
 
 /// Finds the place of the user that a word means.
 pub fn user_at(alloc: Global, people: &People, word: &WordRef<'_>) -> Result<usize, LineFault>
-    ensures { Gives (λ user. user) result (user_or_fault people.now (name_meant word.now)) }
+    ensures { Gives (λ user. user) result (user_at people.now (name_meant word.now)) }
 {
     let name = name_meant(alloc, word)?;
     match people.find_user(name.as_bytes()) {

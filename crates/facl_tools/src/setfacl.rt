@@ -1,6 +1,6 @@
 //! The tool setfacl(1): its words, the line that they give, and what it does.
 ghost use Rattle.facl_tools.specs.Replies.{Replies, Gives};
-ghost use Rattle.facl_tools.specs.Setfacl.{answered, change_files, change_line, edit_of, records_or_fault, restore_line, restored_or_tested};
+ghost use Rattle.facl_tools.specs.Setfacl.{answered, change_files, change_line, edit_of, records_of, restore_line, restored_or_tested};
 ghost use Rattle.std.specs.Prelude.{◌≡◌};
 ghost use Rattle.facl_tools.specs.SetfaclLine.{change_of, changes_entries, contradicts_itself, entries_from, flags_of, has_edit_flag, read, read_change, read_restore, replaces_lists};
 
@@ -75,9 +75,9 @@ fn change(
 }
 
 /// Reads the records of a dump that is restored.
-#[tactic(auto, unfolding(crate::specs::Setfacl::records_or_fault))]
+#[tactic(auto, unfolding(crate::specs::Setfacl::records_of))]
 fn records_of(alloc: Global, people: &People, dump: &[u8]) -> Result<DumpRecords, LineFault>
-    ensures { Gives (λ records. records) result (records_or_fault people.now dump.now) }
+    ensures { Gives (λ records. records) result (records_of people.now dump.now) }
 {
     match read_dump(alloc, dump, DumpUse::Restore, people) {
         Ok(records) => Ok(DumpRecords::new(records)),

@@ -1,10 +1,11 @@
 use Rattle.std.proofs.Common.{◌≡◌, ◌∙◌, None, true, map, string_bytes, subst, sym}
-use Rattle.facl_tools.specs.Replies.{after, or_fault}
+use Rattle.std.specs.Prelude.{ok_or}
 use Rattle.facl.specs.Tools.{tool_named}
 use Rattle.facl_output.specs.declared.fault.LineFault.TheVariants.{UnknownTool}
 use Rattle.facl.specs.Sessions.{states_of, Answers}
 use Rattle.facl.specs.Counted.{answer_of, refused}
 use Rattle.facl.specs.Units.{tool_reply}
+use Rattle.acl_text.specs.Results.{◌>>=◌}
 use Rattle.facl.proofs.session.FaclSession.answer_named.Goals as goal
 
 pub returns-in-None-clause-answer : goal.returns-in-None-clause-answer
@@ -17,5 +18,5 @@ returns-in-None-clause-answer g c = λ content held.
     let new = c.refuse.new.self in
     let asked = g.J.Judge.asked_of c.args.judge.now in
     let none : tool_named name ≡ None = sym c.named.ensures ∙ c.in-None.is in
-    subst (λ t. Answers number (answer_of number name states (after (or_fault UnknownTool t) (tool_reply V states content words))) c.args.self.now new asked asked true) (sym none)
+    subst (λ t. Answers number (answer_of number name states (ok_or t UnknownTool >>= tool_reply V states content words)) c.args.self.now new asked asked true) (sym none)
     (subst (λ word. Answers number (refused number word UnknownTool states) c.args.self.now new asked asked true) c.as_bytes-in-None.ensures.value (c.refuse.ensures.answer asked))
