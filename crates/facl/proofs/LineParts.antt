@@ -18,7 +18,7 @@ use Rattle.facl.specs.ToolParts as requests
 use Rattle.facl.specs.ToolParts.{Part, in_first_text, in_second_text, in_third_text, in_two_texts, in_operand, in_user, in_file, in_command}
 use Rattle.facl.specs.FirstPart.{IsNotAfter, IsFirst, IsRefusedForFirst}
 use Rattle.facl_tools.specs.Replies.{Reply}
-use Rattle.facl.specs.Tools as tools
+use Rattle.facl.specs.ToolLines as tools
 use Rattle.acl_rights.specs.Rows.{Verdict}
 use Rattle.facl.specs.Tools.{tool_named, tool_line}
 use Rattle.facl.specs.declared.tools.Tool.{Tool}

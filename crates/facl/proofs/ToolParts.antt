@@ -39,7 +39,7 @@ use Rattle.facl_tools.specs.Setattr as setattr
 use Rattle.facl_tools.specs.Setfacl as setfacl_line
 use Rattle.facl_tools.specs.Setfacl.{records_of, restored_or_tested}
 use Rattle.acl_rights.specs.Rows.{Verdict}
-use Rattle.facl.specs.Tools.{answered}
+use Rattle.facl.specs.ToolLines.{answered}
 use Rattle.facl_tools.specs.Useradd.{new_user}
 use Rattle.facl.specs.Who as who
 use Rattle.facl.specs.Who.{who_at}

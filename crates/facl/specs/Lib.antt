@@ -16,6 +16,7 @@ pub mod May
 pub mod Runs
 pub mod Sessions
 pub mod Setups
+pub mod ToolLines
 pub mod Tools
 pub mod Units
 pub mod Who

@@ -12,7 +12,8 @@ use Rattle.facl.specs.ToolParts as requests
 use Rattle.facl.specs.FirstPart.{IsRefusedForFirst}
 use Rattle.facl_tools.specs.Replies.{Reply}
 use Rattle.acl_rights.specs.Rows.{Verdict}
-use Rattle.facl.specs.Tools.{syntax_of, read_line, tool_named}
+use Rattle.facl.specs.ToolLines.{read_line}
+use Rattle.facl.specs.Tools.{syntax_of, tool_named}
 use Rattle.facl.specs.declared.tools.Tool.{Tool}
 use Rattle.facl.specs.declared.tools.ToolLine.{ToolLine}
 use Rattle.acl_rights.specs.declared.indexed.States.{States}

@@ -17,7 +17,8 @@ ghost use Rattle.std.specs.Str.{bytes_eq};
 ghost use Rattle.acl_rights.specs.States.{loaded_state};
 ghost use Rattle.facl_script.specs.Rows.{syntax_view};
 ghost use Rattle.facl_tools.specs.Replies.{Gives, Replies};
-ghost use Rattle.facl.specs.Tools.{answered, line_or_fault, loads, read_line, row_of, row_view, syntax_of, table, tool_line, tool_name, tool_named, words_answered, words_of, words_or_fault};
+ghost use Rattle.facl.specs.ToolLines.{answered, line_answered, line_of, read_line, words_taken};
+ghost use Rattle.facl.specs.Tools.{loads, row_of, row_view, rows, syntax_of, tool_line, tool_name, tool_named, words_answered, words_of};
 ghost use Rattle.facl.specs.contracts.tools.ToolPartialEq.TheImpl.{ghosts as equality};
 
 use acl_rights::{IndexedStates, Judge};
@@ -134,7 +135,7 @@ static TOOLS: &[ToolRow] = &[
 ];
 
 fn rows() -> &'static [ToolRow]
-    ensures { map row_view result.now ≡ table }
+    ensures { map row_view result.now ≡ rows }
 {
     TOOLS
 }
@@ -258,9 +259,9 @@ fn read_line(alloc: Global, tool: Tool, words: &Words) -> Result<Option<ToolLine
 }
 
 /// Reads the line of a tool, or returns usage.
-#[tactic(auto, unfolding(crate::specs::Tools::line_or_fault))]
+#[tactic(auto, unfolding(crate::specs::ToolLines::line_of))]
 fn line_of(alloc: Global, tool: Tool, words: &Words) -> Result<ToolLine<'_>, LineFault>
-    ensures { Gives (λ line. line) result (line_or_fault tool words.now) }
+    ensures { Gives (λ line. line) result (line_of tool words.now) }
 {
     match read_line(alloc, tool, words)? {
         Some(line) => Ok(line),
@@ -289,9 +290,9 @@ fn words_of(alloc: Global, tool: Tool, words: &[String]) -> Result<Words, LineFa
 /// # Errors
 ///
 /// `Usage` if `clap` or the tool's own rules refuse the words; `NoMemory` only if memory runs out.
-#[tactic(auto, unfolding(crate::specs::Tools::line_or_fault))]
+#[tactic(auto, unfolding(crate::specs::ToolLines::line_of))]
 pub fn read_words(alloc: Global, tool: Tool, words: &[String]) -> Result<Words, LineFault>
-    ensures { Gives (λ w. w) result (words_or_fault tool (map string_bytes words.now)) }
+    ensures { Gives (λ w. w) result (words_taken tool (map string_bytes words.now)) }
 {
     let words = words_of(alloc, tool, words)?;
     if is_line(alloc, tool, &words)? {
@@ -302,7 +303,7 @@ pub fn read_words(alloc: Global, tool: Tool, words: &[String]) -> Result<Words, 
 }
 
 /// Does what a line does at a state. Questions of who may do what are answered from the index of the state.
-#[tactic(auto, unfolding(crate::specs::Tools::answered))]
+#[tactic(auto, unfolding(crate::specs::ToolLines::answered))]
 fn answer<J: Judge>(
     alloc: Global,
     indexed_states: &IndexedStates<J>,
@@ -339,6 +340,20 @@ fn answer<J: Judge>(
 }
 
 /// Does what the line of these words does at a state.
+fn line_answer<J: Judge>(
+    alloc: Global,
+    indexed_states: &IndexedStates<J>,
+    tool: Tool,
+    words: &Words,
+    text: &[u8],
+) -> Result<Effect, LineFault>
+    ensures { Replies indexed_states.now.state result (line_answered J.verdict_of (loaded_state indexed_states.now) indexed_states.now.state tool words.now text.now) }
+{
+    let line = line_of(alloc, tool, words)?;
+    answer(alloc, indexed_states, line, text)
+}
+
+/// The same, by the table of tools.
 fn words_answer<J: Judge>(
     alloc: Global,
     indexed_states: &IndexedStates<J>,
@@ -348,8 +363,7 @@ fn words_answer<J: Judge>(
 ) -> Result<Effect, LineFault>
     ensures { Replies indexed_states.now.state result (words_answered J.verdict_of (loaded_state indexed_states.now) indexed_states.now.state tool words.now text.now) }
 {
-    let line = line_of(alloc, tool, words)?;
-    answer(alloc, indexed_states, line, text)
+    line_answer(alloc, indexed_states, tool, words, text)
 }
 
 /// Does what a tool does at a state, by the words after its name and the text after the line. `changes` and `gains`

@@ -1,7 +1,7 @@
 use Rattle.std.proofs.Common.{sym, subst, ◌∙◌}
 use Rattle.acl_rights.specs.States.{loaded_state}
 use Rattle.facl_tools.specs.Replies.{Replies}
-use Rattle.facl.specs.Tools.{answered}
+use Rattle.facl.specs.ToolLines.{answered}
 use Rattle.facl.proofs.tools.answer.Goals as goal
 
 pub returns-in-Useradd : goal.returns-in-Useradd

@@ -1,6 +1,6 @@
 use Rattle.acl_tree.specs.declared.command.Command.TheVariants as commands
 use Rattle.facl_tools.specs.Operands.{name_meant}
-use Rattle.facl.specs.Tools.{answered}
+use Rattle.facl.specs.ToolLines.{answered}
 use Rattle.facl_tools.specs.Useradd.{new_user}
 use Rattle.facl.proofs.CommandFaults.{done_refused}
 use Rattle.facl.proofs.tools.laws.lines_are_refused_for_the_first_fault_of_their_command.Goals as goal
