@@ -11,3 +11,4 @@ pub mod Rising
 pub mod Same
 pub mod Groups
 pub mod Modes
+pub mod Local

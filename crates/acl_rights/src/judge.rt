@@ -1,7 +1,7 @@
 //! Who decides on a user and a file; and the access check of acl(5) as a judge.
 
 ghost use Rattle.std.specs.Prelude.{◌≡◌, ◌+◌, ◌*◌, ◌<◌, ◌^◌, ℕ, length};
-ghost use Rattle.acl_entry.specs.Mentions.{rights_local};
+ghost use Rattle.acl_entry.proofs.Local.{rights_local};
 ghost use Rattle.acl_entry.specs.Check.{rights};
 ghost use Rattle.acl_rights.specs.Rows.{Verdict, row_of, IsLocal};
 

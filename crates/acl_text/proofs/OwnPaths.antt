@@ -18,10 +18,10 @@ use Rattle.acl_text.specs.declared.record.DumpUse.{DumpUse}
 use Rattle.acl_text.specs.declared.item.Item.{Item}
 use Rattle.acl_text.specs.declared.item.Item.TheVariants as item
 use Rattle.acl_text.specs.OwnPaths.{have_own_paths}
-use Rattle.acl_text.proofs.Streams.{streamed_by_groups}
+use Rattle.acl_text.proofs.Streams.{dump_stream, streamed_by_groups}
 use Rattle.acl_text.specs.Lines.{content_of}
 use Rattle.acl_text.specs.Records.{Numbered, same_path, is_repeated, ends_in_slash, opened_draft, open_record, begins, close, list_of, default_list_of, whole}
-use Rattle.acl_text.specs.Records.{has_headers, record_of, with_item, may_head, add, item_of, judged, line_in, lines_of, dump_of, dump_stream}
+use Rattle.acl_text.specs.Records.{has_headers, record_of, with_item, may_head, add, item_of, judged, line_in, lines_of, dump_of}
 use Rattle.acl_text.proofs.ApartPaths.{flips}
 
 -- ---- what is true of the values of steps that may fail

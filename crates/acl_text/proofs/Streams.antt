@@ -1,8 +1,13 @@
 -- Groups that are read as a stream.
-use Rattle.std.proofs.Common.{◌≡◌, List, [], ◌∷◌, Bool, true, false, cond, Result, Ok, Err, refl, sym, ◌∙◌}
+use Rattle.std.proofs.Common.{◌≡◌, List, [], ◌∷◌, Bool, true, false, cond, Option, Result, Ok, Err, refl, sym, ◌∙◌}
 use Rattle.acl_text.specs.declared.fault.TextFault.{TextFault}
 use Rattle.acl_text.specs.Groups.{in_turn, grouped, put_front, group_of, by_groups, streamed}
+use Rattle.acl_text.specs.Naming.{Naming}
+use Rattle.acl_text.specs.Records.{Numbered, begins, open_record, line_in, close}
 use Rattle.acl_text.specs.Results.{◌>>=◌}
+use Rattle.acl_text.specs.declared.draft.RecordDraft.{RecordDraft}
+use Rattle.acl_text.specs.declared.record.DumpRecord.{DumpRecord}
+use Rattle.acl_text.specs.declared.record.DumpUse.{DumpUse}
 
 pub next_assoc : {A B C : Type 0} (r : Result A TextFault) (f : A → Result B TextFault) (g : B → Result C TextFault) → ((r >>= f) >>= g) ≡ (r >>= (λ x. f x >>= g))
 next_assoc (Ok x) f g = refl
@@ -48,3 +53,7 @@ module _ {S D P : Type 0} (begins : P → Bool) (first : S → P → Result D Te
   pub streamed_by_groups : (item : S) (draft : D) (ps : List P) → streamed begins first line close item draft ps ≡ by_groups begins first line close item draft (grouped begins ps)
   streamed_by_groups item draft [] = sym (next_ok (close item draft))
   streamed_by_groups item draft (p ∷ ps) = by_case item draft p ps (begins p) (λ s d. streamed_by_groups s d ps)
+
+-- a dump that is read line by line
+abbrev pub dump_stream : Naming → DumpUse → List DumpRecord → Option RecordDraft → List Numbered → Result (List DumpRecord) TextFault
+dump_stream naming dump_use records draft lines = streamed begins open_record (line_in naming) (close dump_use) records draft lines

@@ -37,10 +37,10 @@ use Rattle.acl_text.specs.declared.item.Item.{Item}
 use Rattle.acl_text.specs.declared.item.Item.TheVariants as item
 use Rattle.acl_text.specs.Lines.{content_of, begins_record}
 use Rattle.acl_text.specs.Records.{named, flags_of, item_of, add, opened_draft, ends_in_slash, is_repeated, same_path, list_of, list_unless, default_list_of}
-use Rattle.acl_text.specs.Records.{has_headers, whole, begins, open_record, close, line_in, lines_of, dump_of, dump_stream}
+use Rattle.acl_text.specs.Records.{has_headers, whole, begins, open_record, close, line_in, lines_of, dump_of}
 use Rattle.acl_text.specs.DumpWriting.{mark, marks, flags_text, slash_text, file_text, owner_text, group_text, shown, effective_text, entry_line, list_text, default_text, record_text}
 use Rattle.acl_text.specs.RoundTrips.{IsFoundIf, AreFlags, HasHeaders, IsListIf, IsReadable, AreApart, paths, lines_if, default_count, line_count, placed, dump_text}
-use Rattle.acl_text.proofs.Streams.{streamed_by_groups}
+use Rattle.acl_text.proofs.Streams.{dump_stream, streamed_by_groups}
 use Rattle.acl_text.proofs.WrittenEntries.{line_again, line_clean}
 use Rattle.acl_text.proofs.WrittenNames.{name_clean, slash_again, name_some, name_again}
 

@@ -30,7 +30,7 @@ use Rattle.acl_text.specs.declared.record.DumpRecord.{DumpRecord}
 use Rattle.acl_text.specs.declared.draft.RecordDraft.{RecordDraft}
 use Rattle.acl_text.specs.declared.item.Item.{Item}
 use Rattle.acl_text.specs.declared.item.Item.TheVariants as item
-use Rattle.acl_text.specs.Groups.{by_groups, grouped, streamed}
+use Rattle.acl_text.specs.Groups.{by_groups, grouped}
 use Rattle.acl_text.specs.Lines.{content_of, begins_record}
 
 -- ---- one line
@@ -197,7 +197,3 @@ module _ (naming : Naming) where
   -- before the first record belong to no record
   abbrev pub dump_of : DumpUse → List ℕ → Result (List DumpRecord) TextFault
   dump_of dump_use bytes = by_groups begins open_record line_in (close dump_use) [] None (grouped begins (lines_of bytes))
-
-  -- the same, read line by line
-  abbrev pub dump_stream : DumpUse → List DumpRecord → Option RecordDraft → List Numbered → Result (List DumpRecord) TextFault
-  dump_stream dump_use records draft lines = streamed begins open_record line_in (close dump_use) records draft lines

@@ -1,7 +1,7 @@
 use Rattle.std.proofs.Common.{ap, ◌∙◌}
 use Rattle.acl_entry.specs.Check.{has, check}
-use Rattle.acl_entry.specs.Mentions.{rights_local}
 use Rattle.acl_entry.proofs.Bytes.{has-byte_of}
+use Rattle.acl_entry.proofs.Local.{rights_local}
 use Rattle.acl_entry.proofs.check.granted.Goals as goal
 
 pub returns-clause-each : goal.returns-clause-each
