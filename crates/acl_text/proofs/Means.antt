@@ -18,13 +18,14 @@ use Rattle.acl_text.specs.declared.fault.FaultKind.TheVariants as kinds
 use Rattle.acl_text.specs.declared.fields.Tag.{Tag}
 use Rattle.acl_text.specs.declared.fields.Tag.TheVariants as tags
 use Rattle.acl_text.specs.Words.{word_id}
-use Rattle.acl_text.specs.Letters.{is_letter, is_octal_digit, letter_set, holds, letters_of, perms_of}
+use Rattle.acl_text.specs.Letters.{is_letter, letter_set, holds, letters_of, perms_of}
 use Rattle.acl_text.specs.Fields.{EntryRow, tag_named, one_field, two_fields, three_fields, row_of, is_default_word, default_of, entry_fields}
 use Rattle.acl_text.specs.Entries.{tagged, given_perms, no_perms, wanted_perms, key_of, allowed_key, entry_of}
 use Rattle.acl_text.specs.Means.{IsWordFor, IsDefaultWord, last, WaysOf, IsWritten, IsOfList, IsFor, AreLetters, Grants, HasPerms, Means}
 use Rattle.acl_text.proofs.FieldCounts.{default_taken}
 use Rattle.acl_text.proofs.Lowest.{ok_or-some}
 use Rattle.acl_text.specs.Results.{◌>>=◌}
+use Rattle.acl_names.specs.Names.{is_octal}
 
 -- ---- the words for tags
 
@@ -278,14 +279,14 @@ letters_are takes_x field perm e =
       | inr other ↦ let read_each = rw other at e in absurd cc
     ]
 
-digit_is : (b : ℕ) → is_octal_digit b ≡ true → (48 ≤ b) × (b ≤ 55)
+digit_is : (b : ℕ) → is_octal 7 b ≡ true → (48 ≤ b) × (b ≤ 55)
 digit_is b is = let parts = and_parts (leb 48 b) (leb b 55) is in (leb-true 48 b parts.0, leb-true b 55 parts.1)
 
 grants : (takes_x : Bool) (field : List ℕ) (perm : PermSpec) → perms_of takes_x field ≡ Some perm → Grants takes_x field perm
 grants takes_x [] perm e = inr (letters_are takes_x [] perm e)
 grants takes_x (b ∷ c ∷ bs) perm e = inr (letters_are takes_x (b ∷ c ∷ bs) perm e)
 grants takes_x (b ∷ []) perm e =
-    elim (cases_Bool (is_octal_digit b)) [
+    elim (cases_Bool (is_octal 7 b)) [
       | inl is ↦
           let range = digit_is b is in
           let read_each = rw is at e in
@@ -301,7 +302,7 @@ grants takes_x (b ∷ []) perm e =
       | inr isnt ↦ inr (letters_are takes_x (b ∷ []) perm (rw isnt at e))
     ]
 
-no_letter : (takes_x : Bool) (b : ℕ) → is_octal_digit b ≡ true → is_letter takes_x b ≡ false
+no_letter : (takes_x : Bool) (b : ℕ) → is_octal 7 b ≡ true → is_letter takes_x b ≡ false
 no_letter true b is =
     let range = digit_is b is in
     rw (ne_eqb b 114 (λ e. omega arith), ne_eqb b 119 (λ e. omega arith), ne_eqb b 120 (λ e. omega arith), ne_eqb b 45 (λ e. omega arith), ne_eqb b 88 (λ e. omega arith)) refl
@@ -314,7 +315,7 @@ letters_from takes_x field perm h = rw h.letters (λ i. Some (record { fixed = r
 
 digit_from : (takes_x : Bool) (digit : ℕ) (perm : PermSpec) → digit < 8 → perm.fixed ≡ numbered digit → perm.cond_x ≡ false → perms_of takes_x ((48 + digit) ∷ []) ≡ Some perm
 digit_from takes_x digit perm small fixed cond_x =
-    let is : is_octal_digit (48 + digit) ≡ true = and_from (leb 48 (48 + digit)) (leb (48 + digit) 55) (le-leb 48 (48 + digit) (omega arith)) (le-leb (48 + digit) 55 (omega arith)) in
+    let is : is_octal 7 (48 + digit) ≡ true = and_from (leb 48 (48 + digit)) (leb (48 + digit) 55) (le-leb 48 (48 + digit) (omega arith)) (le-leb (48 + digit) 55 (omega arith)) in
     let value : 48 + digit - 48 ≡ digit = omega arith in
     rw (is, value) (λ i. Some (record { fixed = sym fixed i; cond_x = sym cond_x i }))
 
@@ -322,7 +323,7 @@ by_letters : (takes_x : Bool) (field : List ℕ) (perm : PermSpec) → AreLetter
 by_letters takes_x [] perm h = letters_from takes_x [] perm h
 by_letters takes_x (b ∷ c ∷ bs) perm h = letters_from takes_x (b ∷ c ∷ bs) perm h
 by_letters takes_x (b ∷ []) perm h =
-    elim (cases_Bool (is_octal_digit b)) [
+    elim (cases_Bool (is_octal 7 b)) [
       | inl is ↦
           let letter = (and_parts (is_letter takes_x b) true h.letters).0 in
           let both : true ≡ false = sym letter ∙ no_letter takes_x b is in

@@ -10,7 +10,8 @@ ghost use Rattle.std.specs.List.{list_all};
 ghost use Rattle.std.specs.Char.{is_ascii_digit};
 ghost use Rattle.acl_text.specs.Ids.{is_number, id_of};
 ghost use Rattle.acl_entry.specs.Perms.{none};
-ghost use Rattle.acl_text.specs.Letters.{is_letter, holds, letter_set, letters_of, is_octal_digit, perms_of};
+ghost use Rattle.acl_text.specs.Letters.{is_letter, holds, letter_set, letters_of, perms_of};
+ghost use Rattle.acl_names.specs.Names.{is_octal};
 
 use crate::entries::PermSpec;
 use acl_entry::{Id, NOBODY, Perm};
@@ -270,7 +271,7 @@ fn letters_of(takes_x: bool, field: &[u8]) -> Option<PermSpec>
 
 /// Tells whether the byte is an octal digit.
 fn is_octal_digit(b: u8) -> bool
-    ensures { result ≡ is_octal_digit b }
+    ensures { result ≡ is_octal 7 b }
 {
     b'0' <= b && b <= b'7'
 }

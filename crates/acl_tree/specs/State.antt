@@ -21,7 +21,7 @@ state_from tree people = record { tree = tree; people = people }
 
 -- no file is recorded, and nobody is known
 abbrev pub nothing : State
-nothing = state_from no_files nobody
+nothing = record { tree = no_files; people = nobody }
 
 -- the state with the tree that a command makes
 abbrev pub with_tree : State → Recorded → Result State TreeFault

@@ -11,7 +11,7 @@ use Rattle.facl_output.specs.declared.fault.LineFault.{LineFault}
 use Rattle.facl_output.specs.Faults.{line_fault_of_split}
 use Rattle.facl_output.specs.declared.fault.LineFault.TheVariants as faults
 use Rattle.facl_script.specs.Units.{ScriptUnit, UnitText, none, whole, too_long, unended}
-use Rattle.facl_script.specs.Words.{words_of, words_or_open, has_no_words}
+use Rattle.facl_script.specs.Words.{words_of, has_no_words}
 use Rattle.facl_script.specs.declared.words.SplitFault.TheVariants as splits
 use Rattle.facl_script.specs.Forms.{Text}
 use Rattle.facl.specs.ToolParts as requests
@@ -288,7 +288,8 @@ module _ (verdict : Verdict) (w : States) (u : ScriptUnit) where
               text_refused tool words (record { name = name; has = record { line = line; is_line = is_line; split = is_split }; known = is })
               (from_4 clear (known tool is))
 
-    split_refused : has_no_words line ≡ false → (o : Option (List Text)) → words_of line ≡ o → is_utf8 line ≡ true → Refused (map_err line_fault_of_split (words_or_open o) >>= reply verdict w u.text)
+    split_refused : has_no_words line ≡ false → (o : Option (List Text)) → words_of line ≡ o → is_utf8 line ≡ true
+        → Refused (map_err line_fault_of_split (ok_or o splits.OpenQuote) >>= reply verdict w u.text)
     split_refused some None open_quote good =
         refused_in (Err faults.OpenQuote) in_quotes faults.OpenQuote refl refl (refl, record { line = line; is_line = is_line; open_quote = open_quote }) (λ g h. h.0)
         (from_2 (from_1 not_long) (good_bytes good))
@@ -297,7 +298,7 @@ module _ (verdict : Verdict) (w : States) (u : ScriptUnit) where
         tool_refused name words is (from_3 (from_2 (from_1 not_long) (good_bytes good)) (no_open_quote (name ∷ words) is))
 
     line_refused : has_no_words line ≡ false → (blank good : Bool) → has_no_words line ≡ blank → is_utf8 line ≡ good
-        → Refused (map_err line_fault_of_split (if blank then Ok [] else (if good then words_or_open (words_of line) else Err splits.NotUtf8)) >>= reply verdict w u.text)
+        → Refused (map_err line_fault_of_split (if blank then Ok [] else (if good then ok_or (words_of line) splits.OpenQuote else Err splits.NotUtf8)) >>= reply verdict w u.text)
     line_refused some true good is utf8 = absurd (true≢false (sym is ∙ some))
     line_refused some false true is good = split_refused some (words_of line) refl good
     line_refused some false false is bad =

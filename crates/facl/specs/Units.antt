@@ -1,5 +1,5 @@
 -- What a unit of a script does: a line, with its text if it takes one.
-use Rattle.std.specs.Prelude.{ℕ, Bool, true, false, if◌then◌else◌, List, [], ◌∷◌, Option, None, Some, Result, Ok, Err, ok_or}
+use Rattle.std.specs.Prelude.{ℕ, Bool, true, false, if◌then◌else◌, List, [], ◌∷◌, Option, Result, Ok, Err, ok_or}
 use Rattle.std.specs.Option.{option_map_or}
 use Rattle.facl_script.specs.Units.{ScriptUnit, UnitText, none, whole, too_long, unended}
 use Rattle.facl_script.specs.Words.{has_no_words, line_words}
@@ -22,8 +22,7 @@ loads_by_name name = option_map_or loads (tool_named name) false
 
 -- a line that is blank or a comment, as far as it is within the limit
 abbrev pub is_silent : Option (List ℕ) → Bool
-is_silent None = false
-is_silent (Some line) = has_no_words line
+is_silent line = option_map_or has_no_words line false
 
 -- ---- what a line asks for
 
@@ -65,11 +64,8 @@ abbrev pub refused : ℕ → Text → LineFault → States → UnitAnswer
 refused number tool fault w = record { out = []; err = message number tool fault; state = w; refused = true }
 
 -- an accepted line may warn of default entries that were dropped
-abbrev pub warning_if : Bool → ℕ → List ℕ
-warning_if warns number = if warns then warning number else []
-
 abbrev pub accepted : ℕ → (loads : Bool) → States → Reply → UnitAnswer
-accepted number loads w r = record { out = r.out; err = warning_if r.warns number; state = states_after loads w r.state; refused = false }
+accepted number loads w r = record { out = r.out; err = if r.warns then warning number else []; state = states_after loads w r.state; refused = false }
 
 abbrev pub answer_of : ℕ → Text → States → Result Reply LineFault → UnitAnswer
 answer_of number tool w (Ok r) = accepted number (loads_by_name tool) w r
@@ -84,11 +80,10 @@ abbrev pub answer_of_words : Verdict → ScriptUnit → States → Result (List 
 answer_of_words verdict u w (Ok words) = answer_of u.number (tool_word words) w (reply verdict w u.text words)
 answer_of_words verdict u w (Err fault) = refused u.number [] fault w
 
--- a line that is neither blank nor a comment is refused with its first fault, or does what it asks for; where memory runs
--- out for it, it is refused with that message
-abbrev pub answered_line : Verdict → (ran_out : Bool) → ScriptUnit → States → UnitAnswer
-answered_line verdict ran_out u w = if ran_out then refused u.number [] NoMemory w else answer_of_words verdict u w (words_of_line u.line)
-
--- what a unit does: nothing where its line is blank or a comment
+-- what a unit does: nothing where its line is blank or a comment; any other line is refused with its first fault, or does
+-- what it asks for; where memory runs out for it, it is refused with that message
 abbrev pub answered : Verdict → (ran_out : Bool) → ScriptUnit → States → UnitAnswer
-answered verdict ran_out u w = if is_silent u.line then quiet w else answered_line verdict ran_out u w
+answered verdict ran_out u w =
+    if is_silent u.line then quiet w
+    else if ran_out then refused u.number [] NoMemory w
+    else answer_of_words verdict u w (words_of_line u.line)

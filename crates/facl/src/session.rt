@@ -1,17 +1,18 @@
 //! The session of a script: its states with their indexes, and the output and the message of the last line. Lines are
 //! answered one by one.
 
-ghost use Rattle.std.specs.Prelude.{◌≡◌, ℕ, ◌+◌, ◌≤◌, [], ◌∷◌, true, false, Some, map, string_bytes, IfOk, OnOk, OnErr};
+ghost use Rattle.std.specs.Prelude.{◌≡◌, ℕ, ◌+◌, ◌≤◌, [], ◌∷◌, true, false, Some, map, string_bytes, IfOk, OnOk, OnErr, if◌then◌else◌};
 ghost use Rattle.facl_script.specs.Units.{ScriptUnit, UnitText};
 ghost use Rattle.facl_script.specs.Held.{IsTextHeld, IsUnitHeld};
 ghost use Rattle.facl_script.specs.TextWords.{line_asks};
 ghost use Rattle.acl_rights.specs.Costs.{all_pairs};
 ghost use Rattle.acl_rights.specs.States.{IsPrepared, from_start};
+ghost use Rattle.facl_output.specs.Messages.{warning};
 ghost use Rattle.facl_tools.specs.Replies.{reply_of};
 ghost use Rattle.facl.specs.Costs.{IsReady, IsReadyAfter};
 ghost use Rattle.facl.specs.Tools.{tool_named};
 ghost use Rattle.facl.specs.Counted.{accepted, refused, answer_of, answer_of_words, answered};
-ghost use Rattle.facl.specs.Units.{words_of_line, reply, tool_reply, tool_word, warning_if};
+ghost use Rattle.facl.specs.Units.{words_of_line, reply, tool_reply, tool_word};
 ghost use Rattle.facl_script.specs.Run.{IsAnswer};
 ghost use Rattle.facl.specs.Sessions.{states_of, out_of, err_of, ran_out_of_memory, IsQuiet, Answers};
 
@@ -37,7 +38,7 @@ pub(crate) struct FaclSession<J: Judge> {
 
 /// Writes the warning of a line, if it warns.
 fn warning_if(alloc: Global, warns: bool, number: u64) -> Result<Vec<u8>, AllocError>
-    ensures { IfOk result (λ text. text.items ≡ warning_if warns number) }
+    ensures { IfOk result (λ text. text.items ≡ (if warns then warning number else [])) }
 {
     let mut text = Vec::new(alloc);
     if warns {

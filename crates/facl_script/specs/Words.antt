@@ -1,5 +1,5 @@
 -- The words of a line.
-use Rattle.std.specs.Prelude.{ℕ, Bool, true, ◌||◌, ◌==◌, if◌then◌else◌, List, [], ◌∷◌, Option, None, Some, option_map, Result, Ok, Err}
+use Rattle.std.specs.Prelude.{ℕ, Bool, true, ◌||◌, ◌==◌, if◌then◌else◌, List, [], ◌∷◌, Option, None, Some, option_map, Result, Ok, Err, ok_or}
 use Rattle.std.specs.Str.{is_utf8}
 use Rattle.facl_script.specs.declared.words.Place.{Place}
 use Rattle.facl_script.specs.declared.words.Place.TheVariants.{Between, Within, Quoted}
@@ -39,15 +39,10 @@ words_at Quoted (b ∷ bs) = if is_quote b then words_at Within bs else option_m
 abbrev pub words_of : List ℕ → Option (List (List ℕ))
 words_of line = words_at Between line
 
--- the words, or the fault of an open quote
-abbrev pub words_or_open : Option (List (List ℕ)) → Result (List (List ℕ)) SplitFault
-words_or_open None = Err OpenQuote
-words_or_open (Some words) = Ok words
-
 -- The words of a line that is neither blank nor a comment, or what is wrong with it as a line. That bytes are not UTF-8
 -- is found before an open quote.
 abbrev pub split_line : List ℕ → Result (List (List ℕ)) SplitFault
-split_line line = if is_utf8 line then words_or_open (words_of line) else Err NotUtf8
+split_line line = if is_utf8 line then ok_or (words_of line) OpenQuote else Err NotUtf8
 
 -- What a line within the limit means. A blank line or comment has no words, whatever bytes it has.
 abbrev pub line_words : List ℕ → Result (List (List ℕ)) SplitFault

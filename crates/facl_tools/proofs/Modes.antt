@@ -2,7 +2,8 @@
 use Rattle.std.proofs.Common.{◌≡◌, ◌<◌, ◌≤◌, ℕ, ◌/◌, Bool, ◌&&◌, List, [], ◌∷◌, length, nat_le, nat_lt, IsTrue, true, false, refl, rules, arith}
 use Rattle.std.proofs.lemmas.Bool.{and_parts}
 use Rattle.std.specs.List.{list_all, slice_index_or}
-use Rattle.facl_tools.specs.Modes.{is_octal_digit, is_mode}
+use Rattle.facl_tools.specs.Modes.{is_mode}
+use Rattle.acl_names.specs.Names.{is_octal}
 
 -- a number below this stays below 4096 when these digits are written after it
 abbrev pub room : List ℕ → ℕ
@@ -31,15 +32,15 @@ parts true true false h = absurd (search rules)
 parts true false c h = absurd (search rules)
 parts false b c h = absurd (search rules)
 
-pub mode_digits : (t : List ℕ) → IsTrue (is_mode t) → list_all is_octal_digit t ≡ true
-mode_digits t h = (parts (nat_lt 0 (length t)) (nat_le (length t) 4) (list_all is_octal_digit t) h).1
+pub mode_digits : (t : List ℕ) → IsTrue (is_mode t) → list_all (is_octal 7) t ≡ true
+mode_digits t h = (parts (nat_lt 0 (length t)) (nat_le (length t) 4) (list_all (is_octal 7) t) h).1
 
 pub mode_short : (t : List ℕ) → IsTrue (is_mode t) → length t ≤ 4
-mode_short t h = let e = (parts (nat_lt 0 (length t)) (nat_le (length t) 4) (list_all is_octal_digit t) h).0 in grind (arith, e)
+mode_short t h = let e = (parts (nat_lt 0 (length t)) (nat_le (length t) 4) (list_all (is_octal 7) t) h).0 in grind (arith, e)
 
-pub first_digit : (t : List ℕ) → 1 ≤ length t → list_all is_octal_digit t ≡ true → slice_index_or t 0 0 ≤ 55
+pub first_digit : (t : List ℕ) → 1 ≤ length t → list_all (is_octal 7) t ≡ true → slice_index_or t 0 0 ≤ 55
 first_digit [] h e = absurd (omega (arith, h))
 first_digit (b ∷ bs) h e =
-    let digit = (and_parts (is_octal_digit b) (list_all is_octal_digit bs) e).0 in
+    let digit = (and_parts (is_octal 7 b) (list_all (is_octal 7) bs) e).0 in
     let upper = (and_parts (nat_le 48 b) (nat_le b 55) digit).1 in
     grind (arith, upper)

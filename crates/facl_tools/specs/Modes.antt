@@ -1,26 +1,21 @@
 -- Octal modes: chmod(1), umask(1).
 use Rattle.std.specs.Prelude.{ℕ, ◌+◌, ◌*◌, ◌-◌, ◌==◌, ◌&&◌, ◌||◌, Bool, [], ◌∷◌, if◌then◌else◌, length, nat_le, nat_lt, Option, None, Some}
 use Rattle.std.specs.List.{list_all, slice_index_or}
+use Rattle.acl_names.specs.Names.{is_octal}
 use Rattle.facl_script.specs.Forms.{Text}
-
-abbrev pub is_octal_digit : ℕ → Bool
-is_octal_digit b = nat_le 48 b && nat_le b 55
 
 -- one to four octal digits
 abbrev pub is_mode : Text → Bool
-is_mode t = nat_lt 0 (length t) && nat_le (length t) 4 && list_all is_octal_digit t
+is_mode t = nat_lt 0 (length t) && nat_le (length t) 4 && list_all (is_octal 7) t
 
 -- the number that octal digits write after those of a number
 abbrev pub octal_after : ℕ → Text → ℕ
 octal_after n [] = n
 octal_after n (digit ∷ digits) = octal_after (8 * n + (digit - 48)) digits
 
-abbrev pub octal_number : Text → ℕ
-octal_number digits = octal_after 0 digits
-
 -- the mode that a word writes
 abbrev pub mode_of : Text → Option ℕ
-mode_of text = if is_mode text then Some (octal_number text) else None
+mode_of text = if is_mode text then Some (octal_after 0 text) else None
 
 -- the first of four digits is 0
 abbrev pub starts_with_zero : Text → Bool

@@ -2,11 +2,12 @@
 
 ghost use Rattle.std.specs.List.{list_all};
 ghost use Rattle.std.specs.Prelude.{◌≡◌, IsTrue};
-ghost use Rattle.facl_tools.specs.Modes.{is_mode, is_octal_digit, mode_of, octal_number, permission_mode_of, starts_with_zero};
+ghost use Rattle.facl_tools.specs.Modes.{is_mode, mode_of, permission_mode_of, starts_with_zero, octal_after};
+ghost use Rattle.acl_names.specs.Names.{is_octal};
 
 /// Tells whether each byte is an octal digit.
 fn are_octal_digits(bytes: &[u8]) -> bool
-    ensures { result ≡ list_all is_octal_digit bytes.now }
+    ensures { result ≡ list_all (is_octal 7) bytes.now }
 {
     bytes.iter().all(|b| b'0' <= *b && *b <= b'7')
 }
@@ -28,7 +29,7 @@ fn starts_with_zero(text: &[u8]) -> bool
 /// Reads octal digits.
 fn octal_number(digits: &[u8]) -> u16
     requires { IsTrue (is_mode digits.now) }
-    ensures { result ≡ octal_number digits.now }
+    ensures { result ≡ octal_after 0 digits.now }
 {
     let mut mode = 0;
     let mut rest = digits;
