@@ -15,33 +15,15 @@ pub record OptionSyntax : Type 0 where
 
 -- a flag or an option with a letter and a long name
 abbrev pub both : Text → Text → OptionSyntax
-both letter name = record {
-  id = name;
-  short = slice_get letter 0;
-  long = Some name;
-  fallback = None;
-  is_text = false;
-}
+both letter name = record { id = name; short = slice_get letter 0; long = Some name; fallback = None; is_text = false }
 
 -- a flag or an option with a letter alone
 abbrev pub by_letter : Text → OptionSyntax
-by_letter letter = record {
-  id = letter;
-  short = slice_get letter 0;
-  long = None;
-  fallback = None;
-  is_text = false;
-}
+by_letter letter = record { id = letter; short = slice_get letter 0; long = None; fallback = None; is_text = false }
 
 -- a flag or an option with a long name alone
 abbrev pub by_name : Text → OptionSyntax
-by_name name = record {
-  id = name;
-  short = None;
-  long = Some name;
-  fallback = None;
-  is_text = false;
-}
+by_name name = record { id = name; short = None; long = Some name; fallback = None; is_text = false }
 
 -- an option that reads the lines after the line
 abbrev pub of_text : OptionSyntax → OptionSyntax
