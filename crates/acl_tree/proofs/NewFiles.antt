@@ -11,6 +11,7 @@ use Rattle.acl_names.specs.Paths.{path_cmp, PathOf}
 use Rattle.acl_names.proofs.PathOrder.{exact_paths}
 use Rattle.acl_edit.specs.declared.node.Node.{Node}
 use Rattle.acl_text.specs.declared.rows.PasswdRow.{PasswdRow}
+use Rattle.acl_text.specs.Results.{◌>>=◌}
 use Rattle.acl_edit.specs.Creation.{inherit}
 use Rattle.acl_edit.specs.Nodes.{IsSound, is_directory}
 use Rattle.acl_edit.specs.declared.node.Kind.{Kind}
@@ -260,8 +261,8 @@ module _ (new : NewFile) (row : PasswdRow) (t : Recorded) (d : Node) (e : PathOf
     (at : directory_at (parent new.path) t.files ≡ Ok d) (room : length t.files < max_files) (is : e ≡ (new.path, inherit d new.kind new.mode new.umask row.uid row.gid)) where
   pub made_new : creat_by new t (Some row) ≡ Ok (record t { files = put path_cmp e.0 e.1 t.files })
   made_new =
-      ap (λ b. if b then Err (Exists new.path) else creat_in new row t (directory_at (parent new.path) t.files)) absent
-      ∙ ap (λ r. creat_in new row t r) at
+      ap (λ b. if b then Err (Exists new.path) else (directory_at (parent new.path) t.files >>= creat_in new row t)) absent
+      ∙ ap (λ r. r >>= creat_in new row t) at
       ∙ ap (λ b. if b then Ok (record t { files = put path_cmp new.path (inherit d new.kind new.mode new.umask row.uid row.gid) t.files }) else Err TooMany) (is_room (length t.files) max_files room)
       ∙ ap (λ (e : PathOf × Node). Ok (record t { files = put path_cmp e.0 e.1 t.files })) (sym is)
 

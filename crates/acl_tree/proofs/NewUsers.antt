@@ -55,7 +55,7 @@ module _ (new : NewUser) (old made : State) (allowed : is_user_name new.name ≡
   removed group fresh =
       let known : KnownPeople = with_user new.name new.uid group old.people in
       let again = user_again new.name new.uid group old.people unnamed in
-      ap (λ o. remove_at known o >>= with_change (record old { people = known })) (found group fresh)
+      ap (λ o. (o >>= remove_at known) >>= with_change (record old { people = known })) (found group fresh)
       ∙ (λ i.
       let people : KnownPeople = record { users = again.0 i; groups = again.1 i; passwd_loaded = true; group_loaded = old.people.group_loaded } in
       let s : State = record { tree = old.tree; people = people } in
@@ -72,7 +72,7 @@ module _ (new : NewUser) (old made : State) (allowed : is_user_name new.name ≡
       at group fresh false h = ap (λ s. step s (Userdel new.name)) (sym (ap (λ r. state_or old r) h)) ∙ removed group fresh
 
       by : (b : Bool) → has_name new.name (users_of old.people) ≡ b → (c : Bool) (g : Result ℕ TreeFault)
-          → ((if b then Err (UserExists new.name) else (if c then Err (UidExists new.uid) else add_to new old.people g)) >>= with_change old) ≡ Ok made
+          → ((if b then Err (UserExists new.name) else (if c then Err (UidExists new.uid) else (g >>= add_to new old.people))) >>= with_change old) ≡ Ok made
           → step made (Userdel new.name) ≡ Ok (with_users_loaded old)
       by true is c g h = absurd (err_is_not_ok _ _ h)
       by false is true g h = absurd (err_is_not_ok _ _ h)

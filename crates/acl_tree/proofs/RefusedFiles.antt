@@ -129,14 +129,14 @@ module _ (s : State) (order : IsInOrder s.tree.files) (new : NewFile) where
       (λ h. some_row s.people new.user row user_is h) (λ h. not_both _ h fresh) (λ h. some_is_not_none _ n at h) (λ h. not_plain n at is h) (λ h. not_both _ room (le-ltb _ _ h)))
 
   in_parent : (row : PasswdRow) (o : Option Node) → row_of s.people new.user ≡ Some row → exists new.path s.tree.files ≡ false
-      → find path_cmp (parent new.path) s.tree.files ≡ o → Decides s creates (creat_in new row s.tree (only_directory (parent new.path) o) >>= with_tree s)
+      → find path_cmp (parent new.path) s.tree.files ≡ o → Decides s creates ((only_directory (parent new.path) o >>= creat_in new row s.tree) >>= with_tree s)
   in_parent row None user_is fresh missing =
       decides_err s creates (NoSuchFile (parent new.path)) (refl, missing) (creat_cases (λ g. IsNotAfter s creates (NoSuchFile (parent new.path)) g)
       (λ h. absurd (some_row s.people new.user row user_is h)) (λ h. absurd (not_both _ h fresh)) (λ _. ranked s creates _ _ refl (omega arith))
       (λ _. ranked s creates _ _ refl (omega arith)) (λ _. ranked s creates _ _ refl (omega arith)))
   in_parent row (Some n) user_is fresh at = by n.kind refl
     where
-      by : (k : Kind) → n.kind ≡ k → Decides s creates (creat_in new row s.tree (if is_directory k then Ok n else Err (NotDirectory (parent new.path))) >>= with_tree s)
+      by : (k : Kind) → n.kind ≡ k → Decides s creates (((if is_directory k then Ok n else Err (NotDirectory (parent new.path))) >>= creat_in new row s.tree) >>= with_tree s)
       by Plain is =
           decides_err s creates (NotDirectory (parent new.path)) (refl, record { node = n; recorded = at; is = is }) (creat_cases (λ g. IsNotAfter s creates (NotDirectory (parent new.path)) g)
           (λ h. absurd (some_row s.people new.user row user_is h)) (λ h. absurd (not_both _ h fresh)) (λ h. absurd (some_is_not_none _ n at h))
@@ -146,7 +146,7 @@ module _ (s : State) (order : IsInOrder s.tree.files) (new : NewFile) where
   -- what a user gets, by whether a file is there
   abbrev outcome : Option PasswdRow → Bool → Result Recorded TreeFault
   outcome None b = Err (NoSuchUser new.user)
-  outcome (Some row) b = if b then Err (Exists new.path) else creat_in new row s.tree (only_directory (parent new.path) (find path_cmp (parent new.path) s.tree.files))
+  outcome (Some row) b = if b then Err (Exists new.path) else (only_directory (parent new.path) (find path_cmp (parent new.path) s.tree.files) >>= creat_in new row s.tree)
 
   outcome_is : (o : Option PasswdRow) → outcome o (exists new.path s.tree.files) ≡ creat_by new s.tree o
   outcome_is None = refl

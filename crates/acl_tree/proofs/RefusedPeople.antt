@@ -41,7 +41,7 @@ module _ (s : State) where
     userdel_cases Q none (NoSuchUser word) h = subst (λ w. Q (NoSuchUser w)) (sym h.0) (none h.1)
     userdel_cases Q none g h = absurd h
 
-    userdel_decides : (o : Option ℕ) → place_of_word user (users_of s.people) ≡ o → Decides s deletes (remove_at s.people (ok_or o (NoSuchUser user)) >>= with_change s)
+    userdel_decides : (o : Option ℕ) → place_of_word user (users_of s.people) ≡ o → Decides s deletes ((ok_or o (NoSuchUser user) >>= remove_at s.people) >>= with_change s)
     userdel_decides None is = decides_err s deletes (NoSuchUser user) (refl, is) (userdel_cases (λ g. IsNotAfter s deletes (NoSuchUser user) g) (λ h. ranked s deletes _ _ refl (omega arith)))
     userdel_decides (Some at) is = decides_ok s deletes _ (userdel_cases (λ g. ⊥) (λ h. some_is_not_none _ at is h))
 
@@ -155,7 +155,7 @@ module _ (s : State) where
     added None d = Err (NoSuchGroup new.group)
     added (Some g) d = if d then Err TooManyUsers else Ok (record { user = length s.people.users; people = with_user new.name new.uid g s.people })
 
-    added_is : (o : Option ℕ) → added o (nat_le most_rows (length s.people.users)) ≡ add_to new s.people (ok_or o (NoSuchGroup new.group))
+    added_is : (o : Option ℕ) → added o (nat_le most_rows (length s.people.users)) ≡ (ok_or o (NoSuchGroup new.group) >>= add_to new s.people)
     added_is None = refl
     added_is (Some g) = refl
 

@@ -97,7 +97,7 @@ module _ (new : NewFile) (t made : Recorded) where
     pub absent : exists new.path t.files ≡ false
     pub is : made ≡ record t { files = put path_cmp new.path node t.files }
 
-  puts_in : (row : PasswdRow) → exists new.path t.files ≡ false → (d : Result Node TreeFault) → creat_in new row t d ≡ Ok made → Puts
+  puts_in : (row : PasswdRow) → exists new.path t.files ≡ false → (d : Result Node TreeFault) → (d >>= creat_in new row t) ≡ Ok made → Puts
   puts_in row absent (Err fault) h = absurd (err_is_not_ok _ _ h)
   puts_in row absent (Ok d) h = by (nat_lt (length t.files) max_files) h
     where
@@ -109,7 +109,7 @@ module _ (new : NewFile) (t made : Recorded) where
   puts_by None h = absurd (err_is_not_ok _ _ h)
   puts_by (Some row) h = by (exists new.path t.files) refl h
     where
-      by : (b : Bool) → exists new.path t.files ≡ b → (if b then Err (Exists new.path) else creat_in new row t (directory_at (parent new.path) t.files)) ≡ Ok made → Puts
+      by : (b : Bool) → exists new.path t.files ≡ b → (if b then Err (Exists new.path) else (directory_at (parent new.path) t.files >>= creat_in new row t)) ≡ Ok made → Puts
       by true is h = absurd (err_is_not_ok _ _ h)
       by false is h = puts_in row is (directory_at (parent new.path) t.files) h
 

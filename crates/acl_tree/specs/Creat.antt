@@ -4,6 +4,7 @@ use Rattle.std.specs.List.{list_any}
 use Rattle.std.specs.FinMap.{find, put}
 use Rattle.acl_names.specs.Paths.{path_cmp, PathOf}
 use Rattle.acl_text.specs.declared.rows.PasswdRow.{PasswdRow}
+use Rattle.acl_text.specs.Results.{◌>>=◌}
 use Rattle.acl_edit.specs.Nodes.{is_directory}
 use Rattle.acl_edit.specs.Creation.{inherit}
 use Rattle.acl_edit.specs.declared.node.Node.{Node}
@@ -36,13 +37,12 @@ abbrev pub with_file : PathOf → Node → Recorded → Result Recorded TreeFaul
 with_file p n t = if nat_lt (length t.files) max_files then Ok (record t { files = put path_cmp p n t.files }) else Err TooMany
 
 -- the new file of a user in its directory: acl(5), "OBJECT CREATION AND DEFAULT ACLs"
-abbrev pub creat_in : NewFile → PasswdRow → Recorded → Result Node TreeFault → Result Recorded TreeFault
-creat_in new row t (Err fault) = Err fault
-creat_in new row t (Ok directory) = with_file new.path (inherit directory new.kind new.mode new.umask row.uid row.gid) t
+abbrev pub creat_in : NewFile → PasswdRow → Recorded → Node → Result Recorded TreeFault
+creat_in new row t directory = with_file new.path (inherit directory new.kind new.mode new.umask row.uid row.gid) t
 
 abbrev pub creat_by : NewFile → Recorded → Option PasswdRow → Result Recorded TreeFault
 creat_by new t None = Err (NoSuchUser new.user)
-creat_by new t (Some row) = if exists new.path t.files then Err (Exists new.path) else creat_in new row t (directory_at (parent new.path) t.files)
+creat_by new t (Some row) = if exists new.path t.files then Err (Exists new.path) else (directory_at (parent new.path) t.files >>= creat_in new row t)
 
 -- the files with the new one of a user, or the first fault
 abbrev pub creat : NewFile → KnownPeople → Recorded → Result Recorded TreeFault
