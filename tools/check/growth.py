@@ -317,7 +317,7 @@ CALLS = [
     "acl_people::name_table::NameTable::place_of_name", "acl_people::name_table::NameTable::place_of_word",
     "acl_text::fields::perms_of", "acl_tree::step::Staged::give_up", "acl_tree::state::State::commit",
     "acl_rights::judge::PosixJudge::verdict", "acl_rights::indexed_states::IndexedStates::begin_again",
-    "facl_script::text_words::is_text_word", "path_map::map::PathMap::from",
+    "facl_tools::text_words::is_text_word", "path_map::map::PathMap::from",
 ]
 ANSWER, COMMIT = "facl::session::FaclSession::", "acl_tree::step::Staged::into_parts"
 A_POINTER = "a pointer"

@@ -14,7 +14,7 @@ use Rattle.facl_script.specs.Play as plays
 use Rattle.facl_script.specs.Play.{Answer}
 use Rattle.facl_script.specs.Run.{Ends}
 use Rattle.facl_script.specs.Streams.{Streams, moment}
-use Rattle.facl_script.specs.TextWords.{line_asks}
+use Rattle.facl_tools.specs.TextWords.{line_asks}
 use Rattle.facl_script.specs.Units.{ScriptUnit, units_of}
 use Rattle.facl_script.specs.Write.{Writes}
 use Rattle.facl_tools.specs.Replies.{Reply}

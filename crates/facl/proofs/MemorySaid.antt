@@ -8,7 +8,7 @@ use Rattle.acl_rights.specs.declared.indexed.States.{States}
 use Rattle.facl_output.specs.Messages.{message}
 use Rattle.facl_output.specs.declared.fault.LineFault.TheVariants.{NoMemory}
 use Rattle.facl_output.specs.declared.fault.RunFault.{RunFault}
-use Rattle.facl_script.specs.TextWords.{line_asks}
+use Rattle.facl_tools.specs.TextWords.{line_asks}
 use Rattle.facl_script.specs.Units.{ScriptUnit, units_of}
 use Rattle.facl.specs.Headline.{joined, play}
 use Rattle.facl.specs.Laws.{SaysNoMemory, NoMemoryIsSaid}

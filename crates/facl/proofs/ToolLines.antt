@@ -6,7 +6,7 @@ use Rattle.acl_tree.specs.State.{State}
 use Rattle.facl_output.specs.declared.fault.LineFault.{LineFault}
 use Rattle.facl_output.specs.declared.fault.LineFault.TheVariants.{Usage}
 use Rattle.facl_script.specs.Forms.{Text}
-use Rattle.facl_script.specs.ToolWords.{words_by}
+use Rattle.facl_tools.specs.TextWords.{words_by}
 use Rattle.facl_script.specs.declared.tool_words.Words.{Words}
 use Rattle.facl_tools.specs.Replies.{Reply}
 use Rattle.facl_tools.specs.Attr as attr

@@ -7,7 +7,7 @@ use Rattle.acl_tree.specs.State.{State}
 use Rattle.facl_output.specs.declared.fault.RunFault.{RunFault}
 use Rattle.facl_script.specs.Play.{session}
 use Rattle.facl_script.specs.Streams.{Streams}
-use Rattle.facl_script.specs.TextWords.{line_asks}
+use Rattle.facl_tools.specs.TextWords.{line_asks}
 use Rattle.facl.specs.Counted.{answered}
 use Rattle.facl.specs.Headline.{RunsTo}
 use Rattle.facl.specs.declared.status.Status.{Status}

@@ -7,7 +7,7 @@ use Rattle.acl_tree.specs.State.{State}
 use Rattle.facl_output.specs.declared.fault.RunFault.{RunFault}
 use Rattle.facl_script.specs.Limits.{script_limit}
 use Rattle.facl_script.specs.Streams.{Streams}
-use Rattle.facl_script.specs.TextWords.{line_asks}
+use Rattle.facl_tools.specs.TextWords.{line_asks}
 use Rattle.facl_script.specs.Units.{ScriptUnit, units_of}
 use Rattle.facl_script.specs.Write.{Writes}
 use Rattle.facl.specs.Units.{UnitAnswer, answered, quiet}

@@ -7,7 +7,7 @@ use Rattle.facl_output.specs.declared.fault.LineFault.TheVariants as faults
 use Rattle.facl_script.specs.Units.{ScriptUnit, too_long, unended}
 use Rattle.facl_script.specs.Words.{words_of}
 use Rattle.facl_script.specs.Forms.{Text}
-use Rattle.facl_script.specs.ToolWords.{words_by}
+use Rattle.facl_tools.specs.TextWords.{words_by}
 use Rattle.facl.specs.ToolParts as requests
 use Rattle.facl.specs.FirstPart.{IsRefusedForFirst}
 use Rattle.facl_tools.specs.Replies.{Reply}

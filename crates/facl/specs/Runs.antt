@@ -6,7 +6,7 @@ use Rattle.facl_script.specs.Run.{StopsWith}
 use Rattle.facl_script.specs.Streams.{Streams, streams, moment}
 use Rattle.facl_script.specs.declared.fault.ScriptFault.{ScriptFault}
 use Rattle.facl_script.specs.declared.fault.ScriptFault.TheVariants as scripts
-use Rattle.facl_script.specs.TextWords.{line_asks}
+use Rattle.facl_tools.specs.TextWords.{line_asks}
 use Rattle.facl_output.specs.declared.fault.RunFault.{RunFault}
 use Rattle.facl_output.specs.declared.fault.RunFault.TheVariants.{Read, Write, Setup, ScriptTooLong, NoMemory}
 use Rattle.acl_rights.specs.Rows.{Verdict}

@@ -4,7 +4,7 @@
 ghost use Rattle.std.specs.Prelude.{◌≡◌, ℕ, ◌+◌, ◌≤◌, [], ◌∷◌, true, false, Some, map, string_bytes, IfOk, OnOk, OnErr, if◌then◌else◌};
 ghost use Rattle.facl_script.specs.Units.{ScriptUnit, UnitText};
 ghost use Rattle.facl_script.specs.Held.{IsTextHeld, IsUnitHeld};
-ghost use Rattle.facl_script.specs.TextWords.{line_asks};
+ghost use Rattle.facl_tools.specs.TextWords.{line_asks};
 ghost use Rattle.acl_rights.specs.Costs.{all_pairs};
 ghost use Rattle.acl_rights.specs.States.{IsPrepared, from_start};
 ghost use Rattle.facl_output.specs.Messages.{warning};
@@ -21,8 +21,8 @@ use crate::tools::Tool;
 use acl_rights::{IndexedStates, Judge, States};
 use acl_tree::State;
 use facl_output::{LineFault, ReservedMessage, push_message, push_warning};
-use facl_script::{HeldLine, HeldUnit, Session, asks_for_text};
-use facl_tools::Effect;
+use facl_script::{HeldLine, HeldUnit, Session};
+use facl_tools::{Effect, asks_for_text};
 use std::alloc::{AllocError, Global};
 
 /// The states of a script with their indexes, and the output and the message of its last line.

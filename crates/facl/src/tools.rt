@@ -23,10 +23,10 @@ ghost use Rattle.facl.specs.contracts.tools.ToolPartialEq.TheImpl.{ghosts as equ
 
 use acl_rights::{IndexedStates, Judge};
 use facl_output::LineFault;
-use facl_script::{Syntax, Words, read_by};
+use facl_script::{Syntax, Words};
 use facl_tools::{
-    Effect, attr, chacl, chmod, creat, getfacl, gpasswd, load, rm, setattr, setfacl, useradd,
-    userdel, usermod,
+    Effect, attr, chacl, chmod, creat, getfacl, gpasswd, load, read_by, rm, setattr, setfacl,
+    useradd, userdel, usermod,
 };
 use std::alloc::{AllocError, Global};
 

@@ -11,5 +11,4 @@ pub mod QuoteLemmas
 pub mod PieceLemmas
 pub mod PieceCuts
 pub mod Building
-pub mod TextWordLemmas
 pub mod Named

@@ -1,14 +1,10 @@
--- The rows of a line: the place of a name among them, and what holds of all.
+-- The place of a name among the rows of a syntax.
 use Rattle.std.proofs.Common.{◌≡◌, ◌+◌, ◌≤◌, ℕ, Bool, true, false, not, cond, List, [], ◌∷◌, None, Some, length, map, nat_lt, refl, ap, ◌∙◌, arith}
 use Rattle.std.proofs.lemmas.List.Sums.{prefix_len-le-length}
-use Rattle.std.proofs.lemmas.List.Folds.{list_all-map}
 use Rattle.std.specs.Prelude.{position, unwrap_or}
-use Rattle.std.specs.List.{list_all, position_or_len}
+use Rattle.std.specs.List.{position_or_len}
 use Rattle.std.specs.Str.{bytes_eq}
-use Rattle.facl_script.specs.Syntax.{OptionSyntax}
 use Rattle.facl_script.specs.Naming.{place}
-use Rattle.facl_script.specs.Rows.{option_view}
-use Rattle.facl_script.specs.declared.syntax.OptionRow.{OptionRow}
 
 -- a search that gives the number of all where it finds none
 found_or_all : (n all : ℕ) → n ≤ all → unwrap_or (cond (nat_lt n all) (Some n) None) all ≡ n
@@ -29,7 +25,3 @@ pub place_found : {X Y : Type 0} (view : X → Y) (id : Y → List ℕ) (name : 
 place_found view id name xs =
     found_or_all (position_or_len (λ x. bytes_eq (id (view x)) name) xs) (length xs) (prefix_len-le-length (λ x. not (bytes_eq (id (view x)) name)) xs)
     ∙ place_mapped view id name xs
-
--- what holds of all flags or options, asked row by row
-pub all_by_rows : (p : OptionSyntax → Bool) (rows : List OptionRow) → list_all p (map option_view rows) ≡ list_all (λ row. p (option_view row)) rows
-all_by_rows p rows = list_all-map p option_view rows

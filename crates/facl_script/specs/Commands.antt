@@ -5,7 +5,7 @@ use Rattle.std.specs.Option.{option_map_or}
 use Rattle.std.specs.Str.{bytes_eq}
 use Rattle.clap.specs.Walk.{Row, Rule, Text, all_of, first_of, is_empty}
 use Rattle.clap.specs.Simple.{App, matches_of, new_app, new_rule, on_top}
-use Rattle.clap.specs.Faults.{fault_of}
+use Rattle.clap.specs.Faults.{fault_of, is_simple_and_free}
 use Rattle.clap.specs.declared.builder.action.ArgAction.{ArgAction}
 use Rattle.clap.specs.declared.builder.action.ArgAction.TheVariants.{Append, Set, SetTrue}
 use Rattle.facl_script.specs.Syntax.{Syntax, OperandSyntax, OptionSyntax}
@@ -40,6 +40,10 @@ with_rules a rs = on_top (λ s. record s { rules = s.rules ++ rs }) a
 
 abbrev pub app_for : Syntax → App
 app_for syntax = with_rules bare_app (rules_of syntax)
+
+-- clap's definitions cover the command of this syntax
+abbrev pub is_covered : Syntax → Bool
+is_covered syntax = is_simple_and_free (app_for syntax)
 
 -- ---- what clap finds
 

@@ -25,6 +25,3 @@ pub mod Forms
 pub mod Syntax
 pub mod Rows
 pub mod Naming
-pub mod TextWords
-pub mod Beginning
-pub mod Rules

@@ -1,9 +1,8 @@
--- What the words of a line mean by its syntax.
-use Rattle.std.specs.Prelude.{List, Option, Some, None, if◌then◌else◌, option_and_then, option_map}
+-- The words of a line as clap reads them by a syntax.
+use Rattle.std.specs.Prelude.{List, Option, option_map}
 use Rattle.clap.specs.Walk.{Row}
 use Rattle.facl_script.specs.Forms.{Text}
 use Rattle.facl_script.specs.Syntax.{Syntax}
-use Rattle.facl_script.specs.Rules.{fits_text}
 use Rattle.facl_script.specs.declared.tool_words.Words.{Words}
 use Rattle.facl_script.specs.Commands.{flags_in, operands_in, taken, values_in}
 
@@ -17,10 +16,3 @@ words_in syntax rows = record {
 -- the words as clap reads them, where it takes them
 abbrev pub words_read : Syntax → List Text → Option Words
 words_read syntax words = option_map (words_in syntax) (taken syntax words)
-
-abbrev pub with_text : Syntax → List Text → Words → Option Words
-with_text syntax words w = if fits_text syntax words w then Some w else None
-
--- the words, where clap takes them and those that name a text fit
-unfoldable pub words_by : Syntax → List Text → Option Words
-words_by syntax words = option_and_then (with_text syntax words) (words_read syntax words)

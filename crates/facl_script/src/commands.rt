@@ -1,8 +1,8 @@
 //! A line's `clap` command, built for each line, and what it finds in the words.
 ghost use Rattle.std.specs.Prelude.{◌≡◌, false, true, IfOk, MatchResult, Some, map, option_map, string_bytes};
-ghost use Rattle.clap.specs.Words.{app_of, first_of, found_of, is_simple_and_free, rows_of, rule_of};
+ghost use Rattle.clap.specs.Words.{app_of, first_of, found_of, rows_of, rule_of};
 ghost use Rattle.facl_script.specs.Rows.{syntax_view, operand_view, option_view};
-ghost use Rattle.facl_script.specs.Commands.{app_for, operand_rule, option_rule, taken};
+ghost use Rattle.facl_script.specs.Commands.{app_for, is_covered, operand_rule, option_rule, taken};
 ghost use Rattle.facl_script.specs.Refusals.{IsRefusal};
 
 use crate::syntax::{OperandRow, OptionRow, Syntax};
@@ -67,7 +67,7 @@ pub(crate) fn matches_for<'a>(
     syntax: &Syntax,
     words: &'a [String],
 ) -> Result<ArgMatches<'a>, WordsFault>
-    requires { is_simple_and_free (app_for (syntax_view syntax.now)) ≡ true }
+    requires { is_covered (syntax_view syntax.now) ≡ true }
     ensures { MatchResult result
         (λ m. taken (syntax_view syntax.now) (map string_bytes words.entry.now) ≡ Some (rows_of (found_of m)))
         (IsRefusal (taken (syntax_view syntax.now) (map string_bytes words.entry.now))) }

@@ -1,19 +1,16 @@
 //! Reads a line's words by a syntax, from what `clap` found; and borrows them.
 
-ghost use Rattle.std.specs.Prelude.{◌≡◌, ◌++◌, [], IfOk, MatchResult, OnOk, Some, map, count_by, string_bytes, true, unwrap_or};
-ghost use Rattle.std.specs.List.{list_all, list_any};
-ghost use Rattle.clap.specs.Words.{all_of, first_of, found_of, is_simple_and_free, rows_of};
+ghost use Rattle.std.specs.Prelude.{◌≡◌, ◌++◌, [], IfOk, MatchResult, OnOk, Some, map, string_bytes, true, unwrap_or};
+ghost use Rattle.std.specs.List.{list_any};
+ghost use Rattle.clap.specs.Words.{all_of, first_of, found_of, rows_of};
 ghost use Rattle.facl_script.specs.Rows.{syntax_view, option_view};
-ghost use Rattle.facl_script.specs.Commands.{app_for, is_on, flags_in, operands_in, value_or, values_in};
+ghost use Rattle.facl_script.specs.Commands.{is_covered, is_on, flags_in, operands_in, value_or, values_in};
 ghost use Rattle.facl_script.specs.Refusals.{IsRefusal};
-ghost use Rattle.facl_script.specs.Rules.{fits_text, is_named, texts_given};
-ghost use Rattle.facl_script.specs.TextWords.{is_text_word as is_text_spelling};
-ghost use Rattle.facl_script.specs.ToolWords.{words_by, words_in, words_read};
+ghost use Rattle.facl_script.specs.ToolWords.{words_in, words_read};
 ghost use Rattle.facl_script.specs.Forms.{file_of, files_of, is_dash as names_input};
 
 use crate::commands::matches_for;
 use crate::syntax::{OptionRow, Syntax};
-use crate::text_words::is_text_word;
 use crate::tool_fault::WordsFault;
 use crate::tool_words::{Flags, Operands, Values, Word, Words};
 use clap::ArgMatches;
@@ -129,9 +126,12 @@ fn words_found(
     })
 }
 
-/// Reads the words as `clap` does.
-fn words_by_clap(alloc: Global, syntax: &Syntax, words: &[String]) -> Result<Words, WordsFault>
-    requires { is_simple_and_free (app_for (syntax_view syntax.now)) ≡ true }
+/// Reads the words of a line as `clap` does, by a syntax: flags, options and operands.
+///
+/// Returns `Usage` if `clap` refuses the words by the syntax. Returns `NoMemory` only if memory runs out, and then in
+/// place of any answer.
+pub fn words_by_clap(alloc: Global, syntax: &Syntax, words: &[String]) -> Result<Words, WordsFault>
+    requires { is_covered (syntax_view syntax.now) ≡ true }
     ensures { MatchResult result
         (λ w. words_read (syntax_view syntax.now) (map string_bytes words.now) ≡ Some w)
         (IsRefusal (words_read (syntax_view syntax.now) (map string_bytes words.now))) }
@@ -142,83 +142,8 @@ fn words_by_clap(alloc: Global, syntax: &Syntax, words: &[String]) -> Result<Wor
     Ok(found?)
 }
 
-/// Counts the given options that read a text.
-fn texts_given(syntax: &Syntax, found: &Words) -> usize
-    ensures { result ≡ texts_given (syntax_view syntax.now) found.now }
-{
-    syntax
-        .options
-        .iter()
-        .filter(|option| option.is_text && found.gives(syntax, option.id))
-        .count()
-}
-
-/// Tells whether an option reads no text, is absent, or names standard input.
-fn is_named(syntax: &Syntax, found: &Words, option: &OptionRow) -> bool
-    ensures { result ≡ is_named (syntax_view syntax.now) found.now (option_view option.now) }
-{
-    if !option.is_text {
-        return true;
-    }
-    match found.value(syntax, option.id) {
-        Some(file) => is_dash(file.as_bytes()),
-        None => true,
-    }
-}
-
-/// Tells whether each option that reads a text is absent or names standard input.
-fn are_named(syntax: &Syntax, found: &Words) -> bool
-    ensures { result ≡ list_all (λ option. is_named (syntax_view syntax.now) found.now (option_view option))
-        syntax.now.options.now }
-{
-    syntax
-        .options
-        .iter()
-        .all(|option| is_named(syntax, found, option))
-}
-
-/// Counts the words that name standard input as a text.
-fn texts_named(words: &[String]) -> usize
-    ensures { result ≡ count_by is_text_spelling (map string_bytes words.now) }
-{
-    words
-        .iter()
-        .filter(|word| is_text_word(word.as_bytes()))
-        .count()
-}
-
-/// Tells whether each option that reads a text names standard input, and the words that do so are as many as these
-/// options: at most one.
-#[tactic(auto, using(crate::proofs::Named::all_by_rows))]
-fn fits_text(syntax: &Syntax, words: &[String], found: &Words) -> bool
-    ensures { result ≡ fits_text (syntax_view syntax.now) (map string_bytes words.now) found.now }
-{
-    let given = texts_given(syntax, found);
-    are_named(syntax, found) && texts_named(words) == given && given <= 1
-}
-
-/// Reads the words of a line by the syntax of its tool: flags, options and operands.
-///
-/// Returns `Usage` if `clap` refuses the words by the syntax, and if those that name the lines after the line as its
-/// text are not as many as the options that read one, at most one. Returns `NoMemory` only if memory runs out, and
-/// then in place of any answer.
-#[tactic(auto, unfolding(crate::specs::ToolWords::words_by))]
-pub fn read_by(alloc: Global, syntax: &Syntax, words: &[String]) -> Result<Words, WordsFault>
-    requires { is_simple_and_free (app_for (syntax_view syntax.now)) ≡ true }
-    ensures { MatchResult result
-        (λ w. words_by (syntax_view syntax.now) (map string_bytes words.now) ≡ Some w)
-        (IsRefusal (words_by (syntax_view syntax.now) (map string_bytes words.now))) }
-{
-    let found = words_by_clap(alloc, syntax, words)?;
-    if fits_text(syntax, words, &found) {
-        Ok(found)
-    } else {
-        Err(WordsFault::Usage)
-    }
-}
-
 /// Tells whether a word is `-`, which names standard input and no file.
-pub(crate) fn is_dash(word: &[u8]) -> bool
+pub fn is_dash(word: &[u8]) -> bool
     ensures { result ≡ names_input word.now }
 {
     word == b"-".as_slice()

@@ -3,3 +3,4 @@ pub mod Modes
 pub mod RoundTrips
 pub mod SameEntries
 pub mod StillThere
+pub mod TextWordLemmas

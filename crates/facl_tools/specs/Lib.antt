@@ -1,4 +1,5 @@
 pub mod Attr
+pub mod Beginning
 pub mod Chacl
 pub mod Chmod
 pub mod Creat
@@ -19,6 +20,7 @@ pub mod Setattr
 pub mod Setfacl
 pub mod SetfaclLine
 pub mod Tested
+pub mod TextWords
 pub mod Useradd
 pub mod Userdel
 pub mod Usermod

@@ -26,6 +26,7 @@ pub mod setfacl;
 mod setfacl_entries;
 mod syntax;
 mod tested;
+mod text_words;
 pub mod useradd;
 pub mod userdel;
 pub mod usermod;
@@ -36,3 +37,4 @@ pub use round_trips::{
     chacl_reads_what_it_lists, set_reads_what_test_prints, setattr_reads_what_attr_prints,
 };
 pub use setfacl_entries::ChangeEntries;
+pub use text_words::{asks_for_text, is_text_word, read_by};

@@ -1,5 +1,6 @@
 //! Tests of which lines of a script ask for a text.
-use facl_script::{HeldLine, asks_for_text, is_text_word};
+use facl_script::HeldLine;
+use facl_tools::{asks_for_text, is_text_word};
 
 #[test]
 fn finds_text_lines(rt: HostRuntime) {

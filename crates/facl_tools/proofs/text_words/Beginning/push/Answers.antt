@@ -1,6 +1,6 @@
 use Rattle.std.proofs.Common.{◌≡◌, sym, ◌∙◌, arith, length, take, length-take, rules, [], ◌∷◌}
 use Rattle.std.proofs.lemmas.List.{take_all, take-append-le}
-use Rattle.facl_script.proofs.text_words.Beginning.push.Goals as goal
+use Rattle.facl_tools.proofs.text_words.Beginning.push.Goals as goal
 
 pub returns-else-self-lt-BEGINNING : goal.returns-else-self-lt-BEGINNING
 returns-else-self-lt-BEGINNING c =

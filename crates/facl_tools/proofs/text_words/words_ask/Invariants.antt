@@ -1,9 +1,9 @@
 use Rattle.std.proofs.Common.{◌≡◌, ℕ, List, drop, take}
-use Rattle.facl_script.specs.Beginning.{first_bytes}
-use Rattle.facl_script.specs.TextWords.{words_ask}
+use Rattle.facl_tools.specs.Beginning.{first_bytes}
+use Rattle.facl_tools.specs.TextWords.{words_ask}
 use Rattle.facl_script.proofs.WordLemmas.{IsSeen}
-use Rattle.facl_script.proofs.TextWordLemmas.{none_done}
-use Rattle.facl_script.proofs.text_words.words_ask.Given as goal
+use Rattle.facl_tools.proofs.TextWordLemmas.{none_done}
+use Rattle.facl_tools.proofs.text_words.words_ask.Given as goal
 
 abbrev pub invariant-loop-b : goal.invariant-loop-b
 invariant-loop-b l = record {

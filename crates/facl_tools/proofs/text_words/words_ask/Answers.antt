@@ -1,11 +1,11 @@
 use Rattle.std.proofs.Common.{◌+◌, ◌||◌, sym, ◌∙◌, ap, subst, List, ℕ, refl, drop, take, get_or, [], ◌∷◌, ◌++◌, arith}
 use Rattle.std.proofs.lemmas.Grind.{common_steps}
 use Rattle.std.proofs.lemmas.List.{drop_more, drop_all}
-use Rattle.facl_script.specs.TextWords.{words_ask, word_asks}
+use Rattle.facl_tools.specs.TextWords.{words_ask, word_asks}
 use Rattle.facl_script.proofs.WordLemmas.{byte_seen, IsSeen, begins}
-use Rattle.facl_script.proofs.TextWordLemmas.{ask_more, none_done_more, take_grows, asks_by_beginning, words_ask_within}
-use Rattle.facl_script.proofs.text_words.words_ask.Goals as goal
-use Rattle.facl_script.proofs.text_words.words_ask.Goals.{in-Skips, in-Joins, in-Ends}
+use Rattle.facl_tools.proofs.TextWordLemmas.{ask_more, none_done_more, take_grows, asks_by_beginning, words_ask_within}
+use Rattle.facl_tools.proofs.text_words.words_ask.Goals as goal
+use Rattle.facl_tools.proofs.text_words.words_ask.Goals.{in-Skips, in-Joins, in-Ends}
 
 pub loop-b-init : goal.loop-b-init
 loop-b-init c = record {

@@ -1,13 +1,17 @@
--- Lemmas on the words that ask for a text.
-use Rattle.std.proofs.Common.{◌≡◌, ◌<◌, ℕ, zero, suc, Bool, true, false, ◌||◌, ◌&&◌, nat_eq, List, [], ◌∷◌, ◌++◌, take, length, refl, ap, ◌∙◌, arith, lit<}
+-- Lemmas on the words that ask for a text, and on the options that read one.
+use Rattle.std.proofs.Common.{◌≡◌, ◌<◌, ℕ, zero, suc, Bool, true, false, ◌||◌, ◌&&◌, nat_eq, List, [], ◌∷◌, ◌++◌, map, take, length, refl, ap, ◌∙◌, arith, lit<}
 use Rattle.std.specs.Prelude.{codes}
-use Rattle.std.specs.List.{list_any}
+use Rattle.std.proofs.lemmas.List.Folds.{list_all-map}
+use Rattle.std.specs.List.{list_all, list_any}
 use Rattle.std.specs.Str.{bytes_eq}
 use Rattle.facl_script.specs.declared.words.Place.TheVariants.{Within}
 use Rattle.facl_script.proofs.WordLemmas.{IsSeen, seen_within}
 use Rattle.facl_script.specs.Words.{words_of}
-use Rattle.facl_script.specs.TextWords.{word_asks, words_ask}
+use Rattle.facl_tools.specs.TextWords.{word_asks, words_ask}
 use Rattle.facl_script.proofs.ProgressLemmas.{or_false}
+use Rattle.facl_script.specs.Rows.{option_view}
+use Rattle.facl_script.specs.Syntax.{OptionSyntax}
+use Rattle.facl_script.specs.declared.syntax.OptionRow.{OptionRow}
 use Rattle.std.specs.Option.{option_map_or}
 
 -- a short text differs from a word in the word's first bytes
@@ -62,3 +66,7 @@ pub words_ask_within : (line : List ℕ) (done : List (List ℕ)) (word : List �
     → option_map_or words_ask (words_of line) false ≡ (words_ask done || word_asks (none_done done) word)
 words_ask_within line done word h =
     ap (λ o. option_map_or words_ask o false) (seen_within line done word h) ∙ ask_more done word
+
+-- what holds of all options, asked row by row
+pub all_by_rows : (p : OptionSyntax → Bool) (rows : List OptionRow) → list_all p (map option_view rows) ≡ list_all (λ row. p (option_view row)) rows
+all_by_rows p rows = list_all-map p option_view rows
