@@ -19,7 +19,6 @@ pub mod RoundTrips
 pub mod Setattr
 pub mod Setfacl
 pub mod SetfaclLine
-pub mod Tested
 pub mod TextWords
 pub mod Useradd
 pub mod Userdel

@@ -1,6 +1,6 @@
 //! The tool setfacl(1): its words, the line that they give, and what it does.
 ghost use Rattle.facl_tools.specs.Replies.{Replies, Gives};
-ghost use Rattle.facl_tools.specs.Setfacl.{answered, change_files, change_line, edit_of, records_of, restore_line, restored_or_tested};
+ghost use Rattle.facl_tools.specs.Setfacl.{answered, change_files, change_line, edit_of, records_of, restore_line};
 ghost use Rattle.std.specs.Prelude.{◌≡◌};
 ghost use Rattle.facl_tools.specs.SetfaclLine.{change_of, changes_entries, contradicts_itself, entries_from, flags_of, has_edit_flag, read, read_change, read_restore, replaces_lists};
 
@@ -8,11 +8,11 @@ use crate::effect::Effect;
 use crate::operands::paths_of;
 use crate::setfacl_entries::{ChangeEntries, both_at, drops, entries_of_line};
 use crate::syntax::{any, both, by_name};
-use crate::tested::do_or_test;
+use crate::tested::{edit_or_test, restore_or_test};
 use acl_edit::Edit;
 use acl_people::People;
 use acl_text::{DumpUse, read_dump};
-use acl_tree::{Command, DumpRecords, State};
+use acl_tree::{DumpRecords, State};
 use facl_output::{LineFault, Source};
 use facl_script::{LineFiles, OperandRow, OptionRow, Syntax, WordRef, Words};
 use std::alloc::Global;
@@ -49,12 +49,8 @@ fn change_files(
 {
     let paths = paths_of(alloc, line.files.as_slice())?;
     let warns = drops(line.flags.as_default, &entries);
-    let command = Command::Edit {
-        paths,
-        edit: edit_of(line.flags, entries),
-        recursive: line.recursive,
-    };
-    let effect = do_or_test(alloc, state, command, line.test)?;
+    let edit = edit_of(line.flags, entries);
+    let effect = edit_or_test(alloc, state, paths, edit, line.recursive, line.test)?;
     Ok(effect.warning(warns))
 }
 
@@ -85,24 +81,12 @@ fn records_of(alloc: Global, people: &People, dump: &[u8]) -> Result<DumpRecords
     }
 }
 
-fn restore_records(
-    alloc: Global,
-    state: &State,
-    records: DumpRecords,
-    is_test: bool,
-) -> Result<Effect, LineFault>
-    ensures { Replies state.now result (restored_or_tested is_test state.now records) }
-{
-    let command = Command::Restore { records };
-    do_or_test(alloc, state, command, is_test)
-}
-
 /// Restores the files of a dump.
 fn restore(alloc: Global, state: &State, dump: &[u8], is_test: bool) -> Result<Effect, LineFault>
     ensures { Replies state.now result (restore_line state.now is_test dump.now) }
 {
     let records = records_of(alloc, state.people(), dump)?;
-    restore_records(alloc, state, records, is_test)
+    restore_or_test(alloc, state, records, is_test)
 }
 
 /// Changes lists, or restores those of a dump.
