@@ -8,7 +8,8 @@ use Rattle.acl_names.proofs.PathOrder.{path_total}
 use Rattle.acl_names.proofs.Basics.{none_is_not_some, or_second}
 use Rattle.acl_tree.specs.Operands.{is_file}
 use Rattle.acl_tree.proofs.Selected.{same_path}
-use Rattle.acl_tree.specs.Refusals.{IsAmong, place}
+use Rattle.acl_tree.specs.Refusals.{place}
+use Rattle.acl_tree.specs.Causes.{IsAmong}
 
 same_itself : (p : PathOf) → eq_by_cmp path_cmp p p ≡ true
 same_itself p = ap is_eq (tied_itself path_total p)

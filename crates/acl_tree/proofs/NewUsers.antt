@@ -20,7 +20,8 @@ use Rattle.acl_tree.specs.declared.command.Command.TheVariants.{Useradd, Userdel
 use Rattle.acl_tree.specs.declared.command.NewUser.{NewUser}
 use Rattle.acl_tree.specs.declared.fault.TreeFault.{TreeFault}
 use Rattle.acl_tree.specs.declared.fault.TreeFault.TheVariants.{UserExists, UidExists, TooManyUsers, NoSuchUser}
-use Rattle.acl_tree.specs.Accounts.{add_to, remove_at}
+use Rattle.acl_tree.specs.Useradd.{add_to}
+use Rattle.acl_tree.specs.Userdel.{remove_at}
 use Rattle.acl_tree.specs.Laws.{with_users_loaded}
 use Rattle.acl_tree.specs.Memberships.{user_at, group_at}
 use Rattle.acl_tree.specs.State.{State, with_change}

@@ -5,8 +5,8 @@ use Rattle.acl_names.proofs.Basics.{ok_is_not_err}
 use Rattle.acl_tree.specs.declared.fault.TreeFault.{TreeFault}
 use Rattle.acl_tree.specs.declared.command.Command.{Command}
 use Rattle.acl_tree.specs.State.{State}
-use Rattle.acl_tree.specs.Step.{step}
-use Rattle.acl_tree.specs.Refusals.{Applies, rank, place_of, IsNotAfter, IsRefusedForFirst}
+use Rattle.acl_tree.specs.Step.{step, Applies}
+use Rattle.acl_tree.specs.Refusals.{rank, place_of, IsNotAfter, IsRefusedForFirst}
 
 abbrev fault_or : TreeFault → Result State TreeFault → TreeFault
 fault_or f (Ok t) = f

@@ -26,7 +26,9 @@ use Rattle.acl_tree.specs.declared.command.Command.{Command}
 use Rattle.acl_tree.specs.declared.command.Command.TheVariants as commands
 use Rattle.acl_tree.specs.EditCommand.{edit_one}
 use Rattle.acl_tree.specs.State.{State, with_tree}
-use Rattle.acl_tree.specs.Refusals.{IsAmong, IsMissing, IsEditRefused, Applies, rank, place, place_of, operands, IsNotAfter, IsRefusedForFirst}
+use Rattle.acl_tree.specs.Refusals.{rank, place, place_of, IsNotAfter, IsRefusedForFirst}
+use Rattle.acl_tree.specs.Causes.{IsAmong, IsMissing, IsEditRefused}
+use Rattle.acl_tree.specs.Step.{Applies, operands}
 use Rattle.acl_tree.proofs.Refused.{Decides, decides_err, decides_ok, AreApart, refused_for_first}
 use Rattle.acl_tree.proofs.FirstAmong.{first_of, none_among, first_among, one_place, among_later}
 use Rattle.acl_tree.proofs.RefusedOperands.{is_first_missing, none_is_missing}

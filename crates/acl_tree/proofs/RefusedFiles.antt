@@ -31,9 +31,11 @@ use Rattle.acl_people.specs.NameTables.{Named, is_id, is_name, place_of_word}
 use Rattle.acl_tree.specs.declared.command.Command.{Command}
 use Rattle.acl_tree.specs.declared.command.Command.TheVariants.{Creat}
 use Rattle.acl_tree.specs.declared.command.NewFile.{NewFile}
-use Rattle.acl_tree.specs.Creat.{row_of, exists, only_directory, creat_in, creat_by}
+use Rattle.acl_tree.specs.Creat.{row_of, exists, only_directory, creat_in, creat_by, HoldsWithin}
 use Rattle.acl_tree.specs.State.{State, with_tree}
-use Rattle.acl_tree.specs.Refusals.{HoldsWithin, MeansNoUser, IsMissing, IsRecordedAs, Applies, rank, IsNotAfter, IsRefusedForFirst}
+use Rattle.acl_tree.specs.Refusals.{rank, IsNotAfter, IsRefusedForFirst}
+use Rattle.acl_tree.specs.Causes.{MeansNoUser, IsMissing, IsRecordedAs}
+use Rattle.acl_tree.specs.Step.{Applies}
 use Rattle.acl_tree.proofs.Refused.{Decides, decides_err, decides_ok, refused_for_first, ranked, apart_by}
 
 -- ---- the user of a word

@@ -17,8 +17,9 @@ use Rattle.acl_tree.specs.declared.command.Command.TheVariants.{Load}
 use Rattle.acl_tree.specs.declared.command.Table.{Table}
 use Rattle.acl_tree.specs.declared.command.Table.TheVariants.{Passwd, Group, Dump}
 use Rattle.acl_tree.specs.State.{State}
-use Rattle.acl_tree.specs.Loads.{with_people, with_records, dump_records, is_loaded}
-use Rattle.acl_tree.specs.Refusals.{IsTooLong, Applies, rank, IsNotAfter, IsRefusedForFirst}
+use Rattle.acl_tree.specs.Loads.{with_people, with_records, dump_records, is_loaded, IsTooLong}
+use Rattle.acl_tree.specs.Refusals.{rank, IsNotAfter, IsRefusedForFirst}
+use Rattle.acl_tree.specs.Step.{Applies}
 use Rattle.acl_tree.proofs.Refused.{Decides, decides_err, decides_ok, AreApart, refused_for_first, ranked, apart_by}
 
 -- ---- a load of a text, which is read as something or has a fault

@@ -14,7 +14,9 @@ use Rattle.acl_tree.specs.declared.command.Command.{Command}
 use Rattle.acl_tree.specs.declared.command.Command.TheVariants.{Chmod}
 use Rattle.acl_tree.specs.State.{State}
 use Rattle.acl_tree.specs.Chmod.{chmod_all}
-use Rattle.acl_tree.specs.Refusals.{IsAmong, IsMissing, Applies, rank, place, place_of, IsNotAfter, IsRefusedForFirst}
+use Rattle.acl_tree.specs.Refusals.{rank, place, place_of, IsNotAfter, IsRefusedForFirst}
+use Rattle.acl_tree.specs.Causes.{IsAmong, IsMissing}
+use Rattle.acl_tree.specs.Step.{Applies}
 use Rattle.acl_tree.proofs.Refused.{Decides, decides_err, decides_ok, AreApart, refused_for_first}
 use Rattle.acl_tree.proofs.FirstAmong.{first_of, none_among, first_among, one_place}
 use Rattle.acl_text.specs.Results.{unless}

@@ -16,10 +16,14 @@ use Rattle.acl_tree.specs.declared.command.Command.TheVariants.{Gpasswd, Usermod
 use Rattle.acl_tree.specs.declared.command.Membership.{Membership}
 use Rattle.acl_tree.specs.declared.command.Membership.TheVariants.{Add, Remove}
 use Rattle.acl_tree.specs.declared.command.NewUser.{NewUser}
-use Rattle.acl_tree.specs.Accounts.{add_to, remove_at}
-use Rattle.acl_tree.specs.Memberships.{ChangedUser, membership_changed}
+use Rattle.acl_tree.specs.Useradd.{add_to}
+use Rattle.acl_tree.specs.Userdel.{remove_at}
+use Rattle.acl_tree.specs.Memberships.{ChangedUser}
+use Rattle.acl_tree.specs.Gpasswd.{membership_changed, MeanNoMember}
 use Rattle.acl_tree.specs.State.{State, with_change}
-use Rattle.acl_tree.specs.Refusals.{MeansNoUser, MeansNoGroup, MeanNoMember, Applies, rank, IsNotAfter, IsRefusedForFirst}
+use Rattle.acl_tree.specs.Refusals.{rank, IsNotAfter, IsRefusedForFirst}
+use Rattle.acl_tree.specs.Causes.{MeansNoUser, MeansNoGroup}
+use Rattle.acl_tree.specs.Step.{Applies}
 use Rattle.acl_tree.proofs.AtOnce.{of_user}
 use Rattle.acl_tree.proofs.Refused.{Decides, decides_err, decides_ok, refused_for_first, ranked, apart_by}
 

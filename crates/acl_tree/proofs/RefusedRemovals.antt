@@ -15,7 +15,9 @@ use Rattle.acl_tree.specs.declared.command.Command.{Command}
 use Rattle.acl_tree.specs.declared.command.Command.TheVariants.{Rm}
 use Rattle.acl_tree.specs.Rm.{refusal, first_refused, without_files}
 use Rattle.acl_tree.specs.State.{State, with_tree}
-use Rattle.acl_tree.specs.Refusals.{IsAmong, Applies, rank, place, place_of, IsRefusedForFirst}
+use Rattle.acl_tree.specs.Refusals.{rank, place, place_of, IsRefusedForFirst}
+use Rattle.acl_tree.specs.Causes.{IsAmong}
+use Rattle.acl_tree.specs.Step.{Applies}
 use Rattle.acl_tree.proofs.Refused.{Decides, decides_err, decides_ok, AreApart, refused_for_first}
 use Rattle.acl_tree.proofs.FirstAmong.{first_of, none_among, first_among, one_place}
 use Rattle.acl_text.specs.Results.{◌>>=◌, unless}

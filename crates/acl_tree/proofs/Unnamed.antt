@@ -24,9 +24,12 @@ use Rattle.acl_names.specs.Below.{parent}
 use Rattle.acl_names.proofs.Basics.{err_is_not_ok}
 use Rattle.acl_tree.specs.Creat.{row_of, exists, directory_at, creat_in, creat_by, creat}
 use Rattle.acl_tree.specs.EditCommand.{edited_tree}
-use Rattle.acl_tree.specs.Accounts.{useradd, userdel}
+use Rattle.acl_tree.specs.Useradd.{useradd}
+use Rattle.acl_tree.specs.Userdel.{userdel}
 use Rattle.acl_tree.specs.Laws.{LeavesUnnamed}
-use Rattle.acl_tree.specs.Memberships.{ChangedUser, gpasswd, usermod}
+use Rattle.acl_tree.specs.Memberships.{ChangedUser}
+use Rattle.acl_tree.specs.Gpasswd.{gpasswd}
+use Rattle.acl_tree.specs.Usermod.{usermod}
 use Rattle.acl_tree.specs.Operands.{is_file, first_missing}
 use Rattle.acl_tree.specs.Restoring.{restored_tree}
 use Rattle.acl_tree.specs.Rm.{first_refused, without_files, rm}

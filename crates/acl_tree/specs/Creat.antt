@@ -1,5 +1,5 @@
 -- creat: a new file in a directory.
-use Rattle.std.specs.Prelude.{ℕ, List, length, slice_get, nat_lt, Bool, if◌then◌else◌, Option, Some, None, option_and_then, Result, Ok, Err}
+use Rattle.std.specs.Prelude.{◌≡◌, ◌≤◌, true, ℕ, List, length, slice_get, nat_lt, Bool, if◌then◌else◌, Option, Some, None, option_and_then, Result, Ok, Err}
 use Rattle.std.specs.List.{list_any}
 use Rattle.std.specs.FinMap.{find, put}
 use Rattle.acl_names.specs.Paths.{path_cmp, PathOf}
@@ -7,6 +7,7 @@ use Rattle.acl_text.specs.declared.rows.PasswdRow.{PasswdRow}
 use Rattle.acl_text.specs.Results.{◌>>=◌}
 use Rattle.acl_edit.specs.Nodes.{is_directory}
 use Rattle.acl_edit.specs.Creation.{inherit}
+use Rattle.acl_edit.specs.declared.node.Kind.TheVariants.{Plain}
 use Rattle.acl_edit.specs.declared.node.Node.{Node}
 use Rattle.acl_people.specs.NameTables.{place_of_word}
 use Rattle.acl_people.specs.KnownPeople.{KnownPeople, users_of}
@@ -15,6 +16,7 @@ use Rattle.acl_tree.specs.declared.fault.TreeFault.{TreeFault}
 use Rattle.acl_tree.specs.declared.fault.TreeFault.TheVariants.{NoSuchFile, NotDirectory, Exists, NoSuchUser, TooMany}
 use Rattle.acl_tree.specs.Files.{Files, Recorded, max_files}
 use Rattle.acl_names.specs.Below.{encloses, parent}
+use Rattle.acl_tree.specs.Causes.{IsMissing, IsRecordedAs, MeansNoUser}
 
 -- the row of the user that a word means
 abbrev pub row_of : KnownPeople → List ℕ → Option PasswdRow
@@ -47,3 +49,21 @@ creat_by new t (Some row) = if exists new.path t.files then Err (Exists new.path
 -- the files with the new one of a user, or the first fault
 abbrev pub creat : NewFile → KnownPeople → Recorded → Result Recorded TreeFault
 creat new known t = creat_by new t (row_of known new.user)
+
+-- ---- why it is refused
+
+-- a file is recorded at a path or below it
+pub record HoldsWithin (t : Files) (p : PathOf) : Type 0 where
+  pub path : PathOf
+  pub node : Node
+  pub recorded : find path_cmp path t ≡ Some node
+  pub within : encloses p path ≡ true
+
+-- which faults apply, whatever other ones do
+abbrev pub Applies : NewFile → KnownPeople → Files → TreeFault → Type 0
+Applies new known t (NoSuchUser word) = (word ≡ new.user) × MeansNoUser known new.user
+Applies new known t (Exists p) = (p ≡ new.path) × HoldsWithin t new.path
+Applies new known t (NoSuchFile p) = (p ≡ parent new.path) × IsMissing t (parent new.path)
+Applies new known t (NotDirectory p) = (p ≡ parent new.path) × IsRecordedAs Plain t (parent new.path)
+Applies new known t TooMany = max_files ≤ length t
+Applies new known t fault = ⊥

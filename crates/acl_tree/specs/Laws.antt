@@ -1,7 +1,6 @@
 -- What commands leave as it is, and what edits of the files of a command leave at each path.
 use Rattle.std.specs.Prelude.{◌≡◌, List, [], ◌∷◌, Bool, true, false, not, ◌&&◌, Some, Result, Ok, option_map, unwrap_or}
 use Rattle.std.specs.List.{AllByRecursion, list_any}
-use Rattle.std.specs.Ordering.{eq_by_cmp}
 use Rattle.std.specs.FinMap.{find}
 use Rattle.acl_names.specs.Paths.{path_cmp, PathOf}
 use Rattle.acl_text.specs.declared.record.DumpRecord.{DumpRecord}
@@ -15,11 +14,9 @@ use Rattle.acl_edit.specs.declared.node.Node.{Node}
 use Rattle.acl_people.specs.KnownPeople.{names_user}
 use Rattle.acl_text.specs.UserNames.{is_user_name}
 use Rattle.acl_tree.specs.declared.command.Command.{Command}
-use Rattle.acl_tree.specs.declared.command.Command.TheVariants.{Load, Chmod, Edit, Restore, Creat, Rm, Gpasswd, Usermod, Useradd, Userdel}
+use Rattle.acl_tree.specs.declared.command.Command.TheVariants.{Edit, Restore, Creat, Rm, Useradd, Userdel}
 use Rattle.acl_tree.specs.declared.command.NewFile.{NewFile}
 use Rattle.acl_tree.specs.declared.command.NewUser.{NewUser}
-use Rattle.acl_tree.specs.declared.command.Table.{Table}
-use Rattle.acl_tree.specs.declared.command.Table.TheVariants.{Passwd, Group, Dump}
 use Rattle.acl_tree.specs.Files.{Files, Recorded}
 use Rattle.path_map.specs.Entries.{IsInOrder}
 use Rattle.acl_tree.specs.Operands.{is_file}
@@ -27,7 +24,7 @@ use Rattle.acl_tree.specs.Restoring.{restore_one, paths_of, restored_tree}
 use Rattle.acl_tree.specs.Sound.{IsSoundTree}
 use Rattle.acl_tree.specs.EditCommand.{edit_one, edited_tree}
 use Rattle.acl_tree.specs.State.{State}
-use Rattle.acl_tree.specs.Step.{step}
+use Rattle.acl_tree.specs.Step.{names, step}
 
 -- ---- each file of an edit
 
@@ -66,25 +63,6 @@ EachFileKeepsMaskRules =
     → edited_tree recursive paths (edit_of line) old ≡ Ok new → MasksEach line recursive paths old new
 
 -- ---- what a command does not name
-
--- a load of files names every path, and one of users or groups none
-abbrev pub load_names : Table → Bool
-load_names Passwd = false
-load_names Group = false
-load_names Dump = true
-
--- whether a command names a path: as an operand, below one with recursion, by a record, or as its new file
-abbrev pub names : Command → PathOf → Bool
-names (Load which bytes) p = load_names which
-names (Chmod paths mode recursive) p = is_file recursive paths p
-names (Edit paths e recursive) p = is_file recursive paths p
-names (Restore records) p = is_file false (paths_of records) p
-names (Creat new) p = eq_by_cmp path_cmp p new.path
-names (Rm paths recursive) p = is_file recursive paths p
-names (Gpasswd user group change) p = false
-names (Usermod user group) p = false
-names (Useradd new) p = false
-names (Userdel user) p = false
 
 -- what it does not name stays as it is: recorded or not, and with its node
 abbrev pub LeavesUnnamed : Command → State → State → Type 0

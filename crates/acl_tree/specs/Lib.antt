@@ -1,7 +1,11 @@
 pub mod Creat
 pub mod Rm
 pub mod Memberships
-pub mod Accounts
+pub mod Causes
+pub mod Gpasswd
+pub mod Usermod
+pub mod Useradd
+pub mod Userdel
 pub mod State
 pub mod Chmod
 pub mod Loads

@@ -1,9 +1,10 @@
 -- load: the texts of users, groups and files.
-use Rattle.std.specs.Prelude.{ℕ, List, length, Bool, true, nat_lt, ◌||◌, if◌then◌else◌, Result, Ok, Err}
+use Rattle.std.specs.Prelude.{◌≡◌, ◌<◌, ℕ, List, length, Bool, true, false, nat_lt, ◌||◌, if◌then◌else◌, Result, Ok, Err}
 use Rattle.acl_text.specs.declared.fault.TextFault.{TextFault}
 use Rattle.acl_text.specs.declared.record.DumpRecord.{DumpRecord}
 use Rattle.acl_text.specs.declared.record.DumpUse.TheVariants as uses
 use Rattle.acl_text.specs.Records.{dump_of}
+use Rattle.acl_text.specs.Rows.{passwd_of, group_of}
 use Rattle.acl_tree.specs.Files.{max_files}
 use Rattle.acl_tree.specs.Loading.{files_of}
 use Rattle.acl_tree.specs.declared.fault.TreeFault.{TreeFault}
@@ -14,6 +15,8 @@ use Rattle.acl_people.specs.KnownPeople.{KnownPeople, load_passwd, load_group, n
 use Rattle.acl_tree.specs.declared.command.Table.{Table}
 use Rattle.acl_tree.specs.declared.command.Table.TheVariants.{Passwd, Group, Dump}
 use Rattle.acl_tree.specs.State.{State}
+use Rattle.acl_tree.specs.declared.user_change.UserChange.{UserChange}
+use Rattle.acl_tree.specs.declared.user_change.UserChange.TheVariants.{Loaded, Unchanged}
 
 abbrev pub tree_fault : LoadFault → TreeFault
 tree_fault loads.AlreadyLoaded = AlreadyLoaded
@@ -47,3 +50,36 @@ abbrev pub is_loaded : State → Table → Bool
 is_loaded s Passwd = s.tree.loaded || s.people.passwd_loaded
 is_loaded s Group = s.tree.loaded || s.people.group_loaded
 is_loaded s Dump = s.tree.loaded
+
+-- how a load moves the users: before a dump is loaded nobody's rights are asked for
+abbrev pub load_moves : Table → UserChange
+load_moves Passwd = Loaded
+load_moves Group = Loaded
+load_moves Dump = Unchanged
+
+-- a load of files names every path, and one of users or groups none
+abbrev pub load_names : Table → Bool
+load_names Passwd = false
+load_names Group = false
+load_names Dump = true
+
+-- ---- why it is refused
+
+-- a text that is loaded has this fault
+abbrev pub IsTextFault : KnownPeople → Table → List ℕ → TextFault → Type 0
+IsTextFault known Passwd bytes fault = passwd_of bytes ≡ Err fault
+IsTextFault known Group bytes fault = group_of bytes ≡ Err fault
+IsTextFault known Dump bytes fault = dump_records known bytes ≡ Err fault
+
+-- a dump has more records than a tree may have files
+pub record IsTooLong (known : KnownPeople) (bytes : List ℕ) : Type 0 where
+  pub records : List DumpRecord
+  pub read : dump_records known bytes ≡ Ok records
+  pub many : max_files < length records
+
+-- which faults apply, whatever other ones do
+abbrev pub Applies : State → Table → List ℕ → TreeFault → Type 0
+Applies s which bytes AlreadyLoaded = is_loaded s which ≡ true
+Applies s which bytes (Text fault) = IsTextFault s.people which bytes fault
+Applies s which bytes TooMany = (which ≡ Dump) × IsTooLong s.people bytes
+Applies s which bytes fault = ⊥

@@ -9,17 +9,13 @@ use Rattle.acl_tree.specs.declared.user_change.UserChange.{UserChange}
 use Rattle.acl_tree.specs.declared.user_change.UserChange.TheVariants.{Unchanged, Loaded, Memberships, Added, Removed}
 use Rattle.acl_tree.specs.contracts.user_change.UserChange as moved_contracts
 use Rattle.acl_tree.specs.declared.command.Command.{Command}
-use Rattle.acl_tree.specs.declared.command.Command.TheVariants.{Load, Chmod, Edit, Restore, Creat, Rm, Gpasswd, Usermod, Useradd, Userdel}
 use Rattle.acl_tree.specs.declared.fault.TreeFault.{TreeFault}
 use Rattle.acl_tree.specs.Files.{Files}
 use Rattle.acl_tree.specs.Changed.{changed_between, gone_between}
 use Rattle.acl_tree.specs.Sound.{IsSoundTree}
 use Rattle.path_map.specs.Below.{holds_below}
 use Rattle.acl_tree.specs.State.{State, coded_state}
-use Rattle.acl_tree.specs.Step.{refused_at_once, step, Stages}
-use Rattle.acl_tree.specs.Memberships.{gpasswd, usermod}
-use Rattle.acl_tree.specs.UserMoves.{load_moves, change_moves, user_left}
-use Rattle.acl_tree.specs.Accounts.{userdel}
+use Rattle.acl_tree.specs.Step.{refused_at_once, step, users_move, Stages}
 
 -- the state after a command, the files that it changed, those that are gone, and how the users moved
 pub record StagedState : Type 0 where
@@ -40,19 +36,6 @@ coded_staged =
 abbrev pub staged_from : Files → State → UserChange → StagedState
 staged_from old new user_change =
     record { state = new; changed = changed_between old new.tree.files; gone = gone_between old new.tree.files; user_change = user_change }
-
--- how a command moves the users of a state
-abbrev pub users_move : State → Command → UserChange
-users_move s (Load which bytes) = load_moves which
-users_move s (Chmod paths mode recursive) = Unchanged
-users_move s (Edit paths e recursive) = Unchanged
-users_move s (Restore records) = Unchanged
-users_move s (Creat new) = Unchanged
-users_move s (Rm paths recursive) = Unchanged
-users_move s (Gpasswd user group change) = change_moves s.people (gpasswd user group change s.people)
-users_move s (Usermod user group) = change_moves s.people (usermod user group s.people)
-users_move s (Useradd new) = Added
-users_move s (Userdel user) = user_left (userdel user s.people)
 
 -- who joined or left groups, and these groups
 abbrev pub memberships_moved : UserChange → Option (ℕ × List ℕ)

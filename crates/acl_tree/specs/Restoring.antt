@@ -10,10 +10,12 @@ use Rattle.acl_text.specs.Results.{map_err, unless}
 use Rattle.acl_tree.specs.declared.fault.TreeFault.{TreeFault}
 use Rattle.acl_tree.specs.declared.fault.TreeFault.TheVariants.{NoSuchFile}
 use Rattle.acl_names.specs.Paths.{PathOf}
-use Rattle.acl_tree.specs.Files.{Recorded}
+use Rattle.acl_tree.specs.Files.{Files, Recorded}
 use Rattle.acl_tree.specs.Operands.{first_missing}
 use Rattle.acl_tree.specs.Loading.{record_at}
 use Rattle.acl_tree.specs.Edits.{edit_all, file_fault}
+use Rattle.acl_tree.specs.declared.fault.TreeFault.TheVariants as faults
+use Rattle.acl_tree.specs.Causes.{IsAmong, IsEditRefused, IsMissing}
 
 -- the edit of a record's file
 abbrev pub edit_of : DumpRecord → Edit
@@ -36,3 +38,9 @@ paths_of records = map (λ r. r.path) records
 abbrev pub restored_tree : List DumpRecord → Recorded → Result Recorded TreeFault
 restored_tree records t =
     unless (option_map NoSuchFile (first_missing (paths_of records) t.files)) (map_err file_fault (edit_all (restore_one records) false (paths_of records) t))
+
+-- which faults apply, whatever other ones do
+abbrev pub Applies : List DumpRecord → Files → TreeFault → Type 0
+Applies records t (faults.NoSuchFile p) = IsAmong (paths_of records) p × IsMissing t p
+Applies records t (faults.Edit p fault) = IsEditRefused (restore_one records) false (paths_of records) t p fault
+Applies records t fault = ⊥

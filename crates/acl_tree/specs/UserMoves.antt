@@ -1,19 +1,11 @@
--- How a command moves the users of a state.
+-- How a change of one user moves the users.
 use Rattle.std.specs.Prelude.{ℕ, List, [], ◌∷◌, Result, Ok, Err}
 use Rattle.acl_tree.specs.declared.fault.TreeFault.{TreeFault}
 use Rattle.acl_people.specs.KnownPeople.{KnownPeople}
 use Rattle.acl_people.specs.Moves.{moved_groups}
-use Rattle.acl_tree.specs.declared.command.Table.{Table}
-use Rattle.acl_tree.specs.declared.command.Table.TheVariants.{Passwd, Group, Dump}
 use Rattle.acl_tree.specs.declared.user_change.UserChange.{UserChange}
-use Rattle.acl_tree.specs.declared.user_change.UserChange.TheVariants.{Unchanged, Loaded, Memberships, Removed}
+use Rattle.acl_tree.specs.declared.user_change.UserChange.TheVariants.{Unchanged, Memberships, Removed}
 use Rattle.acl_tree.specs.Memberships.{ChangedUser}
-
--- before a dump is loaded there is no file to judge
-abbrev pub load_moves : Table → UserChange
-load_moves Passwd = Loaded
-load_moves Group = Loaded
-load_moves Dump = Unchanged
 
 -- a user who joined or left no group did not move
 abbrev pub move_of : ℕ → List ℕ → UserChange

@@ -5,7 +5,7 @@ ghost use Rattle.acl_people.specs.KnownPeople.{persons};
 ghost use Rattle.acl_people.specs.Moves.{ChangesUser};
 ghost use Rattle.acl_tree.specs.InnerCommands.{Gives, whole};
 ghost use Rattle.acl_tree.specs.Reports.{Prepares, RefusesAtOnce};
-ghost use Rattle.acl_tree.specs.Memberships.{membership_changed};
+ghost use Rattle.acl_tree.specs.Gpasswd.{membership_changed};
 ghost use Rattle.acl_tree.specs.declared.command.Command.TheVariants.{Gpasswd};
 
 use crate::command::Membership;

@@ -155,24 +155,8 @@ impl Tree {
     ///
     /// # Errors
     ///
-    /// The command's first fault, in this order:
-    ///
-    /// - a load: `AlreadyLoaded`, before any look at the text; `Text` with the   text's first fault; `TooMany`;
-    ///
-    /// - a chmod, an edit, a restore: `NoSuchFile` of the first operand that is not recorded; an edit and a   restore
-    ///   then `Edit` of the first file in path order whose edit is refused;
-    ///
-    /// - a creat: `NoSuchUser`; `Exists`; `NoSuchFile` or `NotDirectory` of the parent; `TooMany`;
-    ///
-    /// - an rm: `NoSuchFile` or `IsDirectory` of the first operand that has one of them;
-    ///
-    /// - a gpasswd, a usermod: `NoSuchUser`; `NoSuchGroup`; `NotMember` if there is nothing to remove;
-    ///
-    /// - a useradd: `UserExists`; `UidExists`; `NoSuchGroup`; `TooManyUsers`;
-    ///
-    /// - a userdel: `NoSuchUser`.
-    ///
-    /// Or `NoMemory`, but never in place of `AlreadyLoaded`, `NotMember`, `UidExists` or `TooManyUsers`.
+    /// The command's first fault, in the order that [`Command`] gives for each. Or `NoMemory`, but never in place of
+    /// `AlreadyLoaded`, `NotMember`, `UidExists` or `TooManyUsers`.
     pub fn prepare(
         &self,
         alloc: Global,

@@ -3,7 +3,7 @@
 ghost use Rattle.std.specs.Prelude.{◌≡◌, length, Err, IfOk, IfSome};
 ghost use Rattle.acl_people.specs.KnownPeople.{persons};
 ghost use Rattle.acl_people.specs.Moves.{JoinsUser};
-ghost use Rattle.acl_tree.specs.Accounts.{useradd};
+ghost use Rattle.acl_tree.specs.Useradd.{useradd};
 ghost use Rattle.acl_tree.specs.InnerCommands.{Gives, whole};
 ghost use Rattle.acl_tree.specs.Reports.{Prepares, RefusesAtOnce};
 ghost use Rattle.acl_tree.specs.Step.{nameless};

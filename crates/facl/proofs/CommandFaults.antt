@@ -5,9 +5,8 @@ use Rattle.acl_tree.specs.declared.command.Command.{Command}
 use Rattle.acl_tree.specs.declared.fault.TreeFault.{TreeFault}
 use Rattle.acl_tree.specs.declared.user_change.UserChange.{UserChange}
 use Rattle.acl_tree.specs.Refusals.{IsRefusedForFirst}
-use Rattle.acl_tree.specs.Reports.{users_move}
+use Rattle.acl_tree.specs.Step.{users_move, step}
 use Rattle.acl_tree.specs.State.{State}
-use Rattle.acl_tree.specs.Step.{step}
 use Rattle.facl_output.specs.Faults.{line_fault_of_tree}
 use Rattle.facl_output.specs.declared.fault.LineFault.{LineFault}
 use Rattle.facl.specs.CommandFaults.{IsFirstOf, IsRefusedAs}

@@ -1,7 +1,7 @@
 -- gpasswd(1): a user is added to a group, or removed from it.
 use Rattle.std.specs.Prelude.{[], ◌∷◌, codes, refl, Option, None, Some, Result}
 use Rattle.acl_tree.specs.declared.command.Membership.TheVariants.{Add, Remove}
-use Rattle.acl_tree.specs.Memberships.{gpasswd}
+use Rattle.acl_tree.specs.Gpasswd.{gpasswd}
 use Rattle.acl_tree.specs.State.{State, with_change}
 use Rattle.acl_tree.specs.UserMoves.{change_moves}
 use Rattle.facl_script.specs.Forms.{Text}

@@ -3,9 +3,8 @@ use Rattle.std.specs.Prelude.{ℕ, List, [], ◌∷◌, codes, refl, if◌then�
 use Rattle.std.specs.Str.{bytes_eq}
 use Rattle.acl_tree.specs.declared.command.Table.{Table}
 use Rattle.acl_tree.specs.declared.command.Table.TheVariants.{Passwd, Group, Dump}
-use Rattle.acl_tree.specs.UserMoves.{load_moves}
+use Rattle.acl_tree.specs.Loads.{load_moves, load}
 use Rattle.acl_tree.specs.State.{State}
-use Rattle.acl_tree.specs.Loads.{load}
 use Rattle.facl_script.specs.Forms.{Text}
 use Rattle.facl_script.specs.Syntax.{Syntax, one}
 use Rattle.facl_script.specs.declared.tool_words.Words.{Words}

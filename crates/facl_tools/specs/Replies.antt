@@ -4,8 +4,8 @@ use Rattle.std.specs.Prelude.{◌≡◌, ◌≢◌, ℕ, Bool, false, List, [], 
 use Rattle.acl_text.specs.InTurn.{GivesUnless}
 use Rattle.acl_text.specs.Results.{◌>>=◌, map_err}
 use Rattle.acl_tree.specs.State.{State}
-use Rattle.acl_tree.specs.Step.{step}
-use Rattle.acl_tree.specs.Reports.{Reports, users_move}
+use Rattle.acl_tree.specs.Step.{step, users_move}
+use Rattle.acl_tree.specs.Reports.{Reports}
 use Rattle.acl_tree.specs.declared.command.Command.{Command}
 use Rattle.acl_tree.specs.declared.fault.TreeFault.{TreeFault}
 use Rattle.acl_tree.specs.declared.user_change.UserChange.{UserChange}

@@ -5,7 +5,7 @@ use Rattle.acl_text.specs.UserNames.{is_user_name}
 use Rattle.acl_text.specs.Ids.{id_of}
 use Rattle.acl_text.specs.Results.{◌>>=◌}
 use Rattle.acl_tree.specs.declared.command.NewUser.{NewUser}
-use Rattle.acl_tree.specs.Accounts.{useradd}
+use Rattle.acl_tree.specs.Useradd.{useradd}
 use Rattle.acl_tree.specs.State.{State, with_change}
 use Rattle.acl_tree.specs.declared.user_change.UserChange.TheVariants.{Added}
 use Rattle.facl_script.specs.Forms.{Text}

@@ -1,6 +1,6 @@
 -- userdel(8): a user is removed.
 use Rattle.std.specs.Prelude.{[], ◌∷◌, codes, refl, Result}
-use Rattle.acl_tree.specs.Accounts.{userdel}
+use Rattle.acl_tree.specs.Userdel.{userdel}
 use Rattle.acl_tree.specs.State.{State, with_change}
 use Rattle.acl_tree.specs.UserMoves.{user_left}
 use Rattle.facl_script.specs.Syntax.{Syntax, one}

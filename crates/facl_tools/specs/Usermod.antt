@@ -1,6 +1,6 @@
 -- usermod(8): a user gets another primary group.
 use Rattle.std.specs.Prelude.{[], ◌∷◌, codes, refl, Option, option_map, Result}
-use Rattle.acl_tree.specs.Memberships.{usermod}
+use Rattle.acl_tree.specs.Usermod.{usermod}
 use Rattle.acl_tree.specs.State.{State, with_change}
 use Rattle.acl_tree.specs.UserMoves.{change_moves}
 use Rattle.facl_script.specs.Syntax.{Syntax, by_letter, one}

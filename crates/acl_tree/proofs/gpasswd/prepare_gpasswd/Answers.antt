@@ -1,7 +1,7 @@
 use Rattle.std.proofs.Common.{Err, refl, ap, ◌∙◌}
 use Rattle.std.proofs.lemmas.Result.{err_from_is_err_and}
 use Rattle.acl_tree.specs.declared.fault.TreeFault.{TreeFault}
-use Rattle.acl_tree.specs.Memberships.{membership_changed}
+use Rattle.acl_tree.specs.Gpasswd.{membership_changed}
 use Rattle.acl_tree.proofs.AtOnce.{change_passed_on}
 use Rattle.acl_tree.proofs.gpasswd.prepare_gpasswd.Goals as goal
 

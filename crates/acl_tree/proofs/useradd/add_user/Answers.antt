@@ -3,7 +3,7 @@ use Rattle.std.proofs.lemmas.Grind.{common_steps}
 use Rattle.std.proofs.lemmas.Result.{err_from_is_err_and}
 use Rattle.acl_tree.specs.declared.fault.TreeFault.{TreeFault}
 use Rattle.acl_tree.specs.declared.fault.TreeFault.TheVariants.{NoMemory}
-use Rattle.acl_tree.specs.Accounts.{useradd}
+use Rattle.acl_tree.specs.Useradd.{useradd}
 use Rattle.acl_tree.specs.InnerCommands.{Gives}
 use Rattle.acl_tree.proofs.useradd.add_user.Goals as goal
 

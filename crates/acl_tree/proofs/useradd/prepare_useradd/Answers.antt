@@ -1,7 +1,7 @@
 use Rattle.std.proofs.Common.{Err, refl, ap, ◌∙◌}
 use Rattle.std.proofs.lemmas.Result.{err_from_is_err_and}
 use Rattle.acl_tree.specs.declared.fault.TreeFault.{TreeFault}
-use Rattle.acl_tree.specs.Accounts.{useradd}
+use Rattle.acl_tree.specs.Useradd.{useradd}
 use Rattle.acl_tree.specs.Step.{nameless}
 use Rattle.acl_tree.proofs.AtOnce.{passed_on}
 use Rattle.acl_tree.proofs.useradd.prepare_useradd.Goals as goal

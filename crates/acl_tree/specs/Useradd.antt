@@ -1,14 +1,15 @@
--- useradd(8) and userdel(8): users come and go.
-use Rattle.std.specs.Prelude.{ℕ, List, length, nat_le, if◌then◌else◌, Result, Ok, Err}
+-- useradd(8): a user comes.
+use Rattle.std.specs.Prelude.{◌≡◌, ◌≤◌, ℕ, length, nat_le, true, if◌then◌else◌, Result, Ok, Err}
 use Rattle.acl_text.specs.Rows.{most_rows}
 use Rattle.acl_text.specs.Results.{◌>>=◌}
 use Rattle.acl_people.specs.NameTables.{has_name, has_id}
 use Rattle.acl_people.specs.KnownPeople.{KnownPeople, users_of}
-use Rattle.acl_people.specs.Changes.{with_user, without_user}
+use Rattle.acl_people.specs.Changes.{with_user}
 use Rattle.acl_tree.specs.declared.command.NewUser.{NewUser}
 use Rattle.acl_tree.specs.declared.fault.TreeFault.{TreeFault}
-use Rattle.acl_tree.specs.declared.fault.TreeFault.TheVariants.{UserExists, UidExists, TooManyUsers}
-use Rattle.acl_tree.specs.Memberships.{ChangedUser, user_at, group_at}
+use Rattle.acl_tree.specs.declared.fault.TreeFault.TheVariants.{UserExists, UidExists, NoSuchGroup, TooManyUsers}
+use Rattle.acl_tree.specs.Causes.{MeansNoGroup}
+use Rattle.acl_tree.specs.Memberships.{ChangedUser, group_at}
 
 -- one user more in a group, if there is room
 abbrev pub add_to : NewUser → KnownPeople → ℕ → Result ChangedUser TreeFault
@@ -22,9 +23,10 @@ useradd new known =
     if has_name new.name (users_of known) then Err (UserExists new.name)
     else (if has_id new.uid (users_of known) then Err (UidExists new.uid) else (group_at known new.group >>= add_to new known))
 
-abbrev pub remove_at : KnownPeople → ℕ → Result ChangedUser TreeFault
-remove_at known user = Ok (record { user = user; people = without_user user known })
-
--- userdel
-abbrev pub userdel : List ℕ → KnownPeople → Result ChangedUser TreeFault
-userdel user known = user_at known user >>= remove_at known
+-- which faults apply, whatever other ones do
+abbrev pub Applies : NewUser → KnownPeople → TreeFault → Type 0
+Applies new known (UserExists name) = (name ≡ new.name) × (has_name new.name (users_of known) ≡ true)
+Applies new known (UidExists id) = (id ≡ new.uid) × (has_id new.uid (users_of known) ≡ true)
+Applies new known (NoSuchGroup word) = (word ≡ new.group) × MeansNoGroup known new.group
+Applies new known TooManyUsers = most_rows ≤ length known.users
+Applies new known fault = ⊥
