@@ -1,4 +1,4 @@
-"""The tools and options that the program has by its sources, and which of them the commands and the documents lack.
+"""The tools and options that the program has by its definitions, and which of them the commands and the documents lack.
 documents.py calls it."""
 from __future__ import annotations
 
@@ -6,35 +6,17 @@ import ast
 import importlib.util
 import os
 import re
-from typing import Dict, Iterator, List, NamedTuple, Set, Tuple
+from typing import Dict, Iterator, List, Set, Tuple
 
 from memory_faults import found_in, text_of
+from syntaxes import NOTHING, TEXT, VALUE, Switch, Syntax, of_program, of_tools
 
 PAGE, README, SPECIFICATION = "docs/facl.1", "README.md", "docs/SPECIFICATION.md"
 COMMANDS_PAGE, RECORDS = "docs/facl-commands.1", "commands/facl_commands/program/tools.py"
 CAUSES = "commands/facl_commands/program/hints/cause_rows.py"
-NAMED = re.compile(r'\brow!\(\w+, "(\w+)"')
-SWITCHES = re.compile(r"\b(flags|options): &\[(.*?)\]", re.S)
-SWITCH = re.compile(r"\b(both|by_letter|by_name)!\((?:'(\w)', )?\"([\w-]+)\"(, of_text)?")
-NOTHING, VALUE, TEXT = "no value", "a value", "a text"
 NO_TOOLS = {"UNKNOWN", "UNKNOWN_TOOL"}  # What rows of words that are no tools name.
 ROW_PLACE = 5  # Of the refused line among the words of a cause's row.
 Fault = Tuple[str, int, str]
-
-
-class Switch(NamedTuple):
-    names: Tuple[str, ...]
-    takes: str
-
-
-def switches_of(source: str) -> List[Switch]:
-    """The options of a tool's row in its source."""
-    found: List[Switch] = []
-    for kind, part in SWITCHES.findall(source):
-        for macro, letter, name, text in SWITCH.findall(part):
-            names = [f"-{letter}"] * bool(letter) + [f"--{name}"] * (macro != "by_letter")
-            found.append(Switch(tuple(names), NOTHING if kind == "flags" else TEXT if text else VALUE))
-    return found
 
 
 def options_shown(text: str) -> Set[str]:
@@ -44,7 +26,7 @@ def options_shown(text: str) -> Set[str]:
     return letters | set(re.findall(r"(?<![\w-])--[A-Za-z][A-Za-z-]*", tags))
 
 
-def records_of(path: str) -> Tuple[Dict[str, List[Switch]], List[str]]:
+def records_of(path: str) -> Tuple[Dict[str, Syntax], List[str]]:
     """The tools that the commands know, with their options, of which completion and causes are made; and those of
     facl-plan alone."""
     spec = importlib.util.spec_from_file_location("tools", path)
@@ -52,11 +34,11 @@ def records_of(path: str) -> Tuple[Dict[str, List[Switch]], List[str]]:
     module = importlib.util.module_from_spec(spec)
     spec.loader.exec_module(module)
     takes = {"": NOTHING, module.TEXT: TEXT}
-    found = {tool.name.decode(): [Switch(tuple(map(bytes.decode, row.names)), takes.get(row.value, VALUE))
-                                  for row in tool.options]
-             for tool in module.ROWS}
+    found = {tool.name.decode(): Syntax(
+        [Switch(tuple(map(bytes.decode, row.names)), takes.get(row.value, VALUE)) for row in tool.options],
+        [word.endswith("..") for word in tool.operands.split()], tool.takes_text, path) for tool in module.ROWS}
     of_plans = [name.decode() for name in module.TOOLS_OF_PLANS]
-    return {name: rows for name, rows in found.items() if name not in of_plans}, of_plans
+    return {name: syntax for name, syntax in found.items() if name not in of_plans}, of_plans
 
 
 def calls_of_tools(tree: ast.AST) -> Iterator[ast.AST]:
@@ -81,20 +63,13 @@ def tools_of_causes(text: str) -> Iterator[str]:
                 yield from words[:1] if call.func.id == "row" else words
 
 
-def file_of_tool(top: str, name: str) -> str:
-    """The file that has the syntax of a tool: that of a question is in facl, any other in facl_tools."""
-    question = f"crates/facl/src/tools/{name}.rt"
-    return question if os.path.exists(os.path.join(top, question)) else f"crates/facl_tools/src/{name}.rt"
-
-
 class ToolRows:
     """The checks of a repository."""
 
     def __init__(self, top: str) -> None:
         self.top = top
-        names = NAMED.findall(text_of(top, "crates/facl/src/tools.rt"))
-        self.tools = {name: switches_of(text_of(top, file_of_tool(top, name))) for name in names}
-        self.program = {f"--{name}" for _, _, name, _ in SWITCH.findall(text_of(top, "crates/facl_script/src/args.rt"))}
+        self.tools = of_tools(top)
+        self.program = {name for row in of_program(top).switches for name in row.names}
 
     def all_faults(self) -> Iterator[Fault]:
         yield from self.of_page()
@@ -113,7 +88,7 @@ class ToolRows:
         shown = {"facl": sections.get("OPTIONS", "")}
         for name, part in re.findall(r"^\.SS (\w+)(.*\n(?:(?!\.SS ).*\n)*)", sections.get("TOOLS", ""), re.M):
             shown[name] = shown.get(name, "") + ".SS" + part
-        options = {name: {it for row in rows for it in row.names} for name, rows in self.tools.items()}
+        options = {name: {it for row in syntax.switches for it in row.names} for name, syntax in self.tools.items()}
         options["facl"] = self.program
         yield from self.unlike(PAGE, set(shown), set(options))
         for name in set(options) & set(shown):
@@ -122,12 +97,18 @@ class ToolRows:
             yield from ((PAGE, 1, f"{name} has no {option} here") for option in read - tags)
 
     def of_records(self) -> Iterator[Fault]:
-        """The same of the records of the commands; and whether each option takes the same. The manual page of the
-        commands has the tools of facl-plan."""
+        """The same of the records of the commands; and whether each option takes the same, each line has a text or none, and the
+        operands are as many. Those of a tool of one repeated operand may be told apart. The manual page of the commands has the
+        tools of facl-plan."""
         known, of_plans = records_of(os.path.join(self.top, RECORDS))
         yield from self.unlike(RECORDS, set(known), set(self.tools))
         for name in set(known) & set(self.tools):
-            ours, read = ({row.names: row.takes for row in rows} for rows in (known[name], self.tools[name]))
+            record, syntax = known[name], self.tools[name]
+            if record.loads != syntax.loads:
+                yield RECORDS, 1, f"{name} takes {'a' if syntax.loads else 'no'} text"
+            if record.operands != syntax.operands and not (syntax.operands == [True] == record.operands[-1:]):
+                yield RECORDS, 1, f"{name} takes other operands"
+            ours, read = ({row.names: row.takes for row in its.switches} for its in (record, syntax))
             for names in set(ours) | set(read):
                 option, takes = " ".join(names), read.get(names, "")
                 if names not in read:
@@ -151,7 +132,7 @@ class ToolRows:
         tools = {words[0] for words in codes if words}
         yield from ((SPECIFICATION, 1, f"the tool {name} is not in it") for name in set(self.tools) - tools)
         named = {word.partition("=")[0] for words in codes for word in words}
-        for name, row in ((name, row) for name, rows in self.tools.items() for row in rows):
+        for name, row in ((name, row) for name, syntax in self.tools.items() for row in syntax.switches):
             if named.isdisjoint(row.names):
                 yield SPECIFICATION, 1, f"{name} has no {' '.join(row.names)} here"
 

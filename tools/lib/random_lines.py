@@ -35,6 +35,9 @@ TOOLS = [name.decode() for name in tools.TOOLS]
 TEXT_WORDS = {word.decode() for word in tools.TEXT_WORDS}
 LOADERS = {name.decode() for name in tools.LOADERS}
 OF_PEOPLE = tools.CHANGES_OF_PEOPLE
+# The names of each flag of each tool.
+FLAGS = {tool.name.decode(): [[name.decode() for name in row.names] for row in tool.options if not row.value]
+         for tool in tools.ROWS}
 Thing = TypeVar("Thing")
 Words = Tuple[List[str], List[str]]
 
@@ -156,49 +159,53 @@ class Grammar:
         name = self.random.choice(names)
         return self.one([name, value], [name + "=" + value], [name + value] if len(name) == 2 else [name, value])
 
+    def flags(self, tool: str, part: float) -> List[str]:
+        """Some flags of a tool."""
+        return [self.random.choice(names) for names in FLAGS[tool] if self.chance(part)]
+
     # Tools: the words after the tool, and the text's lines.
 
     def getfacl(self, top: str) -> Words:
-        flags = self.some(0.2, "-a", "-c", "-e", "-E", "-s", "-n", "-R", "--recursive", "--numeric", "-Rn")
-        return flags + self.paths(top), []
+        return self.flags("getfacl", 0.2) + self.some(0.2, "-Rn") + self.paths(top), []
 
     def chmod(self, top: str) -> Words:
         is_bad = self.chance(0.05)
         mode = self.one("8", "00000", "-1", "''", "u+x", "") if is_bad else "%o" % self.random.randrange(0o10000)
-        return self.some(0.3, "-R") + [mode] + self.paths(top), []
+        return self.flags("chmod", 0.3) + [mode] + self.paths(top), []
 
-    def reaching(self, words: List[str]) -> List[str]:
-        """The words of a question, perhaps with `--reach` anywhere."""
-        if self.chance(0.5):
-            words.insert(self.random.randrange(len(words) + 1), "--reach")
-        return words
+    def question(self, tool: str, *words: str) -> Words:
+        """The words of a question, with some of its flags anywhere."""
+        asked = list(words)
+        for flag in self.flags(tool, 0.5):
+            asked.insert(self.random.randrange(len(asked) + 1), flag)
+        return asked, []
 
     def can(self, top: str) -> Words:
-        return self.reaching([self.user(), self.path(top)]), []
+        return self.question("can", self.user(), self.path(top))
 
     def who(self, top: str) -> Words:
-        return self.reaching([self.asked_perms(), self.path(top)]), []
+        return self.question("who", self.asked_perms(), self.path(top))
 
     def may(self, top: str) -> Words:
-        return self.reaching([self.user(), self.asked_perms()]), []
+        return self.question("may", self.user(), self.asked_perms())
 
     def below(self, top: str) -> Words:
         paths = self.paths(top)
         if self.chance(0.4):  # One above another.
             paths.append(self.quoted(self.random.choice(paths).strip("'").rpartition("/")[0] or top))
-        return self.reaching([self.asked_perms(), *paths]), []
+        return self.question("below", self.asked_perms(), *paths)
 
     def why(self, top: str) -> Words:
-        return self.reaching([self.user(), *self.paths(top)]), []
+        return self.question("why", self.user(), *self.paths(top))
 
     def index(self, top: str) -> Words:
-        return [], []
+        return self.question("index")
 
     def changes(self, top: str) -> Words:
-        return self.reaching([]), []
+        return self.question("changes")
 
     def gains(self, top: str) -> Words:
-        return self.reaching([]), []
+        return self.question("gains")
 
     def attr(self, top: str) -> Words:
         return [self.path(top)], []
@@ -219,7 +226,7 @@ class Grammar:
         return [f"{name}={self.one('0x', '0x', '0X', '')}{value.hex()}", self.path(top)], []
 
     def creat(self, top: str) -> Words:
-        words = self.some(0.4, "-d") + self.option(["--user"], self.user())
+        words = self.flags("creat", 0.4) + self.option(["--user"], self.user())
         is_bad = self.chance(0.05)
         mode = self.one("1000", "9", "''") if is_bad else "%o" % self.random.randrange(0o1000)
         words += self.option(["--mode"], mode)
@@ -229,7 +236,7 @@ class Grammar:
 
     def rm(self, top: str) -> Words:
         paths = [it for it in self.paths(top) if it not in (".", "./-", "/") or self.chance(0.02)]
-        return self.some(0.3, "-r") + paths, []
+        return self.flags("rm", 0.3) + paths, []
 
     def gpasswd(self, top: str) -> Words:
         return [self.one("-a", "-d"), self.user(), self.group()], []
@@ -260,7 +267,7 @@ class Grammar:
     def setfacl(self, top: str) -> Words:
         if self.chance(0.15):
             return self.restore(top)
-        words = self.some(0.15, "-R", "-d", "-n", "--mask", "--test", "-b", "-k", "--recursive")
+        words = self.flags("setfacl", 0.15)
         text: List[str] = []
         kind = self.one("-m", "-m", "-x", "-mx", "--set", "-M", "-X", "--set-file", "none")
         if "x" in kind:

@@ -1,7 +1,7 @@
 """The tools of the script language, one record each; and how the words of a line are split into options and operands.
 
 All other modules make what they know of tools from these; tools/check/tool_rows.py compares them with the program's
-sources.
+definitions.
 """
 from __future__ import annotations
 

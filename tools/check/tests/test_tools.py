@@ -13,21 +13,26 @@ import tempfile
 import time
 import unittest
 import unittest.mock
-from typing import Dict, List, Tuple
+from typing import Dict, List, Set, Tuple
 
 HERE = os.path.dirname(os.path.realpath(__file__))
 LIB = os.path.realpath(os.path.join(HERE, "..", "..", "lib"))
 TOP = os.path.realpath(os.path.join(HERE, "..", "..", ".."))
 sys.path[:0] = [os.path.join(HERE, ".."), os.path.join(HERE, "..", ".."), os.path.join(HERE, "..", "..", "bench"), LIB]
 
+import answers  # noqa: E402
 import documents  # noqa: E402
 import grow  # noqa: E402
+import growth  # noqa: E402
+import random_lines  # noqa: E402
+from facl_commands.program import tools  # noqa: E402
 from documents import Checks  # noqa: E402
 from memory_faults import Source, faults_of  # noqa: E402
 from random_lines import Unit, is_of_tools, numbers_of, script_of  # noqa: E402
 from script import Failed, with_row  # noqa: E402
 from session import Expect, MeasuredSession, Session, TimedRun, has_tool, program_at, timed  # noqa: E402
 from sessions import Step, Tree  # noqa: E402
+from syntaxes import of_tools  # noqa: E402
 from tool_rows import ToolRows  # noqa: E402
 from ways import Crates  # noqa: E402
 
@@ -191,6 +196,13 @@ README = """[a](tools/README.md), tools/lib/a.py, [b](docs/READING.md#to-read-sh
 |---|---|
 | `can`, `chmod` | all |
 """
+TOOLS = """-- Tools.
+use Rattle.facl.specs.Can as can
+use Rattle.facl.specs.Chmod as chmod
+
+abbrev pub table : List ToolRow
+table = row tools.Can (codes "can") can.syntax ∷ row tools.Chmod (codes "chmod") chmod.syntax ∷ []
+"""
 # The records of the commands, with two tools alone.
 with open(os.path.join(TOP, "commands", "facl_commands", "program", "tools.py"), encoding="utf-8") as tools_file:
     RECORDS = re.sub(r"(?ms)^ROWS = \(.*?^\)$", """ROWS = (
@@ -206,10 +218,15 @@ FILES: Dict[str, str] = {
     "crates/low/specs/Maps.antt": MAPS,
     "crates/low/must-fail/grows_by_one.edit": "file: src/a.rt\nold: ensures grown { x } { 2 }\nnew: 3\n",
     "crates/low/must-fail/one_too_many.edit": "file: src/a.rt\nold: MOST: usize = 4\nnew: 5\n",
-    "crates/facl/src/tools.rt": '//! Tools.\nrow!(Can, "can", can::SYNTAX),\nrow!(Chmod, "chmod", chmod::SYNTAX),\n',
-    "crates/facl/src/tools/can.rt": '//! One.\nflags: &[by_name!("reach")],\n',
-    "crates/facl/src/tools/chmod.rt": "//! One.\nflags: &[both!('R', \"recursive\"), by_letter!('v', \"v\")],\n",
-    "crates/facl_script/src/args.rt": '//! Words.\n[by_name!("dump")]\n',
+    "crates/facl/src/tools.rt": "//! Tools.\n",
+    "crates/facl/specs/Tools.antt": TOOLS,
+    "crates/facl/specs/Can.antt": '-- One.\nabbrev pub syntax : Syntax\nsyntax = record { flags = by_name (codes "reach") ∷ []; options = []; '
+                                  'operands = one (codes "user") ∷ one (codes "file") ∷ [] }\n',
+    "crates/facl/specs/Chmod.antt": '-- One.\nabbrev pub syntax : Syntax\nsyntax = record { flags = both (codes "R") (codes "recursive") '
+                                    '∷ by_letter (codes "v") ∷ []; options = []; operands = one (codes "mode") ∷ some (codes "file") ∷ [] }\n',
+    "crates/facl_script/src/args.rt": "//! Words.\n",
+    "crates/facl_script/specs/Args.antt": '-- Words.\nabbrev pub program_syntax : Syntax\nprogram_syntax = record { flags = []; '
+                                          'options = by_name (codes "dump") ∷ []; operands = [] }\n',
     "commands/facl-ask": "#!/bin/sh\n# Asks\n# all.\nexit\n",
     "commands/facl_commands/program/tools.py": RECORDS,
     "commands/facl_commands/program/hints/cause_rows.py": '"""Rows."""\nrow("a", USAGE, first("can"), "", "", "chmod")\n',
@@ -267,9 +284,8 @@ FAULTS: Dict[str, List[Tuple[str, ...]]] = {
 
 
 # What the check of tools and options reads.
-OF_TOOLS = ("crates/facl/src/tools.rt", "crates/facl/src/tools", "crates/facl_tools/src",
-            "crates/facl_script/src/args.rt", "README.md", "commands/facl_commands", "docs/SPECIFICATION.md",
-            "docs/facl.1", "docs/facl-commands.1")
+OF_TOOLS = ("crates/facl/specs", "crates/facl_tools/specs", "crates/facl_script/specs", "README.md", "commands/facl_commands",
+            "docs/SPECIFICATION.md", "docs/facl.1", "docs/facl-commands.1")
 RECORDS_PATH, CAUSES = "commands/facl_commands/program/tools.py", "commands/facl_commands/program/hints/cause_rows.py"
 RULES, PAGE_PATH = "docs/SPECIFICATION.md", "docs/facl.1"
 
@@ -323,14 +339,13 @@ class Tools(Case):
         self.expect()
 
     def test_a_tool_that_the_program_gets(self) -> None:
-        self.change("crates/facl/src/tools.rt", 'row!(Can, "can", can::SYNTAX),',
-                    'row!(Can, "can", can::SYNTAX),\nrow!(Frob, "frob", frob::SYNTAX),')
-        self.write("crates/facl/src/tools/frob.rt", "flags: &[],\noptions: &[],\n")
+        self.change("crates/facl/specs/Tools.antt", 'row tools.Can (codes "can") can.syntax',
+                    'row tools.Can (codes "can") can.syntax ∷ row tools.Frob (codes "frob") index.syntax')
         self.expect(*((path, "the tool frob is not in it")
                       for path in (RECORDS_PATH, CAUSES, "README.md", RULES, PAGE_PATH)))
 
     def test_an_option_that_the_program_gets(self) -> None:
-        self.change("crates/facl_tools/src/chmod.rt", "options: &[]", "options: &[both!('z', \"zap\")]")
+        self.change("crates/facl_tools/specs/Chmod.antt", "options = []", 'options = both (codes "z") (codes "zap") ∷ []')
         self.expect((RECORDS_PATH, "chmod has no -z --zap here"), (RULES, "chmod has no -z --zap here"),
                     (PAGE_PATH, "chmod has no -z here"), (PAGE_PATH, "chmod has no --zap here"))
 
@@ -339,6 +354,8 @@ class Tools(Case):
         self.change(RECORDS_PATH, 'option("-x --remove", ENTRIES, PART), ', 'option("-x --remove", "", PART), ')
         self.change(RECORDS_PATH, 'option("-X --remove-file", TEXT, PART)', 'option("-X --remove-file", OTHER, PART)')
         self.change(RECORDS_PATH, 'Tool(b"userdel"', 'Tool(b"deluser"')
+        self.change(RECORDS_PATH, '"USER FILE..", BY_REACH', '"USER FILE", BY_REACH')
+        self.change(RECORDS_PATH, "takes_text=True", "takes_text=False")
         self.change("commands/facl_commands/program/hints/cause_rows_of_words.py", '"load dump', '"dump')
         self.change(RULES, "(`--user`, ", "(")
         self.change("docs/facl-commands.1", "chgrp", "group")
@@ -346,8 +363,45 @@ class Tools(Case):
             ("README.md", "the tool getfacl is not in it"), ("README.md", "the program has no tool getfatcl"),
             (RECORDS_PATH, "-x --remove takes a value"), (RECORDS_PATH, "-X --remove-file takes a text"),
             (RECORDS_PATH, "the tool userdel is not in it"), (RECORDS_PATH, "the program has no tool deluser"),
+            (RECORDS_PATH, "why takes other operands"), (RECORDS_PATH, "load takes a text"),
             (CAUSES, "the tool load is not in it"), (RULES, "creat has no --user here"),
             ("docs/facl-commands.1", "the tool chgrp is not in it"))
+
+
+class Tables(unittest.TestCase):
+    """The lines that are made up for checks, and the tools and options of the definitions."""
+
+    def setUp(self) -> None:
+        self.tools = of_tools(TOP)
+
+    def expect_all(self, units: List[Unit]) -> None:
+        """These have each tool of the definitions, with each of its options."""
+        given: Dict[str, Set[str]] = {}
+        for unit in units:
+            tool, *words = answers.words_of(unit.line) or [b""]
+            options = tools.split([tool, *words]).given
+            given.setdefault(tool.decode("utf-8", "replace"), set()).update(option.name.decode() for option in options)
+        for name, syntax in self.tools.items():
+            self.assertIn(name, given)
+            for row in syntax.switches:
+                self.assertFalse(given[name].isdisjoint(row.names), f"{name} {row.names}")
+
+    def test_random_lines(self) -> None:
+        grammar = random_lines.Grammar("tables", random_lines.TOOLS)
+        self.expect_all([grammar.unit("t") for _ in range(4_000)])
+        self.assertEqual(set(random_lines.TOOLS), set(self.tools))
+
+    def test_the_session_of_each_option(self) -> None:
+        units = growth.units_of(growth.LOADS + growth.EVERY)
+        self.expect_all(units)
+        known = {name: {it for row in syntax.switches for it in row.names} for name, syntax in self.tools.items()}
+        for unit in units:
+            tool, *words = answers.words_of(unit.line)
+            self.assertLessEqual({option.name.decode() for option in tools.split([tool, *words]).given}, known[tool.decode()])
+
+    def test_each_question_has_an_answer(self) -> None:
+        questions = [name for name, syntax in self.tools.items() if syntax.crate == "facl"]
+        self.assertEqual([name for name in questions if not hasattr(answers.Table, name)], [])
 
 
 # --- check/memory_faults.py
