@@ -6,17 +6,9 @@ use facl_output::{Options, append_listing, listing_is_loaded_again};
 use std::alloc::Global;
 use std::process::Abort;
 
-const PLAIN: Options = Options {
-    access_only: false,
-    omit_header: false,
-    effective: Effective::WhereMasked,
-    skip_base: false,
-    numeric: false,
-};
-
 const BARE: Options = Options {
     omit_header: true,
-    ..PLAIN
+    ..Options::PLAIN
 };
 
 struct Row {
@@ -28,7 +20,7 @@ struct Row {
 
 static ROWS: [Row; 7] = [
     Row {
-        options: PLAIN,
+        options: Options::PLAIN,
         names: &[b"somedir"],
         have_below: false,
         text: b"# file: somedir\n# owner: lisa\n# group: staff\n# flags: -s-\nuser::rwx\nuser:joe:rwx\t\t\t#effective:r-x\ngroup::rwx\t\t\t#effective:r-x\ngroup:cool:r-x\nmask::r-x\nother::r-x\ndefault:user::rwx\ndefault:user:joe:rwx\t\t#effective:r-x\ndefault:group::r-x\ndefault:mask::r-x\ndefault:other::---\n\n",
@@ -57,20 +49,20 @@ static ROWS: [Row; 7] = [
     Row {
         options: Options {
             numeric: true,
-            ..PLAIN
+            ..Options::PLAIN
         },
         names: &[b"pub"],
         have_below: false,
         text: b"# file: pub/\n# owner: 1002\n# group: 100\nuser::rwx\ngroup::r-x\ngroup:70:rwx\nmask::rwx\nother::r-x\n\n",
     },
     Row {
-        options: PLAIN,
+        options: Options::PLAIN,
         names: &[b"pub"],
         have_below: true,
         text: b"# file: pub\n# owner: ann\n# group: users\nuser::rwx\ngroup::r-x\ngroup:adm:rwx\nmask::rwx\nother::r-x\n\n",
     },
     Row {
-        options: PLAIN,
+        options: Options::PLAIN,
         names: &[b"."],
         have_below: false,
         text: b"# file: .\n# owner: lisa\n# group: staff\nuser::rwx\ngroup::r-x\nother::r-x\n\n",

@@ -321,3 +321,14 @@ pub struct Options {
     /// Ids as numbers (`-n`).
     pub numeric: bool,
 }
+
+impl Options {
+    /// Those of a line without flags.
+    pub const PLAIN: Options = Options {
+        access_only: false,
+        omit_header: false,
+        effective: Effective::WhereMasked,
+        skip_base: false,
+        numeric: false,
+    };
+}
