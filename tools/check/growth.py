@@ -39,7 +39,7 @@ from typing import Dict, Iterable, Iterator, List, NamedTuple, Optional, Set, Tu
 sys.dont_write_bytecode = True
 HERE = os.path.dirname(os.path.realpath(__file__))
 sys.path.insert(0, os.path.join(HERE, "..", "lib"))
-from random_lines import LOADERS, TEXT_WORDS, Unit, numbers_of, script_of  # noqa: E402
+from random_lines import FLAGS, LOADERS, TEXT_WORDS, Unit, numbers_of, script_of  # noqa: E402
 from script import Failed, run  # noqa: E402
 from session import TEXTS, conclude, options_of, words_of, write_text  # noqa: E402
 from texts import ROOT_AND_FILE, dump_of  # noqa: E402
@@ -101,7 +101,7 @@ chacl u::rw-,u:joe:r,g::r--,o::- f
 chacl -R f
 gpasswd -d joe adm"""
 # Each option of each tool once, and each question.
-EVERY = """getfacl -a -c -e -n -s -R .
+EVERY = "".join(f"getfacl {names[0]} pub\n" for names in FLAGS["getfacl"]) + """getfacl -a -c -e -n -s -R .
 getfacl -E f pub
 setfacl -m u:joe:rw f
 setfacl -M - f\ng:adm:r\nu:ann:r\n.

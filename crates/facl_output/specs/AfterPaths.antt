@@ -3,12 +3,11 @@ use Rattle.std.specs.Prelude.{ℕ, List, [], ◌∷◌, ◌++◌, if◌then◌el
 use Rattle.acl_entry.specs.Lists.{entries}
 use Rattle.acl_edit.specs.declared.node.Node.{Node}
 use Rattle.acl_text.specs.Naming.{Naming}
-use Rattle.acl_text.specs.declared.fault.Which.TheVariants.{Access}
 use Rattle.acl_text.specs.DumpWriting as dump
-use Rattle.acl_text.specs.DumpWriting.{owner_text, group_text, flags_text, list_text}
+use Rattle.acl_text.specs.DumpWriting.{owner_text, group_text, flags_text}
 use Rattle.acl_text.specs.Writing.{short}
 use Rattle.acl_tree.specs.Found.{FoundFile}
-use Rattle.facl_output.specs.Listings.{has_slash, flags_shown, default_entries}
+use Rattle.facl_output.specs.Listings.{entry_lines, flags_shown, has_slash}
 use Rattle.facl_output.specs.TestListing.{lists_text}
 use Rattle.facl_output.specs.ChaclListings.{default_part}
 use Rattle.facl_output.specs.declared.listing.Options.{Options}
@@ -24,7 +23,7 @@ module _ (naming : Naming) where
 
   -- the lines of a record after that of the path
   abbrev pub after_path : Options → Node → List ℕ
-  after_path options n = id_lines options n ++ (list_text naming options.effective Access n.label.acl ++ (default_entries naming options n ++ 10 ∷ []))
+  after_path options n = id_lines options n ++ entry_lines naming options n
 
   -- the same of setfacl's `--test`, and of chacl's `-l`
   abbrev pub after_tested_path : Node → List ℕ

@@ -45,10 +45,13 @@ module _ (naming : Naming) where
   abbrev pub default_entries : Options → Node → List ℕ
   default_entries options n = if options.access_only then [] else default_text naming options.effective n.dacl
 
-  -- a file: its headers, its access entries, its default entries, and an empty line
+  -- its access entries, its default entries, and an empty line
+  abbrev pub entry_lines : Options → Node → List ℕ
+  entry_lines options n = list_text naming options.effective Access n.label.acl ++ (default_entries options n ++ 10 ∷ [])
+
+  -- a file: its headers and its entries
   abbrev pub file_text : Options → FoundFile → List ℕ
-  file_text options file =
-      headers options file ++ (list_text naming options.effective Access file.node.label.acl ++ (default_entries options file.node ++ 10 ∷ []))
+  file_text options file = headers options file ++ entry_lines options file.node
 
   -- the files one after another
   abbrev pub files_text : Options → List FoundFile → List ℕ

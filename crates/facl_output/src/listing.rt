@@ -3,9 +3,8 @@
 ghost use Rattle.std.specs.Prelude.{◌≡◌, ◌++◌, ◌∷◌, [], length, MatchResult, OnOk};
 ghost use Rattle.std.specs.Io.{StartsWith};
 ghost use Rattle.acl_text.specs.DumpWriting as dump;
-ghost use Rattle.acl_text.specs.DumpWriting.{list_text};
 ghost use Rattle.acl_names.specs.Appends.{Appends, AppendsWhole};
-ghost use Rattle.facl_output.specs.Listings.{has_base_alone, is_listed, has_slash, path_shown, flags_shown, headers, default_entries, file_text, files_text, listing};
+ghost use Rattle.facl_output.specs.Listings.{has_base_alone, is_listed, has_slash, path_shown, flags_shown, headers, default_entries, entry_lines, file_text, files_text, listing};
 ghost use Rattle.facl_output.specs.AfterPaths.{path_line, after_path};
 ghost use Rattle.facl_output.specs.KeptTexts.{AreKept};
 
@@ -145,8 +144,7 @@ fn push_lists<N: Names>(
     options: &Options,
     node: &Node,
 ) -> Result<(), AllocError>
-    ensures { Appends result text.old text.new (list_text (N.naming names.now) options.now.effective Which.Access node.now.label.acl
-        ++ (default_entries (N.naming names.now) options.now node.now ++ 10 ∷ [])) }
+    ensures { Appends result text.old text.new (entry_lines (N.naming names.now) options.now node.now) }
 {
     let acl = &node.label.acl;
     append_list(text, acl, Which::Access, options.effective, names)?;
