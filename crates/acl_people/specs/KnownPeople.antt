@@ -79,7 +79,7 @@ load_group known bytes =
     if known.group_loaded then Err AlreadyLoaded
     else loaded (λ rows. record { users = known.users; groups = rows; passwd_loaded = known.passwd_loaded; group_loaded = true }) (group_of bytes)
 
--- what is true of all people: at most 65,536 users and as many groups, each name in one row
+-- what is true of all people: at most `most_rows` users and as many groups, each name in one row
 pub record IsSound (known : KnownPeople) : Type 0 where
   pub few_users : length known.users ≤ most_rows
   pub few_groups : length known.groups ≤ most_rows

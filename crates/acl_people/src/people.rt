@@ -297,7 +297,7 @@ impl People {
         })
     }
 
-    /// Proof only: there are at most 65,536 users and as many groups, and each name is in one row.
+    /// Proof only: there are at most `MAX_ROWS` users and as many groups, and each name is in one row.
     pub fn soundness_law(&self)
         ensures { IsSound self.now }
     {

@@ -78,7 +78,7 @@ with_numbers reading tag perm id =
     if nat_lt tag reading.last_tag then None
     else option_and_then (λ p. option_and_then (with_key reading tag p) (key_of tag id)) (perm_of perm)
 
--- the entry at a place, by the numbers that its bytes read as; eight bytes, and at most 4,096 entries
+-- the entry at a place, by the numbers that its bytes read as; eight bytes, and at most `most_entries` entries
 abbrev pub with_entry : ℕ → Reading → List ℕ → Option Reading
 with_entry at reading bytes =
     if nat_lt most_entries at || not (length bytes == 8) then None

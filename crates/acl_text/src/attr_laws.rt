@@ -4,7 +4,7 @@ ghost use Rattle.acl_text.specs.AttrLaws.{AttributeEncodesItsEntries, AttributeF
 
 /// Proof only: an attribute is read as a list exactly if, after the number 2, each eight bytes are an entry: a tag,
 /// permissions of three bits, and the id that the tag names, if it names one; where the tags never fall, no key comes
-/// twice, there are at most 4,096 entries, and the entries are the list, which is valid.
+/// twice, there are at most `MAX_ENTRIES` entries, and the entries are the list, which is valid.
 pub fn attribute_encodes_its_entries()
     ensures { AttributeEncodesItsEntries }
 {}

@@ -24,7 +24,7 @@ struct Reading {
 /// # Errors
 ///
 /// `BadAttr` at 0 if it does not begin with the number 2 in four bytes; else at the number of the first faulty
-/// entry, counted from 1: one of fewer than eight bytes, one beyond the 4,096th, one whose tag is unknown or below
+/// entry, counted from 1: one of fewer than eight bytes, one beyond `MAX_ENTRIES`, one whose tag is unknown or below
 /// the tag before it, whose permissions are above 7, which names the id 4294967295, or whose key came before; else,
 /// if a base entry or the mask is missing, at the number of entries plus one. Or `NoMemory`.
 pub fn decode_attr(alloc: Global, bytes: &[u8]) -> Result<Acl, TextFault>

@@ -254,7 +254,7 @@ fn read_piece<N: Names>(
 /// Returns the entries of a text, without the empty ones. An entry is `[d[efault]:]TAG:WORD:PERMISSIONS` in the forms
 /// of setfacl(1); entries and lines count from 1, empty ones too. The fault of the first faulty entry is returned,
 /// and of several faults in it the first of: `BadTag`, `MissingPerms`, `UnwantedPerms`, `BadPerms`, `UnknownUser`,
-/// `UnknownGroup`, `BaseEntry`, and `TooMany` beyond 16,384 entries.
+/// `UnknownGroup`, `BaseEntry`, and `TooMany` beyond `MAX_TEXT_ENTRIES` entries.
 pub fn read_entries<N: Names>(
     alloc: Global,
     bytes: &[u8],

@@ -3,13 +3,13 @@
 ghost use Rattle.acl_text.specs.Laws.{PasswdRowsAreFirstOfTheirNames, GroupRowsAreFirstOfTheirNames, EntryMeansWhatIsRead, EntriesAreReadInOrder, PasswdFaultIsFirst, GroupFaultIsFirst, EntriesFaultIsFirst, EntryFaultIsLowest, PieceFaultIsLowest, PasswdLineFaultIsLowest, GroupLineFaultIsLowest};
 
 /// Proof only: a passwd text has these counted rows exactly if each line that is not ignored is a row, they are the
-/// rows whose name no earlier row has, in the order of the text, and they are at most 65,536.
+/// rows whose name no earlier row has, in the order of the text, and they are at most `MAX_ROWS`.
 pub fn passwd_rows_are_first_of_their_names()
     ensures { PasswdRowsAreFirstOfTheirNames }
 {}
 
 /// Proof only: a group text has these counted rows exactly if each line that is not ignored is a row, they are the
-/// rows whose name no earlier row has, in the order of the text, and they are at most 65,536.
+/// rows whose name no earlier row has, in the order of the text, and they are at most `MAX_ROWS`.
 pub fn group_rows_are_first_of_their_names()
     ensures { GroupRowsAreFirstOfTheirNames }
 {}
@@ -21,7 +21,7 @@ pub fn entry_means_what_is_read()
 {}
 
 /// Proof only: a text is read as these specs exactly if they are those of its entries, one each, in their order and
-/// at their numbers, which count empty entries too, and there are at most 16,384.
+/// at their numbers, which count empty entries too, and there are at most `MAX_TEXT_ENTRIES`.
 pub fn entries_are_read_in_order()
     ensures { EntriesAreReadInOrder }
 {}

@@ -77,7 +77,7 @@ fn read_line<'a, R: TableRow + Drop>(
     Ok(())
 }
 
-/// Returns the counted rows of a text: the first row of each name, at most 65,536; or the fault of the first faulty
+/// Returns the counted rows of a text: the first row of each name, at most `MAX_ROWS`; or the fault of the first faulty
 /// line. Empty lines and lines that begin with `#` are ignored.
 pub(crate) fn read_rows<R: TableRow + Drop>(
     alloc: Global,

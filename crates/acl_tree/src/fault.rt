@@ -29,7 +29,7 @@ pub enum TreeFault {
     NotMember,
     /// The first file in path order whose edit is refused, for a fault that is not `NoMemory`.
     Edit { path: Path, fault: EditFault },
-    /// More than 1,048,576 files.
+    /// More files than `MAX_FILES`.
     TooMany,
     /// A text of this kind was loaded before, or a dump.
     AlreadyLoaded,
@@ -41,7 +41,7 @@ pub enum TreeFault {
     UserExists { name: Name },
     /// A new user has the id of another one.
     UidExists { id: Id },
-    /// There are 65,536 users.
+    /// There are `MAX_ROWS` users.
     TooManyUsers,
 }
 

@@ -124,7 +124,7 @@ impl Tree {
         self.files.selected(alloc, selection)
     }
 
-    /// Proof only: the files are in path order, each path once, and there are at most 1,048,576; there is none
+    /// Proof only: the files are in path order, each path once, and there are at most `MAX_FILES`; there is none
     /// before a dump is loaded; the root and what has a file below it are directories, and only directories
     /// have default lists.
     pub fn soundness_law(&self)

@@ -31,7 +31,7 @@ pub enum Source {
 /// of an operand's path. `NoMemory` may come in place of each.
 #[derive(Debug, Drop, Error)]
 pub enum LineFault {
-    /// The line has more than 65,536 bytes.
+    /// The line has more bytes than `LINE_LIMIT`.
     #[error("line too long")]
     LineTooLong,
     /// The line is not UTF-8.
@@ -46,7 +46,7 @@ pub enum LineFault {
     /// The script ends before the text's line `.`.
     #[error("text without end")]
     UnendedText,
-    /// A line of the text has more than 65,536 bytes.
+    /// A line of the text has more bytes than `LINE_LIMIT`.
     #[error("text line too long")]
     TextLineTooLong,
     /// The words are not such as the tool takes.
@@ -78,7 +78,7 @@ pub enum RunFault {
     /// A text of the setup cannot be loaded. That memory ran out is `NoMemory`, never this.
     #[error("setup")]
     Setup { which: Table, fault: TreeFault },
-    /// The script has more than 67,108,864 bytes.
+    /// The script has more bytes than `SCRIPT_LIMIT`.
     #[error("script too long")]
     ScriptTooLong,
     /// Memory ran out in the setup, or for the line that is being read.
