@@ -11,7 +11,7 @@ usage: tools/check/documents.py [--write | --files [CRATE]..]
 - docs/SPECIFICATION.md, docs/facl.1: a number in thousands, with commas, is a limit, or one from a limit.
 - Each tool and option that the program reads is in docs/facl.1, in the records of commands/facl_commands/program/tools.py, of
   which completion is made, and in docs/SPECIFICATION.md; each tool in the README's table and the table of causes. The
-  first two and the README have no others (tool_rows.py).
+  first two and the README have no others. The words that name a text are those of the options that read one (tool_rows.py).
 - docs/READING.md: each line of its examples is one of the sources or definitions.
 - tools/README.md names each script of tools/, and none that is not there.
 - The blocks `<!-- graph -->` of docs/ARCHITECTURE.md, `<!-- index -->` of docs/PROOFS.md and `<!-- chain -->` of

@@ -2,13 +2,14 @@
 from __future__ import annotations
 
 import re
-from typing import Dict, List, NamedTuple, Tuple
+from typing import Dict, List, NamedTuple, Set, Tuple
 
 from definitions import Repository, SpecFile
 from script import Failed
 
 TABLE = ("facl", "Tools", "table")
 OF_PROGRAM = ("facl_script", "Args", "program_syntax")
+OF_TEXTS, ASKING = ("facl_tools", "TextWords", "text_words"), ("facl_tools", "TextWords", "word_asks")
 ROW = re.compile(r'\b(row|loading) \S+ \(codes "(\w+)"\) (\w+)\.syntax\b')
 PART = re.compile(r"\b(flags|options|operands) = ([^;}]*)")
 WORD = re.compile(r'(?P<text>of_text \()?\b(?P<form>both|by_letter|by_name|by_name_or|one|some|any)'
@@ -77,6 +78,14 @@ def of_tools(top: str) -> Dict[str, Syntax]:
         crate, _, module = table.imports.modules[its_module].path.split(".")
         found[tool] = read_syntax(file_of(repository, crate, module), "syntax", kind == "loading")
     return found
+
+
+def words_of_texts(top: str) -> Tuple[Set[str], Set[str]]:
+    """The words that name a text, and the tools whose lines take one, as they are spelled where lines are cut."""
+    repository = Repository(top)
+    named, asking = (set(re.findall(r'codes "([^"]*)"', code_of(file_of(repository, crate, module), name)))
+                     for crate, module, name in (OF_TEXTS, ASKING))
+    return named, asking
 
 
 def of_program(top: str) -> Syntax:

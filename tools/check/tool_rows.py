@@ -9,11 +9,12 @@ import re
 from typing import Dict, Iterator, List, Set, Tuple
 
 from memory_faults import found_in, text_of
-from syntaxes import NOTHING, TEXT, VALUE, Switch, Syntax, of_program, of_tools
+from syntaxes import NOTHING, TEXT, VALUE, Switch, Syntax, of_program, of_tools, words_of_texts
 
 PAGE, README, SPECIFICATION = "docs/facl.1", "README.md", "docs/SPECIFICATION.md"
 COMMANDS_PAGE, RECORDS = "docs/facl-commands.1", "commands/facl_commands/program/tools.py"
 CAUSES = "commands/facl_commands/program/hints/cause_rows.py"
+TEXT_WORDS = "crates/facl_tools/specs/TextWords.antt"
 NO_TOOLS = {"UNKNOWN", "UNKNOWN_TOOL"}  # What rows of words that are no tools name.
 ROW_PLACE = 5  # Of the refused line among the words of a cause's row.
 Fault = Tuple[str, int, str]
@@ -77,6 +78,7 @@ class ToolRows:
         yield from self.of_readme()
         yield from self.of_specification()
         yield from self.of_causes()
+        yield from self.of_texts()
 
     def unlike(self, path: str, named: Set[str], tools: Set[str]) -> Iterator[Fault]:
         yield from ((path, 1, f"the tool {name} is not in it") for name in tools - named)
@@ -141,3 +143,12 @@ class ToolRows:
         paths = found_in(self.top, "commands/facl_commands/program/hints/cause_rows*.py")
         named = {word for path in paths for word in tools_of_causes(text_of(self.top, path))}
         yield from ((CAUSES, 1, f"the tool {name} is not in it") for name in set(self.tools) - named)
+
+    def of_texts(self) -> Iterator[Fault]:
+        """The words by which a line takes a text are those of the options that read one, and of the tools that load one."""
+        named, asking = words_of_texts(self.top)
+        options = {name for syntax in self.tools.values() for row in syntax.switches if row.takes == TEXT for name in row.names}
+        spelled = {"-"} | {name + ("-" if len(name) == 2 else "=-") for name in options}
+        loaders = {name for name, syntax in self.tools.items() if syntax.loads}
+        yield from ((TEXT_WORDS, 1, f"{word} is not in it") for word in (spelled - named) | (loaders - asking))
+        yield from ((TEXT_WORDS, 1, f"no option or tool reads a text by {word}") for word in (named - spelled) | (asking - loaders))

@@ -33,7 +33,7 @@ from script import Failed, with_row  # noqa: E402
 from session import Expect, MeasuredSession, Session, TimedRun, has_tool, program_at, timed  # noqa: E402
 from sessions import Step, Tree  # noqa: E402
 from syntaxes import of_tools  # noqa: E402
-from tool_rows import ToolRows  # noqa: E402
+from tool_rows import TEXT_WORDS, ToolRows  # noqa: E402
 from ways import Crates  # noqa: E402
 
 
@@ -227,6 +227,8 @@ FILES: Dict[str, str] = {
     "crates/facl_script/src/args.rt": "//! Words.\n",
     "crates/facl_script/specs/Args.antt": '-- Words.\nabbrev pub program_syntax : Syntax\nprogram_syntax = record { flags = []; '
                                           'options = by_name (codes "dump") ∷ []; operands = [] }\n',
+    "crates/facl_tools/specs/TextWords.antt": '-- Texts.\nabbrev pub text_words : List Text\ntext_words = codes "-" ∷ []\n\n'
+                                              'abbrev pub word_asks : Text → Bool\nword_asks word = false\n',
     "commands/facl-ask": "#!/bin/sh\n# Asks\n# all.\nexit\n",
     "commands/facl_commands/program/tools.py": RECORDS,
     "commands/facl_commands/program/hints/cause_rows.py": '"""Rows."""\nrow("a", USAGE, first("can"), "", "", "chmod")\n',
@@ -348,6 +350,12 @@ class Tools(Case):
         self.change("crates/facl_tools/specs/Chmod.antt", "options = []", 'options = both (codes "z") (codes "zap") ∷ []')
         self.expect((RECORDS_PATH, "chmod has no -z --zap here"), (RULES, "chmod has no -z --zap here"),
                     (PAGE_PATH, "chmod has no -z here"), (PAGE_PATH, "chmod has no --zap here"))
+
+    def test_a_text_that_the_program_gets(self) -> None:
+        self.change("crates/facl_tools/specs/SetfaclLine.antt", 'of_text (by_name (codes "restore"))', 'by_name (codes "restore")')
+        self.change("crates/facl/specs/Tools.antt", 'row tools.Userdel', 'loading tools.Userdel')
+        self.expect((RECORDS_PATH, "--restore takes a value"), (RECORDS_PATH, "userdel takes a text"),
+                    (TEXT_WORDS, "no option or tool reads a text by --restore=-"), (TEXT_WORDS, "userdel is not in it"))
 
     def test_what_others_lose(self) -> None:
         self.change("README.md", "`getfacl`, ", "`getfatcl`, ")
