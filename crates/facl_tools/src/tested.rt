@@ -1,6 +1,6 @@
 //! What a line of setfacl(1) does to files, which it tries out with `--test`.
 
-ghost use Rattle.std.specs.Prelude.{◌≡◌, false, true, None, Ok, IfOk};
+ghost use Rattle.std.specs.Prelude.{◌≡◌, true, None, Ok, IfOk};
 ghost use Rattle.facl_tools.specs.Replies.{Replies, Gives};
 ghost use Rattle.facl_tools.specs.Setfacl.{edited_or_tested, named_test_listing, restored_or_tested, tested};
 ghost use Rattle.acl_tree.specs.Found.{files_found};
