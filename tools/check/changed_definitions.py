@@ -35,17 +35,15 @@ from session import conclude  # noqa: E402
 SECONDS = "300"
 # The crates whose tests are run first for a change in a crate; then come the rows of scripts, and the tests of the whole.
 TESTS: Dict[str, List[str]] = {
-    "acl_entry": ["acl_entry_tests"], "acl_names": ["acl_text_tests", "acl_tree_tests"],
+    "acl_entry": ["lists_tests"], "acl_edit": ["lists_tests"],
+    "acl_names": ["path_map_tests", "acl_text_tests", "acl_tree_tests"],
     "path_map": ["path_map_tests", "acl_tree_tests"], "kinds": ["path_map_tests"],
     "acl_text": ["acl_text_tests"],
-    "acl_people": ["acl_rights_tests", "acl_tree_tests"],
-    "acl_edit": ["acl_edit_tests"],
+    "acl_people": ["acl_people_tests", "acl_tree_tests"],
     "acl_tree": ["acl_tree_tests"],
-    "path_classes": ["acl_rights_tests"], "acl_rights": ["acl_rights_tests"], "facl_script": ["facl_script_tests", "facl_words_tests"],
-    "facl_output": ["facl_words_tests", "acl_rights_tests"],
-    "facl_tools": ["facl_words_tests"],
-    "facl_answers": ["acl_rights_tests", "facl_words_tests"], "facl_counts": ["facl_words_tests"],
-    "facl": ["facl_words_tests"],
+    "path_classes": ["acl_rights_tests"], "acl_rights": ["acl_rights_tests"],
+    "facl_script": ["facl_script_tests"], "facl_output": ["facl_output_tests"],
+    "facl_answers": ["acl_rights_tests"],
 }
 ROWS = "rows"
 OF_ALL = [ROWS, "facl_tests"]

@@ -1,7 +1,7 @@
 //! Files by classes: the row of each file's class, how many classes there are, and how many files have each.
 use crate::lines::Line;
 use crate::rows::{Wanted, bytes, is_next};
-use crate::small_tree::{GROUP, PASSWD};
+use crate::texts::{GROUP, PASSWD};
 use crate::world::{Row, first_wrong, nothing};
 use acl_names::read_path;
 use acl_rights::{ClassFiles, FileClasses};

@@ -1,5 +1,5 @@
 //! What lines ask for, fetch and refresh in the index, and verdicts after them; worked answers of `can`, `who`, `may`,
-//! `why`, `index` and `changes`, and worked listings.
+//! `why`, `index` and `changes`.
 //!
 //! They are in a crate of their own, since a crate with tests is proved twice.
 #![tactic(auto)]
@@ -23,10 +23,6 @@ mod judge;
 #[cfg(test)]
 mod lines;
 #[cfg(test)]
-mod listings;
-#[cfg(test)]
-mod made;
-#[cfg(test)]
 mod many;
 #[cfg(test)]
 mod people_rows;
@@ -37,8 +33,8 @@ mod rows;
 #[cfg(test)]
 mod small_tree;
 #[cfg(test)]
-mod subjects;
-#[cfg(test)]
 mod surface;
+#[cfg(test)]
+mod texts;
 #[cfg(test)]
 mod world;

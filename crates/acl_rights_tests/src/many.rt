@@ -1,7 +1,7 @@
 //! Lines on as many files as there are kinds, or more.
 
 use crate::lines::Line;
-use crate::small_tree::{GROUP, PASSWD};
+use crate::texts::{ANN, GROUP, JOE, PASSWD};
 use crate::world::{Row, Verdict, first_wrong, nothing};
 use acl_tree::Table;
 
@@ -19,10 +19,6 @@ const FILES: &[u8] =
 # file: b/3\n# owner: lisa\n# group: staff\nuser::rw-\ngroup::r--\nother::---\n\n\
 # file: b/4\n# owner: lisa\n# group: staff\nuser::rw-\ngroup::r--\nother::---\n\n\
 # file: c\n# owner: lisa\n# group: staff\nuser::rw-\ngroup::r--\nother::---\n";
-
-const JOE: usize = 1;
-
-const ANN: usize = 2;
 
 static SETUP: [Row; 3] = [
     Row {

@@ -1,7 +1,7 @@
 //! Lines on people, and what each costs and leaves.
 
-use crate::cost_rows::{GROUP, JOE, LISA};
 use crate::lines::Line;
+use crate::texts::{GROUP, JOE, LISA};
 use crate::world::{Row, Verdict};
 use acl_tree::Table;
 

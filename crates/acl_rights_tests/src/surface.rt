@@ -3,9 +3,10 @@
 use crate::followed::{Followed, follow, tried};
 use crate::judge::OwnerAlone;
 use crate::small_tree::{load, path};
+use acl_people::Subjects;
 use acl_rights::{
     Acl, Cells, ClassFiles, Command, FileClasses, Id, Index, Judge, Label, Membership, NoMemory,
-    Path, Perm, Posix, Requests, Subject, read_name,
+    Path, People, Perm, Posix, Requests, Subject, Tree, read_name,
 };
 use std::alloc::Global;
 use std::cmp::Ordering;
@@ -144,4 +145,42 @@ fn the_check_as_a_judge(rt: HostRuntime) {
     let requests: Requests = judge.verdict(&subject, &label);
     let asked: u64 = judge.asked();
     assert!(rt; requests.0 == 0xff && asked == 1);
+}
+
+/// The verdicts of acl(5)'s check on all users, and how many it counted for `files` files.
+fn at_once(alloc: Global, users: &Subjects, label: &Label, files: u64) -> Option<(Vec<u8>, u64)> {
+    if files == 0 || files > 1000 || users.len() > 1000 {
+        return None;
+    }
+    let mut judge = Posix::new();
+    let mut row = vec![in alloc; Requests::none(); users.len()].ok()?;
+    judge.verdicts(users, label, files, &mut row);
+    let mut bytes = Vec::new(alloc);
+    for requests in &row {
+        bytes.push(requests.bits()).ok()?;
+    }
+    Some((bytes, judge.asked()))
+}
+
+/// The same on a file of the tree, for three files.
+fn on_file(
+    rt: &impl Abort,
+    alloc: Global,
+    tree: &Tree,
+    people: &People,
+    path: &Path,
+) -> (Vec<u8>, u64) {
+    let file = tree.get(path).expect(rt, "a file");
+    let users: &Subjects = people.all_subjects();
+    at_once(alloc, users, &file.label, 3).expect(rt, "users")
+}
+
+#[test]
+fn the_check_of_all_users(rt: HostRuntime) {
+    let (tree, people) = load(&rt, rt.alloc());
+    let log: Path = path(&rt, rt.alloc(), b"log");
+    let (row, asked) = on_file(&rt, rt.alloc(), &tree, &people, &log);
+    drop(tree);
+    drop(people);
+    assert!(rt; row.as_slice() == [0x55, 0x01, 0x01].as_slice() && asked == 9);
 }

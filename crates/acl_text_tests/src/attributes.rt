@@ -1,6 +1,7 @@
 //! Attributes: lists both ways, refused ones, and the most entries.
-use crate::made::Who::{Mask, Other, Owner, OwningGroup, User};
-use crate::made::{Row, expect_same, list, push};
+use crate::compared::{expect_same, push};
+use crate::lists_by_number::Who::{Mask, Other, Owner, OwningGroup, User};
+use crate::lists_by_number::{Row, list};
 use acl_text::{FaultKind, TextFault, decode_attr, encode_attr};
 use std::alloc::Global;
 use std::process::Abort;

@@ -1,7 +1,7 @@
 //! Dumps whose records have bodies that are the same, or nearly so: a body is all lines of a record after its
 //! `# file:` line.
+use crate::compared::expect_row;
 use crate::dumps::{Row, expect_faults};
-use crate::made::expect_row;
 use crate::people::People;
 use acl_entry::Id;
 use acl_text::{DumpUse, read_dump};

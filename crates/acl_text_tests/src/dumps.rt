@@ -1,5 +1,5 @@
 //! Dumps: read and written, faults, and the most entries of a list.
-use crate::made::{expect_bytes, expect_fault, expect_same, pieces, push};
+use crate::compared::{expect_bytes, expect_fault, expect_same, push};
 use crate::people::People;
 use acl_entry::ListFault;
 use acl_text::{
@@ -165,6 +165,13 @@ static RESTORE_FAULTS: [Row; 20] = [
 #[test]
 fn faults_of_restores(rt: HostRuntime) {
     expect_faults(&rt, rt.alloc(), DumpUse::Restore, &RESTORE_FAULTS);
+}
+
+/// The pieces of a text that a byte separates.
+fn pieces<'a>(rt: &impl Abort, alloc: Global, text: &'a [u8], separator: u8) -> Vec<&'a [u8]> {
+    text.split(|b| *b == separator)
+        .collect(alloc)
+        .expect(rt, "memory")
 }
 
 /// A dump of records of four lines each, whose paths are these between blanks.

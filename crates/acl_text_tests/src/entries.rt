@@ -1,7 +1,8 @@
 //! Entry texts.
 
-use crate::made::Who::{Group, Mask, Other, User};
-use crate::made::{Who, expect_fault, expect_row, key, perm};
+use crate::compared::{expect_fault, expect_row};
+use crate::lists_by_number::Who::{Group, Mask, Other, User};
+use crate::lists_by_number::{Who, key, perm};
 use crate::people::People;
 use acl_text::{PermSpec, Sep, Spec, TextFault, Want, read_entries, read_perms};
 use std::alloc::Global;

@@ -7,15 +7,15 @@ mod attributes;
 #[cfg(test)]
 mod bodies;
 #[cfg(test)]
+mod compared;
+#[cfg(test)]
 mod dumps;
 #[cfg(test)]
 mod entries;
 #[cfg(test)]
 mod limits;
 #[cfg(test)]
-mod made;
-#[cfg(test)]
-mod names;
+mod lists_by_number;
 #[cfg(test)]
 mod people;
 #[cfg(test)]

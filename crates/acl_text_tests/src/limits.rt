@@ -1,6 +1,6 @@
 //! The greatest sizes of texts, and one more.
 
-use crate::made::push;
+use crate::compared::push;
 use acl_text::{FaultKind, NoNames, Sep, TextFault, Want, read_entries, read_group, read_passwd};
 use std::alloc::Global;
 use std::process::Abort;

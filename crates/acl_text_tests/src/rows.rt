@@ -1,8 +1,8 @@
 //! The rows of passwd(5) and group(5). What is read is printed: `name:uid:gid` or `name:gid:members` for a counted row,
-//! or `bad row` and the line.
+//! or `bad row` and the line. And the names that a new row of passwd(5) may have.
 
-use crate::made::{expect_bytes, push};
-use acl_text::{FaultKind, GroupRow, PasswdRow, TextFault, read_group, read_passwd};
+use crate::compared::{expect_bytes, expect_row, push};
+use acl_text::{FaultKind, GroupRow, PasswdRow, TextFault, is_user_name, read_group, read_passwd};
 use std::alloc::Global;
 use std::process::Abort;
 
@@ -136,5 +136,23 @@ fn groups(rt: HostRuntime) {
     for (at, (text, want)) in GROUPS.iter().enumerate() {
         let printed = printed_groups(&rt, rt.alloc(), text);
         expect_bytes(&rt, at, &printed, want);
+    }
+}
+
+/// Names, and whether a new user may have them.
+static USER_NAMES: [(&[u8], bool); 7] = [
+    (b"joe", true),
+    (b"7up", true),
+    (b"1000", false),
+    (b"", false),
+    (b"a:b", false),
+    (b"a,b", false),
+    (b"a\nb", false),
+];
+
+#[test]
+fn names_of_new_users(rt: HostRuntime) {
+    for (at, (name, want)) in USER_NAMES.iter().enumerate() {
+        expect_row(&rt, at, is_user_name(name) == *want);
     }
 }

@@ -1,7 +1,8 @@
 //! Written lists.
 
-use crate::made::Who::{Group, Mask, Other, Owner, OwningGroup, User};
-use crate::made::{Row, expect_same, id, list, perm, push};
+use crate::compared::{expect_same, push};
+use crate::lists_by_number::Who::{Group, Mask, Other, Owner, OwningGroup, User};
+use crate::lists_by_number::{Row, id, list, perm};
 use crate::people::People;
 use acl_entry::{Entry, Key};
 use acl_text::{Form, NoNames, append_entry, append_short, write_long, write_short};

@@ -1,4 +1,4 @@
-//! Worked examples of whole commands, and of users and groups; each public call of `acl_tree` and of `acl_people` once.
+//! Worked examples of whole commands, on files and on users and groups; each public call of `acl_tree` once.
 //!
 //! They are in a crate of their own, since a crate with tests is proved twice.
 #![tactic(auto)]
@@ -15,10 +15,6 @@ mod files;
 mod loads;
 #[cfg(test)]
 mod people;
-#[cfg(test)]
-mod people_changes;
-#[cfg(test)]
-mod people_found;
 #[cfg(test)]
 mod restores;
 #[cfg(test)]

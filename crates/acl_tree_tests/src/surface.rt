@@ -1,6 +1,7 @@
 //! The public surface as a user sees it, with its types written out: people, the tree, and commands.
+use crate::rows::path;
 use crate::shown::count_of;
-use crate::small_tree::{accept, load, path};
+use crate::small_tree::{accept, load};
 use acl_tree::{
     Command, DumpRecord, DumpRecords, DumpUse, Edit, EditFault, FilesFinder, Id, Kind, Membership,
     Name, Names, NewFile, NewUser, NoMemory, NoNames, Node, Path, Paths, People, Staged, Subject,

@@ -13,7 +13,7 @@ pub const FOUR_FILES: &[u8] =
 # file: d/e\n# owner: ann\n# group: users\nuser::rw-\ngroup::r--\nother::r--\n\n\
 # file: d\n# owner: ann\n# group: users\nuser::rwx\ngroup::r-x\nother::r-x\n\n";
 
-const FIVE_FILES: &[u8] =
+pub const FIVE_FILES: &[u8] =
     b"# file: .\n# owner: lisa\n# group: staff\nuser::rwx\ngroup::r-x\nother::r-x\n\n\
 # file: f\n# owner: lisa\n# group: staff\nuser::rw-\ngroup::r--\nother::---\n\n\
 # file: run\n# owner: lisa\n# group: staff\nuser::rwx\ngroup::r-x\nother::r-x\n\n\

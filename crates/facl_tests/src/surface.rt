@@ -3,6 +3,7 @@
 
 use crate::judges::OwnerAlone;
 use crate::texts::WHOLE;
+use crate::words_as_text::words_of;
 use facl::{
     Feed, Judge, LineFault, Posix, RunFault, Setup, Sink, Source, State, Status, StdFeed, StdSink,
     Tool, Words, initial_state, read_args, read_words, run, run_from, run_judged,
@@ -82,22 +83,12 @@ fn verdicts_are_counted(rt: HostRuntime) {
     assert!(rt; asked(rt.alloc(), b"gpasswd -a joe adm\n") == 17);
 }
 
-/// The words of a text, cut at spaces.
-fn cut(rt: &impl Abort, alloc: Global, text: &str) -> Vec<String> {
-    let mut words: Vec<String> = Vec::new(alloc);
-    for word in text.split(' ') {
-        let word = String::from_str(alloc, word).expect(rt, "memory");
-        words.push(word).expect(rt, "memory");
-    }
-    words
-}
-
 #[test]
 fn words(rt: HostRuntime) {
     let read: Result<Words, LineFault> = read_words(
         rt.alloc(),
         Tool::Chmod,
-        &cut(&rt, rt.alloc(), "-R 750 pub"),
+        &words_of(&rt, rt.alloc(), "-R 750 pub"),
     );
     let Words {
         flags: _,
@@ -112,7 +103,7 @@ fn refused_words(rt: HostRuntime) {
     let refused: Result<Words, LineFault> = read_words(
         rt.alloc(),
         Tool::Chmod,
-        &cut(&rt, rt.alloc(), "8 pub"),
+        &words_of(&rt, rt.alloc(), "8 pub"),
     );
     assert!(rt; number(refused.err().expect(&rt, "a fault")) == 7);
 }
@@ -121,7 +112,7 @@ fn refused_words(rt: HostRuntime) {
 fn words_of_the_program(rt: HostRuntime) {
     let files: Result<[Option<String>; 3], LineFault> = read_args(
         rt.alloc(),
-        &cut(&rt, rt.alloc(), "--dump d"),
+        &words_of(&rt, rt.alloc(), "--dump d"),
     );
     let files: [Option<String>; 3] = files.expect(&rt, "words");
     let are_given: [bool; 3] = [files[0].is_some(), files[1].is_some(), files[2].is_some()];
@@ -130,7 +121,7 @@ fn words_of_the_program(rt: HostRuntime) {
 
 #[test]
 fn refused_words_of_the_program(rt: HostRuntime) {
-    let refused = read_args(rt.alloc(), &cut(&rt, rt.alloc(), "--dump"));
+    let refused = read_args(rt.alloc(), &words_of(&rt, rt.alloc(), "--dump"));
     assert!(rt; number(refused.err().expect(&rt, "a fault")) == 7);
 }
 

@@ -1,5 +1,5 @@
 //! The nearest entry above a path: in a map without the root, and in one with it.
-use crate::made::{map_of, path, rows};
+use crate::numbered_paths::{map_of, path, rows};
 use acl_names::Path;
 use path_map::PathMap;
 use std::alloc::Global;

@@ -1,5 +1,5 @@
 //! A map of several branches: the even numbers below 70,000 as names, each with itself as value.
-use crate::made::{Row, digit, map_of, path};
+use crate::numbered_paths::{Row, digit, map_of, path};
 use path_map::{Entries, PathMap};
 use std::alloc::Global;
 use std::process::Abort;

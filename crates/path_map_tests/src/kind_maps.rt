@@ -1,5 +1,5 @@
 //! Maps by kinds of three paths. Numbers are compared, since paths that have one share its node.
-use crate::made::path;
+use crate::numbered_paths::path;
 use acl_names::Path;
 use kinds::{GivenNode, KindMap, KindMapBuilder, KindPuts, Likeness};
 use std::alloc::Global;

@@ -1,8 +1,8 @@
-//! Each public call of `path_map` once, on a map with two names that begin alike, and on one of several branches. Of `kinds`:
-//! lists in shared blocks, numbers of nodes that are given back and given again, maps that are built and put into, maps of
-//! the same paths with other nodes, and sets of pairs of numbers.
+//! Names and paths. Each public call of `path_map` once, on a map with two names that begin alike, and on one of several
+//! branches. Of `kinds`: lists in shared blocks, numbers of nodes that are given back and given again, maps that are built
+//! and put into, maps of the same paths with other nodes, and sets of pairs of numbers.
 //!
-//! They are apart from `path_map` and `kinds`, since a crate with tests is proved twice. Edits of maps by kinds are tested by
+//! They are apart from these crates, since a crate with tests is proved twice. Edits of maps by kinds are tested by
 //! the commands of `acl_tree`.
 #![tactic(auto)]
 
@@ -15,12 +15,16 @@ mod kind_maps;
 #[cfg(test)]
 mod lists;
 #[cfg(test)]
-mod made;
-#[cfg(test)]
 mod maps;
 #[cfg(test)]
+mod names;
+#[cfg(test)]
 mod nodes;
+#[cfg(test)]
+mod numbered_paths;
 #[cfg(test)]
 mod numbers;
 #[cfg(test)]
 mod pairs;
+#[cfg(test)]
+mod paths;

@@ -1,5 +1,5 @@
 //! A map of four paths. What is found is printed, each path with its value.
-use crate::made::{digit, map_of, path, rows};
+use crate::numbered_paths::{digit, map_of, path, rows};
 use acl_names::{Path, append_path};
 use path_map::{Entries, PathMap, PathMapBuilder, Within};
 use std::alloc::Global;
