@@ -8,8 +8,8 @@
 # With --all it also tests facl-ask at a terminal, and several snapshots by GNU parallel, which takes a minute more.
 # Each of these counts as a failed test where it finds something: shellcheck, mypy and pyflakes3 where they are installed,
 # tools/check/documents.py, tools/check/memory_faults.py, tools/check/line_lengths.py, tools/check/edits_apply.py. They come first; with --lint they
-# are all that is done, which takes no program and half a minute, and with --no-lint they are left out. Where there is a C
-# compiler, tools/check/growth.py --quick is a test too. Pages are tested in Chromium where it is installed. What needs a real
+# are all that is done, which takes no program and half a minute, and with --no-lint they are left out.
+# tools/check/growth.py --quick is a test too, which needs the kit. Pages are tested in Chromium where it is installed. What needs a real
 # file system and root is in tools/check/live.py, tools/check/snapshot.py and tools/check/daily.py.
 set -eu
 top=$(cd "$(dirname "$0")/.." && pwd)
@@ -62,8 +62,5 @@ if [ "$option" = --lint ]; then
     [ "$lint_faults" -eq 0 ] || echo "tools/check_commands.sh: $lint_faults of the linters found something" >&2
     exit $((lint_faults > 0))
 fi
-lint cc --version >/dev/null
-if command -v cc >/dev/null; then
-    tools/check/growth.py --quick "$FACL" >&2 || lint_faults=$((lint_faults + 1))
-fi
+tools/check/growth.py --quick "$FACL" >&2 || lint_faults=$((lint_faults + 1))
 exec python3 commands/tests/run.py "$lint_faults"

@@ -16,14 +16,15 @@ that makes a list of five, and one that makes a list of nine meets more.
 
 With --quick, which the gate runs, that is all, and growths are refused in one of the five sessions, one at a time: less
 than a minute. Otherwise, or alone with --code, two things are looked at in the machine code, where a call through a pointer is a growth:
-- the calls that are documented as taking no memory (docs/PROOFS.md), or functions in which they are done, as far as
-  the program has them as functions of their own: no call from one of them leads to the system's allocator, on any way;
+- calls that are documented as taking no memory (docs/PROOFS.md), or functions in which they are done, each of which has
+  to be a function of its own in the program: no call from one of them leads to the system's allocator, on any way;
 - the answer of a line from where the prepared state is taken out to be put in place (`Staged::into_parts`): on no way
   from there to its end is the allocator called, so neither the state and its index, nor what `changes` compares with,
   nor the output is put in place with memory.
 
-It needs a C compiler, and without --quick objdump of binutils. The exit status is 1 where an
-answer is none that may be, a growth is found, or the program has none of these functions, 2 where the words are others.
+It needs the kit, whose compiler makes the library of refuse_growth.c, and without --quick objdump of binutils. The exit
+status is 1 where one of these is not there, an answer is none that may be, a growth is found, or the program lacks one of
+these functions, 2 where the words are others.
 """
 from __future__ import annotations
 
@@ -38,7 +39,8 @@ from typing import Dict, Iterable, Iterator, List, NamedTuple, Optional, Set, Tu
 
 sys.dont_write_bytecode = True
 HERE = os.path.dirname(os.path.realpath(__file__))
-sys.path.insert(0, os.path.join(HERE, "..", "lib"))
+sys.path[:0] = [os.path.join(HERE, ".."), os.path.join(HERE, "..", "lib")]
+from kit import Kit  # noqa: E402
 from random_lines import FLAGS, LOADERS, TEXT_WORDS, Unit, numbers_of, script_of  # noqa: E402
 from script import Failed, run  # noqa: E402
 from session import TEXTS, conclude, options_of, words_of, write_text  # noqa: E402
@@ -287,12 +289,20 @@ def lists(program: str, library: str, folder: str) -> List[int]:
     return met
 
 
+def compiled(folder: str) -> str:
+    """The path of the library of refuse_growth.c, made by the kit's compiler, which has no headers and no C library."""
+    kit, library = Kit(), os.path.join(folder, "refuse_growth.so")
+    linker = f"--ld-path={kit('toolchain', 'bin', 'ld.lld')}"
+    words = [kit("toolchain", "bin", "clang"), "-O1", "-Wall", "-Werror", "-shared", "-fPIC", "-nostdlib", linker]
+    subprocess.run([*words, "-o", library, os.path.join(HERE, "refuse_growth.c")], check=True)
+    return library
+
+
 def refused_growths(program: str, is_quick: bool) -> int:
     """Refuses each growth of each session, alone and with all after it; returns how many there are."""
     growths = 0
     with tempfile.TemporaryDirectory(prefix="facl-growth.") as folder:
-        library, source = os.path.join(folder, "refuse_growth.so"), os.path.join(HERE, "refuse_growth.c")
-        subprocess.run(["cc", "-O1", "-shared", "-fPIC", "-o", library, source, "-ldl"], check=True)
+        library = compiled(folder)
         met = lists(program, library, folder)
         print(f"A line that makes a list of 5, 6, 7, 8 and 9 entries meets {met} growths", flush=True)
         if len(set(met[:-1])) > 1 or met[-1] <= met[0]:
@@ -310,13 +320,14 @@ def refused_growths(program: str, is_quick: bool) -> int:
 
 # The machine code.
 
+# Functions of the program. One that the compiler makes a part of its callers, or that has another name, is found no more.
 CALLS = [
     "acl_edit::node::Node::same_label", "acl_entry::acl::Acl::set_mode_entries", "acl_entry::draft::Draft::finish",
     "acl_tree::files::Files::get", "acl_names::path::Path::is_below", "acl_names::path::Path::is_within",
     "acl_names::path::Path::new", "acl_names::path::Path::order", "acl_people::groups::Group::names_user",
     "acl_people::name_table::NameTable::place_of_name", "acl_people::name_table::NameTable::place_of_word",
     "acl_text::fields::perms_of", "acl_tree::step::Staged::give_up", "acl_tree::state::State::commit",
-    "acl_rights::judge::PosixJudge::verdict", "acl_rights::indexed_states::IndexedStates::begin_again",
+    "acl_rights::judge::Posix::verdict", "acl_rights::indexed::IndexedStates::begin_again",
     "facl_tools::text_words::is_text_word", "path_map::map::PathMap::from",
 ]
 ANSWER, COMMIT = "facl::session::FaclSession::", "acl_tree::step::Staged::into_parts"
@@ -403,9 +414,8 @@ def growths_in_code(program: str) -> Tuple[int, List[str]]:
     found = [(name, growths_from(functions, start)) for name, start in calls + after]
     for name, growths in found:
         print(f"{name}: {'leads to ' + ', '.join(growths) if growths else 'no growth'}")
-    apart = set(CALLS) - set(map(plain, functions))
-    print(f"No functions of their own in this program: {', '.join(sorted(apart)) or 'none'}")
-    absent = [f"no {what} is in the program" for what, there in (("such call", calls), ("answer", after)) if not there]
+    absent = [f"no {name} is in the program" for name in sorted(set(CALLS) - set(map(plain, functions)))]
+    absent += [] if after else [f"no answer with {COMMIT} is in the program"]
     return len(found), [f"{name} leads to {', '.join(growths)}" for name, growths in found if growths] + absent
 
 
@@ -414,9 +424,8 @@ def main() -> int:
     options.add_argument("--code", action="store_true")
     options.add_argument("--quick", action="store_true")
     given = options.parse_args()
-    tools = ("cc",) if given.quick else ("objdump", "cc")
-    if missing := [tool for tool in tools if not shutil.which(tool)]:
-        raise Failed(f"{missing[0]} is not installed (Debian packages gcc, binutils)")
+    if not given.quick and not shutil.which("objdump"):
+        raise Failed("objdump is not installed (Debian package binutils)")
     if given.quick:
         return conclude(given, f"{refused_growths(given.program, True)} growths refused", [])
     amount = "" if given.code else f"{refused_growths(given.program, False)} growths refused, "

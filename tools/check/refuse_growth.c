@@ -1,11 +1,14 @@
 /* A malloc that refuses one growth: the one with the number REFUSE, counted from 1; where REFUSE_ON is set all after it
    too. It reports on the descriptor REPORT that it did. Preloaded by tools/check/growth.py under the built program; no
-   part of facl. */
-#define _GNU_SOURCE
-#include <dlfcn.h>
-#include <stddef.h>
-#include <stdlib.h>
-#include <unistd.h>
+   part of facl. It names what it calls, since the kit's compiler has no headers. */
+typedef __SIZE_TYPE__ size_t;
+extern void *dlsym(void *library, const char *name);
+extern char *getenv(const char *name);
+extern int atoi(const char *text);
+extern long write(int descriptor, const void *bytes, size_t count);
+
+/* The library after this one. */
+#define RTLD_NEXT ((void *)-1)
 
 static long growths;
 
@@ -14,8 +17,8 @@ static int refused(void) {
     static int goes_on;
     if (wanted < 0) {
         const char *text = getenv("REFUSE");
-        wanted = text ? atol(text) : 0;
-        goes_on = getenv("REFUSE_ON") != NULL;
+        wanted = text ? atoi(text) : 0;
+        goes_on = getenv("REFUSE_ON") != 0;
     }
     growths++;
     if (wanted && goes_on && growths > wanted) return 1;
@@ -27,17 +30,17 @@ static int refused(void) {
 void *malloc(size_t bytes) {
     static void *(*next)(size_t);
     if (!next) next = (void *(*)(size_t))dlsym(RTLD_NEXT, "malloc");
-    return refused() ? NULL : next(bytes);
+    return refused() ? 0 : next(bytes);
 }
 
 void *realloc(void *old, size_t bytes) {
     static void *(*next)(void *, size_t);
     if (!next) next = (void *(*)(void *, size_t))dlsym(RTLD_NEXT, "realloc");
-    return refused() ? NULL : next(old, bytes);
+    return refused() ? 0 : next(old, bytes);
 }
 
 void *aligned_alloc(size_t alignment, size_t bytes) {
     static void *(*next)(size_t, size_t);
     if (!next) next = (void *(*)(size_t, size_t))dlsym(RTLD_NEXT, "aligned_alloc");
-    return refused() ? NULL : next(alignment, bytes);
+    return refused() ? 0 : next(alignment, bytes);
 }
