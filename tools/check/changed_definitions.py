@@ -43,7 +43,7 @@ TESTS: Dict[str, List[str]] = {
     "acl_tree": ["acl_tree_tests"],
     "path_classes": ["acl_rights_tests"], "acl_rights": ["acl_rights_tests"],
     "facl_script": ["facl_script_tests"], "facl_output": ["facl_output_tests"],
-    "facl_answers": ["acl_rights_tests"],
+    "facl_answers": ["acl_rights_tests"], "facl_counts": ["acl_rights_tests"],
 }
 ROWS = "rows"
 OF_ALL = [ROWS, "facl_tests"]

@@ -58,6 +58,15 @@ fn words_name_users(rt: HostRuntime) {
     drop(people);
 }
 
+#[test]
+fn users_have_rows(rt: HostRuntime) {
+    let people = known(&rt, rt.alloc());
+    let twin = people.user_row(3).expect(&rt, "a user");
+    assert!(rt; twin.uid == id(&rt, 1001) && twin.gid == id(&rt, 100));
+    assert!(rt; people.user_row(4).is_none());
+    drop(people);
+}
+
 /// A name, and the place of the first user of it: digits too are a name.
 static NAMES: [(&[u8], Option<usize>); 4] = [
     (b"joe", Some(1)),

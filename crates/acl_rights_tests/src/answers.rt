@@ -129,6 +129,29 @@ static WHY: [Row; 3] = [
     },
 ];
 
+/// How many files, and the first of them in path order: those at or below a path on which a request is granted, and those that
+/// a line changed.
+static COUNTS: [Row; 3] = [
+    Row {
+        lines: &[],
+        question: Question::Below(WRITE, b"."),
+        along: false,
+        answer: Some(b"4 lisa .\n1 ann pub/\n"),
+    },
+    Row {
+        lines: &[],
+        question: Question::Below(READ, b"gone"),
+        along: false,
+        answer: None,
+    },
+    Row {
+        lines: &[Line::Chmod(0o644, b"f"), Line::Chmod(0o644, b"log")],
+        question: Question::Gains,
+        along: false,
+        answer: Some(b"01 11 2 joe f\n01 11 2 ann f\n"),
+    },
+];
+
 #[test]
 fn answers_are_of_the_lists_alone(rt: HostRuntime) {
     expect_rows(&rt, rt.alloc(), &SETUP, &ALONE);
@@ -142,6 +165,11 @@ fn answers_are_of_the_way_too(rt: HostRuntime) {
 #[test]
 fn names_are_of_the_rows(rt: HostRuntime) {
     expect_rows(&rt, rt.alloc(), &SETUP, &NAMES);
+}
+
+#[test]
+fn files_are_counted(rt: HostRuntime) {
+    expect_rows(&rt, rt.alloc(), &SETUP, &COUNTS);
 }
 
 #[test]

@@ -10,6 +10,7 @@ use acl_entry::Perm;
 use acl_rights::{IndexedState, Judge, Posix, Verdicts};
 use acl_tree::{Staged, State};
 use facl_answers::{files_asked, write_changes, write_index, write_may, write_who, write_why};
+use facl_counts::{write_below, write_gains};
 use std::alloc::Global;
 use std::mem;
 use std::process::Abort;
@@ -25,8 +26,12 @@ pub enum Question {
     May(&'static [u8], u8),
     /// A user and a file.
     Why(&'static [u8], &'static [u8]),
+    /// A request, and a file that is asked about with all below it.
+    Below(u8, &'static [u8]),
     /// Since the state after the setup.
     Changes,
+    /// How many files changed, since the state after the setup.
+    Gains,
 }
 
 /// Lines after the setup, what is then asked, and what is answered.
@@ -44,6 +49,13 @@ pub struct Row {
 struct World {
     indexed: IndexedState<Posix>,
     judge: Posix,
+}
+
+/// The state after the setup, and the one after a row's lines.
+#[derive(Drop)]
+struct Worlds {
+    loaded: World,
+    now: World,
 }
 
 fn can(alloc: Global, verdicts: &Verdicts<'_, Posix>, user: &[u8], text: &[u8]) -> Option<Vec<u8>> {
@@ -74,14 +86,21 @@ fn why(alloc: Global, state: &State, user: &[u8], text: &[u8], along: bool) -> O
     write_why(alloc, state.people(), subject, &files).ok()
 }
 
-/// What a question prints; none where it is not answered.
-fn answer(
+fn below(
     alloc: Global,
-    loaded: &IndexedState<Posix>,
-    indexed: &IndexedState<Posix>,
-    question: &Question,
-    along: bool,
+    verdicts: &Verdicts<'_, Posix>,
+    request: u8,
+    text: &[u8],
 ) -> Option<Vec<u8>> {
+    let request = Perm::from_number(request)?;
+    let paths = paths(alloc, text)?;
+    write_below(alloc, verdicts, request, &paths).ok()
+}
+
+/// What a question prints; none where it is not answered.
+fn answer(alloc: Global, worlds: &Worlds, question: &Question, along: bool) -> Option<Vec<u8>> {
+    let loaded = &worlds.loaded.indexed;
+    let indexed = &worlds.now.indexed;
     let verdicts = indexed.verdicts(along);
     match question {
         Question::Index => write_index(alloc, indexed).ok(),
@@ -89,7 +108,9 @@ fn answer(
         Question::Who(request, text) => who(alloc, &verdicts, *request, text),
         Question::May(user, request) => may(alloc, &verdicts, user, *request),
         Question::Why(user, text) => why(alloc, indexed.state(), user, text, along),
+        Question::Below(request, text) => below(alloc, &verdicts, *request, text),
         Question::Changes => write_changes(alloc, loaded, &verdicts).ok(),
+        Question::Gains => write_gains(alloc, loaded, &verdicts).ok(),
     }
 }
 
@@ -109,7 +130,7 @@ fn nothing(alloc: Global) -> Option<World> {
 }
 
 /// The prepared state after a line; none where the line is refused.
-fn prepared(alloc: Global, state: &State, line: &Line) -> Option<Staged>
+pub fn prepared(alloc: Global, state: &State, line: &Line) -> Option<Staged>
     ensures { IfSome result (λ staged. Reports state.now staged) }
 {
     let command = command(alloc, state.people(), line)?;
@@ -162,17 +183,12 @@ fn after(rt: &impl Abort, alloc: Global, setup: &[Line], lines: &[Line]) -> Worl
 
 /// Asks a row's question of the state after its lines.
 fn expect_row(rt: &impl Abort, alloc: Global, setup: &[Line], row: &Row, at: usize) {
-    let loaded = after(rt, alloc, setup, &[]);
-    let world = after(rt, alloc, setup, row.lines);
-    let found = answer(
-        alloc,
-        &loaded.indexed,
-        &world.indexed,
-        &row.question,
-        row.along,
-    );
-    drop(loaded);
-    drop(world);
+    let worlds = Worlds {
+        loaded: after(rt, alloc, setup, &[]),
+        now: after(rt, alloc, setup, row.lines),
+    };
+    let found = answer(alloc, &worlds, &row.question, row.along);
+    drop(worlds);
     assert!(rt; is_answered(found, row.answer), "row {at}");
 }
 

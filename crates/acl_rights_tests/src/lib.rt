@@ -1,5 +1,5 @@
 //! What lines ask for, fetch and refresh in the index, and verdicts after them; worked answers of `can`, `who`, `may`,
-//! `why`, `index` and `changes`.
+//! `below`, `why`, `index`, `changes` and `gains`.
 //!
 //! They are in a crate of their own, since a crate with tests is proved twice.
 #![tactic(auto)]
@@ -32,6 +32,8 @@ mod requests;
 mod rows;
 #[cfg(test)]
 mod small_tree;
+#[cfg(test)]
+mod states;
 #[cfg(test)]
 mod surface;
 #[cfg(test)]

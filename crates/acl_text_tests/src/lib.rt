@@ -23,4 +23,6 @@ mod rows;
 #[cfg(test)]
 mod surface;
 #[cfg(test)]
+mod words;
+#[cfg(test)]
 mod writing;

@@ -5,7 +5,9 @@ use crate::lists_by_number::Who::{Group, Mask, Other, Owner, OwningGroup, User};
 use crate::lists_by_number::{Row, id, list, perm};
 use crate::people::People;
 use acl_entry::{Entry, Key};
-use acl_text::{Form, NoNames, append_entry, append_short, write_long, write_short};
+use acl_text::{
+    Effective, Form, NoNames, Which, append_entry, append_short, push_line, write_long, write_short,
+};
 
 static ENTRIES: [Row; 7] = [
     (Owner, 6),
@@ -61,4 +63,17 @@ fn names_with_escapes(rt: HostRuntime) {
     let mut text = Vec::new(rt.alloc());
     append_entry(&mut text, &entry, Form::Long, &People).expect(&rt, "memory");
     expect_same(&rt, &text, b"user:al\\040b:r--");
+}
+
+#[test]
+fn a_line_of_an_entry_under_a_mask(rt: HostRuntime) {
+    let entry = Entry {
+        key: Key::User(id(&rt, 1000)),
+        perm: perm(&rt, 7),
+    };
+    let mask = Some(perm(&rt, 5));
+    let mut text = Vec::new(rt.alloc());
+    let how = Effective::WhereMasked;
+    push_line(&mut text, how, Which::Default, &mask, &entry, &People).expect(&rt, "memory");
+    expect_same(&rt, &text, b"default:user:joe:rwx\t\t#effective:r-x\n");
 }

@@ -121,4 +121,5 @@ fn tools_have_names(rt: HostRuntime) {
         assert!(rt; Tool::named(name) == *tool, "{name}");
     }
     assert!(rt; Tool::Getfacl.name() == "getfacl");
+    assert!(rt; Tool::Load.loads() && !Tool::Getfacl.loads());
 }

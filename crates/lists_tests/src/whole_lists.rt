@@ -1,8 +1,10 @@
 //! Whole lists, and entries that no text gives.
 use crate::files_as_texts::{edited, expect, expect_label, expect_lists, file, list, list_of};
 use crate::lists_by_number::{ANN, STAFF, USERS, id};
-use acl_edit::{Edit, EditFault, Node, Specs, apply, chmod, edits_are_refused_for_their_lists};
-use acl_entry::{Key, ListFault, Perm};
+use acl_edit::{
+    Edit, EditFault, Node, Specs, apply, chmod, edits_are_refused_for_their_lists, restore_node,
+};
+use acl_entry::{Acl, Key, ListFault, Perm};
 use acl_text::{PermSpec, Spec, Which};
 use std::alloc::Global;
 use std::process::Abort;
@@ -92,6 +94,21 @@ fn record(rt: &impl Abort, alloc: Global, default: &str) -> Edit {
 fn a_record_is_restored(rt: HostRuntime) {
     let node = file(&rt, rt.alloc(), "u::rw-,g::r--,o::---");
     let restored = edited(&rt, rt.alloc(), &node, &record(&rt, rt.alloc(), ""));
+    expect_label(&rt, &restored, ANN, STAFF, [true, false, false]);
+    expect_lists(&rt, rt.alloc(), &restored, "u::rwx,g::r-x,o::---");
+}
+
+/// A file of ann, restored with these lists and flags.
+fn restored(rt: &impl Abort, alloc: Global, node: &Node, access: &Acl) -> Node {
+    let (owner, flags) = (Some(id(rt, ANN)), Some([true, false, false]));
+    restore_node(alloc, node, access, &None, owner, None, flags, false).expect(rt, "a file")
+}
+
+#[test]
+fn a_file_is_restored(rt: HostRuntime) {
+    let node = file(&rt, rt.alloc(), "u::rw-,g::r--,o::---");
+    let access = list(&rt, rt.alloc(), "u::rwx,g::r-x,o::---");
+    let restored = restored(&rt, rt.alloc(), &node, &access);
     expect_label(&rt, &restored, ANN, STAFF, [true, false, false]);
     expect_lists(&rt, rt.alloc(), &restored, "u::rwx,g::r-x,o::---");
 }
