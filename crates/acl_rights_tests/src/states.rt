@@ -1,6 +1,4 @@
 //! The state after the texts were loaded, beside the one after a line.
-ghost use Rattle.std.specs.Prelude.{◌≡◌};
-
 use crate::asked::prepared;
 use crate::lines::Line;
 use crate::small_tree::path;
@@ -28,17 +26,11 @@ fn loaded(rt: &impl Abort, alloc: Global) -> State {
 }
 
 /// A state and the one after a line, which is the same where the line is refused; none where memory runs out.
-fn after(
-    alloc: Global,
-    judge: &mut Posix,
-    state: State,
-    line: &Line,
-) -> Option<IndexedStates<Posix>>
-    requires { judge.old.asked ≡ 0 }
-{
-    let mut states = IndexedStates::new(alloc, judge, state).ok()?;
+fn after(alloc: Global, state: State, line: &Line) -> Option<IndexedStates<Posix>> {
+    let mut judge = Posix::new();
+    let mut states = IndexedStates::new(alloc, &mut judge, state).ok()?;
     let staged = prepared(alloc, states.state().state(), line);
-    match states.replace_if(alloc, judge, staged, false) {
+    match states.replace_if(alloc, &mut judge, staged, false) {
         Ok(()) => Some(states),
         Err(_) => None,
     }
@@ -52,8 +44,7 @@ fn requests(rt: &impl Abort, indexed: &IndexedState<Posix>, path: &Path) -> u8 {
 
 /// A line, how many parts of the tree it changes, and what joe may do with `f` after it.
 fn expect_after(rt: &impl Abort, alloc: Global, line: &Line, parts: usize, byte: u8) {
-    let mut judge = Posix::new();
-    let states = after(alloc, &mut judge, loaded(rt, alloc), line).expect(rt, "memory");
+    let states = after(alloc, loaded(rt, alloc), line).expect(rt, "memory");
     let file = path(rt, alloc, b"f");
     assert!(rt; requests(rt, states.loaded(), &file) == 0x01);
     assert!(rt; requests(rt, states.state(), &file) == byte);
