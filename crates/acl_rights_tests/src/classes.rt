@@ -2,7 +2,7 @@
 use crate::lines::Line;
 use crate::rows::{Wanted, bytes, is_next};
 use crate::texts::{GROUP, PASSWD};
-use crate::world::{Row, first_wrong, nothing};
+use crate::world::{FREE, Row, first_wrong, nothing};
 use acl_names::read_path;
 use acl_rights::{ClassFiles, FileClasses};
 use acl_tree::Table;
@@ -21,27 +21,17 @@ const FILES: &[u8] =
 static SETUP: [Row; 3] = [
     Row {
         line: Line::Load(Table::Passwd, PASSWD),
-        asked: (0, 0),
-        looked: 0,
-        refreshed: 0,
-        verdicts: &[],
-        reach: &[],
+        ..FREE
     },
     Row {
         line: Line::Load(Table::Group, GROUP),
-        asked: (0, 0),
-        looked: 0,
-        refreshed: 0,
-        verdicts: &[],
-        reach: &[],
+        ..FREE
     },
     Row {
         line: Line::Load(Table::Dump, FILES),
         asked: (0, 9),
-        looked: 0,
         refreshed: 18,
-        verdicts: &[],
-        reach: &[],
+        ..FREE
     },
 ];
 

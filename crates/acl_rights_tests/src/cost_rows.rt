@@ -2,68 +2,44 @@
 
 use crate::lines::Line;
 use crate::texts::{ANN, FILES, GROUP, JOE, LISA, PASSWD};
-use crate::world::{Row, Verdict};
+use crate::world::{FREE, Row};
 use acl_tree::Table;
 
 pub static SETUP: [Row; 3] = [
     Row {
         line: Line::Load(Table::Passwd, PASSWD),
-        asked: (0, 0),
-        looked: 0,
-        refreshed: 0,
-        verdicts: &[],
-        reach: &[],
+        ..FREE
     },
     Row {
         line: Line::Load(Table::Group, GROUP),
-        asked: (0, 0),
-        looked: 0,
-        refreshed: 0,
-        verdicts: &[],
-        reach: &[],
+        ..FREE
     },
     Row {
         line: Line::Load(Table::Dump, FILES),
         asked: (0, 15),
-        looked: 0,
         refreshed: 15,
-        verdicts: &[],
-        reach: &[],
+        ..FREE
     },
 ];
 
 pub static FILES_ALONE: [Row; 4] = [
     Row {
         line: Line::Setfacl(b"d:u:joe:rx", true, b"."),
-        asked: (0, 0),
-        looked: 0,
-        refreshed: 0,
-        verdicts: &[],
-        reach: &[],
+        ..FREE
     },
     Row {
         line: Line::Setfacl(b"u:joe:r", false, b"f"),
         asked: (0, 3),
-        looked: 0,
         refreshed: 3,
-        verdicts: &[],
-        reach: &[],
+        ..FREE
     },
     Row {
         line: Line::Chmod(0o4640, b"f"),
-        asked: (0, 0),
-        looked: 0,
-        refreshed: 0,
-        verdicts: &[],
-        reach: &[],
+        ..FREE
     },
     Row {
         line: Line::Rm(b"f"),
-        asked: (0, 0),
-        looked: 0,
-        refreshed: 0,
-        verdicts: &[],
-        reach: &[],
+        ..FREE
     },
 ];
 
@@ -72,23 +48,15 @@ pub static FILES_ALONE: [Row; 4] = [
 pub static LIKE_ANOTHER: [Row; 2] = [
     Row {
         line: Line::Chmod(0o755, b"f"),
-        asked: (0, 0),
-        looked: 0,
         refreshed: 3,
-        verdicts: &[Verdict {
-            user: JOE,
-            path: b"f",
-            byte: 0x33,
-        }],
-        reach: &[],
+        verdicts: &[(JOE, b"f", 0x33)],
+        ..FREE
     },
     Row {
         line: Line::Chmod(0o640, b"f"),
         asked: (0, 3),
-        looked: 0,
         refreshed: 3,
-        verdicts: &[],
-        reach: &[],
+        ..FREE
     },
 ];
 
@@ -97,65 +65,28 @@ pub static LIKE_ANOTHER: [Row; 2] = [
 pub static FOUR_LABELS: [Row; 1] = [Row {
     line: Line::Setfacl(b"u:joe:rX", true, b"."),
     asked: (0, 12),
-    looked: 0,
     refreshed: 6,
     verdicts: &[
-        Verdict {
-            user: JOE,
-            path: b"run",
-            byte: 0x33,
-        },
-        Verdict {
-            user: JOE,
-            path: b"f",
-            byte: 0x11,
-        },
-        Verdict {
-            user: LISA,
-            path: b"log",
-            byte: 0x55,
-        },
-        Verdict {
-            user: ANN,
-            path: b"log",
-            byte: 0x01,
-        },
+        (JOE, b"run", 0x33),
+        (JOE, b"f", 0x11),
+        (LISA, b"log", 0x55),
+        (ANN, b"log", 0x01),
     ],
-    reach: &[],
+    ..FREE
 }];
 
 pub static SEARCH: [Row; 1] = [Row {
     line: Line::Chmod(0o754, b"."),
     asked: (0, 3),
-    looked: 0,
     refreshed: 15,
-    verdicts: &[Verdict {
-        user: JOE,
-        path: b"pub",
-        byte: 0x33,
-    }],
+    verdicts: &[(JOE, b"pub", 0x33)],
     reach: &[
-        Verdict {
-            user: JOE,
-            path: b"pub",
-            byte: 0,
-        },
-        Verdict {
-            user: JOE,
-            path: b".",
-            byte: 0x11,
-        },
-        Verdict {
-            user: LISA,
-            path: b"run",
-            byte: 0xff,
-        },
-        Verdict {
-            user: ANN,
-            path: b"run",
-            byte: 0,
-        },
+        (JOE, b"pub", 0),
+        (JOE, b".", 0x11),
+        (LISA, b"run", 0xff),
+        (ANN, b"run", 0),
     ],
+    ..FREE
 }];
 
 const CLOSED: &[u8] = b"# file: .\nuser::rwx\ngroup::r-x\nother::r--\n\n\
@@ -175,85 +106,34 @@ pub static RESTORED: [Row; 3] = [
     Row {
         line: Line::Restore(CLOSED),
         asked: (0, 9),
-        looked: 0,
         refreshed: 15,
-        verdicts: &[
-            Verdict {
-                user: JOE,
-                path: b"f",
-                byte: 0x11,
-            },
-            Verdict {
-                user: ANN,
-                path: b"log",
-                byte: 0x11,
-            },
-        ],
+        verdicts: &[(JOE, b"f", 0x11), (ANN, b"log", 0x11)],
         reach: &[
-            Verdict {
-                user: JOE,
-                path: b".",
-                byte: 0x11,
-            },
-            Verdict {
-                user: JOE,
-                path: b"f",
-                byte: 0,
-            },
-            Verdict {
-                user: LISA,
-                path: b"f",
-                byte: 0x55,
-            },
-            Verdict {
-                user: ANN,
-                path: b"pub",
-                byte: 0,
-            },
+            (JOE, b".", 0x11),
+            (JOE, b"f", 0),
+            (LISA, b"f", 0x55),
+            (ANN, b"pub", 0),
         ],
+        ..FREE
     },
     Row {
         line: Line::Restore(OPENED),
         asked: (0, 3),
-        looked: 0,
         refreshed: 15,
-        verdicts: &[Verdict {
-            user: JOE,
-            path: b"f",
-            byte: 0x01,
-        }],
+        verdicts: &[(JOE, b"f", 0x01)],
         reach: &[
-            Verdict {
-                user: ANN,
-                path: b"log",
-                byte: 0x11,
-            },
-            Verdict {
-                user: ANN,
-                path: b"pub",
-                byte: 0xff,
-            },
-            Verdict {
-                user: JOE,
-                path: b"run",
-                byte: 0x33,
-            },
+            (ANN, b"log", 0x11),
+            (ANN, b"pub", 0xff),
+            (JOE, b"run", 0x33),
         ],
+        ..FREE
     },
     Row {
         line: Line::Restore(WRITTEN),
         asked: (0, 6),
-        looked: 0,
         refreshed: 6,
-        verdicts: &[Verdict {
-            user: JOE,
-            path: b".",
-            byte: 0x33,
-        }],
-        reach: &[Verdict {
-            user: JOE,
-            path: b"f",
-            byte: 0x11,
-        }],
+        verdicts: &[(JOE, b".", 0x33)],
+        reach: &[(JOE, b"f", 0x11)],
+        ..FREE
     },
 ];

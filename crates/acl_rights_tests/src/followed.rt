@@ -5,19 +5,11 @@ ghost use Rattle.acl_rights.specs.Tables.{IsWhole};
 ghost use Rattle.acl_rights_tests.specs.Verdicts.{owner_alone};
 
 use crate::judge::OwnerAlone;
+use crate::world::Costs;
 use acl_people::People;
 use acl_rights::{Index, Judge, NoMemory, Rows};
 use acl_tree::{Command, Staged, Tree};
 use std::alloc::Global;
-
-/// What a command costs the index: verdicts asked for, labels fetched, and verdicts along paths that are new or other
-/// ones.
-#[derive(Drop)]
-pub struct Costs {
-    pub asked: u64,
-    pub looked: u64,
-    pub refreshed: u64,
-}
 
 /// An index after a command, and what the command cost.
 #[derive(Drop)]

@@ -2,7 +2,7 @@
 
 use crate::lines::Line;
 use crate::texts::{ANN, GROUP, JOE, PASSWD};
-use crate::world::{Row, Verdict, first_wrong, nothing};
+use crate::world::{FREE, Row, first_wrong, nothing};
 use acl_tree::Table;
 
 /// Twelve files of two labels.
@@ -23,31 +23,18 @@ const FILES: &[u8] =
 static SETUP: [Row; 3] = [
     Row {
         line: Line::Load(Table::Passwd, PASSWD),
-        asked: (0, 0),
-        looked: 0,
-        refreshed: 0,
-        verdicts: &[],
-        reach: &[],
+        ..FREE
     },
     Row {
         line: Line::Load(Table::Group, GROUP),
-        asked: (0, 0),
-        looked: 0,
-        refreshed: 0,
-        verdicts: &[],
-        reach: &[],
+        ..FREE
     },
     Row {
         line: Line::Load(Table::Dump, FILES),
         asked: (0, 6),
-        looked: 0,
         refreshed: 36,
-        verdicts: &[Verdict {
-            user: JOE,
-            path: b"a/1",
-            byte: 0x01,
-        }],
-        reach: &[],
+        verdicts: &[(JOE, b"a/1", 0x01)],
+        ..FREE
     },
 ];
 
@@ -57,70 +44,28 @@ static ALL_FILES: [Row; 5] = [
     Row {
         line: Line::Setfacl(b"u:joe:rX", true, b"."),
         asked: (0, 6),
-        looked: 0,
         refreshed: 27,
-        verdicts: &[
-            Verdict {
-                user: JOE,
-                path: b"a/1",
-                byte: 0x11,
-            },
-            Verdict {
-                user: JOE,
-                path: b"b",
-                byte: 0x33,
-            },
-            Verdict {
-                user: ANN,
-                path: b"c",
-                byte: 0x01,
-            },
-        ],
-        reach: &[Verdict {
-            user: JOE,
-            path: b"b/4",
-            byte: 0x11,
-        }],
+        verdicts: &[(JOE, b"a/1", 0x11), (JOE, b"b", 0x33), (ANN, b"c", 0x01)],
+        reach: &[(JOE, b"b/4", 0x11)],
+        ..FREE
     },
     Row {
         line: Line::Setfacl(b"g:adm:r", true, b"."),
         asked: (0, 6),
-        looked: 0,
-        refreshed: 0,
-        verdicts: &[Verdict {
-            user: JOE,
-            path: b"a/1",
-            byte: 0x11,
-        }],
-        reach: &[],
+        verdicts: &[(JOE, b"a/1", 0x11)],
+        ..FREE
     },
     // Few files change.
     Row {
         line: Line::Setfacl(b"u:joe:rw", false, b"a/1"),
         asked: (0, 3),
-        looked: 0,
         refreshed: 3,
-        verdicts: &[
-            Verdict {
-                user: JOE,
-                path: b"a/1",
-                byte: 0x55,
-            },
-            Verdict {
-                user: JOE,
-                path: b"a/2",
-                byte: 0x11,
-            },
-        ],
-        reach: &[],
+        verdicts: &[(JOE, b"a/1", 0x55), (JOE, b"a/2", 0x11)],
+        ..FREE
     },
     Row {
         line: Line::Rm(b"b/4"),
-        asked: (0, 0),
-        looked: 0,
-        refreshed: 0,
-        verdicts: &[],
-        reach: &[],
+        ..FREE
     },
     // Each label mentions adm, and the files have three.
     Row {
@@ -128,16 +73,8 @@ static ALL_FILES: [Row; 5] = [
         asked: (1, 3),
         looked: 3,
         refreshed: 11,
-        verdicts: &[Verdict {
-            user: ANN,
-            path: b"a/2",
-            byte: 0x11,
-        }],
-        reach: &[Verdict {
-            user: ANN,
-            path: b"a/2",
-            byte: 0,
-        }],
+        verdicts: &[(ANN, b"a/2", 0x11)],
+        reach: &[(ANN, b"a/2", 0)],
     },
 ];
 
@@ -146,33 +83,16 @@ static A_FOLDER: [Row; 2] = [
     Row {
         line: Line::Setfacl(b"u:joe:rX", true, b"a"),
         asked: (0, 6),
-        looked: 0,
         refreshed: 12,
-        verdicts: &[
-            Verdict {
-                user: JOE,
-                path: b"a/4",
-                byte: 0x11,
-            },
-            Verdict {
-                user: JOE,
-                path: b"b/1",
-                byte: 0x01,
-            },
-        ],
-        reach: &[],
+        verdicts: &[(JOE, b"a/4", 0x11), (JOE, b"b/1", 0x01)],
+        ..FREE
     },
     Row {
         line: Line::Chmod(0o700, b"b"),
         asked: (0, 3),
-        looked: 0,
         refreshed: 15,
-        verdicts: &[],
-        reach: &[Verdict {
-            user: JOE,
-            path: b"b/1",
-            byte: 0,
-        }],
+        reach: &[(JOE, b"b/1", 0)],
+        ..FREE
     },
 ];
 
@@ -181,22 +101,14 @@ static THEN_ONE: [Row; 2] = [
     Row {
         line: Line::Setfacl(b"u:joe:rX", true, b"."),
         asked: (0, 6),
-        looked: 0,
         refreshed: 27,
-        verdicts: &[],
-        reach: &[],
+        ..FREE
     },
     Row {
         line: Line::Setfacl(b"u::rwx,u:joe:rx,g::rx,m::rx,o::rx", false, b"c"),
-        asked: (0, 0),
-        looked: 0,
         refreshed: 3,
-        verdicts: &[Verdict {
-            user: ANN,
-            path: b"c",
-            byte: 0x33,
-        }],
-        reach: &[],
+        verdicts: &[(ANN, b"c", 0x33)],
+        ..FREE
     },
 ];
 
@@ -205,49 +117,18 @@ static THEN_ONE: [Row; 2] = [
 static A_LABEL_PARTS: [Row; 2] = [
     Row {
         line: Line::Chmod(0o640, b"b"),
-        asked: (0, 0),
-        looked: 0,
         refreshed: 15,
-        verdicts: &[Verdict {
-            user: JOE,
-            path: b"b",
-            byte: 0x01,
-        }],
-        reach: &[Verdict {
-            user: JOE,
-            path: b"b/1",
-            byte: 0,
-        }],
+        verdicts: &[(JOE, b"b", 0x01)],
+        reach: &[(JOE, b"b/1", 0)],
+        ..FREE
     },
     Row {
         line: Line::Setfacl(b"u:joe:rX", true, b"."),
         asked: (0, 9),
-        looked: 0,
         refreshed: 36,
-        verdicts: &[
-            Verdict {
-                user: JOE,
-                path: b"b",
-                byte: 0x33,
-            },
-            Verdict {
-                user: JOE,
-                path: b"c",
-                byte: 0x11,
-            },
-        ],
-        reach: &[
-            Verdict {
-                user: JOE,
-                path: b"b/1",
-                byte: 0x11,
-            },
-            Verdict {
-                user: ANN,
-                path: b"b/1",
-                byte: 0,
-            },
-        ],
+        verdicts: &[(JOE, b"b", 0x33), (JOE, b"c", 0x11)],
+        reach: &[(JOE, b"b/1", 0x11), (ANN, b"b/1", 0)],
+        ..FREE
     },
 ];
 

@@ -2,81 +2,46 @@
 
 use crate::lines::Line;
 use crate::texts::{GROUP, JOE, LISA};
-use crate::world::{Row, Verdict};
+use crate::world::{FREE, Row};
 use acl_tree::Table;
 
 /// No file mentions cool, adm is mentioned by log and pub, users is joe's primary group.
 pub static MEMBERSHIPS: [Row; 6] = [
     Row {
         line: Line::Join(b"joe", b"cool"),
-        asked: (0, 0),
-        looked: 0,
-        refreshed: 0,
-        verdicts: &[Verdict {
-            user: JOE,
-            path: b"pub",
-            byte: 0x33,
-        }],
-        reach: &[],
+        verdicts: &[(JOE, b"pub", 0x33)],
+        ..FREE
     },
     Row {
         line: Line::Join(b"joe", b"users"),
-        asked: (0, 0),
-        looked: 0,
-        refreshed: 0,
-        verdicts: &[],
-        reach: &[],
+        ..FREE
     },
     Row {
         line: Line::Join(b"joe", b"adm"),
         asked: (2, 2),
         looked: 2,
         refreshed: 2,
-        verdicts: &[
-            Verdict {
-                user: JOE,
-                path: b"log",
-                byte: 0x11,
-            },
-            Verdict {
-                user: JOE,
-                path: b"pub",
-                byte: 0xff,
-            },
-        ],
-        reach: &[],
+        verdicts: &[(JOE, b"log", 0x11), (JOE, b"pub", 0xff)],
+        ..FREE
     },
     Row {
         line: Line::Leave(b"joe", b"adm"),
         asked: (2, 2),
         looked: 2,
         refreshed: 2,
-        verdicts: &[Verdict {
-            user: JOE,
-            path: b"log",
-            byte: 0x01,
-        }],
-        reach: &[],
+        verdicts: &[(JOE, b"log", 0x01)],
+        ..FREE
     },
     Row {
         line: Line::Chmod(0o770, b"pub"),
         asked: (3, 3),
-        looked: 0,
         refreshed: 3,
-        verdicts: &[],
-        reach: &[],
+        ..FREE
     },
     Row {
         line: Line::Leave(b"joe", b"users"),
-        asked: (0, 0),
-        looked: 0,
-        refreshed: 0,
-        verdicts: &[Verdict {
-            user: JOE,
-            path: b"pub",
-            byte: 0x33,
-        }],
-        reach: &[],
+        verdicts: &[(JOE, b"pub", 0x33)],
+        ..FREE
     },
 ];
 
@@ -87,30 +52,22 @@ pub static PRIMARY: [Row; 1] = [Row {
     asked: (0, 4),
     looked: 4,
     refreshed: 1,
-    verdicts: &[Verdict {
-        user: JOE,
-        path: b"f",
-        byte: 0x11,
-    }],
-    reach: &[],
+    verdicts: &[(JOE, b"f", 0x11)],
+    ..FREE
 }];
 
 pub static NAMED: [Row; 2] = [
     Row {
         line: Line::Setfacl(b"g:users:r", false, b"f"),
         asked: (0, 3),
-        looked: 0,
         refreshed: 3,
-        verdicts: &[],
-        reach: &[],
+        ..FREE
     },
     Row {
         line: Line::Usermod(b"joe", b"staff"),
         asked: (0, 4),
         looked: 4,
-        refreshed: 0,
-        verdicts: &[],
-        reach: &[],
+        ..FREE
     },
 ];
 
@@ -120,54 +77,38 @@ pub static LISTED: [Row; 6] = [
     Row {
         line: Line::Setfacl(b"g:adm:r", false, b"f"),
         asked: (0, 3),
-        looked: 0,
-        refreshed: 0,
-        verdicts: &[],
-        reach: &[],
+        ..FREE
     },
     Row {
         line: Line::Join(b"joe", b"adm"),
         asked: (3, 3),
         looked: 3,
         refreshed: 3,
-        verdicts: &[Verdict {
-            user: JOE,
-            path: b"f",
-            byte: 0x11,
-        }],
-        reach: &[],
+        verdicts: &[(JOE, b"f", 0x11)],
+        ..FREE
     },
     Row {
         line: Line::Setfacl(b"g:cool:r", false, b"f"),
         asked: (0, 3),
-        looked: 0,
-        refreshed: 0,
-        verdicts: &[],
-        reach: &[],
+        ..FREE
     },
     Row {
         line: Line::Join(b"ann", b"cool"),
         asked: (1, 1),
         looked: 1,
         refreshed: 1,
-        verdicts: &[],
-        reach: &[],
+        ..FREE
     },
     Row {
         line: Line::Rm(b"f"),
-        asked: (0, 0),
-        looked: 0,
-        refreshed: 0,
-        verdicts: &[],
-        reach: &[],
+        ..FREE
     },
     Row {
         line: Line::Leave(b"joe", b"adm"),
         asked: (2, 2),
         looked: 2,
         refreshed: 2,
-        verdicts: &[],
-        reach: &[],
+        ..FREE
     },
 ];
 
@@ -175,49 +116,26 @@ pub static COMES_AND_GOES: [Row; 4] = [
     Row {
         line: Line::Useradd(b"bob", 1003, b"staff"),
         asked: (0, 5),
-        looked: 0,
         refreshed: 5,
-        verdicts: &[Verdict {
-            user: 3,
-            path: b"f",
-            byte: 0x11,
-        }],
-        reach: &[],
+        verdicts: &[(3, b"f", 0x11)],
+        ..FREE
     },
     Row {
         line: Line::Setfacl(b"u:joe:rw", false, b"f"),
         asked: (0, 4),
-        looked: 0,
         refreshed: 4,
-        verdicts: &[],
-        reach: &[],
+        ..FREE
     },
     Row {
         line: Line::Userdel(b"joe"),
-        asked: (0, 0),
-        looked: 0,
-        refreshed: 0,
-        verdicts: &[],
-        reach: &[],
+        ..FREE
     },
     Row {
         line: Line::Useradd(b"zoe", 1000, b"cool"),
         asked: (0, 5),
-        looked: 0,
         refreshed: 5,
-        verdicts: &[
-            Verdict {
-                user: 3,
-                path: b"f",
-                byte: 0x55,
-            },
-            Verdict {
-                user: 2,
-                path: b"f",
-                byte: 0x11,
-            },
-        ],
-        reach: &[],
+        verdicts: &[(3, b"f", 0x55), (2, b"f", 0x11)],
+        ..FREE
     },
 ];
 
@@ -225,39 +143,22 @@ pub static COMES_AND_GOES: [Row; 4] = [
 pub static NOBODY_IS_LEFT: [Row; 4] = [
     Row {
         line: Line::Userdel(b"joe"),
-        asked: (0, 0),
-        looked: 0,
-        refreshed: 0,
-        verdicts: &[],
-        reach: &[],
+        ..FREE
     },
     Row {
         line: Line::Userdel(b"lisa"),
-        asked: (0, 0),
-        looked: 0,
-        refreshed: 0,
-        verdicts: &[],
-        reach: &[],
+        ..FREE
     },
     Row {
         line: Line::Userdel(b"ann"),
-        asked: (0, 0),
-        looked: 0,
-        refreshed: 0,
-        verdicts: &[],
-        reach: &[],
+        ..FREE
     },
     Row {
         line: Line::Useradd(b"bob", 1003, b"staff"),
         asked: (0, 5),
-        looked: 0,
         refreshed: 5,
-        verdicts: &[Verdict {
-            user: 0,
-            path: b"f",
-            byte: 0x11,
-        }],
-        reach: &[],
+        verdicts: &[(0, b"f", 0x11)],
+        ..FREE
     },
 ];
 
@@ -269,47 +170,26 @@ const FILE_OF_NUMBERS: &[u8] =
 pub static NOBODY_IS_LOADED: [Row; 5] = [
     Row {
         line: Line::Load(Table::Group, GROUP),
-        asked: (0, 0),
-        looked: 0,
-        refreshed: 0,
-        verdicts: &[],
-        reach: &[],
+        ..FREE
     },
     Row {
         line: Line::Load(Table::Dump, FILE_OF_NUMBERS),
-        asked: (0, 0),
-        looked: 0,
-        refreshed: 0,
-        verdicts: &[],
-        reach: &[],
+        ..FREE
     },
     Row {
         line: Line::Chmod(0o600, b"f"),
-        asked: (0, 0),
-        looked: 0,
-        refreshed: 0,
-        verdicts: &[],
-        reach: &[],
+        ..FREE
     },
     Row {
         line: Line::Useradd(b"bob", 1003, b"staff"),
         asked: (0, 1),
-        looked: 0,
         refreshed: 1,
-        verdicts: &[Verdict {
-            user: 0,
-            path: b"f",
-            byte: 0x01,
-        }],
-        reach: &[],
+        verdicts: &[(0, b"f", 0x01)],
+        ..FREE
     },
     Row {
         line: Line::Userdel(b"bob"),
-        asked: (0, 0),
-        looked: 0,
-        refreshed: 0,
-        verdicts: &[],
-        reach: &[],
+        ..FREE
     },
 ];
 
@@ -318,52 +198,26 @@ pub static COMES_BACK: [Row; 4] = [
     Row {
         line: Line::Chmod(0o600, b"f"),
         asked: (0, 3),
-        looked: 0,
-        refreshed: 0,
-        verdicts: &[],
-        reach: &[],
+        ..FREE
     },
     Row {
         line: Line::Useradd(b"bob", 1003, b"staff"),
         asked: (0, 5),
-        looked: 0,
         refreshed: 5,
-        verdicts: &[Verdict {
-            user: 3,
-            path: b"f",
-            byte: 0x01,
-        }],
-        reach: &[],
+        verdicts: &[(3, b"f", 0x01)],
+        ..FREE
     },
     Row {
         line: Line::Chmod(0o640, b"f"),
         asked: (0, 4),
-        looked: 0,
         refreshed: 4,
-        verdicts: &[
-            Verdict {
-                user: 3,
-                path: b"f",
-                byte: 0x11,
-            },
-            Verdict {
-                user: LISA,
-                path: b"f",
-                byte: 0x55,
-            },
-        ],
-        reach: &[],
+        verdicts: &[(3, b"f", 0x11), (LISA, b"f", 0x55)],
+        ..FREE
     },
     Row {
         line: Line::Chmod(0o640, b"run"),
-        asked: (0, 0),
-        looked: 0,
         refreshed: 4,
-        verdicts: &[Verdict {
-            user: 3,
-            path: b"run",
-            byte: 0x11,
-        }],
-        reach: &[],
+        verdicts: &[(3, b"run", 0x11)],
+        ..FREE
     },
 ];

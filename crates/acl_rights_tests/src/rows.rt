@@ -1,7 +1,7 @@
 //! The rows of files, one after another, by their classes.
 use crate::costs::after;
 use crate::lines::Line;
-use crate::world::Row;
+use crate::world::{FREE, Row};
 use acl_entry::Requests;
 use acl_names::read_path;
 use acl_rights::FileClasses;
@@ -12,10 +12,8 @@ use std::cmp::Ordering;
 static ROOT_CLOSED: [Row; 1] = [Row {
     line: Line::Chmod(0o700, b"."),
     asked: (0, 3),
-    looked: 0,
     refreshed: 15,
-    verdicts: &[],
-    reach: &[],
+    ..FREE
 }];
 
 /// A file, and for each user the byte of the requests.

@@ -9,7 +9,6 @@ use acl_rights::{
     Path, People, Perm, Posix, Requests, Subject, Tree, read_name,
 };
 use std::alloc::Global;
-use std::cmp::Ordering;
 use std::process::Abort;
 
 /// `gpasswd -a joe adm`.

@@ -71,11 +71,7 @@ pub fn asked_by_build(alloc: Global, state: &State) -> Option<u64> {
 }
 
 /// What a user may do with a file after a line: the user's place, the file, and the byte of the requests.
-pub struct Verdict {
-    pub user: usize,
-    pub path: &'static [u8],
-    pub byte: u8,
-}
+pub type Verdict = (usize, &'static [u8], u8);
 
 /// A line with its costs: the verdicts that it asks for, at least and at most, and how many labels it fetches and
 /// verdicts along paths it makes again. Then some verdicts after it, and some along paths.
@@ -88,17 +84,28 @@ pub struct Row {
     pub reach: &'static [Verdict],
 }
 
+/// A line that costs nothing: what another row does not say is as here.
+pub const FREE: Row = Row {
+    line: Line::Rm(b""),
+    asked: (0, 0),
+    looked: 0,
+    refreshed: 0,
+    verdicts: &[],
+    reach: &[],
+};
+
 fn is_right(alloc: Global, world: &World, verdict: &Verdict, along: bool) -> bool {
-    let Ok(Some(path)) = read_path(alloc, verdict.path) else {
+    let (user, text, byte) = *verdict;
+    let Ok(Some(path)) = read_path(alloc, text) else {
         return false;
     };
     let found = if along {
-        world.index.get_reach(verdict.user, &path)
+        world.index.get_reach(user, &path)
     } else {
-        world.index.get(verdict.user, &path)
+        world.index.get(user, &path)
     };
     match found {
-        Some(requests) => requests.bits() == verdict.byte,
+        Some(requests) => requests.bits() == byte,
         None => false,
     }
 }

@@ -58,14 +58,7 @@ fn greatest_ids(rt: HostRuntime) {
 }
 
 /// The text is read as these entries.
-pub fn expect_specs(
-    rt: &impl Abort,
-    alloc: Global,
-    text: &[u8],
-    sep: Sep,
-    want: Want,
-    specs: &[Spec],
-) {
+fn expect_specs(rt: &impl Abort, alloc: Global, text: &[u8], sep: Sep, want: Want, specs: &[Spec]) {
     let found = read_entries(alloc, text, sep, want, &People).expect(rt, "entries");
     assert!(rt; found.as_slice() == specs);
 }

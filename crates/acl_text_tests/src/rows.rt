@@ -7,24 +7,24 @@ use std::alloc::Global;
 use std::process::Abort;
 
 /// A passwd text.
-pub const PASSWD: &[u8] = b"lisa:x:1001:50:Lisa:/home/lisa:/bin/sh
+const PASSWD: &[u8] = b"lisa:x:1001:50:Lisa:/home/lisa:/bin/sh
 joe:x:1000:100:Joe:/home/joe:/bin/sh
 ann:x:1002:100:Ann:/home/ann:/bin/sh
 ";
 
 /// A group text.
-pub const GROUP: &[u8] = b"staff:x:50:
+const GROUP: &[u8] = b"staff:x:50:
 users:x:100:
 cool:x:60:lisa
 adm:x:70:
 ";
 
-pub fn push_number(rt: &impl Abort, printed: &mut Vec<u8>, alloc: Global, number: usize) {
+fn push_number(rt: &impl Abort, printed: &mut Vec<u8>, alloc: Global, number: usize) {
     let digits = format!(in alloc; "{number}").expect(rt, "memory");
     push(rt, printed, digits.as_bytes());
 }
 
-pub fn bad_row(rt: &impl Abort, alloc: Global, line: usize) -> Vec<u8> {
+fn bad_row(rt: &impl Abort, alloc: Global, line: usize) -> Vec<u8> {
     let mut printed = Vec::new(alloc);
     push(rt, &mut printed, b"bad row ");
     push_number(rt, &mut printed, alloc, line);
@@ -70,7 +70,7 @@ fn print_fault(rt: &impl Abort, alloc: Global, fault: TextFault) -> Vec<u8> {
 }
 
 /// What is read of a passwd text.
-pub fn printed_users(rt: &impl Abort, alloc: Global, text: &[u8]) -> Vec<u8> {
+fn printed_users(rt: &impl Abort, alloc: Global, text: &[u8]) -> Vec<u8> {
     match read_passwd(alloc, text) {
         Ok(rows) => print_passwd(rt, alloc, &rows),
         Err(fault) => print_fault(rt, alloc, fault),
@@ -78,7 +78,7 @@ pub fn printed_users(rt: &impl Abort, alloc: Global, text: &[u8]) -> Vec<u8> {
 }
 
 /// What is read of a group text.
-pub fn printed_groups(rt: &impl Abort, alloc: Global, text: &[u8]) -> Vec<u8> {
+fn printed_groups(rt: &impl Abort, alloc: Global, text: &[u8]) -> Vec<u8> {
     match read_group(alloc, text) {
         Ok(rows) => print_group(rt, alloc, &rows),
         Err(fault) => print_fault(rt, alloc, fault),

@@ -7,10 +7,7 @@ use facl::Setup;
 use std::process::Abort;
 
 /// A line with its text, and the verdicts that it asks for, at least and at most.
-pub struct Cost {
-    pub line: &'static [u8],
-    pub asked: (u64, u64),
-}
+pub type Cost = (&'static [u8], (u64, u64));
 
 /// Appends a line.
 fn append(rt: &impl Abort, script: &mut Vec<u8>, line: &[u8]) {
@@ -31,8 +28,8 @@ pub fn check(rt: &(impl Abort + AllocGlobal), setup: &Setup<'_>, asked: u64, cos
     let mut before = asked_for(rt, setup, &script);
     assert_eq!(rt; before, asked, "the setup");
     for at in 0..costs.len() {
-        let (least, most) = costs[at].asked;
-        append(rt, &mut script, costs[at].line);
+        let (line, (least, most)) = costs[at];
+        append(rt, &mut script, line);
         let after = asked_for(rt, setup, &script);
         let spent = after
             .checked_sub(before)

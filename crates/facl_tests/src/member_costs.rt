@@ -5,86 +5,32 @@ use crate::texts::WHOLE;
 
 /// Adm is mentioned by log and pub; users is joe's primary group.
 static MEMBERS: [Cost; 10] = [
-    Cost {
-        line: b"gpasswd -a joe users\n",
-        asked: (0, 0),
-    },
-    Cost {
-        line: b"gpasswd -a joe adm\n",
-        asked: (2, 2),
-    },
-    Cost {
-        line: b"can joe log\n",
-        asked: (0, 0),
-    },
-    Cost {
-        line: b"can joe pub\n",
-        asked: (0, 0),
-    },
-    Cost {
-        line: b"gpasswd -d joe adm\n",
-        asked: (2, 2),
-    },
-    Cost {
-        line: b"can joe log\n",
-        asked: (0, 0),
-    },
-    Cost {
-        line: b"chmod 770 pub\n",
-        asked: (3, 3),
-    },
-    Cost {
-        line: b"gpasswd -d joe users\n",
-        asked: (0, 0),
-    },
-    Cost {
-        line: b"can joe pub\n",
-        asked: (0, 0),
-    },
-    Cost {
-        line: b"index\n",
-        asked: (0, 0),
-    },
+    (b"gpasswd -a joe users\n", (0, 0)),
+    (b"gpasswd -a joe adm\n", (2, 2)),
+    (b"can joe log\n", (0, 0)),
+    (b"can joe pub\n", (0, 0)),
+    (b"gpasswd -d joe adm\n", (2, 2)),
+    (b"can joe log\n", (0, 0)),
+    (b"chmod 770 pub\n", (3, 3)),
+    (b"gpasswd -d joe users\n", (0, 0)),
+    (b"can joe pub\n", (0, 0)),
+    (b"index\n", (0, 0)),
 ];
 
 /// Staff is mentioned by the root, f and run, users by pub.
 static PRIMARY: [Cost; 6] = [
-    Cost {
-        line: b"usermod -g staff joe\n",
-        asked: (0, 4),
-    },
-    Cost {
-        line: b"can joe f\n",
-        asked: (0, 0),
-    },
-    Cost {
-        line: b"usermod -g staff joe\n",
-        asked: (0, 0),
-    },
-    Cost {
-        line: b"gpasswd -a joe staff\n",
-        asked: (0, 0),
-    },
-    Cost {
-        line: b"gpasswd -d joe staff\n",
-        asked: (0, 0),
-    },
-    Cost {
-        line: b"gpasswd -a joe cool\n",
-        asked: (0, 0),
-    },
+    (b"usermod -g staff joe\n", (0, 4)),
+    (b"can joe f\n", (0, 0)),
+    (b"usermod -g staff joe\n", (0, 0)),
+    (b"gpasswd -a joe staff\n", (0, 0)),
+    (b"gpasswd -d joe staff\n", (0, 0)),
+    (b"gpasswd -a joe cool\n", (0, 0)),
 ];
 
 /// Then users is mentioned by f too, which both groups share.
 static NAMED: [Cost; 2] = [
-    Cost {
-        line: b"setfacl -m g:users:r f\n",
-        asked: (0, 3),
-    },
-    Cost {
-        line: b"usermod -g staff joe\n",
-        asked: (0, 4),
-    },
+    (b"setfacl -m g:users:r f\n", (0, 3)),
+    (b"usermod -g staff joe\n", (0, 4)),
 ];
 
 #[test]

@@ -10,7 +10,6 @@ use facl::{
 };
 use std::alloc::Global;
 use std::io;
-use std::process::Abort;
 
 #[test]
 fn a_session(rt: HostRuntime) {

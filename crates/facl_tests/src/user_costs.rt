@@ -5,58 +5,19 @@ use crate::texts::WHOLE;
 
 /// A new user is judged on each file once, and nothing is judged for a user who goes.
 static USERS: [Cost; 13] = [
-    Cost {
-        line: b"useradd -u 1003 -g staff bob\n",
-        asked: (0, 5),
-    },
-    Cost {
-        line: b"can bob f\n",
-        asked: (0, 0),
-    },
-    Cost {
-        line: b"useradd -u 1001 -g staff eve\n",
-        asked: (0, 0),
-    },
-    Cost {
-        line: b"useradd -u 9 -g staff bob\n",
-        asked: (0, 0),
-    },
-    Cost {
-        line: b"chmod 664 f\n",
-        asked: (0, 4),
-    },
-    Cost {
-        line: b"userdel bob\n",
-        asked: (0, 0),
-    },
-    Cost {
-        line: b"setfacl -m u:joe:rw f\n",
-        asked: (0, 3),
-    },
-    Cost {
-        line: b"userdel joe\n",
-        asked: (0, 0),
-    },
-    Cost {
-        line: b"chacl -l f\n",
-        asked: (0, 0),
-    },
-    Cost {
-        line: b"can joe f\n",
-        asked: (0, 0),
-    },
-    Cost {
-        line: b"useradd -u 1000 -g cool zoe\n",
-        asked: (0, 5),
-    },
-    Cost {
-        line: b"can zoe f\n",
-        asked: (0, 0),
-    },
-    Cost {
-        line: b"chmod 600 f\n",
-        asked: (0, 3),
-    },
+    (b"useradd -u 1003 -g staff bob\n", (0, 5)),
+    (b"can bob f\n", (0, 0)),
+    (b"useradd -u 1001 -g staff eve\n", (0, 0)),
+    (b"useradd -u 9 -g staff bob\n", (0, 0)),
+    (b"chmod 664 f\n", (0, 4)),
+    (b"userdel bob\n", (0, 0)),
+    (b"setfacl -m u:joe:rw f\n", (0, 3)),
+    (b"userdel joe\n", (0, 0)),
+    (b"chacl -l f\n", (0, 0)),
+    (b"can joe f\n", (0, 0)),
+    (b"useradd -u 1000 -g cool zoe\n", (0, 5)),
+    (b"can zoe f\n", (0, 0)),
+    (b"chmod 600 f\n", (0, 3)),
 ];
 
 #[test]

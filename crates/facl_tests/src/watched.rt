@@ -5,7 +5,6 @@ use crate::judges::Watching;
 use crate::texts::WHOLE;
 use facl::{Judge, Status, StdFeed, StdSink, run_judged};
 use std::alloc::Global;
-use std::process::Abort;
 
 /// How many verdicts were asked for: all, those about joe, those on files of ann.
 type Asked = (u64, u64, u64);

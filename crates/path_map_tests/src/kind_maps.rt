@@ -53,7 +53,7 @@ pub(crate) fn built(rt: &impl Abort, alloc: Global, nodes: [u32; 3]) -> KindMap<
 }
 
 /// The map with a node put at a path.
-pub(crate) fn put_one(
+fn put_one(
     rt: &impl Abort,
     alloc: Global,
     map: &KindMap<u32>,
