@@ -1,8 +1,10 @@
 """Tests of tools/: documents.py over a small repository, tool_rows.py over parts of this one, what memory_faults.py reads
-and finds, and lib/ with a program of its own in the place of the real one."""
+and finds, growth.py on machine code of its own, and lib/ with a program of its own in the place of the real one."""
 from __future__ import annotations
 
 import argparse
+import contextlib
+import io
 import os
 import re
 import shutil
@@ -51,6 +53,27 @@ class Case(unittest.TestCase):
         with open(path, "w", encoding="utf-8") as file:
             file.write(text)
         return path
+
+
+# --- growth.py
+
+class MachineCode(unittest.TestCase):
+    def faults(self, functions: growth.Functions) -> List[str]:
+        """What growth.py finds in a program of these functions."""
+        with unittest.mock.patch.object(growth, "read_code", return_value=functions), contextlib.redirect_stdout(io.StringIO()):
+            return growth.growths_in_code("")[1]
+
+    def test_functions(self) -> None:
+        """Each function of the table has to be there, and none may lead to the allocator."""
+        answer = growth.ANSWER + "answer"
+        all_there: growth.Functions = {name: [(0, "ret", "")] for name in growth.CALLS}
+        all_there[answer] = [(16, "call", f"20 <{growth.COMMIT}>"), (21, "ret", "")]
+        self.assertEqual(self.faults(all_there), [])
+        gone, other = growth.CALLS[0], growth.CALLS[1]
+        self.assertEqual(self.faults({name: code for name, code in all_there.items() if name != gone}),
+                         [f"no {gone} is in the program"])
+        self.assertEqual(self.faults({**all_there, answer: []}), [f"no answer with {growth.COMMIT} is in the program"])
+        self.assertEqual(self.faults({**all_there, other: [(0, "jmp", "30 <malloc@plt>")]}), [f"{other} leads to malloc"])
 
 
 # --- bench/
