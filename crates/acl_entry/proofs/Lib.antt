@@ -12,3 +12,4 @@ pub mod Same
 pub mod Groups
 pub mod Modes
 pub mod Local
+pub mod LinuxModes

@@ -6,8 +6,9 @@ use Rattle.std.specs.Option.{option_map_or}
 use Rattle.std.specs.FinMap as maps
 use Rattle.std.specs.FinSet as sets
 use Rattle.std.proofs.lemmas.Bool.{eq-eqb}
-use Rattle.acl_entry.specs.Perms.{Perms, contains}
+use Rattle.acl_entry.specs.Perms.{Perms, contains, none}
 use Rattle.acl_entry.specs.Lists.{entries, perm_at, masked, masked_by}
+use Rattle.acl_entry.specs.Linux.{check_mode, has_empty_mask, linux_check, linux_rights}
 use Rattle.acl_entry.specs.Check.{is_for, group_of, check, byte_of, rights}
 use Rattle.acl_entry.specs.Mentions.{named_group, named_groups, is_one_of, AgreeOn, AgreeOnMentions}
 use Rattle.acl_entry.specs.Person.{Person}
@@ -69,3 +70,19 @@ check_local u w f h q =
 -- what is granted rests on the user's id and on the groups that the label mentions
 pub rights_local : (u w : Person) (f : Label) → AgreeOnMentions u w f → rights u f ≡ rights w f
 rights_local u w f h = λ i. byte_of (λ q. check_local u w f h q i)
+
+-- ---- what Linux grants asks for no other group than the check
+
+linux_check_local : (u w : Person) (f : Label) → AgreeOnMentions u w f → (q : Perms) → linux_check u f q ≡ linux_check w f q
+linux_check_local u w f h q = by (has_empty_mask f.acl)
+  where
+    by : (empty : Bool) → (if empty then check_mode u f q else check u f q) ≡ (if empty then check_mode w f q else check w f q)
+    by true =
+        let own = first_agrees u w f.group (named_groups (entries f.acl)) h.groups in
+        λ i. if h.uid i == f.owner then contains (perm_at f.acl Owner) q
+        else (if own i then contains none q else contains (perm_at f.acl Other) q)
+    by false = check_local u w f h q
+
+-- what Linux grants rests on the user's id and on the groups that the label mentions
+pub linux_rights_local : (u w : Person) (f : Label) → AgreeOnMentions u w f → linux_rights u f ≡ linux_rights w f
+linux_rights_local u w f h = λ i. byte_of (λ q. linux_check_local u w f h q i)

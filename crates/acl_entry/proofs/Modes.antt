@@ -12,7 +12,7 @@ use Rattle.acl_entry.proofs.KeyLaws.{key_total}
 use Rattle.acl_entry.proofs.PermLaws.{same_perms}
 use Rattle.acl_entry.proofs.Maps.{get-map_of, entries-map_of}
 
-last_digit : (n : ℕ) → numbered n ≡ numbered (n % 8)
+pub last_digit : (n : ℕ) → numbered n ≡ numbered (n % 8)
 last_digit n = same_perms _ _ (ap (λ b. eqb b 1) (omega arith)) (ap (λ b. eqb b 1) (omega arith)) (ap (λ b. eqb b 1) (omega arith))
 
 -- a set that is read from a number has its last digit in base 8

@@ -5,4 +5,5 @@ pub mod Lists
 pub mod Person
 pub mod Check
 pub mod Mentions
+pub mod Linux
 pub mod GroupsOfOne

@@ -13,6 +13,7 @@ mod check;
 mod draft;
 mod entry;
 mod label;
+mod linux;
 mod subject_groups;
 
 pub use acl::{Acl, INLINE_ENTRIES, MAX_ENTRIES, limits_are_as_defined};
@@ -20,6 +21,7 @@ pub use check::{Requests, granted};
 pub use draft::Draft;
 pub use entry::{Entry, Id, Key, ListFault, NOBODY, Perm};
 pub use label::{Label, Subject};
+pub use linux::{granted_by_linux, linux_checks_the_list_or_the_mode};
 pub use subject_groups::groups_of_one;
 
 /// The error that is returned if memory runs out: std's, under the name that the crates above use for it.

@@ -5,8 +5,11 @@
 
 ghost use Rattle.std.specs.Prelude.{◌≡◌, map, length};
 ghost use Rattle.std.specs.Int.RustNames.{bit_or};
-ghost use Rattle.acl_entry.specs.Check.{group_of, rights};
+ghost use Rattle.acl_entry.specs.Check.{byte_of, group_of, rights};
+ghost use Rattle.acl_entry.specs.Linux.{check_mode, linux_rights};
 ghost use Rattle.acl_entry.specs.Lists.{masked_by, perm_at};
+ghost use Rattle.acl_entry.specs.Perms.{none};
+ghost use Rattle.acl_people.specs.Places.{is_in};
 ghost use Rattle.acl_people.specs.Cases.{by_groups, by_name_or, granted_by, mask_of, to_matched, AreWithin, ChangesAt, Regrants};
 
 use crate::subjects::Subjects;
@@ -114,4 +117,37 @@ pub fn granted_to_all(users: &Subjects, label: &Label, row: &mut [Requests])
     put_named(row, users, label, &mask);
     let owner = unmasked(&label.acl, Key::Owner);
     put(row, users.of_id(label.owner), owner);
+}
+
+/// Puts what no permissions grant, the empty request alone, for the members of a group.
+fn put_members(row: &mut [Requests], users: &Subjects, group: Id)
+    requires { length row.old ≡ length users.now }
+    ensures { Regrants users.now row.old row.new (λ f. f) (λ f u. if is_in group u then granted_by none else f u) }
+{
+    put(row, users.of_group(group), Requests::within(Perm::none()));
+}
+
+/// What a mode whose group digit is 0 grants each user.
+fn granted_to_all_by_mode(users: &Subjects, label: &Label, row: &mut [Requests])
+    requires { length row.old ≡ length users.now }
+    ensures { row.new ≡ map (λ u. byte_of (check_mode u label.now)) users.now }
+{
+    let others = unmasked(&label.acl, Key::Other);
+    row.fill(others);
+    put_members(row, users, label.group);
+    let owner = unmasked(&label.acl, Key::Owner);
+    put(row, users.of_id(label.owner), owner);
+}
+
+/// The requests that Linux grants each user on a file, in the order of the users ([`acl_entry::granted_by_linux`]). It looks
+/// at no other user than [`granted_to_all`] does.
+pub fn granted_to_all_by_linux(users: &Subjects, label: &Label, row: &mut [Requests])
+    requires { length row.old ≡ length users.now }
+    ensures { row.new ≡ map (λ u. linux_rights u label.now) users.now }
+{
+    if label.acl.has_empty_mask() {
+        granted_to_all_by_mode(users, label, row);
+    } else {
+        granted_to_all(users, label, row);
+    }
 }

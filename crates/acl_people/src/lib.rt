@@ -21,7 +21,7 @@ mod user_name;
 mod users;
 
 pub use fault::LoadFault;
-pub use granted::granted_to_all;
+pub use granted::{granted_to_all, granted_to_all_by_linux};
 pub use laws::{added_member_is_removed, added_user_is_removed, group_held_otherwise_stays};
 pub use people::People;
 pub use subjects::Subjects;

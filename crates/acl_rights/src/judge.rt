@@ -1,12 +1,13 @@
-//! Who decides on a user and a file; and the access check of acl(5) as a judge.
+//! Who decides on a user and a file; and two judges, the access check of acl(5) and what Linux grants.
 
 ghost use Rattle.std.specs.Prelude.{◌≡◌, ◌+◌, ◌*◌, ◌<◌, ◌^◌, ℕ, length};
-ghost use Rattle.acl_entry.proofs.Local.{rights_local};
+ghost use Rattle.acl_entry.proofs.Local.{linux_rights_local, rights_local};
 ghost use Rattle.acl_entry.specs.Check.{rights};
+ghost use Rattle.acl_entry.specs.Linux.{linux_rights};
 ghost use Rattle.acl_rights.specs.Rows.{Verdict, row_of, IsLocal};
 
-use acl_entry::{Label, Requests, Subject, granted};
-use acl_people::{Subjects, granted_to_all};
+use acl_entry::{Label, Requests, Subject, granted, granted_by_linux};
+use acl_people::{Subjects, granted_to_all, granted_to_all_by_linux};
 
 /// Decides what a user may do with a file, by one definition for all values of the type, and counts its
 /// verdicts.
@@ -86,4 +87,41 @@ impl Judge for Posix {
     }
 
     ghost local = { rights_local };
+}
+
+/// What Linux grants: acl(5)'s check, but on a list whose mask grants nothing the mode alone.
+#[derive(Drop)]
+pub struct Linux {
+    asked: u64,
+}
+
+impl Linux {
+    /// No verdict was decided yet.
+    pub fn new() -> Linux
+        ensures { result.asked ≡ 0 }
+    {
+        Linux { asked: 0 }
+    }
+}
+
+impl Judge for Linux {
+    ghost verdict_of = { linux_rights };
+
+    ghost asked_of = { λ judge. judge.asked };
+
+    fn verdict(&mut self, subject: &Subject, label: &Label) -> Requests {
+        self.asked += 1;
+        granted_by_linux(subject, label)
+    }
+
+    fn verdicts(&mut self, users: &Subjects, label: &Label, files: u64, row: &mut [Requests]) {
+        self.asked += files * users.len() as u64;
+        granted_to_all_by_linux(users, label, row);
+    }
+
+    fn asked(&self) -> u64 {
+        self.asked
+    }
+
+    ghost local = { linux_rights_local };
 }

@@ -50,7 +50,7 @@ mod stage;
 
 pub use index::{Index, Rows};
 pub use indexed::{IndexedState, IndexedStates, States, Verdicts};
-pub use judge::{Judge, Posix};
+pub use judge::{Judge, Linux, Posix};
 pub use path_classes::{Cells, ClassFiles, FileClasses, same_row};
 
 // The public calls take and return these values of the crates below.
