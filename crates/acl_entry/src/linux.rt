@@ -5,12 +5,14 @@
 ghost use Rattle.std.specs.Prelude.{◌≡◌};
 ghost use Rattle.acl_entry.specs.Linux.{check_mode, has_empty_mask, linux_check, linux_rights, LinuxChecksListOrMode};
 ghost use Rattle.acl_entry.specs.Check.{byte_of, has};
+ghost use Rattle.acl_entry.specs.Mentions.{AgreeOnMentions};
 ghost use Rattle.acl_entry.specs.Perms.{Perms};
+ghost use Rattle.acl_entry.specs.Person.{Person};
 
 use crate::{Acl, Key, Label, Perm, Requests, Subject, granted};
 
 impl Acl {
-    /// Whether the list has a mask that grants nothing, as `chmod 604` makes one of a list with named entries.
+    /// Tells whether the list has a mask that grants nothing, as `chmod 604` makes one of a list with named entries.
     pub fn has_empty_mask(&self) -> bool
         ensures { result ≡ has_empty_mask self.now }
     {
@@ -21,7 +23,7 @@ impl Acl {
     }
 }
 
-/// What a mode whose group digit is 0 grants.
+/// Returns what a mode grants whose group digit is 0.
 fn granted_by_mode(subject: &Subject, label: &Label) -> Requests
     ensures { result ≡ byte_of (check_mode subject.now label.now) }
 {
@@ -34,19 +36,27 @@ fn granted_by_mode(subject: &Subject, label: &Label) -> Requests
     Requests::within(label.acl.perm_or_none(&Key::Other))
 }
 
-/// The requests that Linux grants a user on a file.
-///
-/// It differs from [`granted`] only on a list whose mask grants nothing, and grants there what the list of the mode alone
-/// grants ([`linux_checks_the_list_or_the_mode`]).
-pub fn granted_by_linux(subject: &Subject, label: &Label) -> Requests
-    ensures all { result ≡ linux_rights subject.now label.now }
-    ensures each { (q : Perms) → has result q ≡ linux_check subject.now label.now q }
+/// Returns the requests that Linux grants, by the list or by the mode.
+fn all_granted(subject: &Subject, label: &Label) -> Requests
+    ensures { result ≡ linux_rights subject.now label.now }
 {
     if label.acl.has_empty_mask() {
         granted_by_mode(subject, label)
     } else {
         granted(subject, label)
     }
+}
+
+/// Returns the requests that Linux grants a user on a file.
+///
+/// It differs from [`granted`] only on a list whose mask grants nothing, and grants there what the list of the mode alone
+/// grants ([`linux_checks_the_list_or_the_mode`]).
+pub fn granted_by_linux(subject: &Subject, label: &Label) -> Requests
+    ensures all { result ≡ linux_rights subject.now label.now }
+    ensures each { (q : Perms) → has result q ≡ linux_check subject.now label.now q }
+    ensures local { (other : Person) → AgreeOnMentions subject.now other label.now → result ≡ linux_rights other label.now }
+{
+    all_granted(subject, label)
 }
 
 /// Proof only: Linux grants what acl(5)'s check grants on the file's list; or, if the list has a mask that grants nothing, on

@@ -1,6 +1,7 @@
 -- A setup has no fault but that of a text; and how a run has ended whose setup has one.
 use Rattle.std.proofs.Common.{◌≡◌, ℕ, Result, Ok, Err, inl, refl, subst, arith}
 use Rattle.acl_rights.specs.Rows.{Verdict}
+use Rattle.acl_text.specs.Results.{◌>>=◌, map_err}
 use Rattle.acl_tree.specs.State.{State, nothing}
 use Rattle.acl_tree.specs.Loads.{load}
 use Rattle.acl_tree.specs.declared.command.Table.{Table}
@@ -9,9 +10,8 @@ use Rattle.acl_tree.specs.declared.fault.TreeFault.{TreeFault}
 use Rattle.std.specs.Prelude.{◌≢◌, List, Option, Some, None, option_map, ⊤}
 use Rattle.facl_output.specs.declared.fault.RunFault.{RunFault}
 use Rattle.facl_output.specs.declared.fault.RunFault.TheVariants as runs
-use Rattle.facl_tools.specs.Replies.{after}
-use Rattle.facl.specs.Runs.{Devices, EndsBy, IsUntouched, most_at_start}
-use Rattle.facl.specs.Setups.{initial_state, set_up, with_text}
+use Rattle.facl.specs.Runs.{Devices, EndsBy, IsUntouched}
+use Rattle.facl.specs.Setups.{initial_state, with_text}
 use Rattle.facl.specs.declared.setup.Setup.{Setup}
 
 abbrev IsOfText : Result State RunFault → Type 0
@@ -19,7 +19,7 @@ IsOfText (Ok s) = ⊤
 IsOfText (Err (runs.Setup which fault)) = ⊤
 IsOfText (Err fault) = ⊥
 
-of_load : (which : Table) (r : Result State TreeFault) → IsOfText (set_up which r)
+of_load : (which : Table) (r : Result State TreeFault) → IsOfText (map_err (λ fault. runs.Setup which fault) r)
 of_load which (Ok s) = tt
 of_load which (Err fault) = tt
 
@@ -27,7 +27,7 @@ of_one : (which : Table) (text : Option (List ℕ)) (s : State) → IsOfText (wi
 of_one which None s = tt
 of_one which (Some text) s = of_load which (load s which text)
 
-of_next : (r : Result State RunFault) (next : State → Result State RunFault) → IsOfText r → ((s : State) → IsOfText (next s)) → IsOfText (after r next)
+of_next : (r : Result State RunFault) (next : State → Result State RunFault) → IsOfText r → ((s : State) → IsOfText (next s)) → IsOfText (r >>= next)
 of_next (Ok s) next of_r of_s = of_s s
 of_next (Err fault) next of_r of_s = of_r
 

@@ -2,7 +2,9 @@
 use Rattle.std.proofs.Common.{◌≡◌, ℕ, List, Option, Some, None, Result, Err, sym, subst}
 use Rattle.std.specs.Prelude.{◌≢◌, IfSome}
 use Rattle.acl_entry.specs.Check.{rights}
-use Rattle.facl.specs.Runs.{Devices, IsUntouched, RunsTo}
+use Rattle.facl.specs.Asking.{RunsAsking}
+use Rattle.facl.specs.Headline.{RunsTo}
+use Rattle.facl.specs.Runs.{Devices, IsUntouched}
 use Rattle.facl.specs.Setups.{initial_state}
 use Rattle.facl.specs.declared.setup.Setup.{Setup}
 use Rattle.facl.specs.declared.status.Status.{Status}
@@ -26,7 +28,6 @@ module _ (bytes_of : List ℕ → Bytes) (words : List (List ℕ)) (setup : Setu
 
   -- the script was answered from the state on that the setup gives
   pub ran : (start : Result _ RunFault) (status : Status) (known : Option (List ℕ)) (asked : ℕ) (old new : Streams) → initial_state setup ≡ start
-      → IfSome known (λ script. RunsTo rights start script status asked old new) → IfSome known (λ script. Ran bytes_of words script status old new)
+      → IfSome known (λ script. RunsAsking rights start script status asked old new) → IfSome known (λ script. Ran bytes_of words script status old new)
   ran start status None asked old new is runs = tt
-  ran start status (Some script) asked old new is runs =
-      record { setup = setup; texts = have_texts; asked = asked; runs = subst (λ s. RunsTo rights s script status asked old new) (sym is) runs }
+  ran start status (Some script) asked old new is asks = record { setup = setup; texts = have_texts; runs = subst (λ s. RunsTo rights s script status old new) (sym is) asks.runs }

@@ -1,6 +1,5 @@
-use Rattle.std.proofs.Common.{rules, map, string_bytes, refl}
+use Rattle.std.proofs.Common.{rules, map, string_bytes}
 use Rattle.std.proofs.lemmas.Result.{err_from_is_err_and}
-use Rattle.facl.specs.Runs.{devices}
 use Rattle.facl_cli.specs.Files.{texts_of}
 use Rattle.facl_cli.specs.Words.{names_of}
 use Rattle.facl_cli.proofs.Ran.{stopped, ran}
