@@ -322,13 +322,14 @@ def refused_growths(program: str, is_quick: bool) -> int:
 
 # Functions of the program. One that the compiler makes a part of its callers, or that has another name, is found no more.
 CALLS = [
-    "acl_edit::node::Node::same_label", "acl_entry::acl::Acl::set_mode_entries", "acl_entry::draft::Draft::finish",
-    "acl_tree::files::Files::get", "acl_names::path::Path::is_below", "acl_names::path::Path::is_within",
-    "acl_names::path::Path::new", "acl_names::path::Path::order", "acl_people::groups::Group::names_user",
+    "acl_entry::acl::Acl::same", "acl_entry::acl::Acl::set_mode_entries", "acl_entry::draft::Draft::finish",
+    "acl_names::path::Path::new", "acl_names::path_ref::PathRef::encloses", "acl_names::path_ref::PathRef::is_within",
+    "acl_names::path_ref::PathRef::order", "acl_people::groups::Group::names_user",
     "acl_people::name_table::NameTable::place_of_name", "acl_people::name_table::NameTable::place_of_word",
-    "acl_text::fields::perms_of", "acl_tree::step::Staged::give_up", "acl_tree::state::State::commit",
-    "acl_rights::judge::Posix::verdict", "acl_rights::indexed::IndexedStates::begin_again",
-    "facl_tools::text_words::is_text_word", "path_map::map::PathMap::from",
+    "acl_rights::indexed::IndexedStates::begin_again", "acl_rights::judge::PosixJudge::verdict",
+    "acl_text::fields::perms_of", "acl_tree::files::FilesFinder::get", "acl_tree::step::Staged::give_up",
+    "facl_tools::text_words::is_text_word", "path_map::map::EntriesIterator::next", "path_map::map::PathMap::from",
+    "path_map::map::PathMap::get", "path_map::map::PathMap::nearest_above",
 ]
 ANSWER, COMMIT = "facl::session::FaclSession::", "acl_tree::step::Staged::into_parts"
 A_POINTER = "a pointer"
