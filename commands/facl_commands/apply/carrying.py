@@ -275,7 +275,7 @@ def fault_of(step: Callable[[Opener, bytes], None], opener: Opener, path: bytes)
 def fixed_now(opener: Opener, path: bytes) -> Optional[bytes]:
     """By which attribute nobody can change a file, where it has one."""
     try:
-        return live.fixed(opener.look(path).attributes)
+        return live.fixed(opener.look(path))
     except (NotFound, OSError):
         return None
 

@@ -8,7 +8,7 @@ from typing import Dict, Iterable, List, NamedTuple, Optional, Tuple
 
 from ..base import linux, live
 from ..base.acl_bytes import Record, is_minimal, owner_permissions
-from ..base.linux import Identity
+from ..base.linux import Identity, Mount
 from ..base.live import NotFound, Opener, OpenFile, Seen
 from ..base.names import is_below
 from ..planned import differences, plan_files, plan_folder
@@ -178,12 +178,12 @@ def loses_group_flag(start: Record, end: Record) -> bool:
 
 
 class Obstacles:
-    """Looks for what is known before, with each file system looked at once."""
+    """Looks for what is known before, with each mount looked at once."""
 
     def __init__(self, way: Direction, drops_capabilities: bool) -> None:
         self.way = way
         self.drops_capabilities = drops_capabilities
-        self.read_only: Dict[int, bool] = {}
+        self.read_only: Dict[Mount, bool] = {}
         self.has_lists: Dict[int, bool] = {}
         self.overlays: Dict[int, int] = {}  # As system.overlay_of says.
 
@@ -210,12 +210,12 @@ class Obstacles:
             file.close()
 
     def of_file(self, file: OpenFile, path: bytes, seen: Seen) -> Optional[bytes]:
-        device, end = seen.device, self.way.end(path)
-        if device not in self.read_only:
-            self.read_only[device] = bool(os.fstatvfs(file.descriptor).f_flag & os.ST_RDONLY)
+        device, (_, mount), end = seen.device, seen.beside, self.way.end(path)
+        if mount not in self.read_only:
+            self.read_only[mount] = bool(os.fstatvfs(file.descriptor).f_flag & os.ST_RDONLY)
             self.has_lists[device] = file.takes_lists()
             self.overlays[device] = linux.overlay_of(file.descriptor, device)
-        if self.read_only[device]:
+        if self.read_only[mount]:
             return b"is on a file system that is mounted read-only"
         has_names = seen.names > 1 and not seen.is_directory
         if self.overlays[device] == linux.OF_SEVERAL or has_names and self.overlays[device] == linux.OF_ONE:
@@ -233,8 +233,8 @@ class Obstacles:
     def has_more(self, seen: Seen, end: Record) -> bool:
         """Whether a file itself has to be opened: its file system is not known yet, or has an obstacle or is an
         overlay, or its owner changes."""
-        device = seen.device
-        is_free = device in self.read_only and self.has_lists[device] and not self.read_only[device]
+        device, (_, mount) = seen.device, seen.beside
+        is_free = mount in self.read_only and self.has_lists[device] and not self.read_only[mount]
         return (not is_free or self.overlays[device] != linux.NO_OVERLAY
                 or seen.owner != end.owner or seen.group != end.group)
 
@@ -246,7 +246,7 @@ class Obstacles:
             for path, seen in look.files.items():
                 fault = None if is_root else self.of_right(path, seen)
                 if not self.way.is_undo:  # Which takes back the other files.
-                    fault = fault or live.fixed(seen.attributes)
+                    fault = fault or live.fixed(seen)
                 if fault is None and self.has_more(seen, self.way.end(path)):
                     fault = self.of_system(opener, path, seen)
                 if fault is not None:

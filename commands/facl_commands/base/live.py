@@ -12,7 +12,7 @@ from typing import Dict, List, NamedTuple, Optional
 
 from . import acl_bytes, linux
 from .acl_bytes import Record
-from .linux import Identity, Status
+from .linux import Beside, Identity, Status
 from .messages import Failure, reason
 
 OPEN_LIMIT = 200  # Directories of one path that are open at once.
@@ -31,8 +31,8 @@ class NotFound(Exception):
 
 
 class Seen(NamedTuple):
-    """A file as it is: which file, its mode, how many names it has, its owner and group, its lists, and the attributes by which
-    nobody can change it."""
+    """A file as it is: which file, its mode, how many names it has, its owner and group, its lists, and what counts beside
+    these."""
 
     device: int
     inode: int
@@ -43,7 +43,7 @@ class Seen(NamedTuple):
     group: int
     access: bytes
     default: bytes
-    attributes: int = linux.UNKNOWN
+    beside: Beside
 
     @property
     def identity(self) -> Identity:
@@ -80,7 +80,7 @@ def attribute(name: bytes, attribute_name: bytes, follow: bool = True) -> Option
         return None
 
 
-def seen_of(status: Status, name: bytes, follow: bool = True, attributes: int = linux.UNKNOWN) -> Seen:
+def seen_of(status: Status, name: bytes, follow: bool = True, beside: Beside = (linux.UNKNOWN, (0, 0))) -> Seen:
     """A file as it is, of its status and of a name for its lists; NotFound where it is a link."""
     mode, owner, group, names, device, inode, birth = status
     if stat.S_ISLNK(mode):
@@ -89,14 +89,14 @@ def seen_of(status: Status, name: bytes, follow: bool = True, attributes: int = 
     default = attribute(name, acl_bytes.DEFAULT, follow) if stat.S_ISDIR(mode) else None
     return Seen(device, inode, birth, mode, names, owner, group, MINIMAL[mode & 0o777] if access is None
                 else LISTS[access],
-                b"" if default is None else LISTS[default], attributes)
+                b"" if default is None else LISTS[default], beside)
 
 
-def fixed(attributes: int) -> Optional[bytes]:
-    """Why nobody can change the owner, mode and lists of a file with these attributes; None where they allow it."""
-    if attributes & linux.IMMUTABLE:
+def fixed(seen: Seen) -> Optional[bytes]:
+    """By which attribute nobody can change the owner, mode and lists of a file; None where it has none."""
+    if seen.beside[0] & linux.IMMUTABLE:
         return b"is immutable, so nobody can change it: chattr -i it before"
-    if attributes & linux.APPEND_ONLY:
+    if seen.beside[0] & linux.APPEND_ONLY:
         return b"is append-only, so nobody can change its owner, mode and lists: chattr -a it before"
     return None
 
@@ -112,8 +112,8 @@ class OpenFile:
         os.close(self.descriptor)
 
     def look(self) -> Seen:
-        status, (attributes, _) = linux.look_at(self.descriptor)
-        return seen_of(status, self.name, attributes=attributes)
+        status, beside = linux.look_at(self.descriptor)
+        return seen_of(status, self.name, beside=beside)
 
     def record(self) -> Record:
         status = os.fstat(self.descriptor)
@@ -222,8 +222,8 @@ class Opener:
         above, _, name = path.rpartition(b"/")
         try:
             folder = self.folder(above)
-            status, (attributes, _) = linux.look_at(folder, name)
-            return seen_of(status, b"/proc/self/fd/%d/%s" % (folder, name), not name, attributes)
+            status, beside = linux.look_at(folder, name)
+            return seen_of(status, b"/proc/self/fd/%d/%s" % (folder, name), not name, beside)
         except OSError as error:
             raise not_found(error) from error
 
