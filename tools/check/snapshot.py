@@ -363,7 +363,7 @@ class Snapshots(Check):
             for name in ("plain", "sealed"):
                 os.setxattr(self.name("marks/" + name), b"security.NTACL", b"\4")
             self.shell("""cd marks; rmdir lost+found; mkfifo ro/fifo; mknod ro/device c 1 3; chmod 0 both
-                chattr +i sealed both "$(printf 'l\nf')"; chattr +a log both""")
+                chattr +a log both; chattr +i "$(printf 'l\nf')" sealed both""")
             for below, how in (("ro", b"ro"), ("ro/rw", b"rw"), ("no", b"noexec")):
                 place = self.name("marks/" + below)
                 mounts.enter_context(mounted(place, b"--bind", place))
