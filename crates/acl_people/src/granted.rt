@@ -3,7 +3,7 @@
 //! First all are others. Then the users of the groups that the label mentions, then those whom it names, and then
 //! the owner have what the case of the check that is theirs grants.
 
-ghost use Rattle.std.specs.Prelude.{◌≡◌, map, length};
+ghost use Rattle.std.specs.Prelude.{◌≡◌, if◌then◌else◌, map, length};
 ghost use Rattle.std.specs.Int.RustNames.{bit_or};
 ghost use Rattle.acl_entry.specs.Check.{byte_of, group_of, rights};
 ghost use Rattle.acl_entry.specs.Linux.{check_mode, linux_rights};
