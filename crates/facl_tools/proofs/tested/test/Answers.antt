@@ -1,4 +1,4 @@
 use Rattle.facl_tools.proofs.tested.test.Goals as goal
 
-pub listed-requires : goal.listed-requires
-listed-requires c = c.requires c.in_ok-staged.staged.state c.in_ok-staged.ensures.prepares.made
+pub listed-listed-requires : goal.listed-listed-requires
+listed-listed-requires c = c.requires c.in_ok-staged.staged.state c.in_ok-staged.ensures.prepares.made

@@ -9,8 +9,8 @@ use Rattle.acl_tree.specs.declared.command.Command.TheVariants.{Restore}
 use Rattle.facl_tools.proofs.StillThere.{restored_are_there}
 use Rattle.facl_tools.proofs.tested.test_restore.Goals as goal
 
-pub test-requires : goal.test-requires
-test-requires c =
+pub test-outcome-requires : goal.test-outcome-requires
+test-outcome-requires c =
     let s = c.args.state.now in
     let records = c.args.records in
     let order = subst (λ t. IsInOrder t.files) c.tree.ensures c.soundness_law.ensures.order in
