@@ -22,16 +22,18 @@ says_behind : (x y : List ℕ) → SaysNoMemory y → SaysNoMemory (x ++ y)
 says_behind x y s =
     record { before = x ++ s.before; after = s.after; is = ap (λ l. x ++ l) s.is ∙ sym (append_assoc x s.before (codes ": facl: no memory" ++ 10 ∷ s.after)) }
 
+grouped_from_behind : (l n c f d t e : List ℕ) → ((((((l ++ n) ++ c) ++ f) ++ d) ++ t) ++ e) ≡ (l ++ n) ++ (c ++ (f ++ (d ++ (t ++ e))))
+grouped_from_behind l n c f d t e =
+    append_assoc ((((l ++ n) ++ c) ++ f) ++ d) t e ∙ append_assoc (((l ++ n) ++ c) ++ f) d (t ++ e)
+    ∙ append_assoc ((l ++ n) ++ c) f (d ++ (t ++ e)) ∙ append_assoc (l ++ n) c (f ++ (d ++ (t ++ e)))
+
 message_says : (number : ℕ) → SaysNoMemory (message number [] NoMemory)
 unfolding message
 message_says number =
-    let reported = codes "facl" ++ codes ": " in
-    let text = codes "no memory" ++ 10 ∷ [] in
     record {
       before = codes "line " ++ decimal number;
       after = [];
-      is = ap (λ l. codes "line " ++ l)
-          (ap (λ l. l ++ text) (append_assoc (decimal number) (codes ": ") reported) ∙ append_assoc (decimal number) (codes ": " ++ reported) text);
+      is = grouped_from_behind (codes "line ") (decimal number) (codes ": ") (codes "facl") (codes ": ") (codes "no memory") (10 ∷ []);
     }
 
 module _ (verdict : Verdict) (m : ℕ → Bool) where
@@ -59,7 +61,7 @@ answer_or a (Ok b) = b
 answer_or a (Err fault) = a
 
 pub no_memory_is_said : NoMemoryIsSaid
-no_memory_is_said verdict (Err fault) script m session is none = absurd (err_is_not_ok fault session is)
+no_memory_is_said verdict (Err fault) script m session is none = absurd (err_is_not_ok session fault is)
 no_memory_is_said verdict (Ok start) script m session is none =
     let us = units_of line_asks script in
     let w = from_start start in
