@@ -20,7 +20,7 @@ returns-clause-ok g c =
     known c.in_ok-is_refused.is_refused c.of.result _ _ old new
     refl c.in_ok-session.ensures.state c.in_ok-session.ensures.asked c.of.ensures c.in_ok-is_refused.ensures.answers in
     subst (λ (n : ℕ). IfSome known (λ script. RunsAsking V (Ok c.args.state) script c.of.result n old new))
-    (ap g.J.Judge.asked_of (sym c.drop-judged.ensures ∙ search rules)) runs
+    (ap g.J.Judge.asked_of (sym c.drop-judged-2.ensures ∙ search rules)) runs
 
 pub returns-in_err-is_refused-clause-fault : goal.returns-in_err-is_refused-clause-fault
 returns-in_err-is_refused-clause-fault g c =
