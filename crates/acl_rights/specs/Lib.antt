@@ -2,6 +2,7 @@ pub mod Tables
 pub mod Stages
 pub mod Reach
 pub mod Costs
+pub mod Deciders
 pub mod States
 pub mod Verdicts
 pub mod Kept

@@ -4,9 +4,11 @@ ghost use Rattle.std.specs.Prelude.{◌≡◌, ◌+◌, ◌*◌, ◌<◌, ◌^�
 ghost use Rattle.acl_entry.proofs.Local.{linux_rights_local, rights_local};
 ghost use Rattle.acl_entry.specs.Check.{rights};
 ghost use Rattle.acl_entry.specs.Linux.{linux_rights};
+ghost use Rattle.acl_rights.specs.Deciders.{Decider, linux_sole_key, sole_key};
 ghost use Rattle.acl_rights.specs.Rows.{Verdict, row_of, IsLocal};
 
-use acl_entry::{Label, Requests, Subject, granted, granted_by_linux};
+use crate::deciding::{linux_sole_key, sole_key};
+use acl_entry::{Key, Label, Requests, Subject, granted, granted_by_linux};
 use acl_people::{Subjects, granted_to_all, granted_to_all_by_linux};
 
 /// Decides what a user may do with a file, by one definition for all values of the type, and counts its
@@ -14,6 +16,9 @@ use acl_people::{Subjects, granted_to_all, granted_to_all_by_linux};
 pub trait Judge {
     /// The verdict on a user and a label.
     ghost verdict_of: { Verdict };
+
+    /// The key of the entry that alone decides on a user and a label, if there is one.
+    ghost decider_of: { Decider };
 
     /// How many verdicts were decided.
     ghost asked_of: { Self → ℕ };
@@ -43,6 +48,10 @@ pub trait Judge {
         }
     }
 
+    /// Returns the key whose entry alone decides on a user and a label; `None` if the entries of the user's groups do.
+    fn sole_key(subject: &Subject, label: &Label) -> Option<Key>
+        ensures { result ≡ decider_of subject.now label.now };
+
     /// Returns how many verdicts were decided.
     fn asked(&self) -> u64
         ensures { result ≡ asked_of self.now };
@@ -70,6 +79,8 @@ impl Posix {
 impl Judge for Posix {
     ghost verdict_of = { rights };
 
+    ghost decider_of = { sole_key };
+
     ghost asked_of = { λ judge. judge.asked };
 
     fn verdict(&mut self, subject: &Subject, label: &Label) -> Requests {
@@ -80,6 +91,10 @@ impl Judge for Posix {
     fn verdicts(&mut self, users: &Subjects, label: &Label, files: u64, row: &mut [Requests]) {
         self.asked += files * users.len() as u64;
         granted_to_all(users, label, row);
+    }
+
+    fn sole_key(subject: &Subject, label: &Label) -> Option<Key> {
+        sole_key(subject, label)
     }
 
     fn asked(&self) -> u64 {
@@ -107,6 +122,8 @@ impl Linux {
 impl Judge for Linux {
     ghost verdict_of = { linux_rights };
 
+    ghost decider_of = { linux_sole_key };
+
     ghost asked_of = { λ judge. judge.asked };
 
     fn verdict(&mut self, subject: &Subject, label: &Label) -> Requests {
@@ -117,6 +134,10 @@ impl Judge for Linux {
     fn verdicts(&mut self, users: &Subjects, label: &Label, files: u64, row: &mut [Requests]) {
         self.asked += files * users.len() as u64;
         granted_to_all_by_linux(users, label, row);
+    }
+
+    fn sole_key(subject: &Subject, label: &Label) -> Option<Key> {
+        linux_sole_key(subject, label)
     }
 
     fn asked(&self) -> u64 {

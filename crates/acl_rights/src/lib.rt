@@ -36,6 +36,7 @@
 
 mod changed_part;
 mod changed_rows;
+mod deciding;
 mod hash;
 mod hints;
 mod index;

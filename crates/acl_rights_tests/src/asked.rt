@@ -78,12 +78,19 @@ fn may(alloc: Global, verdicts: &Verdicts<'_, Posix>, user: &[u8], request: u8) 
     write_may(alloc, verdicts, user, request).ok()?
 }
 
-fn why(alloc: Global, state: &State, user: &[u8], text: &[u8], along: bool) -> Option<Vec<u8>> {
+fn why(
+    alloc: Global,
+    indexed: &IndexedState<Posix>,
+    user: &[u8],
+    text: &[u8],
+    along: bool,
+) -> Option<Vec<u8>> {
+    let state = indexed.state();
     let user = state.people().find_user(user)?;
     let subject = state.people().subject_at(user)?;
     let paths = paths(alloc, text)?;
     let files = files_asked(alloc, state.tree(), paths, along).ok()?;
-    write_why(alloc, state.people(), subject, &files).ok()
+    write_why(alloc, indexed, subject, &files).ok()
 }
 
 fn below(
@@ -107,7 +114,7 @@ fn answer(alloc: Global, worlds: &Worlds, question: &Question, along: bool) -> O
         Question::Can(user, text) => can(alloc, &verdicts, user, text),
         Question::Who(request, text) => who(alloc, &verdicts, *request, text),
         Question::May(user, request) => may(alloc, &verdicts, user, *request),
-        Question::Why(user, text) => why(alloc, indexed.state(), user, text, along),
+        Question::Why(user, text) => why(alloc, indexed, user, text, along),
         Question::Below(request, text) => below(alloc, &verdicts, *request, text),
         Question::Changes => write_changes(alloc, loaded, &verdicts).ok(),
         Question::Gains => write_gains(alloc, loaded, &verdicts).ok(),

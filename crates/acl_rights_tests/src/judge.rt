@@ -1,9 +1,9 @@
 //! A judge of the user's own.
 
-ghost use Rattle.std.specs.Prelude.{◌≡◌};
+ghost use Rattle.std.specs.Prelude.{◌≡◌, Some};
 ghost use Rattle.acl_rights_tests.specs.Verdicts.{owner_alone, owner_alone_local};
 
-use acl_entry::{Label, Requests, Subject};
+use acl_entry::{Key, Label, Requests, Subject};
 use acl_rights::Judge;
 
 /// Grants the owner all requests, and nobody else any.
@@ -24,6 +24,8 @@ impl OwnerAlone {
 impl Judge for OwnerAlone {
     ghost verdict_of = { owner_alone };
 
+    ghost decider_of = { λ _ _. Some Key.Owner };
+
     ghost asked_of = { λ judge. judge.asked };
 
     fn verdict(&mut self, subject: &Subject, label: &Label) -> Requests {
@@ -33,6 +35,10 @@ impl Judge for OwnerAlone {
         } else {
             Requests(0)
         }
+    }
+
+    fn sole_key(_subject: &Subject, _label: &Label) -> Option<Key> {
+        Some(Key::Owner)
     }
 
     fn asked(&self) -> u64 {

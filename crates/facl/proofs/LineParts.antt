@@ -19,7 +19,7 @@ use Rattle.facl.specs.ToolParts.{Part, in_first_text, in_second_text, in_third_t
 use Rattle.facl.specs.FirstPart.{IsNotAfter, IsFirst, IsRefusedForFirst}
 use Rattle.facl_tools.specs.Replies.{Reply}
 use Rattle.facl.specs.ToolLines as tools
-use Rattle.acl_rights.specs.Rows.{Verdict}
+use Rattle.acl_rights.specs.Deciders.{Judging}
 use Rattle.facl.specs.Tools.{tool_named, tool_line}
 use Rattle.facl.specs.declared.tools.Tool.{Tool}
 use Rattle.facl.specs.declared.tools.ToolLine.{ToolLine}
@@ -114,7 +114,7 @@ abbrev is_unended : UnitText → Bool
 is_unended unended = true
 is_unended text = false
 
-module _ (verdict : Verdict) (w : States) (u : ScriptUnit) where
+module _ (judge : Judging) (w : States) (u : ScriptUnit) where
   abbrev W : LinePart → LineFault → Type 0
   W = IsAtFault w.now u
 
@@ -165,8 +165,8 @@ module _ (verdict : Verdict) (w : States) (u : ScriptUnit) where
 
   module _ (tool : Tool) (words : List Text) (line : ToolLine) (text : List ℕ) (names : IsOfTool u tool words)
       (asks : line_read tool words ≡ Some line) (is_text : text_of u.text ≡ Ok text) (clear : From 7) where
-    abbrev law : IsRefusedForFirst requests.rank requests.place (requests.IsAtFault w.now line text) (tools.answered verdict w.loaded w.now line text)
-    law = first_fault_refuses verdict w.loaded w.now line text
+    abbrev law : IsRefusedForFirst requests.rank requests.place (requests.IsAtFault w.now line text) (tools.answered judge w.loaded w.now line text)
+    law = first_fault_refuses judge w.loaded w.now line text
 
     -- the request at fault is this one
     moved : (part : Part) (g : LineFault) → IsRequestAtFault w.now u part g → requests.IsAtFault w.now line text part g
@@ -186,8 +186,8 @@ module _ (verdict : Verdict) (w : States) (u : ScriptUnit) where
         by (Ok other) is h = true≢false (sym h)
         by (Err f) is h = ok_is_not_err reply f (sym is)
 
-    none_at_fault : (reply : Reply) → tools.answered verdict w.loaded w.now line text ≡ Ok reply → (q : LinePart) (g : LineFault) → IsAtFault w.now u q g → ⊥
-    none_at_fault reply is (in_request part) g h = ok_is_no_err (tools.answered verdict w.loaded w.now line text) reply is (law.refused part g (moved part g h))
+    none_at_fault : (reply : Reply) → tools.answered judge w.loaded w.now line text ≡ Ok reply → (q : LinePart) (g : LineFault) → IsAtFault w.now u q g → ⊥
+    none_at_fault reply is (in_request part) g h = ok_is_no_err (tools.answered judge w.loaded w.now line text) reply is (law.refused part g (moved part g h))
     none_at_fault reply is q g h = let k = clear q g h in omega arith
 
     not_after : (f : LineFault) (first : IsFirst requests.rank requests.place (requests.IsAtFault w.now line text) f)
@@ -200,10 +200,10 @@ module _ (verdict : Verdict) (w : States) (u : ScriptUnit) where
         }
     not_after f first q g h = let k = clear q g h in absurd (omega arith)
 
-    request_refused : Refused (tools.answered verdict w.loaded w.now line text)
-    request_refused = by (tools.answered verdict w.loaded w.now line text) refl
+    request_refused : Refused (tools.answered judge w.loaded w.now line text)
+    request_refused = by (tools.answered judge w.loaded w.now line text) refl
       where
-        by : (r : Result Reply LineFault) → tools.answered verdict w.loaded w.now line text ≡ r → Refused r
+        by : (r : Result Reply LineFault) → tools.answered judge w.loaded w.now line text ≡ r → Refused r
         by (Ok reply) is = accepted rank place named is_named W (Ok reply) reply refl (none_at_fault reply is)
         by (Err f) is =
             let reported = law.reported f in
@@ -211,7 +211,7 @@ module _ (verdict : Verdict) (w : States) (u : ScriptUnit) where
             refused_at rank place named is_named W (Err f) (in_request first.part) f refl (here first.part f first.at_fault)
             (λ g h.
             let also = law.reported g in
-            err_eq (tools.answered verdict w.loaded w.now line text) f g is (also.1 (record { part = first.part; at_fault = moved first.part g h; first = first.first })))
+            err_eq (tools.answered judge w.loaded w.now line text) f g is (also.1 (record { part = first.part; at_fault = moved first.part g h; first = first.first })))
             (not_after f first)
 
   -- ---- the words after a tool's name
@@ -223,10 +223,10 @@ module _ (verdict : Verdict) (w : States) (u : ScriptUnit) where
         no_value_of_two line_read tool usage.tool words usage.words line
         (tool_one u tool usage.tool words usage.words names usage.names) (same_words u tool usage.tool words usage.words names usage.names) asks usage.no_line
 
-    words_refused : Refused (tool_line verdict w.loaded w.now tool words text)
-    words_refused = subst Refused (tool_line_is verdict w.loaded w.now tool words text) (by (line_read tool words) refl)
+    words_refused : Refused (tool_line judge w.loaded w.now tool words text)
+    words_refused = subst Refused (tool_line_is judge w.loaded w.now tool words text) (by (line_read tool words) refl)
       where
-        by : (o : Option ToolLine) → line_read tool words ≡ o → Refused (ok_or o faults.Usage >>= λ line. tools.answered verdict w.loaded w.now line text)
+        by : (o : Option ToolLine) → line_read tool words ≡ o → Refused (ok_or o faults.Usage >>= λ line. tools.answered judge w.loaded w.now line text)
         by None no_line =
             refused_in (Err faults.Usage) in_words faults.Usage refl refl (refl, record { tool = tool; words = words; names = names; no_line = no_line }) (λ g h. h.0) clear
         by (Some line) asks = request_refused tool words line text names asks is_text (from_7 clear (has_line line asks))
@@ -240,16 +240,16 @@ module _ (verdict : Verdict) (w : States) (u : ScriptUnit) where
     not_too_long : (text : List ℕ) → text_of u.text ≡ Ok text → Never in_text_lines
     not_too_long text is g h = ok_or_err (text_of u.text) text faults.TextLineTooLong is (ap text_of h.1)
 
-    with_text : (text : List ℕ) → text_of u.text ≡ Ok text → Refused (tool_line verdict w.loaded w.now tool words text)
+    with_text : (text : List ℕ) → text_of u.text ≡ Ok text → Refused (tool_line judge w.loaded w.now tool words text)
     with_text text is = words_refused tool words text names is (from_6 (from_5 clear (not_unended text is)) (not_too_long text is))
 
     unended_or_long : u.text ≡ too_long → Never in_text_end
     unended_or_long long g h = true≢false (ap is_unended (sym h.1 ∙ long))
 
-    text_refused : Refused (tool_reply verdict w u.text words tool)
+    text_refused : Refused (tool_reply judge w u.text words tool)
     text_refused = by u.text refl
       where
-        by : (t : UnitText) → u.text ≡ t → Refused (text_of t >>= λ content. tool_line verdict w.loaded w.now tool words content)
+        by : (t : UnitText) → u.text ≡ t → Refused (text_of t >>= λ content. tool_line judge w.loaded w.now tool words content)
         by none is = with_text [] (ap text_of is)
         by (whole text) is = with_text text (ap text_of is)
         by unended is = refused_in (Err faults.UnendedText) in_text_end faults.UnendedText refl refl (refl, is) (λ g h. h.0) clear
@@ -277,10 +277,10 @@ module _ (verdict : Verdict) (w : States) (u : ScriptUnit) where
           let other = h.1 in
           no_value tool_named name other.name tool (names_one u name other.name words other.words (record { line = line; is_line = is_line; split = is_split }) other.has) is other.unknown
 
-      tool_refused : Refused (reply verdict w u.text (name ∷ words))
+      tool_refused : Refused (reply judge w u.text (name ∷ words))
       tool_refused = by (tool_named name) refl
         where
-          by : (t : Option Tool) → tool_named name ≡ t → Refused (ok_or t faults.UnknownTool >>= tool_reply verdict w u.text words)
+          by : (t : Option Tool) → tool_named name ≡ t → Refused (ok_or t faults.UnknownTool >>= tool_reply judge w u.text words)
           by None unknown =
               refused_in (Err faults.UnknownTool) in_tool faults.UnknownTool refl refl
               (refl, record { name = name; words = words; has = record { line = line; is_line = is_line; split = is_split }; unknown = unknown }) (λ g h. h.0) clear
@@ -289,7 +289,7 @@ module _ (verdict : Verdict) (w : States) (u : ScriptUnit) where
               (from_4 clear (known tool is))
 
     split_refused : has_no_words line ≡ false → (o : Option (List Text)) → words_of line ≡ o → is_utf8 line ≡ true
-        → Refused (map_err line_fault_of_split (ok_or o splits.OpenQuote) >>= reply verdict w u.text)
+        → Refused (map_err line_fault_of_split (ok_or o splits.OpenQuote) >>= reply judge w u.text)
     split_refused some None open_quote good =
         refused_in (Err faults.OpenQuote) in_quotes faults.OpenQuote refl refl (refl, record { line = line; is_line = is_line; open_quote = open_quote }) (λ g h. h.0)
         (from_2 (from_1 not_long) (good_bytes good))
@@ -298,26 +298,26 @@ module _ (verdict : Verdict) (w : States) (u : ScriptUnit) where
         tool_refused name words is (from_3 (from_2 (from_1 not_long) (good_bytes good)) (no_open_quote (name ∷ words) is))
 
     line_refused : has_no_words line ≡ false → (blank good : Bool) → has_no_words line ≡ blank → is_utf8 line ≡ good
-        → Refused (map_err line_fault_of_split (if blank then Ok [] else (if good then ok_or (words_of line) splits.OpenQuote else Err splits.NotUtf8)) >>= reply verdict w u.text)
+        → Refused (map_err line_fault_of_split (if blank then Ok [] else (if good then ok_or (words_of line) splits.OpenQuote else Err splits.NotUtf8)) >>= reply judge w u.text)
     line_refused some true good is utf8 = absurd (true≢false (sym is ∙ some))
     line_refused some false true is good = split_refused some (words_of line) refl good
     line_refused some false false is bad =
         refused_in (Err faults.NotUtf8) in_bytes faults.NotUtf8 refl refl (refl, record { line = line; is_line = is_line; bad = bad }) (λ g h. h.0) (from_1 not_long)
 
-  unit_refused : is_silent u.line ≡ false → Refused (outcome verdict w u)
+  unit_refused : is_silent u.line ≡ false → Refused (outcome judge w u)
   unit_refused some = by u.line refl
     where
-      by : (o : Option (List ℕ)) → u.line ≡ o → Refused (words_of_line o >>= reply verdict w u.text)
+      by : (o : Option (List ℕ)) → u.line ≡ o → Refused (words_of_line o >>= reply judge w u.text)
       by None is =
           refused_in (Err faults.LineTooLong) in_length faults.LineTooLong refl refl (refl, is) (λ g h. h.0) (λ q g h. at_zero 0 (rank q) refl)
       by (Some line) is = line_refused line is (sym (ap is_silent is) ∙ some) (has_no_words line) (is_utf8 line) refl refl
 
-  unit_answered : is_silent u.line ≡ false → answered verdict false u w ≡ answer_of u.number (name_in (words_of_line u.line)) w (outcome verdict w u)
-  unit_answered some = not_silent verdict u false w some ∙ by (words_of_line u.line)
+  unit_answered : is_silent u.line ≡ false → answered judge false u w ≡ answer_of u.number (name_in (words_of_line u.line)) w (outcome judge w u)
+  unit_answered some = not_silent judge u false w some ∙ by (words_of_line u.line)
     where
-      by : (r : Result (List Text) LineFault) → answer_of_words verdict u w r ≡ answer_of u.number (name_in r) w (r >>= reply verdict w u.text)
+      by : (r : Result (List Text) LineFault) → answer_of_words judge u w r ≡ answer_of u.number (name_in r) w (r >>= reply judge w u.text)
       by (Ok words) = refl
       by (Err fault) = refl
 
-  pub answered_by_first : is_silent u.line ≡ false → IsAnsweredByFirst verdict w u
+  pub answered_by_first : is_silent u.line ≡ false → IsAnsweredByFirst judge w u
   answered_by_first some = record { answer = unit_answered some; first = unit_refused some }

@@ -1,6 +1,6 @@
 -- Lines that are refused, and units that are not silent.
 use Rattle.std.proofs.Common.{◌≡◌, ◌≢◌, ◌+◌, ◌≤◌, ℕ, List, Bool, true, false, [], Err, ap, sym, subst, refl, arith, true≢false}
-use Rattle.acl_rights.specs.Rows.{Verdict}
+use Rattle.acl_rights.specs.Deciders.{Judging}
 use Rattle.acl_rights.specs.declared.indexed.States.{States}
 use Rattle.facl_script.specs.Play.{Answer}
 use Rattle.facl_script.specs.Run.{IsAnswer}
@@ -34,15 +34,15 @@ refused_as false number tool fault w new a asked out err memory is h =
     subst (λ b. IsAnswer b new asked asked out err true) (sym (is (λ e. true≢false (sym (memory e))))) h
 
 -- a line without words is refused as one
-pub refused_line : (V : Verdict) (u : ScriptUnit) (ran_out : Bool) (number : ℕ) (fault : LineFault) (w new : States) (asked : ℕ) (out err : List ℕ)
+pub refused_line : (J : Judging) (u : ScriptUnit) (ran_out : Bool) (number : ℕ) (fault : LineFault) (w new : States) (asked : ℕ) (out err : List ℕ)
     → u.number ≡ number → (fault ≡ NoMemory → ran_out ≡ true) → (fault ≢ NoMemory → words_of_line u.line ≡ Err fault)
     → IsAnswer (unless_out_of_memory ran_out number w (refused number [] fault w)) new asked asked out err true
-    → IsAnswer (answered_line V ran_out u w) new asked asked out err true
-refused_line V u ran_out number fault w new asked out err same memory is h =
-    refused_as ran_out u.number [] fault w new (answer_of_words V u w (words_of_line u.line)) asked out err memory (λ other. ap (answer_of_words V u w) (is other))
+    → IsAnswer (answered_line J ran_out u w) new asked asked out err true
+refused_line J u ran_out number fault w new asked out err same memory is h =
+    refused_as ran_out u.number [] fault w new (answer_of_words J u w (words_of_line u.line)) asked out err memory (λ other. ap (answer_of_words J u w) (is other))
     (subst (λ n. IsAnswer (unless_out_of_memory ran_out n w (refused n [] fault w)) new asked asked out err true) (sym same) h)
 
 -- a unit whose line is neither blank nor a comment
-pub not_silent : (V : Verdict) (u : ScriptUnit) (ran_out : Bool) (s : States) → is_silent u.line ≡ false
-    → answered V ran_out u s ≡ answered_line V ran_out u s
-not_silent V u ran_out s e = rw e refl
+pub not_silent : (J : Judging) (u : ScriptUnit) (ran_out : Bool) (s : States) → is_silent u.line ≡ false
+    → answered J ran_out u s ≡ answered_line J ran_out u s
+not_silent J u ran_out s e = rw e refl

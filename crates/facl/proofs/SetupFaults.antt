@@ -1,6 +1,6 @@
 -- A setup has no fault but that of a text; and how a run has ended whose setup has one.
 use Rattle.std.proofs.Common.{◌≡◌, ℕ, Result, Ok, Err, inl, refl, subst, arith}
-use Rattle.acl_rights.specs.Rows.{Verdict}
+use Rattle.acl_rights.specs.Deciders.{Judging}
 use Rattle.acl_text.specs.Results.{◌>>=◌, map_err}
 use Rattle.acl_tree.specs.State.{State, nothing}
 use Rattle.acl_tree.specs.Loads.{load}
@@ -37,9 +37,9 @@ of_text setup =
     (λ s. of_next (with_text Group (option_map (λ t. t.now) setup.group) s) _ (of_one Group (option_map (λ t. t.now) setup.group) s)
     (λ t. of_one Dump (option_map (λ t. t.now) setup.dump) t))
 
-module _ (verdict : Verdict) (setup : Setup) (old new : Devices) where
+module _ (judge : Judging) (setup : Setup) (old new : Devices) where
   -- nothing is asked for, read or written where the setup has a fault, or memory ran out for it
-  pub ends_by_setup : (fault : RunFault) → (fault ≢ runs.NoMemory → initial_state setup ≡ Err fault) → IsUntouched old new → EndsBy fault verdict (initial_state setup) 0 old new
+  pub ends_by_setup : (fault : RunFault) → (fault ≢ runs.NoMemory → initial_state setup ≡ Err fault) → IsUntouched old new → EndsBy fault judge (initial_state setup) 0 old new
   ends_by_setup (runs.Setup which fault) is untouched = (is (λ e. cc), refl, untouched)
   ends_by_setup runs.NoMemory is untouched = inl (record { untouched = untouched; asks = omega arith })
   ends_by_setup runs.Read is untouched = absurd (subst IsOfText (is (λ e. cc)) (of_text setup))

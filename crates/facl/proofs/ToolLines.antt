@@ -26,7 +26,7 @@ use Rattle.facl_tools.specs.Useradd as useradd
 use Rattle.facl_tools.specs.Usermod as usermod
 use Rattle.facl.specs.Who as who
 use Rattle.facl.specs.Why as why
-use Rattle.acl_rights.specs.Rows.{Verdict}
+use Rattle.acl_rights.specs.Deciders.{Judging}
 use Rattle.facl.specs.Tools.{syntax_of, words_of, words_answered, tool_line}
 use Rattle.facl.specs.ToolLines.{read_line, line_of, answered, line_answered}
 use Rattle.facl.specs.declared.tools.Tool.{Tool}
@@ -41,12 +41,12 @@ read_first : {L : Type 0} (line : Option L) (as_line : L → ToolLine) (next : T
 read_first None as_line next = refl
 read_first (Some l) as_line next = refl
 
-module _ (verdict : Verdict) (loaded s : State) (w : Words) (text : List ℕ) where
+module _ (judge : Judging) (loaded s : State) (w : Words) (text : List ℕ) where
   abbrev does : ToolLine → Result Reply LineFault
-  does line = answered verdict loaded s line text
+  does line = answered judge loaded s line text
 
   -- the row of each tool has what its line does
-  pub words_answered_is : (tool : Tool) → words_answered verdict loaded s tool w text ≡ line_answered verdict loaded s tool w text
+  pub words_answered_is : (tool : Tool) → words_answered judge loaded s tool w text ≡ line_answered judge loaded s tool w text
   unfolding words_answered line_of answered
   words_answered_is tools.Load = read_first (load.read w) (λ line. lines.Load line) does
   words_answered_is tools.Getfacl = read_first (getfacl.read w) (λ line. lines.Getfacl line) does
@@ -70,12 +70,12 @@ module _ (verdict : Verdict) (loaded s : State) (w : Words) (text : List ℕ) wh
   words_answered_is tools.Useradd = read_first (useradd.read w) (λ line. lines.Useradd line) does
   words_answered_is tools.Userdel = refl
 
-pub tool_line_is : (verdict : Verdict) (loaded s : State) (tool : Tool) (words : List Text) (text : List ℕ)
-    → (ok_or (line_read tool words) Usage >>= λ line. answered verdict loaded s line text) ≡ tool_line verdict loaded s tool words text
+pub tool_line_is : (judge : Judging) (loaded s : State) (tool : Tool) (words : List Text) (text : List ℕ)
+    → (ok_or (line_read tool words) Usage >>= λ line. answered judge loaded s line text) ≡ tool_line judge loaded s tool words text
 unfolding words_of line_of
-tool_line_is verdict loaded s tool words text = by (words_by (syntax_of tool) words)
+tool_line_is judge loaded s tool words text = by (words_by (syntax_of tool) words)
   where
-    by : (o : Option Words) → (ok_or (option_and_then (read_line tool) o) Usage >>= λ line. answered verdict loaded s line text)
-        ≡ (ok_or o Usage >>= λ w. words_answered verdict loaded s tool w text)
+    by : (o : Option Words) → (ok_or (option_and_then (read_line tool) o) Usage >>= λ line. answered judge loaded s line text)
+        ≡ (ok_or o Usage >>= λ w. words_answered judge loaded s tool w text)
     by None = refl
-    by (Some w) = sym (words_answered_is verdict loaded s w text tool)
+    by (Some w) = sym (words_answered_is judge loaded s w text tool)

@@ -38,6 +38,7 @@ use Rattle.facl_tools.specs.Replies.{Reply, done, printed}
 use Rattle.facl_tools.specs.Setattr as setattr
 use Rattle.facl_tools.specs.Setfacl as setfacl_line
 use Rattle.facl_tools.specs.Setfacl.{records_of, restored_or_tested}
+use Rattle.acl_rights.specs.Deciders.{Decider, Judging}
 use Rattle.acl_rights.specs.Rows.{Verdict}
 use Rattle.facl.specs.ToolLines.{answered}
 use Rattle.facl_tools.specs.Useradd.{new_user}
@@ -115,36 +116,36 @@ can_refused verdict s line = user_and_file_refused s line.user line.file (λ pat
 may_refused : (verdict : Verdict) (s : State) (line : MayLine) → Refused (OfUser s.people line.user) (may.answered verdict s line)
 may_refused verdict s line = user_refused s.people line.user (files_shown verdict line.reach s line.request) s
 
-why_refused : (s : State) (line : WhyLine) → Refused (OfUserAndFiles s line.user line.files) (why.answered s line)
-why_refused s line = user_and_files_refused s line.user line.files (λ paths u. named_why s.people u (files_asked line.reach paths s.tree.files))
+why_refused : (D : Decider) (s : State) (line : WhyLine) → Refused (OfUserAndFiles s line.user line.files) (why.answered D s line)
+why_refused D s line = user_and_files_refused s line.user line.files (λ paths u. named_why D s.people u (files_asked line.reach paths s.tree.files))
 
 -- what looks at the whole state
 nothing_refused : (reply : Reply) → Refused OfNothing (Ok reply)
 nothing_refused reply = accepted rank place named is_named OfNothing (Ok reply) reply refl (λ part fault h. h)
 
-pub first_fault_refuses : (verdict : Verdict) (loaded s : State) (line : ToolLine) (text : List ℕ) → IsRefusedForFirst rank place (IsAtFault s line text) (answered verdict loaded s line text)
+pub first_fault_refuses : (judge : Judging) (loaded s : State) (line : ToolLine) (text : List ℕ) → IsRefusedForFirst rank place (IsAtFault s line text) (answered judge loaded s line text)
 unfolding answered
-first_fault_refuses verdict loaded s (lines.Load line) text = command_refused (load.answered s line text)
-first_fault_refuses verdict loaded s (lines.Getfacl line) text =
+first_fault_refuses judge loaded s (lines.Load line) text = command_refused (load.answered s line text)
+first_fault_refuses judge loaded s (lines.Getfacl line) text =
     listing_refused s.tree.files line.files (λ paths. printed s (getfacl.getfacl_text s.people line.options (files_found line.recursive paths s.tree.files)))
-first_fault_refuses verdict loaded s (lines.Setfacl line) text = setfacl_refused s line text
-first_fault_refuses verdict loaded s (lines.Chacl line) text = task_refused s line.recursive line.task line.files
-first_fault_refuses verdict loaded s (lines.Chmod line) text = files_refused line.files (λ paths. done s (commands.Chmod paths line.mode line.recursive))
-first_fault_refuses verdict loaded s (lines.Creat line) text = creat_refused s line
-first_fault_refuses verdict loaded s (lines.Rm line) text = files_refused line.files (λ paths. done s (commands.Rm paths line.recursive))
-first_fault_refuses verdict loaded s (lines.Gpasswd line) text = command_refused (done s (commands.Gpasswd (name_meant line.user) (name_meant line.group) line.change))
-first_fault_refuses verdict loaded s (lines.Usermod line) text = command_refused (done s (commands.Usermod (name_meant line.user) (name_meant line.group)))
-first_fault_refuses verdict loaded s (lines.Attr line) text = listing_refused s.tree.files line.files (λ paths. printed s (attr_listing (files_found false paths s.tree.files)))
-first_fault_refuses verdict loaded s (lines.Setattr line) text =
+first_fault_refuses judge loaded s (lines.Setfacl line) text = setfacl_refused s line text
+first_fault_refuses judge loaded s (lines.Chacl line) text = task_refused s line.recursive line.task line.files
+first_fault_refuses judge loaded s (lines.Chmod line) text = files_refused line.files (λ paths. done s (commands.Chmod paths line.mode line.recursive))
+first_fault_refuses judge loaded s (lines.Creat line) text = creat_refused s line
+first_fault_refuses judge loaded s (lines.Rm line) text = files_refused line.files (λ paths. done s (commands.Rm paths line.recursive))
+first_fault_refuses judge loaded s (lines.Gpasswd line) text = command_refused (done s (commands.Gpasswd (name_meant line.user) (name_meant line.group) line.change))
+first_fault_refuses judge loaded s (lines.Usermod line) text = command_refused (done s (commands.Usermod (name_meant line.user) (name_meant line.group)))
+first_fault_refuses judge loaded s (lines.Attr line) text = listing_refused s.tree.files line.files (λ paths. printed s (attr_listing (files_found false paths s.tree.files)))
+first_fault_refuses judge loaded s (lines.Setattr line) text =
     text_and_files_refused (setattr.list_of_digits line.attribute.digits) line.files (λ acl paths. done s (commands.Edit paths (setattr.put_of line.attribute.which acl) false))
-first_fault_refuses verdict loaded s (lines.Can line) text = can_refused verdict s line
-first_fault_refuses verdict loaded s (lines.Who line) text = who_refused verdict s line
-first_fault_refuses verdict loaded s (lines.May line) text = may_refused verdict s line
-first_fault_refuses verdict loaded s (lines.Below line) text =
-    listing_refused s.tree.files line.files (λ paths. printed s (below_text verdict line.reach s line.request paths))
-first_fault_refuses verdict loaded s (lines.Why line) text = why_refused s line
-first_fault_refuses verdict loaded s lines.Index text = nothing_refused (printed s (index_text verdict s))
-first_fault_refuses verdict loaded s (lines.Changes line) text = nothing_refused (printed s (changes_text verdict line.reach loaded s))
-first_fault_refuses verdict loaded s (lines.Gains line) text = nothing_refused (printed s (gains_text verdict line.reach loaded s))
-first_fault_refuses verdict loaded s (lines.Useradd line) text = command_refused (done s (commands.Useradd (new_user line)))
-first_fault_refuses verdict loaded s (lines.Userdel line) text = command_refused (done s (commands.Userdel (name_meant line.user)))
+first_fault_refuses judge loaded s (lines.Can line) text = can_refused judge.verdict s line
+first_fault_refuses judge loaded s (lines.Who line) text = who_refused judge.verdict s line
+first_fault_refuses judge loaded s (lines.May line) text = may_refused judge.verdict s line
+first_fault_refuses judge loaded s (lines.Below line) text =
+    listing_refused s.tree.files line.files (λ paths. printed s (below_text judge.verdict line.reach s line.request paths))
+first_fault_refuses judge loaded s (lines.Why line) text = why_refused judge.decider s line
+first_fault_refuses judge loaded s lines.Index text = nothing_refused (printed s (index_text judge.verdict s))
+first_fault_refuses judge loaded s (lines.Changes line) text = nothing_refused (printed s (changes_text judge.verdict line.reach loaded s))
+first_fault_refuses judge loaded s (lines.Gains line) text = nothing_refused (printed s (gains_text judge.verdict line.reach loaded s))
+first_fault_refuses judge loaded s (lines.Useradd line) text = command_refused (done s (commands.Useradd (new_user line)))
+first_fault_refuses judge loaded s (lines.Userdel line) text = command_refused (done s (commands.Userdel (name_meant line.user)))

@@ -1,7 +1,7 @@
 -- What a run asks of the judge.
 use Rattle.std.specs.Prelude.{◌≤◌, ◌+◌, ℕ, Bool, List, Result, Ok, Err}
 use Rattle.acl_rights.specs.Costs.{all_pairs}
-use Rattle.acl_rights.specs.Rows.{Verdict}
+use Rattle.acl_rights.specs.Deciders.{Judging}
 use Rattle.acl_rights.specs.States.{from_start}
 use Rattle.acl_tree.specs.State.{State}
 use Rattle.facl_output.specs.declared.fault.RunFault.{RunFault}
@@ -13,11 +13,11 @@ use Rattle.facl.specs.Headline.{RunsTo}
 use Rattle.facl.specs.declared.status.Status.{Status}
 
 -- the most verdicts that the judge is asked for: on every user and every file at the start, and what each unit costs
-abbrev pub most_asked : Verdict → (setup : Result State RunFault) → (script : List ℕ) → (m : ℕ → Bool) → ℕ
-most_asked verdict (Ok start) script m = all_pairs start + (session line_asks (answered verdict) m script (from_start start)).cost
-most_asked verdict (Err fault) script m = 0
+abbrev pub most_asked : Judging → (setup : Result State RunFault) → (script : List ℕ) → (m : ℕ → Bool) → ℕ
+most_asked judge (Ok start) script m = all_pairs start + (session line_asks (answered judge) m script (from_start start)).cost
+most_asked judge (Err fault) script m = 0
 
 -- the whole script was answered, and the judge was asked for no more verdicts
-pub record RunsAsking (verdict : Verdict) (setup : Result State RunFault) (script : List ℕ) (status : Status) (asked : ℕ) (old new : Streams) : Type 0 where
-  pub runs : RunsTo verdict setup script status old new
-  pub asks : asked ≤ most_asked verdict setup script runs.m
+pub record RunsAsking (judge : Judging) (setup : Result State RunFault) (script : List ℕ) (status : Status) (asked : ℕ) (old new : Streams) : Type 0 where
+  pub runs : RunsTo judge setup script status old new
+  pub asks : asked ≤ most_asked judge setup script runs.m

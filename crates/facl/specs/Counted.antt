@@ -1,7 +1,7 @@
 -- What a unit does, with the most verdicts that it costs. For inner functions, and who reads what a run asks for.
 use Rattle.std.specs.Prelude.{ℕ, Bool, if◌then◌else◌, List, [], Result, Ok, Err}
 use Rattle.acl_rights.specs.Costs.{most_between}
-use Rattle.acl_rights.specs.Rows.{Verdict}
+use Rattle.acl_rights.specs.Deciders.{Judging}
 use Rattle.acl_rights.specs.declared.indexed.States.{States}
 use Rattle.facl_output.specs.declared.fault.LineFault.{LineFault}
 use Rattle.facl_output.specs.declared.fault.LineFault.TheVariants.{NoMemory}
@@ -28,16 +28,16 @@ abbrev pub answer_of : ℕ → Text → States → Result Reply LineFault → An
 answer_of number tool w (Ok r) = accepted number (loads_by_name tool) w r
 answer_of number tool w (Err fault) = refused number tool fault w
 
-abbrev pub answer_of_words : Verdict → ScriptUnit → States → Result (List Text) LineFault → Answer States
-answer_of_words verdict u w (Ok words) = answer_of u.number (tool_word words) w (reply verdict w u.text words)
-answer_of_words verdict u w (Err fault) = refused u.number [] fault w
+abbrev pub answer_of_words : Judging → ScriptUnit → States → Result (List Text) LineFault → Answer States
+answer_of_words judge u w (Ok words) = answer_of u.number (tool_word words) w (reply judge w u.text words)
+answer_of_words judge u w (Err fault) = refused u.number [] fault w
 
 -- where memory runs out for a line, the judge may have given the verdicts for its change by then
 abbrev pub unless_out_of_memory : Bool → ℕ → States → Answer States → Answer States
 unless_out_of_memory ran_out number w a = if ran_out then costing a.cost (units.refused number [] NoMemory w) else a
 
-abbrev pub answered_line : Verdict → Bool → ScriptUnit → States → Answer States
-answered_line verdict ran_out u w = unless_out_of_memory ran_out u.number w (answer_of_words verdict u w (words_of_line u.line))
+abbrev pub answered_line : Judging → Bool → ScriptUnit → States → Answer States
+answered_line judge ran_out u w = unless_out_of_memory ran_out u.number w (answer_of_words judge u w (words_of_line u.line))
 
-abbrev pub answered : Verdict → Bool → ScriptUnit → States → Answer States
-answered verdict ran_out u w = if is_silent u.line then plays.quiet w else answered_line verdict ran_out u w
+abbrev pub answered : Judging → Bool → ScriptUnit → States → Answer States
+answered judge ran_out u w = if is_silent u.line then plays.quiet w else answered_line judge ran_out u w

@@ -1,6 +1,6 @@
 -- What is true of every session.
 use Rattle.std.specs.Prelude.{◌≡◌, ℕ, Bool, false, List, ◌∷◌, ◌++◌, codes, Result, Ok}
-use Rattle.acl_rights.specs.Rows.{Verdict}
+use Rattle.acl_rights.specs.Deciders.{Judging}
 use Rattle.acl_tree.specs.State.{State}
 use Rattle.facl_output.specs.declared.fault.RunFault.{RunFault}
 use Rattle.facl.specs.Headline.{session_of}
@@ -15,5 +15,5 @@ pub record SaysNoMemory (err : List ℕ) : Type 0 where
 -- a session that does not say so is the session of a machine whose memory never runs out
 abbrev pub NoMemoryIsSaid : Type 0
 NoMemoryIsSaid =
-    (verdict : Verdict) (setup : Result State RunFault) (script : List ℕ) (m : ℕ → Bool) (session : UnitAnswer) → session_of verdict setup script m ≡ Ok session
-    → (SaysNoMemory session.err → ⊥) → session_of verdict setup script (λ _. false) ≡ Ok session
+    (judge : Judging) (setup : Result State RunFault) (script : List ℕ) (m : ℕ → Bool) (session : UnitAnswer) → session_of judge setup script m ≡ Ok session
+    → (SaysNoMemory session.err → ⊥) → session_of judge setup script (λ _. false) ≡ Ok session

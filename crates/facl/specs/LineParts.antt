@@ -11,7 +11,7 @@ use Rattle.facl_tools.specs.TextWords.{words_by}
 use Rattle.facl.specs.ToolParts as requests
 use Rattle.facl.specs.FirstPart.{IsRefusedForFirst}
 use Rattle.facl_tools.specs.Replies.{Reply}
-use Rattle.acl_rights.specs.Rows.{Verdict}
+use Rattle.acl_rights.specs.Deciders.{Judging}
 use Rattle.facl.specs.ToolLines.{read_line}
 use Rattle.facl.specs.Tools.{syntax_of, tool_named}
 use Rattle.facl.specs.declared.tools.Tool.{Tool}
@@ -121,8 +121,8 @@ IsAtFault s u (in_request part) fault = IsRequestAtFault s u part fault
 -- ---- what is answered
 
 -- the reply to a line, or its fault
-abbrev pub outcome : Verdict → States → ScriptUnit → Result Reply LineFault
-outcome verdict w u = words_of_line u.line >>= reply verdict w u.text
+abbrev pub outcome : Judging → States → ScriptUnit → Result Reply LineFault
+outcome judge w u = words_of_line u.line >>= reply judge w u.text
 
 -- the name in the words of a line, if it has words
 abbrev pub name_in : Result (List Text) LineFault → Text
@@ -130,6 +130,6 @@ name_in (Ok words) = tool_word words
 name_in (Err fault) = []
 
 -- what a unit does is the reply to its line, or it is refused for the first of its parts that is at fault
-pub record IsAnsweredByFirst (verdict : Verdict) (w : States) (u : ScriptUnit) : Type 0 where
-  pub answer : answered verdict false u w ≡ answer_of u.number (name_in (words_of_line u.line)) w (outcome verdict w u)
-  pub first : IsRefusedForFirst rank place (IsAtFault w.now u) (outcome verdict w u)
+pub record IsAnsweredByFirst (judge : Judging) (w : States) (u : ScriptUnit) : Type 0 where
+  pub answer : answered judge false u w ≡ answer_of u.number (name_in (words_of_line u.line)) w (outcome judge w u)
+  pub first : IsRefusedForFirst rank place (IsAtFault w.now u) (outcome judge w u)

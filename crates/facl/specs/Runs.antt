@@ -9,7 +9,7 @@ use Rattle.facl_script.specs.declared.fault.ScriptFault.TheVariants as scripts
 use Rattle.facl_tools.specs.TextWords.{line_asks}
 use Rattle.facl_output.specs.declared.fault.RunFault.{RunFault}
 use Rattle.facl_output.specs.declared.fault.RunFault.TheVariants.{Read, Write, Setup, ScriptTooLong, NoMemory}
-use Rattle.acl_rights.specs.Rows.{Verdict}
+use Rattle.acl_rights.specs.Deciders.{Judging}
 use Rattle.acl_rights.specs.Costs.{all_pairs}
 use Rattle.acl_rights.specs.declared.indexed.States.{States}
 use Rattle.acl_rights.specs.States.{from_start}
@@ -31,11 +31,11 @@ pub record IsUntouched (old new : Devices) : Type 0 where
 
 -- The run started at this state, and its script stopped so: the judge was asked for no more verdicts than on every user and
 -- every file at the start, and what each unit costs that was read.
-pub record Stops (fault : ScriptFault) (verdict : Verdict) (initial_state : Result State RunFault) (asked : ℕ) (old new : Devices) : Type 0 where
+pub record Stops (fault : ScriptFault) (judge : Judging) (initial_state : Result State RunFault) (asked : ℕ) (old new : Devices) : Type 0 where
   pub start : State
   pub starts : initial_state ≡ Ok start
   pub states : States
-  pub stops : IfSome old.remaining (λ script. StopsWith line_asks fault (answered verdict) script new.remaining
+  pub stops : IfSome old.remaining (λ script. StopsWith line_asks fault (answered judge) script new.remaining
       (moment (from_start start) (all_pairs start) old.streams) (moment states asked new.streams))
 
 -- the most verdicts that the judge is asked for before the script is read: on every user and every file of the state that the
@@ -50,11 +50,11 @@ pub record EndsEarly (initial_state : Result State RunFault) (asked : ℕ) (old 
   pub asks : asked ≤ most_at_start initial_state
 
 -- How a run that returns a fault has ended. Before the script nothing is read or written.
-abbrev pub EndsBy : RunFault → Verdict → Result State RunFault → (asked : ℕ) (old new : Devices) → Type 0
-EndsBy (Setup which fault) verdict initial_state asked old new =
+abbrev pub EndsBy : RunFault → Judging → Result State RunFault → (asked : ℕ) (old new : Devices) → Type 0
+EndsBy (Setup which fault) judge initial_state asked old new =
     (initial_state ≡ Err (Setup which fault)) × (asked ≡ 0) × IsUntouched old new
-EndsBy NoMemory verdict initial_state asked old new =
-    EndsEarly initial_state asked old new ⊎ Stops scripts.NoMemory verdict initial_state asked old new
-EndsBy Read verdict initial_state asked old new = Stops scripts.Read verdict initial_state asked old new
-EndsBy Write verdict initial_state asked old new = Stops scripts.Write verdict initial_state asked old new
-EndsBy ScriptTooLong verdict initial_state asked old new = Stops scripts.TooLong verdict initial_state asked old new
+EndsBy NoMemory judge initial_state asked old new =
+    EndsEarly initial_state asked old new ⊎ Stops scripts.NoMemory judge initial_state asked old new
+EndsBy Read judge initial_state asked old new = Stops scripts.Read judge initial_state asked old new
+EndsBy Write judge initial_state asked old new = Stops scripts.Write judge initial_state asked old new
+EndsBy ScriptTooLong judge initial_state asked old new = Stops scripts.TooLong judge initial_state asked old new

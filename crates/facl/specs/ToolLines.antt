@@ -1,6 +1,6 @@
 -- The line of a tool as one value, and what it does: for inner functions, and for the laws of what is refused.
 use Rattle.std.specs.Prelude.{ℕ, List, Option, Some, ok_or, option_map, Result, Ok}
-use Rattle.acl_rights.specs.Rows.{Verdict}
+use Rattle.acl_rights.specs.Deciders.{Judging}
 use Rattle.acl_text.specs.Results.{◌>>=◌}
 use Rattle.acl_tree.specs.State.{State}
 use Rattle.facl_script.specs.Forms.{Text}
@@ -72,29 +72,29 @@ words_taken tool words = do
   Ok w
 
 -- what a line does at a state; `changes` and `gains` alone look at the state after the texts were loaded
-unfoldable pub answered : Verdict → (loaded now : State) → ToolLine → List ℕ → Result Reply LineFault
-answered verdict loaded s (lines.Load line) text = load.answered s line text
-answered verdict loaded s (lines.Getfacl line) text = getfacl.answered s line
-answered verdict loaded s (lines.Setfacl line) text = setfacl.answered s line text
-answered verdict loaded s (lines.Chacl line) text = chacl.answered s line
-answered verdict loaded s (lines.Chmod line) text = chmod.answered s line
-answered verdict loaded s (lines.Creat line) text = creat.answered s line
-answered verdict loaded s (lines.Rm line) text = rm.answered s line
-answered verdict loaded s (lines.Gpasswd line) text = gpasswd.answered s line
-answered verdict loaded s (lines.Usermod line) text = usermod.answered s line
-answered verdict loaded s (lines.Attr line) text = attr.answered s line
-answered verdict loaded s (lines.Setattr line) text = setattr.answered s line
-answered verdict loaded s (lines.Can line) text = can.answered verdict s line
-answered verdict loaded s (lines.Who line) text = who.answered verdict s line
-answered verdict loaded s (lines.May line) text = may.answered verdict s line
-answered verdict loaded s (lines.Below line) text = below.answered verdict s line
-answered verdict loaded s (lines.Why line) text = why.answered s line
-answered verdict loaded s lines.Index text = index.answered verdict s
-answered verdict loaded s (lines.Changes line) text = changes.answered verdict loaded s line
-answered verdict loaded s (lines.Gains line) text = gains.answered verdict loaded s line
-answered verdict loaded s (lines.Useradd line) text = useradd.answered s line
-answered verdict loaded s (lines.Userdel line) text = userdel.answered s line
+unfoldable pub answered : Judging → (loaded now : State) → ToolLine → List ℕ → Result Reply LineFault
+answered judge loaded s (lines.Load line) text = load.answered s line text
+answered judge loaded s (lines.Getfacl line) text = getfacl.answered s line
+answered judge loaded s (lines.Setfacl line) text = setfacl.answered s line text
+answered judge loaded s (lines.Chacl line) text = chacl.answered s line
+answered judge loaded s (lines.Chmod line) text = chmod.answered s line
+answered judge loaded s (lines.Creat line) text = creat.answered s line
+answered judge loaded s (lines.Rm line) text = rm.answered s line
+answered judge loaded s (lines.Gpasswd line) text = gpasswd.answered s line
+answered judge loaded s (lines.Usermod line) text = usermod.answered s line
+answered judge loaded s (lines.Attr line) text = attr.answered s line
+answered judge loaded s (lines.Setattr line) text = setattr.answered s line
+answered judge loaded s (lines.Can line) text = can.answered judge.verdict s line
+answered judge loaded s (lines.Who line) text = who.answered judge.verdict s line
+answered judge loaded s (lines.May line) text = may.answered judge.verdict s line
+answered judge loaded s (lines.Below line) text = below.answered judge.verdict s line
+answered judge loaded s (lines.Why line) text = why.answered judge.decider s line
+answered judge loaded s lines.Index text = index.answered judge.verdict s
+answered judge loaded s (lines.Changes line) text = changes.answered judge.verdict loaded s line
+answered judge loaded s (lines.Gains line) text = gains.answered judge.verdict loaded s line
+answered judge loaded s (lines.Useradd line) text = useradd.answered s line
+answered judge loaded s (lines.Userdel line) text = userdel.answered s line
 
 -- what the line does that words give, or usage
-abbrev pub line_answered : Verdict → (loaded now : State) → Tool → Words → List ℕ → Result Reply LineFault
-line_answered verdict loaded s tool w text = line_of tool w >>= λ line. answered verdict loaded s line text
+abbrev pub line_answered : Judging → (loaded now : State) → Tool → Words → List ℕ → Result Reply LineFault
+line_answered judge loaded s tool w text = line_of tool w >>= λ line. answered judge loaded s line text

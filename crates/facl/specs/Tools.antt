@@ -3,7 +3,7 @@ use Rattle.std.specs.Prelude.{ℕ, Bool, true, false, List, [], ◌∷◌, map, 
 use Rattle.std.specs.Option.{option_map_or}
 use Rattle.std.specs.List.{find}
 use Rattle.std.specs.Str.{bytes_eq}
-use Rattle.acl_rights.specs.Rows.{Verdict}
+use Rattle.acl_rights.specs.Deciders.{Judging}
 use Rattle.acl_text.specs.Results.{◌>>=◌}
 use Rattle.acl_tree.specs.State.{State}
 use Rattle.facl_script.specs.Forms.{Text}
@@ -51,7 +51,7 @@ pub record ToolRow : Type 0 where
 
 -- what words do at a state, with the text after the line; `changes` and `gains` alone look at the state after the texts were loaded
 abbrev pub ToolReply : Type 0
-ToolReply = Verdict → (loaded now : State) → Words → (text : List ℕ) → Result Reply LineFault
+ToolReply = Judging → (loaded now : State) → Words → (text : List ℕ) → Result Reply LineFault
 
 -- all that is known of a tool
 pub record ToolDefinition : Type 0 where
@@ -73,27 +73,27 @@ by_line line answered = ok_or line Usage >>= answered
 -- each tool, once
 abbrev pub table : List ToolDefinition
 table =
-    loading tools.Load (codes "load") load.syntax (λ verdict loaded s w text. by_line (load.read w) (λ line. load.answered s line text))
-    ∷ row tools.Getfacl (codes "getfacl") getfacl.syntax (λ verdict loaded s w text. by_line (getfacl.read w) (getfacl.answered s))
-    ∷ row tools.Setfacl (codes "setfacl") setfacl_line.syntax (λ verdict loaded s w text. by_line (setfacl_line.read w) (λ line. setfacl.answered s line text))
-    ∷ row tools.Chacl (codes "chacl") chacl.syntax (λ verdict loaded s w text. by_line (chacl.read w) (chacl.answered s))
-    ∷ row tools.Chmod (codes "chmod") chmod.syntax (λ verdict loaded s w text. by_line (chmod.read w) (chmod.answered s))
-    ∷ row tools.Creat (codes "creat") creat.syntax (λ verdict loaded s w text. by_line (creat.read w) (creat.answered s))
-    ∷ row tools.Rm (codes "rm") rm.syntax (λ verdict loaded s w text. by_line (rm.read w) (rm.answered s))
-    ∷ row tools.Gpasswd (codes "gpasswd") gpasswd.syntax (λ verdict loaded s w text. by_line (gpasswd.read w) (gpasswd.answered s))
-    ∷ row tools.Usermod (codes "usermod") usermod.syntax (λ verdict loaded s w text. by_line (usermod.read w) (usermod.answered s))
-    ∷ row tools.Attr (codes "attr") attr.syntax (λ verdict loaded s w text. by_line (attr.read w) (attr.answered s))
-    ∷ row tools.Setattr (codes "setattr") setattr.syntax (λ verdict loaded s w text. by_line (setattr.read w) (setattr.answered s))
-    ∷ row tools.Can (codes "can") can.syntax (λ verdict loaded s w text. by_line (can.read w) (can.answered verdict s))
-    ∷ row tools.Who (codes "who") who.syntax (λ verdict loaded s w text. by_line (who.read w) (who.answered verdict s))
-    ∷ row tools.May (codes "may") may.syntax (λ verdict loaded s w text. by_line (may.read w) (may.answered verdict s))
-    ∷ row tools.Below (codes "below") below.syntax (λ verdict loaded s w text. by_line (below.read w) (below.answered verdict s))
-    ∷ row tools.Why (codes "why") why.syntax (λ verdict loaded s w text. by_line (why.read w) (why.answered s))
-    ∷ row tools.Index (codes "index") index.syntax (λ verdict loaded s w text. index.answered verdict s)
-    ∷ row tools.Changes (codes "changes") changes.syntax (λ verdict loaded s w text. changes.answered verdict loaded s (changes.read w))
-    ∷ row tools.Gains (codes "gains") gains.syntax (λ verdict loaded s w text. gains.answered verdict loaded s (gains.read w))
-    ∷ row tools.Useradd (codes "useradd") useradd.syntax (λ verdict loaded s w text. by_line (useradd.read w) (useradd.answered s))
-    ∷ row tools.Userdel (codes "userdel") userdel.syntax (λ verdict loaded s w text. userdel.answered s (userdel.read w))
+    loading tools.Load (codes "load") load.syntax (λ judge loaded s w text. by_line (load.read w) (λ line. load.answered s line text))
+    ∷ row tools.Getfacl (codes "getfacl") getfacl.syntax (λ judge loaded s w text. by_line (getfacl.read w) (getfacl.answered s))
+    ∷ row tools.Setfacl (codes "setfacl") setfacl_line.syntax (λ judge loaded s w text. by_line (setfacl_line.read w) (λ line. setfacl.answered s line text))
+    ∷ row tools.Chacl (codes "chacl") chacl.syntax (λ judge loaded s w text. by_line (chacl.read w) (chacl.answered s))
+    ∷ row tools.Chmod (codes "chmod") chmod.syntax (λ judge loaded s w text. by_line (chmod.read w) (chmod.answered s))
+    ∷ row tools.Creat (codes "creat") creat.syntax (λ judge loaded s w text. by_line (creat.read w) (creat.answered s))
+    ∷ row tools.Rm (codes "rm") rm.syntax (λ judge loaded s w text. by_line (rm.read w) (rm.answered s))
+    ∷ row tools.Gpasswd (codes "gpasswd") gpasswd.syntax (λ judge loaded s w text. by_line (gpasswd.read w) (gpasswd.answered s))
+    ∷ row tools.Usermod (codes "usermod") usermod.syntax (λ judge loaded s w text. by_line (usermod.read w) (usermod.answered s))
+    ∷ row tools.Attr (codes "attr") attr.syntax (λ judge loaded s w text. by_line (attr.read w) (attr.answered s))
+    ∷ row tools.Setattr (codes "setattr") setattr.syntax (λ judge loaded s w text. by_line (setattr.read w) (setattr.answered s))
+    ∷ row tools.Can (codes "can") can.syntax (λ judge loaded s w text. by_line (can.read w) (can.answered judge.verdict s))
+    ∷ row tools.Who (codes "who") who.syntax (λ judge loaded s w text. by_line (who.read w) (who.answered judge.verdict s))
+    ∷ row tools.May (codes "may") may.syntax (λ judge loaded s w text. by_line (may.read w) (may.answered judge.verdict s))
+    ∷ row tools.Below (codes "below") below.syntax (λ judge loaded s w text. by_line (below.read w) (below.answered judge.verdict s))
+    ∷ row tools.Why (codes "why") why.syntax (λ judge loaded s w text. by_line (why.read w) (why.answered judge.decider s))
+    ∷ row tools.Index (codes "index") index.syntax (λ judge loaded s w text. index.answered judge.verdict s)
+    ∷ row tools.Changes (codes "changes") changes.syntax (λ judge loaded s w text. changes.answered judge.verdict loaded s (changes.read w))
+    ∷ row tools.Gains (codes "gains") gains.syntax (λ judge loaded s w text. gains.answered judge.verdict loaded s (gains.read w))
+    ∷ row tools.Useradd (codes "useradd") useradd.syntax (λ judge loaded s w text. by_line (useradd.read w) (useradd.answered s))
+    ∷ row tools.Userdel (codes "userdel") userdel.syntax (λ judge loaded s w text. userdel.answered s (userdel.read w))
     ∷ []
 
 -- their rows
@@ -131,10 +131,10 @@ unfoldable pub words_of : Tool → List Text → Result Words LineFault
 words_of tool words = ok_or (words_by (syntax_of tool) words) Usage
 
 -- what words do that are a tool's, or usage
-unfoldable pub words_answered : Verdict → (loaded now : State) → Tool → Words → (text : List ℕ) → Result Reply LineFault
-words_answered verdict loaded s tool w text =
-    option_map_or (λ found. found.reply verdict loaded s w text) (find (λ t. equality.eq t.row.tool tool) table) (Err Usage)
+unfoldable pub words_answered : Judging → (loaded now : State) → Tool → Words → (text : List ℕ) → Result Reply LineFault
+words_answered judge loaded s tool w text =
+    option_map_or (λ found. found.reply judge loaded s w text) (find (λ t. equality.eq t.row.tool tool) table) (Err Usage)
 
 -- what a tool does at a state with the words after its name and the text after the line, or usage
-abbrev pub tool_line : Verdict → (loaded now : State) → Tool → List Text → (text : List ℕ) → Result Reply LineFault
-tool_line verdict loaded s tool words text = words_of tool words >>= λ w. words_answered verdict loaded s tool w text
+abbrev pub tool_line : Judging → (loaded now : State) → Tool → List Text → (text : List ℕ) → Result Reply LineFault
+tool_line judge loaded s tool words text = words_of tool words >>= λ w. words_answered judge loaded s tool w text

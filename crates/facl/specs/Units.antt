@@ -9,7 +9,7 @@ use Rattle.facl_output.specs.Messages.{message, warning}
 use Rattle.facl_output.specs.declared.fault.LineFault.{LineFault}
 use Rattle.facl_output.specs.declared.fault.LineFault.TheVariants.{LineTooLong, UnknownTool, UnendedText, TextLineTooLong, NoMemory}
 use Rattle.facl_tools.specs.Replies.{Reply, printed}
-use Rattle.acl_rights.specs.Rows.{Verdict}
+use Rattle.acl_rights.specs.Deciders.{Judging}
 use Rattle.facl.specs.Tools.{loads, tool_line, tool_named}
 use Rattle.facl.specs.declared.tools.Tool.{Tool}
 use Rattle.acl_rights.specs.declared.indexed.States.{States}
@@ -40,13 +40,13 @@ text_of unended = Err UnendedText
 -- ---- what is answered
 
 -- what a tool does with the text and the words after its name
-abbrev pub tool_reply : Verdict → States → UnitText → List Text → Tool → Result Reply LineFault
-tool_reply verdict w text words tool = text_of text >>= tool_line verdict w.loaded w.now tool words
+abbrev pub tool_reply : Judging → States → UnitText → List Text → Tool → Result Reply LineFault
+tool_reply judge w text words tool = text_of text >>= tool_line judge w.loaded w.now tool words
 
 -- what the words of a line do: its reply, or its first fault
-abbrev pub reply : Verdict → States → UnitText → List Text → Result Reply LineFault
-reply verdict w text [] = Ok (printed w.now [])
-reply verdict w text (name ∷ words) = ok_or (tool_named name) UnknownTool >>= tool_reply verdict w text words
+abbrev pub reply : Judging → States → UnitText → List Text → Result Reply LineFault
+reply judge w text [] = Ok (printed w.now [])
+reply judge w text (name ∷ words) = ok_or (tool_named name) UnknownTool >>= tool_reply judge w text words
 
 -- what units write to out and to err, the states that they leave, and whether one of them was refused
 pub record UnitAnswer : Type 0 where
@@ -76,14 +76,14 @@ abbrev pub tool_word : List Text → Text
 tool_word [] = []
 tool_word (name ∷ words) = name
 
-abbrev pub answer_of_words : Verdict → ScriptUnit → States → Result (List Text) LineFault → UnitAnswer
-answer_of_words verdict u w (Ok words) = answer_of u.number (tool_word words) w (reply verdict w u.text words)
-answer_of_words verdict u w (Err fault) = refused u.number [] fault w
+abbrev pub answer_of_words : Judging → ScriptUnit → States → Result (List Text) LineFault → UnitAnswer
+answer_of_words judge u w (Ok words) = answer_of u.number (tool_word words) w (reply judge w u.text words)
+answer_of_words judge u w (Err fault) = refused u.number [] fault w
 
 -- what a unit does: nothing where its line is blank or a comment; any other line is refused with its first fault, or does
 -- what it asks for; where memory runs out for it, it is refused with that message
-abbrev pub answered : Verdict → (ran_out : Bool) → ScriptUnit → States → UnitAnswer
-answered verdict ran_out u w =
+abbrev pub answered : Judging → (ran_out : Bool) → ScriptUnit → States → UnitAnswer
+answered judge ran_out u w =
     if is_silent u.line then quiet w
     else if ran_out then refused u.number [] NoMemory w
-    else answer_of_words verdict u w (words_of_line u.line)
+    else answer_of_words judge u w (words_of_line u.line)

@@ -1,6 +1,7 @@
--- why: the entries that decide on a user. The state stays as it is.
+-- why: the entries by which a judge decides on a user. The state stays as it is.
 use Rattle.std.specs.Prelude.{List, [], ◌∷◌, Bool, codes, refl, Option, option_and_then, Result, ok_or, option_map, Ok}
 use Rattle.facl_tools.specs.Asked.{has, operand, operands_from}
+use Rattle.acl_rights.specs.Deciders.{Decider}
 use Rattle.facl_answers.specs.WhyText.{files_asked, why_text}
 use Rattle.acl_entry.specs.Person.{Person}
 use Rattle.acl_tree.specs.declared.fault.TreeFault.TheVariants.{NoSuchUser}
@@ -33,17 +34,17 @@ abbrev pub person_named : KnownPeople → Text → Option Person
 person_named known name = option_and_then (subject known) (place_of_word name (users_of known))
 
 -- the entries that decide on a user are printed with the names that these people have
-abbrev pub named_why : KnownPeople → Person → List FoundFile → Text
-named_why known u files = why_text (naming_of known) u files
+abbrev pub named_why : Decider → KnownPeople → Person → List FoundFile → Text
+named_why D known u files = why_text (naming_of known) D u files
 
 -- what decides on a user on the files of these paths, with `along` on the directories above them too
-abbrev pub why_at : State → Bool → List PathOf → Person → Result Text LineFault
-why_at s along paths u = unless (not_recorded paths s.tree.files) (Ok (named_why s.people u (files_asked along paths s.tree.files)))
+abbrev pub why_at : Decider → State → Bool → List PathOf → Person → Result Text LineFault
+why_at D s along paths u = unless (not_recorded paths s.tree.files) (Ok (named_why D s.people u (files_asked along paths s.tree.files)))
 
 -- what decides on the user that a word means
-abbrev pub why_of : State → Bool → Text → List PathOf → Result Text LineFault
-why_of s along word paths = ok_or (person_named s.people (name_meant word)) (Tree (NoSuchUser (name_meant word))) >>= why_at s along paths
+abbrev pub why_of : Decider → State → Bool → Text → List PathOf → Result Text LineFault
+why_of D s along word paths = ok_or (person_named s.people (name_meant word)) (Tree (NoSuchUser (name_meant word))) >>= why_at D s along paths
 
 -- it is printed
-abbrev pub answered : State → WhyLine → Result Reply LineFault
-answered s line = paths_from 1 line.files >>= why_of s line.reach line.user >>= λ out. Ok (printed s out)
+abbrev pub answered : Decider → State → WhyLine → Result Reply LineFault
+answered D s line = paths_from 1 line.files >>= why_of D s line.reach line.user >>= λ out. Ok (printed s out)

@@ -3,7 +3,7 @@
 
 ghost use Rattle.std.specs.Prelude.{◌≡◌, false};
 ghost use Rattle.facl_script.specs.Units.{ScriptUnit};
-ghost use Rattle.acl_rights.specs.Rows.{Verdict};
+ghost use Rattle.acl_rights.specs.Deciders.{Judging};
 ghost use Rattle.facl.specs.Laws.{NoMemoryIsSaid};
 ghost use Rattle.facl.specs.LineParts.{IsAnsweredByFirst};
 ghost use Rattle.acl_rights.specs.declared.indexed.States.{States};
@@ -14,7 +14,7 @@ ghost use Rattle.facl.specs.Units.{is_silent};
 /// verdict nor the state after the texts were loaded matters. A line that is neither blank nor a comment is refused
 /// exactly if one of them is at fault, and for the first of those in one order.
 pub fn lines_are_refused_for_their_first_fault()
-    ensures { (verdict : Verdict) (w : States) (u : ScriptUnit) → is_silent u.line ≡ false → IsAnsweredByFirst verdict w u }
+    ensures { (judge : Judging) (w : States) (u : ScriptUnit) → is_silent u.line ≡ false → IsAnsweredByFirst judge w u }
 {}
 
 /// Proof only: if no line of a session's messages ends in `: facl: no memory`, memory ran out for none of its lines:

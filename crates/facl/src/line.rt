@@ -3,6 +3,7 @@
 ghost use Rattle.std.specs.Prelude.{◌≡◌, ℕ, List, Option, Err, IfOk, map, string_bytes};
 ghost use Rattle.facl_script.specs.Units.{UnitText};
 ghost use Rattle.facl_script.specs.Held.{IsLineHeld, IsTextHeld};
+ghost use Rattle.acl_rights.specs.Deciders.{judging};
 ghost use Rattle.acl_rights.specs.States.{IsPrepared, loaded_state, states_in};
 ghost use Rattle.facl_tools.specs.Replies.{Gives, Replies};
 ghost use Rattle.facl.specs.Tools.{tool_line};
@@ -57,7 +58,7 @@ fn tool_effect<J: Judge>(
     words: &[String],
     text: &[u8],
 ) -> Result<Effect, LineFault>
-    ensures { Replies indexed_states.now.state result (tool_line J.verdict_of (loaded_state indexed_states.now) indexed_states.now.state tool (map string_bytes words.now) text.now) }
+    ensures { Replies indexed_states.now.state result (tool_line (judging J.verdict_of J.decider_of) (loaded_state indexed_states.now) indexed_states.now.state tool (map string_bytes words.now) text.now) }
 {
     tool_line(alloc, indexed_states, tool, words, text)
 }
@@ -71,7 +72,7 @@ pub(crate) fn tool_reply<J: Judge>(
     tool: Tool,
 ) -> Result<Effect, LineFault>
     ensures replies { (content : UnitText) → IsTextHeld text.now content
-        → Replies indexed_states.now.state result (tool_reply J.verdict_of (states_in indexed_states.now) content (map string_bytes words.now) tool) }
+        → Replies indexed_states.now.state result (tool_reply (judging J.verdict_of J.decider_of) (states_in indexed_states.now) content (map string_bytes words.now) tool) }
     ensures prepared { IfOk result (λ effect. IsPrepared indexed_states.now.state effect.staged) }
 {
     let text = text_of_unit(text)?;

@@ -2,7 +2,7 @@
 
 ghost use Rattle.std.specs.Prelude.{◌≡◌, ◌⊎◌, ℕ, true, false, IfOk, IfErr, IfSome, OnOk, Ok, Err};
 ghost use Rattle.std.specs.Io.KnownBytes.{IsAtEnd};
-ghost use Rattle.acl_entry.specs.Check.{rights};
+ghost use Rattle.acl_rights.specs.Deciders.{judging, posix};
 ghost use Rattle.facl_script.specs.Streams.{streams};
 ghost use Rattle.facl.specs.Setups.{initial_state};
 ghost use Rattle.facl.specs.Asking.{RunsAsking};
@@ -38,10 +38,10 @@ pub fn run_from<J: Judge, R: Feed, O: Sink, E: Sink>(
     requires err { E.has_failed err.old ≡ false }
 
     ensures ok { IfOk result (λ status. IfSome (R.remaining reader.old) (λ script.
-        RunsAsking J.verdict_of (Ok state) script status (J.asked_of judge.new)
+        RunsAsking (judging J.verdict_of J.decider_of) (Ok state) script status (J.asked_of judge.new)
         (streams (O.contents out.old) (E.contents err.old)) (streams (O.contents out.new) (E.contents err.new)))) }
     ensures fault { IfErr result (λ fault.
-        EndsBy fault J.verdict_of (Ok state) (J.asked_of judge.new)
+        EndsBy fault (judging J.verdict_of J.decider_of) (Ok state) (J.asked_of judge.new)
         (devices (R.remaining reader.old) (O.contents out.old) (E.contents err.old))
         (devices (R.remaining reader.new) (O.contents out.new) (E.contents err.new))) }
 
@@ -82,10 +82,10 @@ pub fn run_judged<J: Judge, R: Feed, O: Sink, E: Sink>(
     requires err { E.has_failed err.old ≡ false }
 
     ensures ok { IfOk result (λ status. IfSome (R.remaining reader.old) (λ script.
-        RunsAsking J.verdict_of (initial_state setup.now) script status (J.asked_of judge.new)
+        RunsAsking (judging J.verdict_of J.decider_of) (initial_state setup.now) script status (J.asked_of judge.new)
         (streams (O.contents out.old) (E.contents err.old)) (streams (O.contents out.new) (E.contents err.new)))) }
     ensures fault { IfErr result (λ fault.
-        EndsBy fault J.verdict_of (initial_state setup.now) (J.asked_of judge.new)
+        EndsBy fault (judging J.verdict_of J.decider_of) (initial_state setup.now) (J.asked_of judge.new)
         (devices (R.remaining reader.old) (O.contents out.old) (E.contents err.old))
         (devices (R.remaining reader.new) (O.contents out.new) (E.contents err.new))) }
 
@@ -129,10 +129,10 @@ pub fn run<R: Feed, O: Sink, E: Sink>(
     requires err { E.has_failed err.old ≡ false }
 
     ensures ok { IfOk result (λ status. IfSome (R.remaining reader.old) (λ script.
-        RunsTo rights (initial_state setup.now) script status
+        RunsTo posix (initial_state setup.now) script status
         (streams (O.contents out.old) (E.contents err.old)) (streams (O.contents out.new) (E.contents err.new)))) }
     ensures fault { IfErr result (λ fault. (asked : ℕ)
-        × EndsBy fault rights (initial_state setup.now) asked
+        × EndsBy fault posix (initial_state setup.now) asked
         (devices (R.remaining reader.old) (O.contents out.old) (E.contents err.old))
         (devices (R.remaining reader.new) (O.contents out.new) (E.contents err.new))) }
 

@@ -5,6 +5,7 @@ ghost use Rattle.std.specs.Prelude.{◌≡◌, ℕ, ◌+◌, ◌≤◌, [], ◌�
 ghost use Rattle.facl_script.specs.Units.{ScriptUnit, UnitText};
 ghost use Rattle.facl_script.specs.Held.{IsTextHeld, IsUnitHeld};
 ghost use Rattle.facl_tools.specs.TextWords.{line_asks};
+ghost use Rattle.acl_rights.specs.Deciders.{judging};
 ghost use Rattle.acl_rights.specs.Costs.{all_pairs};
 ghost use Rattle.acl_rights.specs.States.{IsPrepared, from_start};
 ghost use Rattle.facl_output.specs.Messages.{warning};
@@ -163,7 +164,7 @@ impl<J: Judge> FaclSession<J> {
         requires named { tool_named name.now ≡ Some tool }
         ensures answer { (content : UnitText) → IsTextHeld unit.now.text content
             → Answers unit.now.number (answer_of unit.now.number name.now (states_of self.old)
-            (tool_reply J.verdict_of (states_of self.old) content (map string_bytes words.now) tool))
+            (tool_reply (judging J.verdict_of J.decider_of) (states_of self.old) content (map string_bytes words.now) tool))
             self.old self.new (J.asked_of judge.old) (J.asked_of judge.new) result }
         ensures ready { IsReadyAfter (J.asked_of judge.new) unit.now.number }
     {
@@ -189,7 +190,7 @@ impl<J: Judge> FaclSession<J> {
         requires ready { IsReady (J.asked_of judge.old) unit.now.number }
         ensures answer { (content : UnitText) → IsTextHeld unit.now.text content
             → Answers unit.now.number (answer_of unit.now.number name.now (states_of self.old)
-            (reply J.verdict_of (states_of self.old) content (name.now ∷ map string_bytes words.now)))
+            (reply (judging J.verdict_of J.decider_of) (states_of self.old) content (name.now ∷ map string_bytes words.now)))
             self.old self.new (J.asked_of judge.old) (J.asked_of judge.new) result }
         ensures ready { IsReadyAfter (J.asked_of judge.new) unit.now.number }
     {
@@ -208,7 +209,7 @@ impl<J: Judge> FaclSession<J> {
         requires ready { IsReady (J.asked_of judge.old) unit.now.number }
         ensures answer { (content : UnitText) → IsTextHeld unit.now.text content
             → Answers unit.now.number (answer_of unit.now.number (tool_word (map string_bytes words.now)) (states_of self.old)
-            (reply J.verdict_of (states_of self.old) content (map string_bytes words.now)))
+            (reply (judging J.verdict_of J.decider_of) (states_of self.old) content (map string_bytes words.now)))
             self.old self.new (J.asked_of judge.old) (J.asked_of judge.new) result }
         ensures ready { IsReadyAfter (J.asked_of judge.new) unit.now.number }
     {
@@ -226,7 +227,7 @@ impl<J: Judge> FaclSession<J> {
         requires quiet { IsQuiet self.old }
         requires ready { IsReady (J.asked_of judge.old) unit.now.number }
         ensures answer { (u : ScriptUnit) → IsUnitHeld line_asks unit.now u
-            → Answers u.number (answer_of_words J.verdict_of u (states_of self.old) (words_of_line u.line))
+            → Answers u.number (answer_of_words (judging J.verdict_of J.decider_of) u (states_of self.old) (words_of_line u.line))
             self.old self.new (J.asked_of judge.old) (J.asked_of judge.new) result }
         ensures ready { IsReadyAfter (J.asked_of judge.new) unit.now.number }
     {
@@ -284,7 +285,7 @@ impl<'a, J: Judge> Session for JudgedSession<'a, J, FaclSession<J>> {
 
     ghost asks = { line_asks };
 
-    ghost answered = { answered J.verdict_of };
+    ghost answered = { answered (judging J.verdict_of J.decider_of) };
 
     ghost spent = { λ f. J.asked_of f.judge.now };
 

@@ -14,6 +14,7 @@ mod why;
 ghost use Rattle.std.specs.Prelude.{◌≡◌, IfOk, is_some, map, option_map, string_bytes};
 ghost use Rattle.std.specs.List.{find};
 ghost use Rattle.std.specs.Str.{bytes_eq};
+ghost use Rattle.acl_rights.specs.Deciders.{judging};
 ghost use Rattle.acl_rights.specs.States.{loaded_state};
 ghost use Rattle.facl_script.specs.Rows.{syntax_view};
 ghost use Rattle.facl_tools.specs.Replies.{Gives, Replies};
@@ -310,7 +311,7 @@ fn answer<J: Judge>(
     line: ToolLine<'_>,
     text: &[u8],
 ) -> Result<Effect, LineFault>
-    ensures { Replies indexed_states.now.state result (answered J.verdict_of (loaded_state indexed_states.now) indexed_states.now.state line.entry text.now) }
+    ensures { Replies indexed_states.now.state result (answered (judging J.verdict_of J.decider_of) (loaded_state indexed_states.now) indexed_states.now.state line.entry text.now) }
 {
     let indexed = indexed_states.state();
     let state = indexed.state();
@@ -330,7 +331,7 @@ fn answer<J: Judge>(
         ToolLine::Who(line) => who::answer(alloc, indexed, line),
         ToolLine::May(line) => may::answer(alloc, indexed, line),
         ToolLine::Below(line) => below::answer(alloc, indexed, line),
-        ToolLine::Why(line) => why::answer(alloc, state, line),
+        ToolLine::Why(line) => why::answer(alloc, indexed, line),
         ToolLine::Index => index::answer(alloc, indexed),
         ToolLine::Changes(line) => changes::answer(alloc, indexed_states, line),
         ToolLine::Gains(line) => gains::answer(alloc, indexed_states, line),
@@ -347,7 +348,7 @@ fn line_answer<J: Judge>(
     words: &Words,
     text: &[u8],
 ) -> Result<Effect, LineFault>
-    ensures { Replies indexed_states.now.state result (line_answered J.verdict_of (loaded_state indexed_states.now) indexed_states.now.state tool words.now text.now) }
+    ensures { Replies indexed_states.now.state result (line_answered (judging J.verdict_of J.decider_of) (loaded_state indexed_states.now) indexed_states.now.state tool words.now text.now) }
 {
     let line = line_of(alloc, tool, words)?;
     answer(alloc, indexed_states, line, text)
@@ -361,7 +362,7 @@ fn words_answer<J: Judge>(
     words: &Words,
     text: &[u8],
 ) -> Result<Effect, LineFault>
-    ensures { Replies indexed_states.now.state result (words_answered J.verdict_of (loaded_state indexed_states.now) indexed_states.now.state tool words.now text.now) }
+    ensures { Replies indexed_states.now.state result (words_answered (judging J.verdict_of J.decider_of) (loaded_state indexed_states.now) indexed_states.now.state tool words.now text.now) }
 {
     line_answer(alloc, indexed_states, tool, words, text)
 }
@@ -375,7 +376,7 @@ pub(crate) fn tool_line<J: Judge>(
     words: &[String],
     text: &[u8],
 ) -> Result<Effect, LineFault>
-    ensures { Replies indexed_states.now.state result (tool_line J.verdict_of (loaded_state indexed_states.now) indexed_states.now.state tool (map string_bytes words.now) text.now) }
+    ensures { Replies indexed_states.now.state result (tool_line (judging J.verdict_of J.decider_of) (loaded_state indexed_states.now) indexed_states.now.state tool (map string_bytes words.now) text.now) }
 {
     let words = words_of(alloc, tool, words)?;
     let effect = words_answer(alloc, indexed_states, tool, &words, text);

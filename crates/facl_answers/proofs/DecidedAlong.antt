@@ -7,9 +7,12 @@ use Rattle.std.specs.FinMap.{find, is_sorted}
 use Rattle.std.specs.FinMap.Entries.{below_all}
 use Rattle.std.proofs.lemmas.Bool.{and_parts}
 use Rattle.std.proofs.lemmas.List.Folds.{list_all-map}
-use Rattle.acl_entry.specs.Check.{check, has, rights}
+use Rattle.acl_entry.specs.Check.{check, has}
+use Rattle.acl_entry.specs.Linux.{linux_check}
+use Rattle.acl_entry.specs.Lists.{IsValid}
 use Rattle.acl_entry.specs.Perms.{Perms}
 use Rattle.acl_entry.specs.Person.{Person}
+use Rattle.acl_entry.specs.declared.label.Label.{Label}
 use Rattle.acl_names.specs.Paths.{path_cmp, PathOf}
 use Rattle.acl_edit.specs.declared.node.Node.{Node}
 use Rattle.acl_names.specs.Below.{is_above, encloses}
@@ -18,13 +21,14 @@ use Rattle.path_map.specs.Entries.{IsInOrder}
 use Rattle.acl_tree.specs.Found.{found_file}
 use Rattle.path_map.specs.Below.{holds_below}
 use Rattle.path_classes.specs.ReachedRows.{execute}
+use Rattle.acl_rights.specs.Deciders.{Judging, linux, posix}
 use Rattle.acl_rights.specs.Reach.{passes}
 use Rattle.acl_entry.proofs.Bytes.{has-byte_of}
 use Rattle.acl_names.proofs.Below.{not_below_itself}
 use Rattle.acl_names.proofs.PathOrder.{path_total}
 use Rattle.acl_names.proofs.Basics.{is_less, or_false, and_assoc}
 use Rattle.facl_answers.proofs.AskedFiles.{one_path, within_is}
-use Rattle.facl_answers.proofs.Deciding.{decided}
+use Rattle.facl_answers.proofs.Deciding.{decided, decided_by_linux}
 use Rattle.facl_answers.specs.Inner.{HasValidList}
 use Rattle.facl_answers.specs.WhyText.{some_decides, is_asked, asked_of, IsDecidedAlong}
 
@@ -59,21 +63,21 @@ nothing_at p (e ∷ es) h =
     let parts = and_parts (is_lt (path_cmp p e.0)) (below_all path_cmp p es) h in
     ap (λ o. cond (is_eq o) (Some e.1) (find path_cmp p es)) (is_less (path_cmp p e.0) parts.0) ∙ nothing_at p es parts.1
 
-module _ (u : Person) (q : Perms) (p : PathOf) where
-  -- what is granted on a file, by the entries that decide
-  is_granted : (e : PathOf × Node) (r : Perms) → HasValidList e → has (rights u e.1.label) r ≡ some_decides u e.1.label r
-  is_granted e r valid = has-byte_of (check u e.1.label) r ∙ decided u e.1.label r valid
+-- a judge grants what the entries that decide contain
+abbrev IsByEntries : Judging → Type 0
+IsByEntries judge = (u : Person) (f : Label) (q : Perms) → IsValid f.acl → has (judge.verdict u f) q ≡ some_decides judge.decider u f q
 
+module _ (judge : Judging) (decided : IsByEntries judge) (u : Person) (q : Perms) (p : PathOf) where
   -- the entries of a file decide what has to be contained in them
   abbrev of_file : PathOf × Node → Bool
-  of_file e = some_decides u e.1.label (cond (eq_by_cmp path_cmp p e.0) q execute)
+  of_file e = some_decides judge.decider u e.1.label (cond (eq_by_cmp path_cmp p e.0) q execute)
 
   -- search is granted where the path is below
   abbrev lets_pass : PathOf × Node → Bool
-  lets_pass e = not (is_above e.0 p) || has (rights u e.1.label) execute
+  lets_pass e = not (is_above e.0 p) || has (judge.verdict u e.1.label) execute
 
   abbrev at_path : Files → Bool
-  at_path es = option_map_or (λ n. has (rights u n.label) q) (find path_cmp p es) true
+  at_path es = option_map_or (λ n. has (judge.verdict u n.label) q) (find path_cmp p es) true
 
   abbrev asked : Files → Files
   asked es = filter (λ e. is_asked true (p ∷ []) e.0) es
@@ -87,22 +91,22 @@ module _ (u : Person) (q : Perms) (p : PathOf) where
       parts : (below_all path_cmp e.0 es ≡ true) × (is_sorted path_cmp es ≡ true)
       parts = and_parts (below_all path_cmp e.0 es) (is_sorted path_cmp es) order
 
-      granted_as : (here : Bool) → eq_by_cmp path_cmp p e.0 ≡ here → of_file e ≡ has (rights u e.1.label) (cond here q execute)
-      granted_as here is = ap (λ b. some_decides u e.1.label (cond b q execute)) is ∙ sym (is_granted e (cond here q execute) valid.0)
+      granted_as : (here : Bool) → eq_by_cmp path_cmp p e.0 ≡ here → of_file e ≡ has (judge.verdict u e.1.label) (cond here q execute)
+      granted_as here is = ap (λ b. some_decides judge.decider u e.1.label (cond b q execute)) is ∙ sym (decided u e.1.label (cond here q execute) valid.0)
 
       not_later : p ≡ e.0 → at_path es ≡ true
-      not_later at = ap (λ o. option_map_or (λ (n : Node). has (rights u n.label) q) o true) (nothing_at p es (ap (λ x. below_all path_cmp x es) at ∙ parts.0))
+      not_later at = ap (λ o. option_map_or (λ (n : Node). has (judge.verdict u n.label) q) o true) (nothing_at p es (ap (λ x. below_all path_cmp x es) at ∙ parts.0))
 
       by : (below here : Bool) → is_above e.0 p ≡ below → eq_by_cmp path_cmp p e.0 ≡ here
           → list_all of_file (asked es) ≡ (list_all lets_pass es && at_path es)
           → list_all of_file (cond (below || here) (e ∷ asked es) (asked es))
-          ≡ (((not below || has (rights u e.1.label) execute) && list_all lets_pass es) && option_map_or (λ (n : Node). has (rights u n.label) q) (cond here (Some e.1) (find path_cmp p es)) true)
+          ≡ (((not below || has (judge.verdict u e.1.label) execute) && list_all lets_pass es) && option_map_or (λ (n : Node). has (judge.verdict u n.label) q) (cond here (Some e.1) (find path_cmp p es)) true)
       by true true under is rest = absurd (true≢false (sym under ∙ ap (λ x. is_above x p) (sym (one_path p e.0 is)) ∙ not_below_itself p))
-      by true false under is rest = (λ i. granted_as false is i && rest i) ∙ and_assoc (has (rights u e.1.label) execute) (list_all lets_pass es) (at_path es)
+      by true false under is rest = (λ i. granted_as false is i && rest i) ∙ and_assoc (has (judge.verdict u e.1.label) execute) (list_all lets_pass es) (at_path es)
       by false true under is rest =
           (λ i. granted_as true is i && rest i)
-          ∙ ap (λ b. has (rights u e.1.label) q && (list_all lets_pass es && b)) (not_later (one_path p e.0 is))
-          ∙ and_comm (has (rights u e.1.label) q) (list_all lets_pass es)
+          ∙ ap (λ b. has (judge.verdict u e.1.label) q && (list_all lets_pass es && b)) (not_later (one_path p e.0 is))
+          ∙ and_comm (has (judge.verdict u e.1.label) q) (list_all lets_pass es)
       by false false under is rest = rest
 
   reached : (b : Bool) (v : ℕ) → has (cond b v 0) q ≡ (b && has v q)
@@ -110,9 +114,24 @@ module _ (u : Person) (q : Perms) (p : PathOf) where
   reached false v = nothing_has q.read q.write q.execute
 
   -- what is granted along the path
-  pub decided_along : (t : Files) → IsInOrder t → AllByRecursion HasValidList t → (n : Node) → find path_cmp p t ≡ Some n → IsDecidedAlong u t q (p, n)
+  decided_along : (t : Files) → IsInOrder t → AllByRecursion HasValidList t → (n : Node) → find path_cmp p t ≡ Some n → IsDecidedAlong judge u t q (p, n)
   decided_along t order valid n found =
-      reached (passes rights t u p) (rights u n.label)
-      ∙ ap (λ o. list_all lets_pass t && option_map_or (λ (m : Node). has (rights u m.label) q) o true) (sym found)
+      reached (passes judge.verdict t u p) (judge.verdict u n.label)
+      ∙ ap (λ o. list_all lets_pass t && option_map_or (λ (m : Node). has (judge.verdict u m.label) q) o true) (sym found)
       ∙ sym (along t order valid)
-      ∙ sym (list_all-map (λ file. some_decides u file.node.label (asked_of p q file)) (λ (e : PathOf × Node). found_file (holds_below t e.0) e) (asked t))
+      ∙ sym (list_all-map (λ file. some_decides judge.decider u file.node.label (asked_of p q file)) (λ (e : PathOf × Node). found_file (holds_below t e.0) e) (asked t))
+
+by_check : IsByEntries posix
+by_check u f q valid = has-byte_of (check u f) q ∙ decided u f q valid
+
+by_linux : IsByEntries linux
+by_linux u f q valid = has-byte_of (linux_check u f) q ∙ decided_by_linux u f q valid
+
+module _ (u : Person) (t : Files) (order : IsInOrder t) (valid : AllByRecursion HasValidList t) where
+  -- what acl(5)'s check grants along a path
+  pub decided_by_check : (q : Perms) (p : PathOf) (n : Node) → find path_cmp p t ≡ Some n → IsDecidedAlong posix u t q (p, n)
+  decided_by_check q p n found = decided_along posix by_check u q p t order valid n found
+
+  -- what Linux grants
+  pub decided_under_linux : (q : Perms) (p : PathOf) (n : Node) → find path_cmp p t ≡ Some n → IsDecidedAlong linux u t q (p, n)
+  decided_under_linux q p n found = decided_along linux by_linux u q p t order valid n found

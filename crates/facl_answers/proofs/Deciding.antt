@@ -1,18 +1,20 @@
 -- The entries that decide on a user are the check.
-use Rattle.std.proofs.Common.{◌≡◌, ℕ, Bool, true, false, cond, not, ◌||◌, ◌&&◌, eqb, List, [], ◌∷◌, map, filter, Option, Some, None, option_map, is_some}
+use Rattle.std.proofs.Common.{◌≡◌, ◌==◌, ℕ, Bool, true, false, cond, not, ◌||◌, ◌&&◌, eqb, List, [], ◌∷◌, map, filter, Option, Some, None, option_map, is_some}
 use Rattle.std.proofs.Common.{unwrap_or, Ordering, Less, Equal, Greater, refl, sym, ap, ◌∙◌}
 use Rattle.std.specs.Prelude.{nat_lt, length}
 use Rattle.std.specs.List.{list_any}
 use Rattle.std.specs.Option.{option_map_or}
 use Rattle.std.specs.Ordering.{is_eq, is_lt}
 use Rattle.std.specs.FinMap as maps
+use Rattle.std.specs.FinSet as sets
 use Rattle.std.specs.FinMap.Entries.{below_all}
 use Rattle.std.proofs.lemmas.Bool.{and_parts}
-use Rattle.acl_names.proofs.Basics.{is_equal, or_false}
+use Rattle.acl_names.proofs.Basics.{and_false, is_equal, or_false}
 use Rattle.acl_entry.specs.Check.{check, is_for, some_entry_grants}
 use Rattle.acl_entry.specs.Keys.{key_cmp, same_key, is_class}
 use Rattle.acl_entry.specs.Lists.{KeyMap, IsValid, entries, keys, is_among, missing_base, unmasked, repeated, most_entries, or_else, perm_at, masked, masked_by}
-use Rattle.acl_entry.specs.Perms.{Perms, none, contains}
+use Rattle.acl_entry.specs.Linux.{check_mode, has_empty_mask, linux_check}
+use Rattle.acl_entry.specs.Perms.{Perms, none, contains, number}
 use Rattle.acl_entry.specs.Person.{Person}
 use Rattle.acl_entry.specs.declared.entry.Entry.{Entry}
 use Rattle.acl_entry.specs.declared.entry.ListFault.TheVariants.{TooLong, Repeated, MissingBase, MissingMask}
@@ -23,8 +25,8 @@ use Rattle.acl_entry.proofs.Faults.{is_among-keys}
 use Rattle.acl_entry.proofs.KeyLaws.{exact_keys}
 use Rattle.acl_entry.proofs.Maps.{get-map_of, map_of-entries}
 use Rattle.acl_entry.proofs.Basics.{from_T}
-use Rattle.facl_answers.specs.Inner.{sole_key, is_chosen}
-use Rattle.facl_answers.specs.WhyText.{perms_listed, some_decides, decides}
+use Rattle.acl_rights.specs.Deciders.{linux_sole_key, mode_key, sole_key}
+use Rattle.facl_answers.specs.WhyText.{perms_listed, some_decides}
 
 -- ---- the entry of a key
 
@@ -79,27 +81,30 @@ no_base_missing false (Some at) base bare h = cc
 no_base_missing false None (Some k) bare h = cc
 no_base_missing false None None bare h = refl
 
-both_there : (a b c : Bool) → cond (not a) (Some Owner) (cond (not b) (Some OwningGroup) (cond (not c) (Some Other) None)) ≡ None → (a ≡ true) × (c ≡ true)
-both_there false b c h = cc
-both_there true false c h = cc
-both_there true true false h = cc
-both_there true true true h = (refl, refl)
+all_there : (a b c : Bool) → cond (not a) (Some Owner) (cond (not b) (Some OwningGroup) (cond (not c) (Some Other) None)) ≡ None → (a ≡ true) × ((b ≡ true) × (c ≡ true))
+all_there false b c h = cc
+all_there true false c h = cc
+all_there true true false h = cc
+all_there true true true h = (refl, (refl, refl))
 
 module _ (m : KeyMap) (valid : IsValid m) where
   at_key : (k : Key) → is_among k (keys (entries m)) ≡ is_some (maps.get m k)
   at_key k = is_among-keys k (entries m) ∙ ap is_some (sym (get-map_of (entries m) k) ∙ ap (λ n. maps.get n k) (map_of-entries m))
 
-  there : (is_among Owner (keys (entries m)) ≡ true) × (is_among Other (keys (entries m)) ≡ true)
+  there : (is_among Owner (keys (entries m)) ≡ true) × ((is_among OwningGroup (keys (entries m)) ≡ true) × (is_among Other (keys (entries m)) ≡ true))
   there =
       let ks = keys (entries m) in
-      both_there (is_among Owner ks) (is_among OwningGroup ks) (is_among Other ks)
+      all_there (is_among Owner ks) (is_among OwningGroup ks) (is_among Other ks)
       (no_base_missing (nat_lt most_entries (length ks)) (repeated ks) (missing_base ks) (unmasked ks) valid)
 
   owner_there : is_some (maps.get m Owner) ≡ true
   owner_there = sym (at_key Owner) ∙ there.0
 
+  group_there : is_some (maps.get m OwningGroup) ≡ true
+  group_there = sym (at_key OwningGroup) ∙ there.1.0
+
   other_there : is_some (maps.get m Other) ≡ true
-  other_there = sym (at_key Other) ∙ there.1
+  other_there = sym (at_key Other) ∙ there.1.1
 
 -- ---- the check
 
@@ -133,29 +138,54 @@ module _ (u : Person) (f : Label) (q : Perms) where
       by false is rest = rest
 
   -- a request is granted exactly if an entry that decides contains it
-  pub decided : IsValid f.acl → check u f q ≡ some_decides u f q
+  pub decided : IsValid f.acl → check u f q ≡ some_decides sole_key u f q
   decided valid = by (eqb u.uid f.owner) (maps.get f.acl (User u.uid)) refl (list_any (is_for u f.group) (entries f.acl))
     where
       by : (owns : Bool) (o : Option Perms) → maps.get f.acl (User u.uid) ≡ o → (matched : Bool)
           → cond owns (contains (perm_at f.acl Owner) q)
           (option_map_or (λ s. contains (masked f.acl s) q) o (cond matched (some_entry_grants u f.group (maps.get f.acl Mask) (entries f.acl) q) (contains (perm_at f.acl Other) q)))
           ≡ list_any grants
-          (filter (λ (e : Entry). cond owns (same_key Owner e.key) (cond (is_some o) (same_key (User u.uid) e.key) (cond matched (is_for u f.group e) (same_key Other e.key)))) (entries f.acl))
+          (filter (λ (e : Entry). option_map_or (λ k. same_key k e.key) (cond owns (Some Owner) (cond (is_some o) (Some (User u.uid)) (cond matched None (Some Other)))) (is_for u f.group e)) (entries f.acl))
       by true o is matched = alone (maps.get f.acl Owner) (owner_there f.acl valid) ∙ sym (only Owner f.acl grants)
       by false (Some s) is matched = sym (only (User u.uid) f.acl grants ∙ ap (λ x. option_map_or (λ s. contains (masked f.acl s) q) x false) is)
       by false None is true = in_groups (entries f.acl)
       by false None is false = alone (maps.get f.acl Other) (other_there f.acl valid) ∙ sym (only Other f.acl grants)
 
--- ---- the entries that are printed
+  -- ---- what Linux grants
 
--- an entry decides exactly if it is that of the sole key, or for one of the user's groups where there is none
-pub chosen_decides : (u : Person) (f : Label) (e : Entry) → is_chosen u f.group (sole_key u f) e ≡ decides u f e
-chosen_decides u f e = by (eqb u.uid f.owner) (is_some (maps.get f.acl (User u.uid))) (list_any (is_for u f.group) (entries f.acl))
-  where
-    by : (owns is_named is_grouped : Bool)
-        → option_map_or (λ k. same_key k e.key) (cond owns (Some Owner) (cond is_named (Some (User u.uid)) (cond is_grouped None (Some Other)))) (is_for u f.group e)
-        ≡ cond owns (same_key Owner e.key) (cond is_named (same_key (User u.uid) e.key) (cond is_grouped (is_for u f.group e) (same_key Other e.key)))
-    by true is_named is_grouped = refl
-    by false true is_grouped = refl
-    by false false true = refl
-    by false false false = refl
+  -- nothing is left under a mask that grants nothing
+  under_empty : (mask : Option Perms) → option_map_or (λ s. number s == 0) mask false ≡ true → (s : Perms) → masked_by mask s ≡ none
+  under_empty None h s = cc
+  under_empty (Some m) h s = by m.read m.write m.execute h
+    where
+      by : (r w x : Bool) → (number (record { read = r; write = w; execute = x }) == 0) ≡ true → masked_by (Some (record { read = r; write = w; execute = x })) s ≡ none
+      by true w x h = cc
+      by false true x h = cc
+      by false false true h = cc
+      by false false false h = λ i. record { read = and_false s.read i; write = and_false s.write i; execute = and_false s.execute i }
+
+  -- the entry of the owning group, under such a mask
+  in_group : has_empty_mask f.acl ≡ true → (o : Option Perms) → is_some o ≡ true → contains none q ≡ option_map_or (λ s. contains (masked f.acl s) q) o false
+  in_group empty None there = cc
+  in_group empty (Some s) there = ap (λ t. contains t q) (sym (under_empty (maps.get f.acl Mask) empty s))
+
+  by_mode : IsValid f.acl → has_empty_mask f.acl ≡ true → check_mode u f q ≡ some_decides mode_key u f q
+  by_mode valid empty = by (eqb u.uid f.owner) (sets.contains u.groups f.group)
+    where
+      by : (owns member : Bool)
+          → cond owns (contains (perm_at f.acl Owner) q) (cond member (contains none q) (contains (perm_at f.acl Other) q))
+          ≡ list_any grants
+          (filter (λ (e : Entry). option_map_or (λ k. same_key k e.key) (cond owns (Some Owner) (cond member (Some OwningGroup) (Some Other))) (is_for u f.group e)) (entries f.acl))
+      by true member = alone (maps.get f.acl Owner) (owner_there f.acl valid) ∙ sym (only Owner f.acl grants)
+      by false true = in_group empty (maps.get f.acl OwningGroup) (group_there f.acl valid) ∙ sym (only OwningGroup f.acl grants)
+      by false false = alone (maps.get f.acl Other) (other_there f.acl valid) ∙ sym (only Other f.acl grants)
+
+  -- a request is granted by Linux exactly if an entry that decides under it contains it
+  pub decided_by_linux : IsValid f.acl → linux_check u f q ≡ some_decides linux_sole_key u f q
+  decided_by_linux valid = by (has_empty_mask f.acl) refl
+    where
+      by : (empty : Bool) → has_empty_mask f.acl ≡ empty
+          → cond empty (check_mode u f q) (check u f q)
+          ≡ list_any grants (filter (λ (e : Entry). option_map_or (λ k. same_key k e.key) (cond empty (mode_key u f) (sole_key u f)) (is_for u f.group e)) (entries f.acl))
+      by true is = by_mode valid is
+      by false is = decided valid

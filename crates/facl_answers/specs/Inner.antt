@@ -1,18 +1,15 @@
 -- For inner functions, and those that facl_counts calls: no contract of a question names these definitions.
 use Rattle.std.specs.Prelude.{◌≡◌, ℕ, ◌==◌, ◌<◌, Bool, true, false, not, if◌then◌else◌, List, [], ◌∷◌, ◌++◌, get_or, length, map, zip, position, slice_get}
-use Rattle.std.specs.Prelude.{Option, Some, None, is_some, option_and_then, unwrap_or}
-use Rattle.std.specs.List.{flat_map, list_any}
+use Rattle.std.specs.Prelude.{Option, Some, None, option_and_then, unwrap_or}
+use Rattle.std.specs.List.{flat_map}
 use Rattle.std.specs.Option.{option_map_or}
-use Rattle.std.specs.FinMap as maps
 use Rattle.acl_entry.specs.Check.{is_for}
 use Rattle.acl_entry.specs.Keys.{same_key}
-use Rattle.acl_entry.specs.Lists.{IsValid, entries}
+use Rattle.acl_entry.specs.Lists.{IsValid}
 use Rattle.acl_entry.specs.Perms.{Perms}
 use Rattle.acl_entry.specs.Person.{Person}
 use Rattle.acl_entry.specs.declared.entry.Entry.{Entry}
 use Rattle.acl_entry.specs.declared.entry.Key.{Key}
-use Rattle.acl_entry.specs.declared.entry.Key.TheVariants.{Owner, User, Other}
-use Rattle.acl_entry.specs.declared.label.Label.{Label}
 use Rattle.acl_names.specs.Paths.{PathOf}
 use Rattle.acl_edit.specs.declared.node.Node.{Node}
 use Rattle.acl_tree.specs.Walks.{ancestors}
@@ -36,14 +33,6 @@ use Rattle.facl_answers.specs.declared.file_walk.FileInClass.{FileInClass}
 use Rattle.facl_answers.specs.declared.file_walk.Walk.{Walk}
 
 -- ---- what `why` looks at
-
--- the key whose entry alone decides, where one does; none where the entries of the user's groups do
-abbrev pub sole_key : Person → Label → Option Key
-sole_key u f =
-    if u.uid == f.owner then Some Owner
-    else if is_some (maps.get f.acl (User u.uid)) then Some (User u.uid)
-    else if list_any (is_for u f.group) (entries f.acl) then None
-    else Some Other
 
 -- whether an entry is that of the key, where there is one, or for one of the user's groups
 abbrev pub is_chosen : Person → ℕ → Option Key → Entry → Bool

@@ -5,8 +5,10 @@ ghost use Rattle.std.specs.FinMap.{find};
 ghost use Rattle.std.specs.List.{AllByRecursion};
 ghost use Rattle.acl_edit.specs.declared.node.Node.{Node};
 ghost use Rattle.acl_entry.specs.Check.{check};
+ghost use Rattle.acl_entry.specs.Linux.{linux_check};
 ghost use Rattle.acl_entry.specs.Perms.{Perms};
 ghost use Rattle.acl_names.specs.Paths.{path_cmp, PathOf};
+ghost use Rattle.acl_rights.specs.Deciders.{linux, linux_sole_key, posix, sole_key};
 ghost use Rattle.acl_rights.specs.Rows.{Verdict};
 ghost use Rattle.facl_answers.specs.ChangesText.{change_line, change_lines, changes_text, IsUnchanged};
 ghost use Rattle.facl_answers.specs.Inner.{HasValidList};
@@ -19,9 +21,10 @@ use acl_names::Path;
 use acl_tree::{State, Tree};
 
 /// Proof only: the check of acl(5) grants a user a request on a file exactly if one of the entries that `why` prints
-/// contains it: of an entry of the group class what the mask leaves.
+/// contains it: of an entry of the group class what the mask leaves. So does Linux, by the entries printed under its judge.
 pub fn deciding_entries_are_the_check(subject: &Subject, label: &Label)
-    ensures { (q : Perms) → check subject.now label.now q ≡ some_decides subject.now label.now q }
+    ensures posix { (q : Perms) → check subject.now label.now q ≡ some_decides sole_key subject.now label.now q }
+    ensures linux { (q : Perms) → linux_check subject.now label.now q ≡ some_decides linux_sole_key subject.now label.now q }
 {
     let _entries = label.acl.entries();
 }
@@ -47,7 +50,8 @@ fn lists_are_valid(tree: &Tree)
 /// `why --reach` prints for this file alone, one of the file's contains it and one of each directory's contains
 /// search.
 pub fn deciding_entries_are_the_reach(subject: &Subject, tree: &Tree)
-    ensures { (q : Perms) (p : PathOf) (n : Node) → find path_cmp p tree.now.files ≡ Some n → IsDecidedAlong subject.now tree.now.files q (p, n) }
+    ensures posix { (q : Perms) (p : PathOf) (n : Node) → find path_cmp p tree.now.files ≡ Some n → IsDecidedAlong posix subject.now tree.now.files q (p, n) }
+    ensures linux { (q : Perms) (p : PathOf) (n : Node) → find path_cmp p tree.now.files ≡ Some n → IsDecidedAlong linux subject.now tree.now.files q (p, n) }
 {
     tree.soundness_law();
     lists_are_valid(tree);

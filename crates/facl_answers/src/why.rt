@@ -1,51 +1,22 @@
-//! What `why` prints: the entries that decide on a user.
+//! What `why` prints: the entries by which a judge decides on a user.
 
 ghost use Rattle.std.specs.Prelude.{◌≡◌, ◌≢◌, ◌++◌, ◌∷◌, [], None, IfOk, IfErr, OnOk, false};
 ghost use Rattle.acl_names.specs.Appends.{Appends};
-ghost use Rattle.std.specs.List.{list_any};
-ghost use Rattle.acl_entry.specs.Check.{is_for};
-ghost use Rattle.acl_entry.specs.Lists.{entries};
+ghost use Rattle.acl_people.specs.KnownPeople.{naming_of};
 ghost use Rattle.acl_tree.specs.Walks.{ancestors};
 ghost use Rattle.acl_tree.specs.Operands.{first_missing, IsMissing};
-ghost use Rattle.facl_answers.specs.Inner.{sole_key, is_chosen, ways, asked_paths};
+ghost use Rattle.facl_answers.specs.Inner.{is_chosen, ways, asked_paths};
 ghost use Rattle.facl_answers.specs.WhyText.{deciding_text, files_asked, why_record, why_text};
 
 use acl_entry::{Entry, Id, Key, Label, Subject};
 use acl_names::Path;
+use acl_people::People;
+use acl_rights::{IndexedState, Judge};
 use acl_text::{Effective, Names, Which, push_line};
 use acl_tree::{FoundFile, Paths, Selection, Tree, TreeFault};
 use facl_output::push_path;
 use std::alloc::{AllocError, Global};
 use std::cmp::Ordering;
-
-/// Tells whether some entry is for one of the user's groups.
-fn is_matched(subject: &Subject, label: &Label) -> bool
-    ensures { result ≡ list_any (is_for subject.now label.now.group) (entries label.now.acl) }
-{
-    for entry in label.acl.entries() {
-        if subject.matches(label.group, &entry.key) {
-            return true;
-        }
-    }
-    false
-}
-
-/// Returns the key whose entry alone decides on the user; `None` if the entries of the user's groups do.
-fn sole_key(subject: &Subject, label: &Label) -> Option<Key>
-    ensures { result ≡ sole_key subject.now label.now }
-{
-    if subject.uid() == label.owner {
-        return Some(Key::Owner);
-    }
-    if label.acl.get(Key::User(subject.uid())).is_some() {
-        return Some(Key::User(subject.uid()));
-    }
-    if is_matched(subject, label) {
-        None
-    } else {
-        Some(Key::Other)
-    }
-}
 
 /// Tells whether an entry is that of the key, if there is one, or else for one of the user's groups.
 fn is_chosen(subject: &Subject, owning: Id, sole: &Option<Key>, entry: &Entry) -> bool
@@ -58,15 +29,15 @@ fn is_chosen(subject: &Subject, owning: Id, sole: &Option<Key>, entry: &Entry) -
 }
 
 /// Adds the entries that decide on a user.
-fn push_deciding<N: Names>(
+fn push_deciding<J: Judge, N: Names>(
     text: &mut Vec<u8>,
     names: &N,
     subject: &Subject,
     label: &Label,
 ) -> Result<(), AllocError>
-    ensures { Appends result text.old text.new (deciding_text (N.naming names.now) subject.now label.now) }
+    ensures { Appends result text.old text.new (deciding_text (N.naming names.now) J.decider_of subject.now label.now) }
 {
-    let sole = sole_key(subject, label);
+    let sole = J::sole_key(subject, label);
     let mask = label.acl.get(Key::Mask);
     for entry in label.acl.entries() {
         if is_chosen(subject, label.group, &sole, entry) {
@@ -83,47 +54,47 @@ fn push_deciding<N: Names>(
     Ok(())
 }
 
-fn push_record<N: Names>(
+fn push_record<J: Judge, N: Names>(
     text: &mut Vec<u8>,
     names: &N,
     subject: &Subject,
     file: &FoundFile<'_>,
 ) -> Result<(), AllocError>
-    ensures { Appends result text.old text.new (why_record (N.naming names.now) subject.now file.now) }
+    ensures { Appends result text.old text.new (why_record (N.naming names.now) J.decider_of subject.now file.now) }
 {
     push_path(text, file)?;
-    push_deciding(text, names, subject, &file.node().label)?;
+    push_deciding::<J, N>(text, names, subject, &file.node().label)?;
     text.push(b'\n')?;
     Ok(())
 }
 
-fn push_records<N: Names>(
+fn push_records<J: Judge, N: Names>(
     text: &mut Vec<u8>,
     names: &N,
     subject: &Subject,
     files: &[FoundFile<'_>],
 ) -> Result<(), AllocError>
-    ensures { Appends result text.old text.new (why_text (N.naming names.now) subject.now files.now) }
+    ensures { Appends result text.old text.new (why_text (N.naming names.now) J.decider_of subject.now files.now) }
 {
     for file in files {
-        push_record(text, names, subject, file)?;
+        push_record::<J, N>(text, names, subject, file)?;
     }
     Ok(())
 }
 
 /// Writes what `why` prints of a user and these files, in their order: for each a line of its path, the entries of
-/// its access list that decide on the user by the check of acl(5), as getfacl(1) prints them without options, and an
-/// empty line.
-pub fn write_why<N: Names>(
+/// its access list by which the judge decides on the user, as getfacl(1) prints them without options, and an empty line.
+pub fn write_why<J: Judge>(
     alloc: Global,
-    names: &N,
+    indexed: &IndexedState<J>,
     subject: &Subject,
     files: &[FoundFile<'_>],
 ) -> Result<Vec<u8>, AllocError>
-    ensures { IfOk result (λ text. text.items ≡ why_text (N.naming names.now) subject.now files.now) }
+    ensures { IfOk result (λ text. text.items ≡ why_text (naming_of indexed.now.people) J.decider_of subject.now files.now) }
 {
     let mut text = Vec::new(alloc);
-    push_records(&mut text, names, subject, files)?;
+    let people = indexed.state().people();
+    push_records::<J, People>(&mut text, people, subject, files)?;
     Ok(text)
 }
 

@@ -1,9 +1,9 @@
 //! Judges whose verdicts are not those of acl(5)'s check.
 
-ghost use Rattle.std.specs.Prelude.{◌≡◌, ◌^◌, length, map};
+ghost use Rattle.std.specs.Prelude.{◌≡◌, ◌^◌, Some, length, map};
 ghost use Rattle.acl_entry.specs.Lists.{perm_at};
 ghost use Rattle.acl_entry.specs.Perms.{number};
-ghost use Rattle.facl_tests.specs.Verdicts.{class_set, owner_alone, owner_alone_local, whole_class, whole_class_local};
+ghost use Rattle.facl_tests.specs.Verdicts.{class_key, owner_alone, owner_alone_local, whole_class, whole_class_local};
 
 use acl_entry::{Key, Label, Perm, Requests, Subject};
 use acl_people::Subjects;
@@ -44,11 +44,17 @@ impl OwnerAlone {
 impl Judge for OwnerAlone {
     ghost verdict_of = { owner_alone };
 
+    ghost decider_of = { λ _ _. Some Key.Owner };
+
     ghost asked_of = { λ judge. judge.asked };
 
     fn verdict(&mut self, subject: &Subject, label: &Label) -> Requests {
         self.asked += 1;
         owner_alone(subject, label)
+    }
+
+    fn sole_key(_subject: &Subject, _label: &Label) -> Option<Key> {
+        Some(Key::Owner)
     }
 
     fn asked(&self) -> u64 {
@@ -86,6 +92,8 @@ impl OwnerAtOnce {
 impl Judge for OwnerAtOnce {
     ghost verdict_of = { owner_alone };
 
+    ghost decider_of = { λ _ _. Some Key.Owner };
+
     ghost asked_of = { λ judge. judge.asked };
 
     fn verdict(&mut self, subject: &Subject, label: &Label) -> Requests {
@@ -98,6 +106,10 @@ impl Judge for OwnerAtOnce {
         owners_at_once(users, label, row);
     }
 
+    fn sole_key(_subject: &Subject, _label: &Label) -> Option<Key> {
+        Some(Key::Owner)
+    }
+
     fn asked(&self) -> u64 {
         self.asked
     }
@@ -105,16 +117,16 @@ impl Judge for OwnerAtOnce {
     ghost local = { owner_alone_local };
 }
 
-/// The permission set of the user's class: of the owner, of the owning group, or of the others.
-fn class_set(subject: &Subject, label: &Label) -> Perm
-    ensures { result ≡ class_set subject.now label.now }
+/// The key of the user's class: of the owner, of the owning group, or of the others.
+fn class_key(subject: &Subject, label: &Label) -> Key
+    ensures { result ≡ class_key subject.now label.now }
 {
     if subject.uid() == label.owner {
-        set_of(label, Key::Owner)
+        Key::Owner
     } else if subject.is_of(label.group) {
-        set_of(label, Key::OwningGroup)
+        Key::OwningGroup
     } else {
-        set_of(label, Key::Other)
+        Key::Other
     }
 }
 
@@ -136,11 +148,17 @@ impl WholeClass {
 impl Judge for WholeClass {
     ghost verdict_of = { whole_class };
 
+    ghost decider_of = { λ u f. Some (class_key u f) };
+
     ghost asked_of = { λ judge. judge.asked };
 
     fn verdict(&mut self, subject: &Subject, label: &Label) -> Requests {
         self.asked += 1;
-        one_request(class_set(subject, label))
+        one_request(set_of(label, class_key(subject, label)))
+    }
+
+    fn sole_key(subject: &Subject, label: &Label) -> Option<Key> {
+        Some(class_key(subject, label))
     }
 
     fn asked(&self) -> u64 {
@@ -193,12 +211,18 @@ impl Watching {
 impl Judge for Watching {
     ghost verdict_of = { owner_alone };
 
+    ghost decider_of = { λ _ _. Some Key.Owner };
+
     ghost asked_of = { λ judge. judge.asked };
 
     fn verdict(&mut self, subject: &Subject, label: &Label) -> Requests {
         self.asked += 1;
         self.note(subject, label);
         owner_alone(subject, label)
+    }
+
+    fn sole_key(_subject: &Subject, _label: &Label) -> Option<Key> {
+        Some(Key::Owner)
     }
 
     fn asked(&self) -> u64 {

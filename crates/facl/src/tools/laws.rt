@@ -12,7 +12,7 @@ ghost use Rattle.facl_tools.specs.Operands.{name_meant};
 ghost use Rattle.facl_tools.specs.Replies.{done};
 ghost use Rattle.facl.specs.ToolParts.{IsAtFault, place, rank};
 ghost use Rattle.facl.specs.FirstPart.{IsRefusedForFirst};
-ghost use Rattle.acl_rights.specs.Rows.{Verdict};
+ghost use Rattle.acl_rights.specs.Deciders.{Judging};
 ghost use Rattle.facl.specs.ToolLines.{answered};
 ghost use Rattle.facl.specs.Tools.{row_for, tool_name, tool_named};
 ghost use Rattle.facl.specs.declared.tools.Tool.{Tool};
@@ -32,8 +32,8 @@ use acl_tree::commands_are_refused_for_their_first_fault;
 /// is both removed and modified, its operands by their places, the user that it names, the files that it looks at, and
 /// what it does. Neither a judge's verdict nor the state after the texts were loaded matters.
 pub fn tool_lines_are_refused_for_their_first_fault()
-    ensures { (verdict : Verdict) (loaded s : State) (line : ToolLine) (text : List ℕ)
-        → IsRefusedForFirst rank place (IsAtFault s line text) (answered verdict loaded s line text) }
+    ensures { (judge : Judging) (loaded s : State) (line : ToolLine) (text : List ℕ)
+        → IsRefusedForFirst rank place (IsAtFault s line text) (answered judge loaded s line text) }
 {}
 
 /// Proof only: what a line does is refused exactly if a fault applies to its command, and for the first of these, in the
@@ -41,16 +41,16 @@ pub fn tool_lines_are_refused_for_their_first_fault()
 /// which has no other part: no such user, no such group, no member, and so on.
 pub fn lines_are_refused_for_the_first_fault_of_their_command()
     ensures each { (s : State) (command : Command) → IsInOrder s.tree.files → IsRefusedAs s command (done s command) }
-    ensures load { (verdict : Verdict) (loaded s : State) (line : LoadLine) (bytes : Bor (List ℕ)) → IsInOrder s.tree.files
-        → IsRefusedAs s (commands.Load line.table bytes) (answered verdict loaded s (lines.Load line) bytes.now) }
-    ensures gpasswd { (verdict : Verdict) (loaded s : State) (line : GpasswdLine) (text : List ℕ) → IsInOrder s.tree.files
-        → IsRefusedAs s (commands.Gpasswd (name_meant line.user) (name_meant line.group) line.change) (answered verdict loaded s (lines.Gpasswd line) text) }
-    ensures usermod { (verdict : Verdict) (loaded s : State) (line : UsermodLine) (text : List ℕ) → IsInOrder s.tree.files
-        → IsRefusedAs s (commands.Usermod (name_meant line.user) (name_meant line.group)) (answered verdict loaded s (lines.Usermod line) text) }
-    ensures useradd { (verdict : Verdict) (loaded s : State) (line : UseraddLine) (text : List ℕ) → IsInOrder s.tree.files
-        → IsRefusedAs s (commands.Useradd (new_user line)) (answered verdict loaded s (lines.Useradd line) text) }
-    ensures userdel { (verdict : Verdict) (loaded s : State) (line : UserdelLine) (text : List ℕ) → IsInOrder s.tree.files
-        → IsRefusedAs s (commands.Userdel (name_meant line.user)) (answered verdict loaded s (lines.Userdel line) text) }
+    ensures load { (judge : Judging) (loaded s : State) (line : LoadLine) (bytes : Bor (List ℕ)) → IsInOrder s.tree.files
+        → IsRefusedAs s (commands.Load line.table bytes) (answered judge loaded s (lines.Load line) bytes.now) }
+    ensures gpasswd { (judge : Judging) (loaded s : State) (line : GpasswdLine) (text : List ℕ) → IsInOrder s.tree.files
+        → IsRefusedAs s (commands.Gpasswd (name_meant line.user) (name_meant line.group) line.change) (answered judge loaded s (lines.Gpasswd line) text) }
+    ensures usermod { (judge : Judging) (loaded s : State) (line : UsermodLine) (text : List ℕ) → IsInOrder s.tree.files
+        → IsRefusedAs s (commands.Usermod (name_meant line.user) (name_meant line.group)) (answered judge loaded s (lines.Usermod line) text) }
+    ensures useradd { (judge : Judging) (loaded s : State) (line : UseraddLine) (text : List ℕ) → IsInOrder s.tree.files
+        → IsRefusedAs s (commands.Useradd (new_user line)) (answered judge loaded s (lines.Useradd line) text) }
+    ensures userdel { (judge : Judging) (loaded s : State) (line : UserdelLine) (text : List ℕ) → IsInOrder s.tree.files
+        → IsRefusedAs s (commands.Userdel (name_meant line.user)) (answered judge loaded s (lines.Userdel line) text) }
 {
     commands_are_refused_for_their_first_fault();
 }

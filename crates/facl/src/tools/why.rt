@@ -1,4 +1,4 @@
-//! The tool `why`: the entries that decide on a user.
+//! The tool `why`: the entries by which the judge decides on a user.
 
 ghost use Rattle.std.specs.Prelude.{◌≡◌};
 ghost use Rattle.std.specs.Option.{option_copied};
@@ -8,7 +8,8 @@ ghost use Rattle.facl.specs.Why.{answered, person_named, read, why_at, why_of};
 use acl_entry::Subject;
 use acl_names::Name;
 use acl_people::People;
-use acl_tree::{Paths, State, TreeFault};
+use acl_rights::{IndexedState, Judge};
+use acl_tree::{Paths, TreeFault};
 use facl_answers::{files_asked, write_why};
 use facl_output::LineFault;
 use facl_script::{LineFiles, OperandRow, OptionRow, Syntax, WordRef, Words};
@@ -53,42 +54,46 @@ fn subject_named<'a>(people: &'a People, name: &Name) -> Option<&'a Subject>
 }
 
 /// Prints what decides on a user on the files of these paths.
-fn why_at(
+fn why_at<J: Judge>(
     alloc: Global,
-    state: &State,
+    indexed: &IndexedState<J>,
     along: bool,
     paths: Paths,
     subject: &Subject,
 ) -> Result<Vec<u8>, LineFault>
-    ensures { Gives (λ out. out.items) result (why_at state.now along paths subject.now) }
+    ensures { Gives (λ out. out.items) result (why_at J.decider_of indexed.now along paths subject.now) }
 {
-    let files = files_asked(alloc, state.tree(), paths, along)?;
-    let out = write_why(alloc, state.people(), subject, &files)?;
+    let files = files_asked(alloc, indexed.state().tree(), paths, along)?;
+    let out = write_why(alloc, indexed, subject, &files)?;
     Ok(out)
 }
 
 /// Prints what decides on the user that a word means, on the files of these paths.
-fn why_of(
+fn why_of<J: Judge>(
     alloc: Global,
-    state: &State,
+    indexed: &IndexedState<J>,
     along: bool,
     word: &WordRef<'_>,
     paths: Paths,
 ) -> Result<Vec<u8>, LineFault>
-    ensures { Gives (λ out. out.items) result (why_of state.now along word.now paths) }
+    ensures { Gives (λ out. out.items) result (why_of J.decider_of indexed.now along word.now paths) }
 {
     let name = name_meant(alloc, word)?;
-    match subject_named(state.people(), &name) {
-        Some(subject) => why_at(alloc, state, along, paths, subject),
+    match subject_named(indexed.state().people(), &name) {
+        Some(subject) => why_at(alloc, indexed, along, paths, subject),
         None => Err(LineFault::Tree(TreeFault::NoSuchUser { name })),
     }
 }
 
 /// Prints the entries that decide on a user, on files; with `--reach` on the recorded directories above them too.
-pub(crate) fn answer(alloc: Global, state: &State, line: WhyLine<'_>) -> Result<Effect, LineFault>
-    ensures { Replies state.now result (answered state.now line.entry) }
+pub(crate) fn answer<J: Judge>(
+    alloc: Global,
+    indexed: &IndexedState<J>,
+    line: WhyLine<'_>,
+) -> Result<Effect, LineFault>
+    ensures { Replies indexed.now result (answered J.decider_of indexed.now line.entry) }
 {
     let paths = paths_of(alloc, line.files.as_slice())?;
-    let out = why_of(alloc, state, line.reach, &line.user, paths)?;
+    let out = why_of(alloc, indexed, line.reach, &line.user, paths)?;
     Ok(Effect::prints(out))
 }

@@ -1,5 +1,6 @@
 use Rattle.std.proofs.Common.{sym, subst, ◌∙◌}
 use Rattle.acl_rights.specs.States.{loaded_state}
+use Rattle.acl_rights.specs.Deciders.{judging}
 use Rattle.facl_tools.specs.Replies.{Replies}
 use Rattle.facl.specs.ToolLines.{answered}
 use Rattle.facl.proofs.tools.answer.Goals as goal
@@ -9,5 +10,5 @@ unfolding answered
 returns-in-Useradd g c =
     let loaded = loaded_state c.args.indexed_states.now in
     let state = c.state-state.result.now in
-    subst (λ s. Replies s c.answer-in-Useradd.result (answered g.J.Judge.verdict_of loaded s c.args.line c.args.text.now)) (c.state-state.ensures ∙ c.state-indexed.ensures)
-    (subst (λ l. Replies state c.answer-in-Useradd.result (answered g.J.Judge.verdict_of loaded state l c.args.text.now)) (sym c.in-Useradd.is) c.answer-in-Useradd.ensures)
+    subst (λ s. Replies s c.answer-in-Useradd.result (answered (judging g.J.Judge.verdict_of g.J.Judge.decider_of) loaded s c.args.line c.args.text.now)) (c.state-state.ensures ∙ c.state-indexed.ensures)
+    (subst (λ l. Replies state c.answer-in-Useradd.result (answered (judging g.J.Judge.verdict_of g.J.Judge.decider_of) loaded state l c.args.text.now)) (sym c.in-Useradd.is) c.answer-in-Useradd.ensures)

@@ -1,5 +1,8 @@
-use Rattle.facl_answers.proofs.DecidedAlong.{decided_along}
+use Rattle.facl_answers.proofs.DecidedAlong.{decided_by_check, decided_under_linux}
 use Rattle.facl_answers.proofs.laws.deciding_entries_are_the_reach.Goals as goal
 
-pub returns : goal.returns
-returns c = λ q p n found. decided_along c.args.subject.now q p c.args.tree.now.files c.soundness_law.ensures.order c.lists_are_valid.ensures n found
+pub returns-clause-posix : goal.returns-clause-posix
+returns-clause-posix c = decided_by_check c.args.subject.now c.args.tree.now.files c.soundness_law.ensures.order c.lists_are_valid.ensures
+
+pub returns-clause-linux : goal.returns-clause-linux
+returns-clause-linux c = decided_under_linux c.args.subject.now c.args.tree.now.files c.soundness_law.ensures.order c.lists_are_valid.ensures

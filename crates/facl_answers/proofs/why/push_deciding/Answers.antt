@@ -2,14 +2,10 @@ use Rattle.std.proofs.Common.{◌++◌, filter, sym, ap, ◌∙◌, arith, take}
 use Rattle.acl_names.proofs.Appended.{still_begins}
 use Rattle.std.proofs.lemmas.Grind.{common_steps}
 use Rattle.std.specs.List.{flat_map}
-use Rattle.std.specs.FinMap as maps
-use Rattle.acl_entry.specs.Lists.{entries}
-use Rattle.acl_entry.specs.declared.entry.Key.TheVariants.{Mask}
 use Rattle.acl_text.specs.DumpWriting.{entry_line}
 use Rattle.acl_text.specs.declared.effective.Effective.TheVariants.{WhereMasked}
 use Rattle.acl_text.specs.declared.fault.Which.TheVariants.{Access}
 use Rattle.facl_answers.specs.Inner.{is_chosen}
-use Rattle.facl_answers.proofs.Deciding.{chosen_decides}
 use Rattle.facl_output.proofs.Loops.{passed_added, other_left, all_passed}
 use Rattle.facl_answers.proofs.why.push_deciding.Goals as goal
 use Rattle.facl_answers.proofs.why.push_deciding.Goals.{then-is_chosen+in_ok-push_line, else-is_chosen}
@@ -48,4 +44,3 @@ returns g c =
     all_passed (line_by c.get-mask.result) c.entries-entry-items.result.now start (is_chosen subject label.group c.sole_key-sole.result) c.loop-entry.entry-index c.loop-entry.text.items
     c.loop-entry-test.false c.loop-entry.invariant
     ∙ (λ i. start ++ flat_map (line_by (c.get-mask.ensures i)) (filter (is_chosen subject label.group (c.sole_key-sole.ensures i)) (c.entries-entry-items.ensures.all i)))
-    ∙ (λ i. start ++ flat_map (line_by (maps.get label.acl Mask)) (filter (λ e. chosen_decides subject label e i) (entries label.acl)))
