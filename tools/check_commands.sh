@@ -29,12 +29,15 @@ case $option in
     ;;
 esac
 FACL=$(realpath -m -- "${1:-$top/crates/facl_cli/out/facl_cli}")
-export FACL
-if [ "$option" != --lint ] && [ ! -x "$FACL" ]; then
-    echo "tools/check_commands.sh: $FACL: no such program: give one that is built" >&2
-    echo "0 passed, 1 failed"
-    exit 2
-fi
+FACL_LINUX=$(realpath -m -- "${FACL_LINUX:-$top/crates/facl_linux_cli/out/facl_linux_cli}")
+export FACL FACL_LINUX
+for program in "$FACL" "$FACL_LINUX"; do
+    if [ "$option" != --lint ] && [ ! -x "$program" ]; then
+        echo "tools/check_commands.sh: $program: no such program: give one that is built" >&2
+        echo "0 passed, 1 failed"
+        exit 2
+    fi
+done
 cd "$top"
 
 # lint TOOL WORD..: counts as a failed test where the tool is there and finds something

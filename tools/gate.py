@@ -7,7 +7,8 @@ First the ways through crates.txt (tools/ways.py) and tools/check_commands.sh --
 something. Then `rt ci` proves every crate from nothing and runs its tests, in as many lanes as tools/lib/lanes.py finds: with
 two or more they are given by RT_JOBS, and then `rt ci` reserves no memory, but a check waits while memory is short
 (tools/lib/memory_watch.py); with one, or where RT_JOBS is set already, nothing changes. Beside it, tools/edits.py tries the wrong bodies of crates/NAME/wrong/ on lanes that are idle, and once `rt ci` says
-that facl_cli is proved, now or by an earlier run, which it does after it has built it, tools/check_commands.sh tests the commands by it.
+that the programs are proved, now or by an earlier run, which it does after it has built them, tools/check_commands.sh tests the
+commands by them.
 
 What `rt ci` prints is printed as it comes; what the others print, once it has ended. The last line is `N passed, M failed`, of
 all. The exit status is 0 where none failed, 1 where something did, and 128 and the signal's number where it is interrupted.
@@ -32,7 +33,7 @@ from kit import proved  # noqa: E402
 from memory_watch import MemoryWatch  # noqa: E402
 from processes import programs_below  # noqa: E402
 from script import TOP  # noqa: E402
-from ways import PROGRAM  # noqa: E402
+from ways import PROGRAM, PROGRAMS  # noqa: E402
 
 BUILT = os.path.join("crates", PROGRAM, "out", PROGRAM)
 PAUSE = 0.5  # Seconds between two looks at what ended, and at memory.
@@ -149,7 +150,7 @@ def run(gate: Gate) -> int:
     gate.start("edits", ["tools/edits.py", "--jobs", str(number), "--beside", str(rt.program.pid), "--log", rt.log])
     while not rt.ended():
         rt.show()
-        if "commands" not in gate.stages and PROGRAM in proved(rt.text()):
+        if "commands" not in gate.stages and set(PROGRAMS) <= proved(rt.text()):
             gate.start("commands", ["tools/check_commands.sh", "--no-lint", BUILT])
         gate.update()
         time.sleep(PAUSE)

@@ -1,11 +1,13 @@
 #!/bin/sh
-# Installs the program as `facl`, the commands around it, and their manual pages.
+# Installs the programs as `facl` and `facl_linux`, the commands around them, and their manual pages.
 #
-# usage: tools/install.sh [--program FILE] [--version VERSION] [PREFIX]    into bin, lib/facl and share of PREFIX
+# usage: tools/install.sh [--program FILE [--linux-program FILE]] [--version VERSION] [PREFIX]
+#                                                                          into bin, lib/facl and share of PREFIX
 #        tools/install.sh --uninstall [PREFIX]                              removes what it installs
 #
-# PREFIX is /usr/local. FILE is a program that is built; without it crates/facl_cli/out/facl_cli, which tools/prove.py
-# proves and builds. With DESTDIR in the environment all goes below that folder. The exit status is 2 where the words
+# PREFIX is /usr/local. FILE is a program that is built; without --program the programs are crates/facl_cli/out/facl_cli
+# and crates/facl_linux_cli/out/facl_linux_cli, which tools/prove.py proves and builds. With --program alone there is no
+# facl_linux. With DESTDIR in the environment all goes below that folder. The exit status is 2 where the words
 # are others, there is no program, or PREFIX cannot be written.
 set -eu
 top=$(cd "$(dirname "$0")/.." && pwd)
@@ -13,6 +15,7 @@ top=$(cd "$(dirname "$0")/.." && pwd)
 . "$top/tools/lib/program.sh"
 
 program=$built
+linux_program=$built_linux
 python=/usr/bin/python3 # by which the commands run
 version=0
 action=install
@@ -22,7 +25,11 @@ if [ "${1:-}" = --uninstall ]; then
 fi
 while [ $# -gt 0 ]; do
     case $1 in
-    --program) program=${2:-} ;;
+    --program)
+        program=${2:-}
+        linux_program=
+        ;;
+    --linux-program) linux_program=${2:-} ;;
     --version) version=${2:-} ;;
     --help) show_head 0 ;;
     -*) show_head 2 >&2 ;;
@@ -42,7 +49,7 @@ pages="facl facl-commands $commands"
 completions=share/bash-completion/completions
 
 uninstall() {
-    for name in facl $commands; do rm -f -- "$to/bin/$name"; done
+    for name in facl facl_linux $commands; do rm -f -- "$to/bin/$name"; done
     for page in $pages; do rm -f -- "$to/share/man/man1/$page.1"; done
     for name in $commands; do rm -f -- "$to/$completions/$name"; done
     rm -rf -- "$to/lib/facl"
@@ -51,6 +58,7 @@ uninstall() {
 # check_parts: what has to be there before anything is written
 check_parts() {
     check_program "$program"
+    [ -z "$linux_program" ] || check_program "$linux_program"
     [ ! -e "$to/lib/facl" ] || [ -d "$to/lib/facl/facl_commands" ] || fail "$to/lib/facl: is there, and is not ours"
     mkdir -p -- "$to/bin" "$to/lib" "$to/share/man/man1" "$to/$completions" || true
     { [ -w "$to/bin" ] && [ -w "$to/lib" ] && [ -w "$to/share/man/man1" ] && [ -w "$to/$completions" ]; } ||
@@ -70,6 +78,7 @@ install_modules() {
 
 install_files() {
     install -m 755 -- "$program" "$to/bin/facl"
+    [ -z "$linux_program" ] || install -m 755 -- "$linux_program" "$to/bin/facl_linux"
     rm -rf -- "$to/lib/facl"
     install -d -m 755 -- "$to/lib/facl"
     install_modules

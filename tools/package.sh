@@ -2,10 +2,11 @@
 # Makes a Debian package of the program, the commands and the manual pages, so that a server needs neither the kit nor a
 # proof of its own. It names the commit that it was made of.
 #
-# usage: tools/package.sh [--program FILE] [DIR]      the package comes into DIR, or the current folder
+# usage: tools/package.sh [--program FILE LINUX_FILE] [DIR]      the package comes into DIR, or the current folder
 #
-# Without FILE the program is proved and built by tools/prove.py, and the package says that it was proved at its commit;
-# the files have to be as they were committed. FILE is a program that is built: the package says so. The exit status
+# Without --program the programs facl and facl_linux are proved and built by tools/prove.py, and the package says that they
+# were proved at its commit; the files have to be as they were committed. FILE and LINUX_FILE are programs that are built:
+# the package says so. The exit status
 # is 2 where the words are others, a tool is not installed, or the program is not built.
 set -eu
 top=$(cd "$(dirname "$0")/.." && pwd)
@@ -15,9 +16,10 @@ top=$(cd "$(dirname "$0")/.." && pwd)
 program=
 case ${1:-} in
 --program)
-    [ $# -gt 1 ] || fail "--program: a FILE is missing"
+    [ $# -gt 2 ] || fail "--program: a FILE is missing"
     program=$(realpath -- "$2")
-    shift 2
+    linux_program=$(realpath -- "$3")
+    shift 3
     ;;
 --help) show_head 0 ;;
 -*) show_head 2 >&2 ;;
@@ -36,18 +38,19 @@ day=$(git show -s --format=%cd --date=format:%Y%m%d HEAD)
 # it rises with each commit of a day
 version=0.$day.$(git log --format=%cd --date=format:%Y%m%d HEAD | grep -c -x "$day")
 if [ -n "$program" ]; then
-    origin="The program was given as it is, and is not known to be the one that is proved at commit $commit."
+    origin="The programs were given as they are, and are not known to be those that are proved at commit $commit."
 else
     prove
     program=$built
-    origin="The program was proved and built at commit $commit."
+    linux_program=$built_linux
+    origin="The programs were proved and built at commit $commit."
 fi
 
 make_work
 root=$work/root
 mkdir "$root"
 chmod 755 "$root"
-DESTDIR=$root tools/install.sh --program "$program" --version "$version" /usr >/dev/null
+DESTDIR=$root tools/install.sh --program "$program" --linux-program "$linux_program" --version "$version" /usr >/dev/null
 for command in snapshot ask plan apply report who diff audit check daily; do
     said=$(PYTHONDONTWRITEBYTECODE=yes "$root/usr/bin/facl-$command" --version)
     [ "$said" = "facl-$command $version" ] || fail "facl-$command --version prints $said"
@@ -62,9 +65,9 @@ echo /etc/default/facl-daily >"$root/DEBIAN/conffiles"
 printf '%s\n' "$origin" >"$root/usr/share/doc/facl/commit"
 printf '%s\n' "Copyright 2026 the authors of facl, who keep all rights that they have not given." "$origin" \
     >"$root/usr/share/doc/facl/copyright"
-# the program is, to the byte, the one that was proved
+# the programs are, to the byte, those that were proved
 mkdir -p "$root/usr/share/lintian/overrides"
-echo 'facl: unstripped-binary-or-object [usr/bin/facl]' >"$root/usr/share/lintian/overrides/facl"
+printf 'facl: unstripped-binary-or-object [usr/bin/%s]\n' facl facl_linux >"$root/usr/share/lintian/overrides/facl"
 {
     printf 'facl (%s) unstable; urgency=low\n\n' "$version"
     git log -20 --format='%w(78,2,4)* %s' HEAD
@@ -85,7 +88,8 @@ Section: admin
 Priority: optional
 Description: plans changes of access control lists
  facl runs getfacl, setfacl, chacl and chmod over a recorded tree of files, and
- answers who may do what with which file. facl-snapshot records a live system,
+ answers who may do what with which file; facl_linux answers what Linux grants,
+ which differs where the mask of a list is empty. facl-snapshot records a live system,
  facl-ask asks of it at a prompt, facl-who prints who may do what, facl-diff who
  gained and lost what between two records, facl-report writes a page to look at,
  facl-plan prints what edits would change, facl-apply takes them there and back.

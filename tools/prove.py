@@ -1,5 +1,5 @@
 #!/usr/bin/env python3
-"""Proves the program of this repository, with every crate below it, and builds it; or the libraries for rt check.
+"""Proves the two programs of this repository, with every crate below them, and builds them; or the libraries for rt check.
 
 usage: tools/prove.py [--jobs N]
        tools/prove.py [--jobs N] --libraries [CRATE]
@@ -9,7 +9,8 @@ N crates run at a time: as many as there are processors, and as memory has room 
 and has not changed since, is not proved again.
 
 Without --libraries each crate is one check from nothing, as in `rt ci`, whose copies share its functions; the crates
-above read what it states. What is proved is kept in out/proved. The program is crates/facl_cli/out/facl_cli.
+above read what it states. What is proved is kept in out/proved. The programs are crates/facl_cli/out/facl_cli and
+crates/facl_linux_cli/out/facl_linux_cli.
 
 With --libraries rt proves and builds CRATE (facl_cli) and all that it uses, so that rt check can begin there at once;
 rt keeps it in the folder out of each crate. rt locks the folder of a crate and of every crate below it, so two crates
@@ -41,14 +42,13 @@ import script  # noqa: E402
 from kit import Kit, rt  # noqa: E402
 from script import TOP  # noqa: E402
 from side_by_side import OUT, Run, SideBySide, files_of, folder_of, lock  # noqa: E402
-from ways import PROGRAM, Crates  # noqa: E402
+from ways import PROGRAM, PROGRAMS, Crates  # noqa: E402
 
-BUILT = os.path.join(TOP, "crates", PROGRAM, "out", PROGRAM)
 TARGET = "x86_64-unknown-linux-gnu"
 KEPT = os.path.join(OUT, "proved")
 
 
-# --- the program
+# --- the programs
 
 
 def sums_of(crates: Crates, kit: Kit, wanted: Iterable[str]) -> Dict[str, str]:
@@ -83,6 +83,15 @@ def sum_below(folder: str) -> str:
     return found.hexdigest()
 
 
+def built(program: str) -> str:
+    """Where a program is built."""
+    return os.path.join(TOP, "crates", program, "out", program)
+
+
+def needed_by_programs(crates: Crates) -> Set[str]:
+    return set().union(*map(crates.needed, PROGRAMS))
+
+
 class Kept:
     """What was proved, each crate beside a sum of all that its check read, and one of what the check wrote."""
 
@@ -91,19 +100,19 @@ class Kept:
         self.sums = self.sums_now()
 
     def sums_now(self) -> Dict[str, str]:
-        return sums_of(self.crates, self.kit, self.crates.needed(PROGRAM))
+        return sums_of(self.crates, self.kit, needed_by_programs(self.crates))
 
     def library(self, crate: str) -> str:
         return os.path.join(KEPT, crate + ".rlib")
 
     def text(self, crate: str) -> str:
         """What stands beside a crate that is proved: the sum of what its check read, and that of its library or program."""
-        made = sum_of_file(BUILT) if crate == PROGRAM else sum_below(self.library(crate))
+        made = sum_of_file(built(crate)) if crate in PROGRAMS else sum_below(self.library(crate))
         return f"{self.sums[crate]} {made}"
 
     def has(self, crate: str) -> bool:
         """Whether a crate is proved as it is now."""
-        if crate != PROGRAM and not os.path.isdir(self.library(crate)):
+        if crate not in PROGRAMS and not os.path.isdir(self.library(crate)):
             return False
         try:
             with open(os.path.join(KEPT, crate + ".sum"), encoding="ascii") as text:
@@ -138,40 +147,42 @@ class Build(Run):
 
     def words(self, crate: str, checks: int) -> List[str]:
         kit = self.kept.kit
-        made = ["--toolchain", kit("toolchain"), "-o", BUILT + ".o"]
+        made = ["--toolchain", kit("toolchain"), "-o", built(crate) + ".o"]
         return [*kit.words("build", self.kept.crates, crate, KEPT), "--jobs", str(checks),
-                *(made if crate == PROGRAM else ["--statements", "-o", self.kept.library(crate)])]
+                *(made if crate in PROGRAMS else ["--statements", "-o", self.kept.library(crate)])]
 
     def end(self) -> None:
         super().end()
-        if self.program.returncode == 0 and self.crate != PROGRAM:
+        if self.program.returncode == 0 and self.crate not in PROGRAMS:
             self.kept.note(self.crate)
 
 
-def link(kit: Kit) -> None:
-    """Links what was compiled of the program."""
-    words = [kit("bin", "rattle-link"), "--target", TARGET, "--toolchain", kit("toolchain"), "-o", BUILT, BUILT + ".o",
+def link(kit: Kit, program: str) -> None:
+    """Links what was compiled of a program."""
+    words = [kit("bin", "rattle-link"), "--target", TARGET, "--toolchain", kit("toolchain"), "-o", built(program), built(program) + ".o",
              kit("c", "libos_c.a"), kit("c", "liblibc_c.a")]
     ran = subprocess.run(words, stdin=subprocess.DEVNULL, capture_output=True, text=True, errors="replace")
     if ran.returncode:
-        raise script.Failed(f"the program is not linked: {ran.stdout}{ran.stderr}")
+        raise script.Failed(f"{program} is not linked: {ran.stdout}{ran.stderr}")
 
 
-def build_program(crates: Crates, jobs: int) -> int:
-    for folder in (KEPT, os.path.dirname(BUILT)):
+def build_programs(crates: Crates, jobs: int) -> int:
+    for folder in (KEPT, *(os.path.dirname(built(program)) for program in PROGRAMS)):
         os.makedirs(folder, exist_ok=True)
     lock([KEPT])
     kept = Kept(crates, Kit())
-    if kept.has(PROGRAM):
+    left = [program for program in PROGRAMS if not kept.has(program)]
+    if not left:
         return 0
-    wanted = crates.needed(PROGRAM)
+    wanted = needed_by_programs(crates)
     # A check that is shared takes more processor time: one where a crate with a longer way runs.
     proof = SideBySide(crates, wanted, jobs, 1, functools.partial(Build, kept))
     proof.done = kept.all_of(wanted)
     if not proof.all_proved():
         return 1
-    link(kept.kit)
-    kept.note(PROGRAM)
+    for program in left:
+        link(kept.kit, program)
+        kept.note(program)
     return 0
 
 
@@ -236,7 +247,7 @@ def main() -> int:
         options.error("--jobs: takes a number from 1 on")
     if given.libraries:
         return build_libraries(crates, given.jobs, given.libraries)
-    return build_program(crates, given.jobs)
+    return build_programs(crates, given.jobs)
 
 
 if __name__ == "__main__":

@@ -1,7 +1,7 @@
 #!/usr/bin/env python3
-"""Has the program as it is, before its proof, answer the rows of commands/tests/rows: it is compiled with run-time checks.
+"""Has a program as it is, before its proof, answer the rows of commands/tests/rows: it is compiled with run-time checks.
 
-usage: tools/try_rows.py [--seconds N]      N: that a row may take, 60 where none is given
+usage: tools/try_rows.py [--linux] [--seconds N]      --linux: facl_linux in place of facl; N: that a row may take, 60
 
 Prints a line for each row, and of one that fails what it printed and what it has to; then, as `rt try --test` does, how many
 passed and failed. The exit status is 0 where none failed, 1 where one did or the program gave no answer, 2 where the words are
@@ -29,7 +29,7 @@ from script import TOP  # noqa: E402
 
 # Ends the work of rt's interpreter at once: it cannot run a program that reads files.
 STEPS = "1"
-PROGRAM = os.path.join(TOP, "crates", "facl_cli")
+PROGRAMS = ("facl_cli", "facl_linux_cli")
 # rt prints this to standard output before what a case printed there, and to standard error after what it printed there.
 OUT = re.compile(rb"^== (\w+)\n", re.MULTILINE)
 CASE = re.compile(rb"^case=(\w+) (.*)\n", re.MULTILINE)
@@ -59,14 +59,14 @@ def write_cases(folder: str, rows: List[Row]) -> List[str]:
     return [word for text in texts for word in ("--data", f"{text}={row_files.text_path(text)}")]
 
 
-def run_rt(words: List[str]) -> Tuple[bytes, bytes]:
-    """What `rt try` prints to both streams. It ends in order where this script is interrupted."""
-    with subprocess.Popen([rt(), "try", *words], cwd=PROGRAM, stdin=subprocess.DEVNULL, stdout=subprocess.PIPE,
-                          stderr=subprocess.PIPE) as program:
+def run_rt(program: str, words: List[str]) -> Tuple[bytes, bytes]:
+    """What `rt try` of a program prints to both streams. It ends in order where this script is interrupted."""
+    with subprocess.Popen([rt(), "try", *words], cwd=os.path.join(TOP, "crates", program), stdin=subprocess.DEVNULL, stdout=subprocess.PIPE,
+                          stderr=subprocess.PIPE) as tried:
         try:
-            return program.communicate()
+            return tried.communicate()
         finally:
-            program.terminate()
+            tried.terminate()
 
 
 def answers(out: bytes, err: bytes) -> Dict[str, Answer]:
@@ -92,10 +92,11 @@ def show(row: Row, answer: Answer) -> bool:
 def main() -> int:
     options = argparse.ArgumentParser(description=__doc__, formatter_class=argparse.RawDescriptionHelpFormatter)
     options.add_argument("--seconds", type=int, default=60)
-    seconds = options.parse_args().seconds
-    rows = row_files.all_rows()
+    options.add_argument("--linux", action="store_true")
+    given = options.parse_args()
+    rows = [row_files.by_linux(row) if given.linux else row for row in row_files.all_rows()]
     with tempfile.TemporaryDirectory(prefix="facl-rows.") as folder:
-        out, err = run_rt(["--seconds", str(seconds), "--steps", STEPS, "--cases", folder, *write_cases(folder, rows)])
+        out, err = run_rt(PROGRAMS[given.linux], ["--seconds", str(given.seconds), "--steps", STEPS, "--cases", folder, *write_cases(folder, rows)])
     found = answers(out, err)
     if len(found) != len(rows):
         sys.stderr.buffer.write(err)

@@ -26,9 +26,10 @@ sys.path.insert(0, os.path.join(os.path.dirname(os.path.realpath(__file__)), "li
 import script  # noqa: E402
 
 PROGRAM = "facl_cli"
+PROGRAMS = (PROGRAM, "facl_linux_cli")
 ROWS = os.path.join(script.TOP, "crates.txt")
 MAX_WAYS = 700
-MAX_CHAIN = 9
+MAX_CHAIN = 10
 
 
 class Crates:
@@ -76,7 +77,7 @@ def main() -> int:
     options = argparse.ArgumentParser(description=__doc__, formatter_class=argparse.RawDescriptionHelpFormatter)
     options.add_argument("rows", nargs="?", default=ROWS, metavar="CRATES.TXT")
     crates = Crates(options.parse_args().rows)
-    program = crates.needed(PROGRAM)
+    program = set().union(*map(crates.needed, PROGRAMS))
     too_many = []
     print(f"{'crate':20} lists below chain  ways")
     for crate, (ways, chain) in counts(crates).items():

@@ -3,7 +3,7 @@ from __future__ import annotations
 
 import os
 import re
-from typing import Dict, Iterator, List, NamedTuple, Tuple
+from typing import Dict, Iterator, List, NamedTuple, Optional, Tuple
 
 FOLDER = os.path.join(os.path.dirname(os.path.realpath(__file__)), "rows")
 KINDS = ("passwd", "group", "dump")
@@ -11,7 +11,7 @@ VISIBLE = re.compile(r"[ -~]*(?<! )")
 TEXT = r"(?:\|.*\n)"
 ROW = re.compile(
     r"= (?P<name>.+)\nsetup (?P<setup>\S+)\n"
-    rf"script\n(?P<script>{TEXT}*)(?:out\n(?P<out>{TEXT}+))?(?:err\n(?P<err>{TEXT}+))?status (?P<status>[0-9])\n"
+    rf"script\n(?P<script>{TEXT}*)(?:out\n(?P<out>{TEXT}+))?(?:linux\n(?P<linux>{TEXT}+))?(?:err\n(?P<err>{TEXT}+))?status (?P<status>[0-9])\n"
 )
 ESCAPE = re.compile(r"\{([0-9a-f]{2})\}")
 UNENDED = "{}\n"
@@ -22,7 +22,8 @@ class Malformed(ValueError):
 
 
 class Row(NamedTuple):
-    """A script, and what it prints. `file` is the name of the row's file without its ending."""
+    """A script, and what it prints. `file` is the name of the row's file without its ending. `linux` is what facl_linux prints
+    to standard output, where that is something else."""
 
     file: str
     name: str
@@ -31,6 +32,12 @@ class Row(NamedTuple):
     out: bytes
     err: bytes
     status: int
+    linux: Optional[bytes] = None
+
+
+def by_linux(row: Row) -> Row:
+    """The row of facl_linux: the same, but for what it prints instead."""
+    return row if row.linux is None else row._replace(out=row.linux)
 
 
 def lines_of(path: str) -> Iterator[Tuple[int, str]]:
@@ -84,10 +91,10 @@ def read_rows(path: str) -> List[Row]:
         if not found or found["name"] in rows:
             raise Malformed(f"{place}: " + ("its name is that of another row" if found else "no row as README has them"))
         try:
-            script, out, err = (bytes_of(found[part] or "") for part in ("script", "out", "err"))
+            script, out, err, linux = (bytes_of(found[part] or "") for part in ("script", "out", "err", "linux"))
         except Malformed as fault:
             raise Malformed(f"{place}: {fault}") from None
-        rows[found["name"]] = Row(file, found["name"], found["setup"], script, out, err, int(found["status"]))
+        rows[found["name"]] = Row(file, found["name"], found["setup"], script, out, err, int(found["status"]), linux or None)
         at = found.end()
     return list(rows.values())
 

@@ -1,4 +1,4 @@
-"""What the program prints of each script of rows/, on both streams and with its status."""
+"""What each of the two programs prints of each script of rows/, on both streams and with its status."""
 from __future__ import annotations
 
 import os
@@ -9,31 +9,33 @@ import unittest
 from typing import Callable, Dict, List
 
 import row_files
-from row_files import Malformed, Row, all_rows, bytes_of, printed, read_rows, shown, text_path
+from row_files import Malformed, Row, all_rows, by_linux, bytes_of, printed, read_rows, shown, text_path
 
 HEAD = "= a\nsetup nothing\nscript\n"
 
 
 class Rows(unittest.TestCase):
-    """Has a test for each row, which has the row's file and name in its own: `-k 'test edits'`, `-k 'a user is removed'`."""
+    """Has two tests for each row, by facl and by facl_linux, which have the row's file and name in their own: `-k 'test edits'`,
+    `-k 'a user is removed'`."""
 
     setups: Dict[str, List[str]] = row_files.setups()
 
-    def play(self, row: Row) -> None:
+    def play(self, program: str, row: Row) -> None:
         options = row_files.options(self.setups[row.setup])
-        words = [os.environ["FACL"], *(word for option, text in options for word in (option, text_path(text)))]
+        words = [os.environ[program], *(word for option, text in options for word in (option, text_path(text)))]
         done = subprocess.run(words, input=row.script, capture_output=True, timeout=100, check=False)
         got, wanted = (done.returncode, done.stdout, done.stderr), (row.status, row.out, row.err)
         if got != wanted:
             self.fail(f"rows/{row.file}.rows: {row.name}\n-- got\n{printed(*got)}-- wanted\n{printed(*wanted)}")
 
 
-def player_of(row: Row) -> Callable[[Rows], None]:
-    return lambda case: case.play(row)
+def player_of(program: str, row: Row) -> Callable[[Rows], None]:
+    return lambda case: case.play(program, row)
 
 
 for each in all_rows():
-    setattr(Rows, f"test {each.file}: {each.name}", player_of(each))
+    setattr(Rows, f"test {each.file}: {each.name}", player_of("FACL", each))
+    setattr(Rows, f"test {each.file}, by facl_linux: {each.name}", player_of("FACL_LINUX", by_linux(each)))
 
 
 class Files(unittest.TestCase):
@@ -47,9 +49,9 @@ class Files(unittest.TestCase):
             return read_rows(path)
 
     def test_a_row(self) -> None:
-        text = "# Of\n\n" + HEAD + "|load\n|# x{09}{7b}\n|\n|.{20}\nout\n|= b\nerr\n|{ff}{}\n\nstatus 1\n# on b\n" \
+        text = "# Of\n\n" + HEAD + "|load\n|# x{09}{7b}\n|\n|.{20}\nout\n|= b\nlinux\n|c\nerr\n|{ff}{}\n\nstatus 1\n# on b\n" \
             + HEAD.replace("a", "b c", 1) + "status 0\n"
-        self.assertEqual(self.rows(text), [Row("some", "a", "nothing", b"load\n# x\t{\n\n. \n", b"= b\n", b"\xff", 1),
+        self.assertEqual(self.rows(text), [Row("some", "a", "nothing", b"load\n# x\t{\n\n. \n", b"= b\n", b"\xff", 1, b"c\n"),
                                            Row("some", "b c", "nothing", b"", b"", b"", 0)])
 
     def test_any_bytes(self) -> None:

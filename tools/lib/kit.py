@@ -10,7 +10,7 @@ from pathlib import Path
 from typing import List, Set
 
 import script
-from ways import PROGRAM, Crates
+from ways import PROGRAMS, Crates
 
 # What `rt ci` says of a crate whose library, or program, then stands in its out/: proved by this run or by an earlier one.
 PROVED = re.compile(r"^rt: (\w+) (?:proved$|is kept: )", re.MULTILINE)
@@ -41,7 +41,7 @@ class Kit:
     def words(self, command: str, crates: Crates, crate: str, libraries: str) -> List[str]:
         """The words that have the prover do `command` with a crate, in the crate's folder, over what stands in the folder
         `libraries` of those crates that it uses."""
-        words = [self("bin", "rattle"), command, "--crate-name", crate, f"src/{'main' if crate == PROGRAM else 'lib'}.rt",
+        words = [self("bin", "rattle"), command, "--crate-name", crate, f"src/{'main' if crate in PROGRAMS else 'lib'}.rt",
                  "-L", f"dependency={self('rlibs')}", "-L", f"dependency={libraries}"]
         for used in sorted(crates.listed[crate] | {"std"}):
             library = os.path.join(libraries, used + ".rlib") if used in crates.uses else self("rlibs", used + ".rlib")

@@ -5,6 +5,7 @@
 # shellcheck shell=sh disable=SC2034,SC2154  # those who read it set top, and use what it sets
 script_name=$(realpath --relative-to="$top" -- "$0")
 built=$top/crates/facl_cli/out/facl_cli
+built_linux=$top/crates/facl_linux_cli/out/facl_linux_cli
 work=
 child=
 
@@ -48,7 +49,7 @@ wait_for_child() {
     return $ended
 }
 
-# prove: proves and builds the program of the repository
+# prove: proves and builds the programs of the repository
 prove() {
     "$top/tools/prove.py" &
     wait_for_child || fail "facl is not built"

@@ -22,4 +22,5 @@ pub mod Units
 pub mod Who
 pub mod Why
 -- the public surface: the program names these definitions by this crate
+pub use Rattle.acl_rights.specs as acl_rights
 pub use Rattle.facl_output.specs as facl_output

@@ -50,7 +50,7 @@ pub use facl_tools::{
 };
 // The public calls take and give these values of the crates below.
 pub use acl_entry::{Label, Perm, Requests, Subject};
-pub use acl_rights::{IndexedState, Judge, Posix, Verdicts};
+pub use acl_rights::{IndexedState, Judge, Linux, Posix, Verdicts};
 pub use acl_tree::State;
 pub use facl_output::{LineFault, RunFault, Source, push_run_fault};
 pub use facl_script::{

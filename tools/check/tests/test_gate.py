@@ -351,7 +351,7 @@ RT_CI = """#!/bin/sh
 rm -f ended
 echo "lanes ${RT_JOBS:-none}"
 echo 'rt: low proved'
-[ -n "${BREAKS:-}" ] || echo "rt: facl_cli ${VERDICT:-proved}"
+[ -n "${BREAKS:-}" ] || printf 'rt: %s %s\n' facl_cli "${VERDICT:-proved}" facl_linux_cli "${VERDICT:-proved}"
 sleep 1
 touch ended
 [ -z "${BREAKS:-}" ] || { echo '1 passed, 3 failed'; exit 1; }
@@ -365,18 +365,18 @@ class Stages(Case):
         self.copy(".ci/run", "tools/gate.py", "tools/ways.py",
                   *(f"tools/lib/{name}.py" for name in ("kit", "lanes", "memory_watch", "processes", "script")))
         checks = LINT.replace("exit", "[ \"$1\" = --lint ] && exit") + TEST + STAGE
-        self.write({"crates.txt": "low:\nfacl_cli: low\n"})
+        self.write({"crates.txt": "low:\nfacl_cli: low\nfacl_linux_cli: low\n"})
         self.write({"tools/edits.py": STAGE, "tools/check_commands.sh": checks, "bin/rt": RT_CI}, 0o755)
 
     def run_gate(self, **environment: str) -> Tuple[int, List[str], str]:
         """As `run_script`, without the table of ways: a line of heads, and one for each crate."""
         status, lines, messages = self.run_script(".ci/run", **environment)
-        return status, lines[3:], messages
+        return status, lines[4:], messages
 
     def test_all_pass(self) -> None:
         status, lines, messages = self.run_gate(RT_JOBS="3")
         self.assertEqual((status, lines), (0, [
-            "linted --lint", "lanes 3", "rt: low proved", "rt: facl_cli proved", "10 passed, 0 failed",
+            "linted --lint", "lanes 3", "rt: low proved", "rt: facl_cli proved", "rt: facl_linux_cli proved", "10 passed, 0 failed",
             "edits.py --jobs begins", "2 passed, 0 failed", "linted --no-lint crates/facl_cli/out/facl_cli",
             "check_commands.sh --no-lint begins", "2 passed, 0 failed", "14 passed, 0 failed"]))
         self.assertEqual(messages.splitlines(), [

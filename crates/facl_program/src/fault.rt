@@ -2,8 +2,8 @@
 
 ghost use Rattle.std.specs.Prelude.{◌≡◌, true, false, IfOk, IfErr, OnOk, OnErr};
 ghost use Rattle.std.specs.Io.KnownBytes.{Appends};
-ghost use Rattle.facl_cli.specs.Lines.{IsLineReported, fault_by_words, fault_line, unread_line};
-ghost use Rattle.facl_cli.specs.declared.fault.ProgramFault.{ProgramFault};
+ghost use Rattle.facl_program.specs.Lines.{IsLineReported, fault_by_words, fault_line, unread_line};
+ghost use Rattle.facl_program.specs.declared.fault.ProgramFault.{ProgramFault};
 
 use facl::{RunFault, push_run_fault};
 use facl_script::{ScriptFault, Sink, WordsFault, write_whole};
@@ -11,7 +11,7 @@ use std::alloc::{AllocError, Global};
 
 /// Why the program ends with 2.
 #[derive(Drop)]
-pub(crate) enum ProgramFault {
+pub enum ProgramFault {
     /// The words after the program's name are not such as it takes.
     Usage,
     /// A file cannot be read, or has more bytes than the limit.

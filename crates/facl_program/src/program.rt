@@ -3,34 +3,37 @@
 ghost use Rattle.std.specs.Prelude.{◌≡◌, ◌⊎◌, false, Err, IfErr, IfOk, IfSome, OnOk, true, map, string_bytes};
 ghost use Rattle.std.specs.Io.KnownBytes.{IsAtEnd};
 ghost use Rattle.std.specs.Process.{exit_status};
-ghost use Rattle.facl_cli.specs.Lines.{IsReported, status_of};
-ghost use Rattle.facl_cli.specs.Program.{FailsBy, Ran};
+ghost use Rattle.facl_program.specs.Lines.{IsReported, status_of};
+ghost use Rattle.facl_program.specs.Program.{FailsBy, Ran};
 ghost use Rattle.facl.specs.Runs.{devices};
+ghost use Rattle.facl.specs.acl_rights.Deciders.{judging};
 ghost use Rattle.facl.specs.facl_output.declared.fault.RunFault.TheVariants as runs;
 ghost use Rattle.facl_script.specs.Streams.{streams};
 
-use crate::args::files_named;
+use crate::args::{files_named, words_given};
 use crate::fault::{ProgramFault, write_fault};
-use crate::file_store::FileStore;
+use crate::file_store::{FileStore, SystemFiles};
 use crate::files::read_texts;
-use facl::{Posix, Status, initial_state, run_from};
-use facl_script::{Feed, Sink};
+use facl::{Judge, Status, initial_state, run_from};
+use facl_script::{Feed, Sink, StdFeed, StdSink};
 use std::alloc::Global;
 use std::process::ExitCode;
 
 /// What the program ends with at a fault.
 const FAULT_STATUS: u8 = 2;
 
-/// Loads the texts of the files that the words name, then answers the script. The first of the words is the program's
+/// Loads the texts of the files that the words name, then answers the script by the judge. The first of the words is the program's
 /// name.
-pub(crate) fn answer_words<S: FileStore, R: Feed, O: Sink, E: Sink>(
+pub fn answer_words<J: Judge, S: FileStore, R: Feed, O: Sink, E: Sink>(
     alloc: Global,
     words: &[String],
+    judge: &mut J,
     store: &mut S,
     reader: &mut R,
     out: &mut O,
     err: &mut E,
 ) -> Result<Status, ProgramFault>
+    requires asked { J.asked_of judge.old ≡ 0 }
     requires store { S.has_failed store.old ≡ false }
     requires closed { S.is_open store.old ≡ false }
     requires reader { R.has_failed reader.old ≡ false }
@@ -38,10 +41,10 @@ pub(crate) fn answer_words<S: FileStore, R: Feed, O: Sink, E: Sink>(
     requires err { E.has_failed err.old ≡ false }
 
     ensures ok { IfOk result (λ status. IfSome (R.remaining reader.old) (λ script.
-        Ran (S.bytes_of store.old) (map string_bytes words.now) script status
+        Ran (judging J.verdict_of J.decider_of) (S.bytes_of store.old) (map string_bytes words.now) script status
         (streams (O.contents out.old) (E.contents err.old)) (streams (O.contents out.new) (E.contents err.new)))) }
     ensures fault { IfErr result (λ fault.
-        FailsBy fault (S.bytes_of store.old) (map string_bytes words.now)
+        FailsBy fault (judging J.verdict_of J.decider_of) (S.bytes_of store.old) (map string_bytes words.now)
         (devices (R.remaining reader.old) (O.contents out.old) (E.contents err.old))
         (devices (R.remaining reader.new) (O.contents out.new) (E.contents err.new))) }
 
@@ -62,18 +65,13 @@ pub(crate) fn answer_words<S: FileStore, R: Feed, O: Sink, E: Sink>(
     let texts = read_texts(alloc, store, files)?;
     let state = initial_state(alloc, &texts.setup())?;
     drop(texts);
-    let mut judge = Posix::new();
-    let status = run_from(alloc, state, &mut judge, reader, out, err)?;
+    let status = run_from(alloc, state, judge, reader, out, err)?;
     Ok(status)
 }
 
 /// Prints the line of a fault, and returns what the program ends with: 0 if every line was accepted, 1 if some line
 /// was refused, 2 at a fault. A fault of standard error itself cannot be printed.
-pub(crate) fn end<E: Sink>(
-    alloc: Global,
-    outcome: &Result<Status, ProgramFault>,
-    err: &mut E,
-) -> ExitCode
+pub fn end<E: Sink>(alloc: Global, outcome: &Result<Status, ProgramFault>, err: &mut E) -> ExitCode
     requires { E.has_failed err.old ≡ false }
     ensures status { exit_status result ≡ status_of outcome.now }
     ensures reported { IsReported outcome.now (E.contents err.old) (E.contents err.new) (E.has_failed err.new) }
@@ -85,4 +83,33 @@ pub(crate) fn end<E: Sink>(
             ExitCode::from(FAULT_STATUS)
         }
     }
+}
+
+/// Answers the script on standard input by the judge.
+fn answer<J: Judge>(rt: &HostRuntime, judge: &mut J) -> Result<Status, ProgramFault>
+    requires { J.asked_of judge.old ≡ 0 }
+{
+    let words = words_given(rt)?;
+    let mut file_store = SystemFiles::new(rt);
+    let mut reader = StdFeed::new(rt.stdin());
+    let mut out = StdSink::new(rt.stdout());
+    let mut err = StdSink::new(rt.stderr());
+    answer_words(
+        rt.alloc(),
+        &words,
+        judge,
+        &mut file_store,
+        &mut reader,
+        &mut out,
+        &mut err,
+    )
+}
+
+/// Answers the script on standard input by the judge, which has decided no verdict yet, and returns what the program
+/// ends with.
+pub fn run_program<J: Judge>(rt: &HostRuntime, judge: &mut J) -> ExitCode
+    requires { J.asked_of judge.old ≡ 0 }
+{
+    let outcome = answer(rt, judge);
+    end(rt.alloc(), &outcome, &mut StdSink::new(rt.stderr()))
 }

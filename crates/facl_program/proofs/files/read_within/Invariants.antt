@@ -1,7 +1,7 @@
 use Rattle.std.proofs.Common.{◌≡◌, false, true, ◌+◌, ◌-◌, ◌≤◌, vec_len}
-use Rattle.facl_cli.specs.FileStores.{Loses}
-use Rattle.facl_cli.specs.Files.{file_limit}
-use Rattle.facl_cli.proofs.files.read_within.Given as goal
+use Rattle.facl_program.specs.FileStores.{Loses}
+use Rattle.facl_program.specs.Files.{file_limit}
+use Rattle.facl_program.proofs.files.read_within.Given as goal
 
 abbrev pub invariant-loop-text : goal.invariant-loop-text
 invariant-loop-text g l = record {

@@ -9,8 +9,8 @@ use Rattle.facl.specs.facl_output.Messages.{run_fault_text}
 use Rattle.facl.specs.facl_output.declared.fault.RunFault.TheVariants.{Setup}
 use Rattle.facl_script.specs.declared.tool_fault.WordsFault.{WordsFault}
 use Rattle.facl_script.specs.declared.tool_fault.WordsFault.TheVariants as words
-use Rattle.facl_cli.specs.declared.fault.ProgramFault.{ProgramFault}
-use Rattle.facl_cli.specs.declared.fault.ProgramFault.TheVariants.{Usage, CannotRead, Run, NoMemory}
+use Rattle.facl_program.specs.declared.fault.ProgramFault.{ProgramFault}
+use Rattle.facl_program.specs.declared.fault.ProgramFault.TheVariants.{Usage, CannotRead, Run, NoMemory}
 
 -- the fault of words that are refused
 abbrev pub fault_by_words : WordsFault → ProgramFault

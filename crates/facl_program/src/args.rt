@@ -2,8 +2,8 @@
 
 ghost use Rattle.std.specs.Prelude.{◌≡◌, ◌⊎◌, MatchResult, None, Some, map, string_bytes, if◌then◌else◌};
 ghost use Rattle.std.specs.IoError.{error_kind};
-ghost use Rattle.facl_cli.specs.Lines.{ran_out_of_memory};
-ghost use Rattle.facl_cli.specs.Words.{files_named, names_of};
+ghost use Rattle.facl_program.specs.Lines.{ran_out_of_memory};
+ghost use Rattle.facl_program.specs.Words.{files_named, names_of};
 
 use crate::fault::ProgramFault;
 use facl_script::read_args;

@@ -2,12 +2,12 @@
 
 ghost use Rattle.std.specs.Prelude.{◌≡◌, ◌≢◌, false, true, IfOk, IfErr, OnOk, Some, option_map, string_bytes, vec_items, if◌then◌else◌};
 ghost use Rattle.std.specs.IoError.{error_kind};
-ghost use Rattle.facl_cli.specs.declared.fault.ProgramFault.{ProgramFault};
-ghost use Rattle.facl_cli.specs.declared.files.Unread.{Unread};
-ghost use Rattle.facl_cli.specs.Words.{names_of};
-ghost use Rattle.facl_cli.specs.Lines.{ran_out_of_memory};
-ghost use Rattle.facl_cli.specs.FileStores.{HasNoText, IsText};
-ghost use Rattle.facl_cli.specs.Files.{AreTextsOf, IsFirstUnread, IsTextOf, IsUnread, file_limit, setup_texts, texts_of};
+ghost use Rattle.facl_program.specs.declared.fault.ProgramFault.{ProgramFault};
+ghost use Rattle.facl_program.specs.declared.files.Unread.{Unread};
+ghost use Rattle.facl_program.specs.Words.{names_of};
+ghost use Rattle.facl_program.specs.Lines.{ran_out_of_memory};
+ghost use Rattle.facl_program.specs.FileStores.{HasNoText, IsText};
+ghost use Rattle.facl_program.specs.Files.{AreTextsOf, IsFirstUnread, IsTextOf, IsUnread, file_limit, setup_texts, texts_of};
 
 use crate::args::Files;
 use crate::fault::ProgramFault;

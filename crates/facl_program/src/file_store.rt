@@ -2,7 +2,7 @@
 
 ghost use Rattle.std.specs.Prelude.{◌≡◌, true, false, Bool, List, ℕ, is_err, is_ok, is_some};
 ghost use Rattle.std.specs.Io.{ReadsAtMost};
-ghost use Rattle.facl_cli.specs.FileStores.{Bytes, Opens, Reads, unknown};
+ghost use Rattle.facl_program.specs.FileStores.{Bytes, Opens, Reads, unknown};
 
 use std::fs::File;
 use std::io;
@@ -10,7 +10,7 @@ use std::io::Read;
 
 /// Opens files by their names, one at a time, and reads the one that is open. It remembers whether it failed: after a
 /// failure nothing is opened or read.
-pub(crate) trait FileStore {
+pub trait FileStore {
     /// What is known of the bytes of the file of a name.
     ghost bytes_of: { Self → List ℕ → Bytes };
 

@@ -1,7 +1,7 @@
 use Rattle.std.proofs.Common.{[], ◌∷◌, append_assoc, codes}
 use Rattle.std.proofs.KnownBytes.{Appends-trans}
 use Rattle.std.proofs.lemmas.Result.{on_ok_weaker}
-use Rattle.facl_cli.proofs.fault.write_unread.Goals as goal
+use Rattle.facl_program.proofs.fault.write_unread.Goals as goal
 
 pub returns-clause-ok : goal.returns-clause-ok
 returns-clause-ok g c =

@@ -1,10 +1,10 @@
 -- The files that the program reads.
 use Rattle.std.specs.Prelude.{◌≡◌, ◌⊎◌, ℕ, List, [], ◌∷◌, Option, None, Some, option_map, string_bytes, vec_items, ⊤}
 use Rattle.facl.specs.declared.setup.Setup.{Setup}
-use Rattle.facl_cli.specs.FileStores.{Bytes, IsText, HasNoText}
-use Rattle.facl_cli.specs.declared.fault.ProgramFault.{ProgramFault}
-use Rattle.facl_cli.specs.declared.fault.ProgramFault.TheVariants.{CannotRead, NoMemory}
-use Rattle.facl_cli.specs.declared.files.Texts.{Texts}
+use Rattle.facl_program.specs.FileStores.{Bytes, IsText, HasNoText}
+use Rattle.facl_program.specs.declared.fault.ProgramFault.{ProgramFault}
+use Rattle.facl_program.specs.declared.fault.ProgramFault.TheVariants.{CannotRead, NoMemory}
+use Rattle.facl_program.specs.declared.files.Texts.{Texts}
 
 -- the greatest number of bytes of a file that is loaded: 256 MiB
 abbrev pub file_limit : ℕ

@@ -2,7 +2,7 @@
 use Rattle.std.specs.Prelude.{List, [], ◌∷◌, Option, drop, option_map, string_bytes}
 use Rattle.facl_script.specs.Args.{files_for}
 use Rattle.facl_script.specs.Forms.{Text}
-use Rattle.facl_cli.specs.declared.args.Files.{Files}
+use Rattle.facl_program.specs.declared.args.Files.{Files}
 
 -- the files that the words name, of which the first is the program's name
 abbrev pub files_named : List Text → Option (List (Option Text))
