@@ -67,7 +67,7 @@ nothing_at p (e ∷ es) h =
 abbrev IsByEntries : Judging → Type 0
 IsByEntries judge = (u : Person) (f : Label) (q : Perms) → IsValid f.acl → has (judge.verdict u f) q ≡ some_decides judge.decider u f q
 
-module _ (judge : Judging) (decided : IsByEntries judge) (u : Person) (q : Perms) (p : PathOf) where
+module _ (judge : Judging) (law : IsByEntries judge) (u : Person) (q : Perms) (p : PathOf) where
   -- the entries of a file decide what has to be contained in them
   abbrev of_file : PathOf × Node → Bool
   of_file e = some_decides judge.decider u e.1.label (cond (eq_by_cmp path_cmp p e.0) q execute)
@@ -92,7 +92,7 @@ module _ (judge : Judging) (decided : IsByEntries judge) (u : Person) (q : Perms
       parts = and_parts (below_all path_cmp e.0 es) (is_sorted path_cmp es) order
 
       granted_as : (here : Bool) → eq_by_cmp path_cmp p e.0 ≡ here → of_file e ≡ has (judge.verdict u e.1.label) (cond here q execute)
-      granted_as here is = ap (λ b. some_decides judge.decider u e.1.label (cond b q execute)) is ∙ sym (decided u e.1.label (cond here q execute) valid.0)
+      granted_as here is = ap (λ b. some_decides judge.decider u e.1.label (cond b q execute)) is ∙ sym (law u e.1.label (cond here q execute) valid.0)
 
       not_later : p ≡ e.0 → at_path es ≡ true
       not_later at = ap (λ o. option_map_or (λ (n : Node). has (judge.verdict u n.label) q) o true) (nothing_at p es (ap (λ x. below_all path_cmp x es) at ∙ parts.0))

@@ -159,8 +159,12 @@ module _ (u : Person) (f : Label) (q : Perms) where
   under_empty (Some m) h s = by m.read m.write m.execute h
     where
       by : (r w x : Bool) → (number (record { read = r; write = w; execute = x }) == 0) ≡ true → masked_by (Some (record { read = r; write = w; execute = x })) s ≡ none
-      by true w x h = cc
-      by false true x h = cc
+      by true true true h = cc
+      by true true false h = cc
+      by true false true h = cc
+      by true false false h = cc
+      by false true true h = cc
+      by false true false h = cc
       by false false true h = cc
       by false false false h = λ i. record { read = and_false s.read i; write = and_false s.write i; execute = and_false s.execute i }
 
@@ -172,11 +176,11 @@ module _ (u : Person) (f : Label) (q : Perms) where
   by_mode : IsValid f.acl → has_empty_mask f.acl ≡ true → check_mode u f q ≡ some_decides mode_key u f q
   by_mode valid empty = by (eqb u.uid f.owner) (sets.contains u.groups f.group)
     where
-      by : (owns member : Bool)
-          → cond owns (contains (perm_at f.acl Owner) q) (cond member (contains none q) (contains (perm_at f.acl Other) q))
+      by : (owns is_member : Bool)
+          → cond owns (contains (perm_at f.acl Owner) q) (cond is_member (contains none q) (contains (perm_at f.acl Other) q))
           ≡ list_any grants
-          (filter (λ (e : Entry). option_map_or (λ k. same_key k e.key) (cond owns (Some Owner) (cond member (Some OwningGroup) (Some Other))) (is_for u f.group e)) (entries f.acl))
-      by true member = alone (maps.get f.acl Owner) (owner_there f.acl valid) ∙ sym (only Owner f.acl grants)
+          (filter (λ (e : Entry). option_map_or (λ k. same_key k e.key) (cond owns (Some Owner) (cond is_member (Some OwningGroup) (Some Other))) (is_for u f.group e)) (entries f.acl))
+      by true is_member = alone (maps.get f.acl Owner) (owner_there f.acl valid) ∙ sym (only Owner f.acl grants)
       by false true = in_group empty (maps.get f.acl OwningGroup) (group_there f.acl valid) ∙ sym (only OwningGroup f.acl grants)
       by false false = alone (maps.get f.acl Other) (other_there f.acl valid) ∙ sym (only Other f.acl grants)
 

@@ -23,8 +23,8 @@ use acl_tree::{State, Tree};
 /// Proof only: the check of acl(5) grants a user a request on a file exactly if one of the entries that `why` prints
 /// contains it: of an entry of the group class what the mask leaves. So does Linux, by the entries printed under its judge.
 pub fn deciding_entries_are_the_check(subject: &Subject, label: &Label)
-    ensures posix { (q : Perms) → check subject.now label.now q ≡ some_decides sole_key subject.now label.now q }
-    ensures linux { (q : Perms) → linux_check subject.now label.now q ≡ some_decides linux_sole_key subject.now label.now q }
+    ensures by_check { (q : Perms) → check subject.now label.now q ≡ some_decides sole_key subject.now label.now q }
+    ensures by_linux { (q : Perms) → linux_check subject.now label.now q ≡ some_decides linux_sole_key subject.now label.now q }
 {
     let _entries = label.acl.entries();
 }
@@ -50,8 +50,8 @@ fn lists_are_valid(tree: &Tree)
 /// `why --reach` prints for this file alone, one of the file's contains it and one of each directory's contains
 /// search.
 pub fn deciding_entries_are_the_reach(subject: &Subject, tree: &Tree)
-    ensures posix { (q : Perms) (p : PathOf) (n : Node) → find path_cmp p tree.now.files ≡ Some n → IsDecidedAlong posix subject.now tree.now.files q (p, n) }
-    ensures linux { (q : Perms) (p : PathOf) (n : Node) → find path_cmp p tree.now.files ≡ Some n → IsDecidedAlong linux subject.now tree.now.files q (p, n) }
+    ensures by_check { (q : Perms) (p : PathOf) (n : Node) → find path_cmp p tree.now.files ≡ Some n → IsDecidedAlong posix subject.now tree.now.files q (p, n) }
+    ensures by_linux { (q : Perms) (p : PathOf) (n : Node) → find path_cmp p tree.now.files ≡ Some n → IsDecidedAlong linux subject.now tree.now.files q (p, n) }
 {
     tree.soundness_law();
     lists_are_valid(tree);
