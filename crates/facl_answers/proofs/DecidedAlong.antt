@@ -100,7 +100,8 @@ module _ (judge : Judging) (law : IsByEntries judge) (u : Person) (q : Perms) (p
       by : (below here : Bool) → is_above e.0 p ≡ below → eq_by_cmp path_cmp p e.0 ≡ here
           → list_all of_file (asked es) ≡ (list_all lets_pass es && at_path es)
           → list_all of_file (cond (below || here) (e ∷ asked es) (asked es))
-          ≡ (((not below || has (judge.verdict u e.1.label) execute) && list_all lets_pass es) && option_map_or (λ (n : Node). has (judge.verdict u n.label) q) (cond here (Some e.1) (find path_cmp p es)) true)
+          ≡ (((not below || has (judge.verdict u e.1.label) execute) && list_all lets_pass es)
+          && option_map_or (λ (n : Node). has (judge.verdict u n.label) q) (cond here (Some e.1) (find path_cmp p es)) true)
       by true true under is rest = absurd (true≢false (sym under ∙ ap (λ x. is_above x p) (sym (one_path p e.0 is)) ∙ not_below_itself p))
       by true false under is rest = (λ i. granted_as false is i && rest i) ∙ and_assoc (has (judge.verdict u e.1.label) execute) (list_all lets_pass es) (at_path es)
       by false true under is rest =

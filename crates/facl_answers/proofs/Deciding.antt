@@ -145,7 +145,8 @@ module _ (u : Person) (f : Label) (q : Perms) where
           → cond owns (contains (perm_at f.acl Owner) q)
           (option_map_or (λ s. contains (masked f.acl s) q) o (cond matched (some_entry_grants u f.group (maps.get f.acl Mask) (entries f.acl) q) (contains (perm_at f.acl Other) q)))
           ≡ list_any grants
-          (filter (λ (e : Entry). option_map_or (λ k. same_key k e.key) (cond owns (Some Owner) (cond (is_some o) (Some (User u.uid)) (cond matched None (Some Other)))) (is_for u f.group e)) (entries f.acl))
+          (filter (λ (e : Entry). option_map_or (λ k. same_key k e.key) (cond owns (Some Owner) (cond (is_some o) (Some (User u.uid)) (cond matched None (Some Other))))
+          (is_for u f.group e)) (entries f.acl))
       by true o is matched = alone (maps.get f.acl Owner) (owner_there f.acl valid) ∙ sym (only Owner f.acl grants)
       by false (Some s) is matched = sym (only (User u.uid) f.acl grants ∙ ap (λ x. option_map_or (λ s. contains (masked f.acl s) q) x false) is)
       by false None is true = in_groups (entries f.acl)

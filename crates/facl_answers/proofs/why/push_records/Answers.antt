@@ -19,5 +19,6 @@ loop-file-preserved g c =
 
 pub returns : goal.returns
 returns g c =
-    all_added (why_record (g.N.Names.naming c.args.names.now) g.J.Judge.decider_of c.args.subject.now) c.args.files.now c.args.text.now.items c.loop-file.file-index c.loop-file.text.items c.loop-file-test.false
+    all_added (why_record (g.N.Names.naming c.args.names.now) g.J.Judge.decider_of c.args.subject.now)
+    c.args.files.now c.args.text.now.items c.loop-file.file-index c.loop-file.text.items c.loop-file-test.false
     c.loop-file.invariant
