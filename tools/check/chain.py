@@ -47,7 +47,7 @@ TOOLS = ("facl", "Tools")
 # What the frame of the headline takes as words: what a tool does and which tools load a text, what loading one does, the bytes of
 # messages, the check, and what lines cost.
 FRAME = ("facl.specs.Tools.tool_line", "facl.specs.Tools.tool_named", "facl.specs.Tools.loads",
-         "facl_output.specs.Messages.message", "facl_output.specs.Messages.warning", "acl_entry.specs.Check.rights",
+         "facl_output.specs.Messages.message", "facl_output.specs.Messages.warning", "acl_rights.specs.Deciders.posix",
          "acl_tree.specs.Loads.load", "acl_rights.specs.Costs.all_pairs", "facl.specs.Counted.answered")
 
 
