@@ -5,8 +5,8 @@ use crate::judge::OwnerAlone;
 use crate::small_tree::{load, path};
 use acl_people::Subjects;
 use acl_rights::{
-    Acl, Cells, ClassFiles, Command, FileClasses, Id, Index, Judge, Label, Membership, NoMemory,
-    Path, People, Perm, Posix, Requests, Subject, Tree, read_name,
+    Acl, Cells, ClassFiles, Command, FileClasses, Id, Index, Judge, Key, Label, Linux, Membership,
+    NoMemory, Path, People, Perm, Posix, Requests, Subject, Tree, read_name,
 };
 use std::alloc::Global;
 use std::process::Abort;
@@ -131,19 +131,37 @@ fn verdicts_and_questions(rt: HostRuntime) {
     drop(index);
 }
 
+/// The label of a file with the mode 0700.
+fn own_label(rt: &impl Abort, alloc: Global, owner: Id) -> Label {
+    Label {
+        owner,
+        group: owner,
+        acl: Acl::minimal(alloc, 0o700).expect(rt, "memory"),
+    }
+}
+
 #[test]
 fn the_check_as_a_judge(rt: HostRuntime) {
     let mut judge: Posix = Posix::new();
     let id: Id = Id::new(1).expect(&rt, "an id");
     let subject: Subject = Subject::from_groups(rt.alloc(), id, &[]).expect(&rt, "memory");
-    let label = Label {
-        owner: id,
-        group: id,
-        acl: Acl::minimal(rt.alloc(), 0o700).expect(&rt, "memory"),
-    };
+    let label = own_label(&rt, rt.alloc(), id);
     let requests: Requests = judge.verdict(&subject, &label);
+    let key: Option<Key> = Posix::sole_key(&subject, &label);
     let asked: u64 = judge.asked();
-    assert!(rt; requests.0 == 0xff && asked == 1);
+    assert!(rt; requests.0 == 0xff && asked == 1 && matches!(&key, Some(Key::Owner)));
+}
+
+#[test]
+fn what_linux_grants_as_a_judge(rt: HostRuntime) {
+    let mut judge: Linux = Linux::new();
+    let id: Id = Id::new(1).expect(&rt, "an id");
+    let subject: Subject = Subject::from_groups(rt.alloc(), id, &[]).expect(&rt, "memory");
+    let label = own_label(&rt, rt.alloc(), id);
+    let requests: Requests = judge.verdict(&subject, &label);
+    let key: Option<Key> = Linux::sole_key(&subject, &label);
+    let asked: u64 = judge.asked();
+    assert!(rt; requests.0 == 0xff && asked == 1 && matches!(&key, Some(Key::Owner)));
 }
 
 /// The verdicts of acl(5)'s check on all users, and how many it counted for `files` files.
