@@ -124,5 +124,5 @@ else
     check_parts
     install_files
     [ -n "${DESTDIR:-}" ] || say_what_is_missing
-    echo "$script_name: facl, $(echo "$commands" | sed 's/ /, /g') are in $prefix/bin; man facl"
+    echo "$script_name: facl,${linux_program:+ facl_linux,} $(echo "$commands" | sed 's/ /, /g') are in $prefix/bin; man facl"
 fi
