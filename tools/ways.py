@@ -77,12 +77,12 @@ def main() -> int:
     options = argparse.ArgumentParser(description=__doc__, formatter_class=argparse.RawDescriptionHelpFormatter)
     options.add_argument("rows", nargs="?", default=ROWS, metavar="CRATES.TXT")
     crates = Crates(options.parse_args().rows)
-    program = set().union(*map(crates.needed, PROGRAMS))
+    programs: Set[str] = set().union(*map(crates.needed, PROGRAMS))
     too_many = []
     print(f"{'crate':20} lists below chain  ways")
     for crate, (ways, chain) in counts(crates).items():
         print(f"{crate:20} {len(crates.uses[crate]):5} {len(crates.needed(crate)) - 1:5} {chain:5} {ways:5}")
-        most = MAX_WAYS if crate in program else 2 * MAX_WAYS
+        most = MAX_WAYS if crate in programs else 2 * MAX_WAYS
         if ways > most or chain > MAX_CHAIN:
             too_many.append(crate)
     if too_many:
