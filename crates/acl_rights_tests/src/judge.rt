@@ -1,6 +1,7 @@
 //! A judge of the user's own.
 
 ghost use Rattle.std.specs.Prelude.{◌≡◌, Some};
+ghost use Rattle.acl_entry.specs.declared.entry.Key.TheVariants.{Owner};
 ghost use Rattle.acl_rights_tests.specs.Verdicts.{owner_alone, owner_alone_local};
 
 use acl_entry::{Key, Label, Requests, Subject};
@@ -24,7 +25,7 @@ impl OwnerAlone {
 impl Judge for OwnerAlone {
     ghost verdict_of = { owner_alone };
 
-    ghost decider_of = { λ _ _. Some Key.Owner };
+    ghost decider_of = { λ _ _. Some Owner };
 
     ghost asked_of = { λ judge. judge.asked };
 

@@ -3,6 +3,7 @@
 ghost use Rattle.std.specs.Prelude.{◌≡◌, ◌^◌, Some, length, map};
 ghost use Rattle.acl_entry.specs.Lists.{perm_at};
 ghost use Rattle.acl_entry.specs.Perms.{number};
+ghost use Rattle.acl_entry.specs.declared.entry.Key.TheVariants.{Owner};
 ghost use Rattle.facl_tests.specs.Verdicts.{class_key, owner_alone, owner_alone_local, whole_class, whole_class_local};
 
 use acl_entry::{Key, Label, Perm, Requests, Subject};
@@ -44,7 +45,7 @@ impl OwnerAlone {
 impl Judge for OwnerAlone {
     ghost verdict_of = { owner_alone };
 
-    ghost decider_of = { λ _ _. Some Key.Owner };
+    ghost decider_of = { λ _ _. Some Owner };
 
     ghost asked_of = { λ judge. judge.asked };
 
@@ -92,7 +93,7 @@ impl OwnerAtOnce {
 impl Judge for OwnerAtOnce {
     ghost verdict_of = { owner_alone };
 
-    ghost decider_of = { λ _ _. Some Key.Owner };
+    ghost decider_of = { λ _ _. Some Owner };
 
     ghost asked_of = { λ judge. judge.asked };
 
@@ -211,7 +212,7 @@ impl Watching {
 impl Judge for Watching {
     ghost verdict_of = { owner_alone };
 
-    ghost decider_of = { λ _ _. Some Key.Owner };
+    ghost decider_of = { λ _ _. Some Owner };
 
     ghost asked_of = { λ judge. judge.asked };
 
