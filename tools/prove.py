@@ -159,8 +159,8 @@ class Build(Run):
 
 def link(kit: Kit, program: str) -> None:
     """Links what was compiled of a program."""
-    words = [kit("bin", "rattle-link"), "--target", TARGET, "--toolchain", kit("toolchain"), "-o", built(program), built(program) + ".o",
-             kit("c", "libos_c.a"), kit("c", "liblibc_c.a")]
+    words = [kit("bin", "rattle-link"), "--target", TARGET, "--toolchain", kit("toolchain"),
+             "-o", built(program), built(program) + ".o", kit("c", "libos_c.a"), kit("c", "liblibc_c.a")]
     ran = subprocess.run(words, stdin=subprocess.DEVNULL, capture_output=True, text=True, errors="replace")
     if ran.returncode:
         raise script.Failed(f"{program} is not linked: {ran.stdout}{ran.stderr}")

@@ -61,8 +61,8 @@ def write_cases(folder: str, rows: List[Row]) -> List[str]:
 
 def run_rt(program: str, words: List[str]) -> Tuple[bytes, bytes]:
     """What `rt try` of a program prints to both streams. It ends in order where this script is interrupted."""
-    with subprocess.Popen([rt(), "try", *words], cwd=os.path.join(TOP, "crates", program), stdin=subprocess.DEVNULL, stdout=subprocess.PIPE,
-                          stderr=subprocess.PIPE) as tried:
+    with subprocess.Popen([rt(), "try", *words], cwd=os.path.join(TOP, "crates", program), stdin=subprocess.DEVNULL,
+                          stdout=subprocess.PIPE, stderr=subprocess.PIPE) as tried:
         try:
             return tried.communicate()
         finally:
@@ -96,7 +96,8 @@ def main() -> int:
     given = options.parse_args()
     rows = [row_files.by_linux(row) if given.linux else row for row in row_files.all_rows()]
     with tempfile.TemporaryDirectory(prefix="facl-rows.") as folder:
-        out, err = run_rt(PROGRAMS[given.linux], ["--seconds", str(given.seconds), "--steps", STEPS, "--cases", folder, *write_cases(folder, rows)])
+        words = ["--seconds", str(given.seconds), "--steps", STEPS, "--cases", folder, *write_cases(folder, rows)]
+        out, err = run_rt(PROGRAMS[given.linux], words)
     found = answers(out, err)
     if len(found) != len(rows):
         sys.stderr.buffer.write(err)

@@ -11,7 +11,8 @@ VISIBLE = re.compile(r"[ -~]*(?<! )")
 TEXT = r"(?:\|.*\n)"
 ROW = re.compile(
     r"= (?P<name>.+)\nsetup (?P<setup>\S+)\n"
-    rf"script\n(?P<script>{TEXT}*)(?:out\n(?P<out>{TEXT}+))?(?:linux\n(?P<linux>{TEXT}+))?(?:err\n(?P<err>{TEXT}+))?status (?P<status>[0-9])\n"
+    rf"script\n(?P<script>{TEXT}*)(?:out\n(?P<out>{TEXT}+))?(?:linux\n(?P<linux>{TEXT}+))?"
+    rf"(?:err\n(?P<err>{TEXT}+))?status (?P<status>[0-9])\n"
 )
 ESCAPE = re.compile(r"\{([0-9a-f]{2})\}")
 UNENDED = "{}\n"
