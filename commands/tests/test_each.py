@@ -1,4 +1,4 @@
-"""facl-snapshot --split, by a getfacl and a getent of its own; facl-ask --each, by GNU parallel, beside one session; and --hosts."""
+"""facl-snapshot --split, with users of its own; facl-ask --each, by GNU parallel, beside one session; and --hosts."""
 from __future__ import annotations
 
 import os
@@ -14,6 +14,7 @@ import unittest
 from typing import Dict, List, Optional
 
 from common import COMMANDS, HERE, Case, Done, outside_the_gate, restore_signals
+from snapshot_stand_ins import DIRECTORY, command_with, names_of
 
 sys.path.insert(0, COMMANDS)
 
@@ -25,44 +26,17 @@ from facl_commands.model import sources  # noqa: E402
 from facl_commands.program.scripts import read_script  # noqa: E402
 from facl_commands.program.session import LINE_ROOM, OutputSlice, Session, find_program  # noqa: E402
 
-GETFACL = b"""\
-#!/bin/sh
-# What getfacl -n -p prints of names without lists.
-while [ "$1" != -- ]; do shift; done
-shift
-exec python3 -B %s "$@"
-"""
-PRINTER = b"""\
-import os, sys
-from stat import filemode
-out = sys.stdout.buffer
-for word in sys.argv[1:]:
-    name = os.fsencode(word)
-    look = os.stat(name)
-    mode = filemode(look.st_mode).replace("s", "x").replace("t", "x").encode()
-    shown = name.replace(b"\\\\", b"\\\\134").replace(b"\\n", b"\\\\012").replace(b"\\r", b"\\\\015")
-    out.write(b"# file: %s\\n# owner: %d\\n# group: %d\\nuser::%s\\ngroup::%s\\nother::%s\\n\\n"
-              % (shown, look.st_uid, look.st_gid, mode[1:4], mode[4:7], mode[7:10]))
-"""
-
-
-def names_of(dump: bytes) -> List[bytes]:
-    return [line[len(b"# file: ") :] for line in dump.split(b"\n") if line.startswith(b"# file: ")]
-
-
 class Split(Case):
     """The names that facl-snapshot --split puts in each snapshot, without a file system that has lists."""
 
     def setUp(self) -> None:
         super().setUp()
         shutil.copytree(os.path.join(HERE, "snapshots", "share"), self.path("people"))
-        os.mkdir(self.path("bin"))
-        self.write("printer.py", PRINTER)
-        self.write("bin/getfacl", GETFACL % os.fsencode(self.path("printer.py")))
-        self.write("bin/getent", b"#!/bin/sh\ncat '%s'/\"$1\"\n" % os.fsencode(self.path("people")))
-        self.write("bin/setfacl", b"#!/bin/sh\ncat >/dev/null\n")
-        for name in os.listdir(self.path("bin")):
-            os.chmod(self.path("bin/" + name), 0o755)
+        for name in ("passwd", "group"):
+            for use in ("list", "all"):
+                shutil.copy(self.path("people/" + name), self.path(f"people/{name}.{use}"))
+        self.write("people/groups.all", b"")
+        self.command = command_with(DIRECTORY % self.path("people"), self.path("commands"))
         for name in ("a/b/c", "a b", "d/e", "f", "a-b"):
             os.makedirs(self.path("tree/" + name))
         for name in ("a", "a b", "a/b/c", "d/e"):
@@ -71,9 +45,8 @@ class Split(Case):
         self.write("tree/f/x\ny", b"")
 
     def snapshot(self, *words: str) -> Done:
-        environment = {**os.environ, "PATH": self.path("bin") + ":" + os.environ["PATH"], "FACL": "true"}
-        done = subprocess.run(["sh", os.path.join(COMMANDS, "facl-snapshot"), *words], cwd=self.folder, env=environment,
-                              capture_output=True, check=False)
+        done = subprocess.run([self.command, *words], cwd=self.folder, env={**os.environ, "FACL": "true"}, capture_output=True,
+                              check=False)
         return Done(done.returncode, done.stdout, done.stderr)
 
     def dumps(self, folder: str) -> List[List[bytes]]:

@@ -112,7 +112,7 @@ class Layers(unittest.TestCase):
         self.assertEqual(faults_of(self.imports, commands_of()), [])
 
     def test_commands_are_known(self) -> None:
-        self.assertEqual(len(commands_of()), len(list(Path(COMMANDS).glob("facl-*"))) + 1)  # facl-snapshot starts two.
+        self.assertEqual(len(commands_of()), len(list(Path(COMMANDS).glob("facl-*"))))
         self.assertLess(commands_of(), set(self.texts))
 
     def test_packages_import_nothing(self) -> None:

@@ -22,9 +22,9 @@ from facl_commands.base import beside, linux  # noqa: E402
 from facl_commands.model.marks import Marks, obstacles  # noqa: E402
 from facl_commands.model.records import ChangedPaths  # noqa: E402
 
-# Code that is added to recording.py: what a file has is by the end of its name, and each part of the tree may be a mount.
+# Code that is added: what a file has is by the end of its name, and each part of the tree may be a mount.
 FILE_SYSTEMS = """
-from ..base import beside
+from ..base import beside, linux
 from . import marking
 FOUND = %r
 of_system, place_of = linux.look_at, lambda descriptor: os.readlink(b"/proc/self/fd/%%d" %% descriptor)

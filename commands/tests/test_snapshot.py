@@ -1,10 +1,11 @@
-"""facl-snapshot: what it writes, whom it trusts, and what it says. Lists that need a file system, and attacks between two calls of
-the system, are played by code that is added to a copy of the commands; the rest is in tools/check/snapshot.py."""
+"""facl-snapshot: what it writes, whom it trusts, and what it says. Lists, people and what somebody does meanwhile are played by code
+that is added to a copy of the commands; the rest is in tools/check/snapshot.py."""
 from __future__ import annotations
 
 import calendar
 import grp
 import os
+import pwd
 import re
 import shutil
 import signal
@@ -12,69 +13,21 @@ import stat
 import subprocess
 import sys
 import time
-from typing import Dict, List, Optional, Set, Tuple
+from typing import List, Optional, Set, Tuple
 
 from common import COMMANDS, Case, Done, restore_signals
+from snapshot_stand_ins import AFTER_NAMES, DIRECTORY, LISTS, MEANWHILE, PERSON, UNREADABLE, command_with, names_of
 
 sys.path.insert(0, COMMANDS)
 
 from facl_commands.base import acl_bytes, beside, names  # noqa: E402
 from facl_commands.base.accounts import is_person  # noqa: E402
+from facl_commands.base.names import path_order  # noqa: E402
 from facl_commands.page import columns as page_columns  # noqa: E402
 from facl_commands.plan import by_hand  # noqa: E402
-from test_each import PRINTER, names_of
+from facl_commands.snapshot import in_order, scope, walking  # noqa: E402
 
-SNAPSHOT = os.path.join(COMMANDS, "facl-snapshot")
 FILES = ["dump", "group", "inodes", "links", "marks", "meta", "passwd"]
-# A find that does what find does, and then something in the folder of the test, where it looks for files to record.
-FIND = b"""\
-#!/bin/sh
-real=$(PATH=${PATH#*:} && command -v find)
-case "$*" in *-xdev*) ;; *) exec "$real" "$@" ;; esac
-"$real" "$@"
-status=$?
-cd '%s' || exit 3
-%s
-exit $status
-"""
-# Lists of all files: code that is added to recording.py.
-LISTS = """
-def attribute(name: bytes, attribute_name: bytes, follow: bool = True) -> Optional[bytes]:
-    return {b"system.posix_acl_access": %r, b"system.posix_acl_default": %r}[attribute_name]
-live.attribute = attribute
-"""
-# A getfacl that prints what getfacl -n -p prints of names without lists.
-GETFACL = b"""\
-#!/bin/sh
-while [ "$1" != -- ]; do shift; done
-shift
-exec '%s' -SEB '%s' "$@"
-"""
-# A getent that does something in the folder of the test, and then what getent does; it lists a person in any case.
-GETENT = b"""\
-#!/bin/sh
-%s
-if [ "$*" = passwd ]; then echo ann:x:70001:70001::/:/bin/sh; fi
-if [ "$*" = group ]; then echo ann:x:70001:; fi
-exec "$(PATH=${PATH#*:} && command -v getent)" "$@"
-"""
-# A getent of a directory service that lists few, and an id that knows the groups of users; what they know is in files.
-DIRECTORY = b"""\
-#!/bin/sh
-cd '%s' || exit 3
-kind=$1 status=0
-shift
-[ $# -gt 0 ] || exec cat $kind.list
-echo "$@" >>asked
-shift
-for key; do grep -E "^($key:|[^:]*:[^:]*:$key:)" $kind.all || status=2; done
-exit $status
-"""
-ID = b"""\
-#!/bin/sh
-[ "$1" = -G ] || exec "$(PATH=${PATH#*:} && command -v id)" "$@"
-grep "^$3 " '%s/groups.all' | cut -d ' ' -f 2-
-"""
 
 
 def without_marks(meta: List[List[bytes]]) -> List[List[bytes]]:
@@ -84,44 +37,29 @@ def without_marks(meta: List[List[bytes]]) -> List[List[bytes]]:
 
 
 class SnapshotCase(Case):
-    """A test with a small tree, and with a getfacl and a setfacl that need no file system with lists."""
+    """A test with a small tree, and with a copy of the commands for which a person is listed."""
+
+    people = PERSON
 
     def setUp(self) -> None:
         super().setUp()
         os.chmod(self.folder, 0o755)
-        os.mkdir(self.path("bin"))
-        self.command = SNAPSHOT
-        self.write("printer.py", PRINTER)
-        self.tool("getfacl", GETFACL % (os.fsencode(sys.executable), os.fsencode(self.path("printer.py"))))
-        self.tool("getent", GETENT % b":")
-        self.tool("setfacl", b"#!/bin/sh\ncat >/dev/null\n")
+        self.add_code("")
         os.makedirs(self.path("tree/a"))
         for name in ("tree/a/1", "tree/a/2", "tree/b"):
             self.write(name, b"")
 
-    def tool(self, name: str, text: bytes) -> None:
-        """Writes a program that comes first on the path."""
-        self.write("bin/" + name, text)
-        os.chmod(self.path("bin/" + name), 0o755)
-
     def add_code(self, code: str) -> None:
-        """Has a copy of the commands, with this at the end of recording.py."""
-        place = self.path("commands")
-        shutil.rmtree(place, ignore_errors=True)
-        shutil.copytree(os.path.join(COMMANDS, "facl_commands"), os.path.join(place, "facl_commands"))
-        self.command = shutil.copy(SNAPSHOT, place)
-        with open(os.path.join(place, "facl_commands", "snapshot", "recording.py"), "a", encoding="utf-8") as file:
-            file.write(code)
+        """Has a copy of the commands, with this at the end of command.py of facl-snapshot."""
+        self.command = command_with(self.people + code, self.path("commands"))
 
-    def after_find(self, text: bytes) -> None:
-        """Has this run, in the folder of the test, when find has found the files."""
-        self.tool("find", FIND % (os.fsencode(self.folder), text))
-
-    def environment(self, **more: str) -> Dict[str, str]:
-        return {**os.environ, "PATH": self.path("bin") + ":" + os.environ["PATH"], "FACL": "true", **more}
+    def meanwhile(self, text: str, more: str = "") -> None:
+        """Has sh do this in the folder of the test, before any file is looked at."""
+        self.add_code(MEANWHILE % (text, self.folder) + more)
 
     def snapshot(self, *words: str, **more: str) -> Done:
-        done = subprocess.run([self.command, *words], cwd=self.folder, env=self.environment(**more), capture_output=True, check=False)
+        done = subprocess.run([self.command, *words], cwd=self.folder, env={**os.environ, "FACL": "true", **more}, capture_output=True,
+                              check=False)
         return Done(done.returncode, done.stdout, done.stderr)
 
     def expect_status(self, done: Done, status: int, message: bytes = b"") -> None:
@@ -153,7 +91,7 @@ class Written(SnapshotCase):
             self.assertLess(float(birth), time.time() + 1)
             self.assertEqual(name.endswith(b"/"), stat.S_ISDIR(look.st_mode))
             names.append(name)
-        self.assertEqual(names, sorted(names))
+        self.assertEqual(names, sorted(names, key=lambda name: path_order(name.strip(b"/"))))
         shown = [name.replace(b"\\", b"\\\\").replace(b"\n", b"\\012") for name in names]
         self.assertEqual(shown, names_of(self.read(folder + "/dump")))
 
@@ -179,8 +117,7 @@ class Written(SnapshotCase):
         return [line.split(b" ", 1) for line in text[:-1].split(b"\n")]
 
     def numbers(self, links: int, unread: int, files: int, linked: int = 0) -> List[List[bytes]]:
-        users, groups = (subprocess.run([self.path("bin/getent"), name], env=self.environment(), capture_output=True, check=True)
-                         .stdout.count(b"\n") for name in ("passwd", "group"))
+        users, groups = len(pwd.getpwall()) + 1, len(grp.getgrall()) + 1
         keys = (b"symbolic-links", b"unread", b"files", b"linked-names", b"users", b"users-asked-for", b"groups", b"groups-asked-for",
                 b"users-left-out", b"groups-left-out")
         return [[key, b"%d" % number] for key, number in zip(keys, (links, unread, files, linked, users, 0, groups, 0, 0, 0))]
@@ -219,49 +156,89 @@ class Written(SnapshotCase):
         return [name[len(start):] for name in names_of(self.read("new/dump")) if name.startswith(start)]
 
     def test_files_that_are_exchanged_or_gone(self) -> None:
-        """After find another file, a link, a directory or nothing has the name, or a directory or a link above it."""
-        for name in ("kept", "link", "folder", "gone", "back\\s", "l\nf", "d1/same", "d2/same", "d3/same", "outside/same"):
+        """After the look at the names, another file, a link, a directory or nothing has the name: what is recorded is what has the
+        name then, and no link."""
+        for name in ("kept", "link", "folder", "gone", "back\\s", "l\nf", "d1/same", "d2/other", "d3/same", "outside/same"):
             os.makedirs(os.path.dirname(self.path("tree/" + name)), exist_ok=True)
             self.write("tree/" + name, b"")
-        self.after_find(b"""cd tree && ln kept too && : >new && mv -f new 'back\\s' && ln -sf kept link && ln -sf kept 'l
-f' && rm folder gone && mkdir folder && mv d1 d && mv d2 d1 && mv d d2 && mv d3 elsewhere && ln -s outside d3""")
-        self.expect_status(self.snapshot("new", "tree"), 1, b"the dump lacks them or what is in them: 11, first: ")
-        self.assertEqual(self.below_tree(), [b"", b"a/", b"a/1", b"a/2", b"b", b"kept", b"outside/", b"outside/same"])
-        self.assertIn([b"unread", b"11"], self.meta("new/meta"))
+        self.add_code(AFTER_NAMES % (os.path.realpath(os.fsencode(self.path("tree"))), """: >new && mv -f new 'back\\s' && ln -sf kept link
+ln -sf kept 'l\nf'; rm folder gone; mkdir folder; mv d1 d && mv d2 d1 && mv d d2; mv d3 elsewhere && ln -s outside d3"""))
+        gone = os.path.realpath(self.path("tree/gone")).encode()
+        self.expect_status(self.snapshot("new", "tree"), 1, b"the dump lacks them or what is in them: 1, first: %s: was exchanged for another "
+                           b"file, or removed, meanwhile\n" % gone)
+        self.assertEqual(self.below_tree(), [b"", b"a/", b"a/1", b"a/2", b"b", b"back\\\\s", b"d1/", b"d1/other", b"d2/", b"d2/same", b"folder/",
+                                             b"kept", b"outside/", b"outside/same"])
+        self.assertIn([b"unread", b"1"], self.meta("new/meta"))
+        self.assertIn([b"symbolic-links", b"3"], self.meta("new/meta"))
         self.assertIn([b"files", b"%d" % len(names_of(self.read("new/dump")))], self.meta("new/meta"))
         self.expect_inodes("new")
 
+    def test_another_process_goes_on_in_the_same_directory_alone(self) -> None:
+        """Where another one has its name, nothing in it is looked at."""
+        top = os.path.realpath(os.fsencode(self.path("tree")))
+        rest = walking.Rest(top + b"/a/", os.stat(top).st_dev, os.stat(top + b"/a").st_ino, b"rw", True, b"1\x002", 2)
+        walker = walking.Walker(scope.Scope([top], [], False, (0, 0)))
+        self.assertEqual([walker.walk([rest]).run.name(place) for place in (0, 1)], [top + b"/a/1", top + b"/a/2"])
+        found = walker.walk([rest._replace(inode=rest.inode + 1)])
+        self.assertEqual((found.run.dump, found.left_out.first[-1]), ([], top + b"/a/: was exchanged for another file, or removed, meanwhile"))
+
     def test_a_link_above_the_folder(self) -> None:
-        """A user who owns a directory above the FOLDER puts a link in its place while find is there, and takes it back or not."""
+        """A user who owns a directory above the FOLDER puts a link in its place."""
         os.makedirs(self.path("user/mine/folder"))
         os.makedirs(self.path("secret/folder/names"))
-        real, steps = b"mv user/mine user/kept; ln -s ../secret user/mine; ", b"rm user/mine; mv user/kept user/mine; "
-        for before, after in ((real, b":"), (real, steps)):
-            self.tool("find", FIND % (os.fsencode(self.folder), after))
-            text = self.read("bin/find").replace(b'\n"$real"', b"\n(cd '%s'; %s :)\n\"$real\"" % (os.fsencode(self.folder), before))
-            self.write("bin/find", text)
-            self.expect_status(self.snapshot("new", "user/mine/folder"), 1, b"was exchanged for another file, or removed, meanwhile")
-            for name in ("dump", "inodes", "links"):
-                self.assertNotIn(b"names", self.read("new/" + name))
-            if after == b":":
-                os.remove(self.path("user/mine"))
-                os.rename(self.path("user/kept"), self.path("user/mine"))
+        self.meanwhile("mv user/mine user/kept; ln -s ../secret user/mine")
+        self.expect_status(self.snapshot("new", "user/mine/folder"), 1, b"/user/mine: was exchanged for another file, or removed, meanwhile")
+        for name in ("dump", "inodes", "links"):
+            self.assertNotIn(b"names", self.read("new/" + name))
 
     def test_names_that_never_end(self) -> None:
-        """A find that does not end is ended, whether it prints names, names that are left out, or messages."""
-        names = b"i=1; while :; do i=$((i + 1)); printf '%s'; done"
-        for line, most in ((b"n 1:1 $i /x$i\\0", b"16"), (b"l /x$i\\0", b"64"), (b"x /$i 1 1 1\\0", b"64"), (b"no\\n", b"64")):
-            self.add_code("\nfound_names.MOST_FILES, found_names.MOST_NAMES = 16, 64\n")
-            text = names.replace(b"'%s'", b'"%s"' % line) + b" >&2" * (line[:2] == b"no")
-            self.tool("find", b"#!/bin/sh\n" + text + b"\n")
-            self.expect_status(self.snapshot("new", "tree"), 2, b"facl-snapshot: more than %s names were found: name fewer FOLDERs" % most)
+        """Whoever makes names without end, or directories in one another, does not keep it from ending."""
+        self.add_code("from . import scope\nscope.MOST_FILES, scope.MOST_NAMES = 16, 64\n")
+        for number in range(70):
+            os.symlink("a", self.path(f"tree/link{number}"))
+        for words, most in (((), b"64"), (("--exclude", "link*"), b"64"), (("--split", "20"), b"64")):
+            done = self.snapshot(*words, "new", "tree")
+            self.expect_status(done, 2, b"facl-snapshot: more than %s names were found: name fewer FOLDERs; " % most)
             self.expect_nothing_left()
-        self.tool("find", b"#!/bin/sh\n" + names.replace(b"'%s'", b'"n 1:1 $i /x$i\\0"') + b"\n")
-        self.expect_status(self.snapshot("--split", "20", "new", "tree"), 2, b"more than 64 names were found: name fewer FOLDERs; ")
+        for number in range(20):
+            self.write(f"tree/a/file{number}", b"")
+        self.add_code("from . import scope\nscope.MOST_FILES = 16\n")
+        self.expect_status(self.snapshot("new", "tree"), 2, b"facl-snapshot: more than 16 names were found: name fewer FOLDERs")
         self.assertFalse(os.path.exists(self.path("new")))
 
+    def test_processes_that_share_a_tree(self) -> None:
+        """The same is written, whoever has which part; also where a process ends early."""
+        for number in range(40):
+            os.makedirs(self.path(f"tree/{number}/deep/er"))
+            for name in range(number):
+                self.write(f"tree/{number}/deep/{name}", b"")
+                self.write(f"tree/flat{number}-{name}", b"")
+        os.link(self.path("tree/5/deep/1"), self.path("tree/39/deep/hard"))
+        few = "from . import walking\nwalking.MANY, walking.DEEPEST, walking.SORTED_AT_ONCE = 7, 4, 10\n"
+        several = few + "from ..base import workers\nfrom . import in_order\nin_order.MANY, workers.MANY = 7, 10\nos.geteuid = lambda: 0\nos.cpu_count = lambda: 3\n"
+        ended = several + "real = walking.Walker.walk\ndef walk(self, rests):\n    if os.getppid() == FIRST and any(b'20' in it.names for it in rests):\n" \
+            "        os._exit(1)\n    return real(self, rests)\nwalking.Walker.walk, FIRST = walk, os.getpid()\n"
+        for name, code in (("one", ""), ("two", few), ("three", several), ("four", ended)):
+            self.add_code(code)
+            self.expect_status(self.snapshot(name, "tree"), 0)
+            for file in ("dump", "inodes", "links", "marks"):
+                self.assertEqual((name, file, self.read(f"{name}/{file}")), (name, file, self.read(f"one/{file}")))
+
+    def test_errands_are_cut_of_rests(self) -> None:
+        """Each name once, in order."""
+        names = [b"%d" % number for number in range(3000)]
+        for weight in (1, 30, 5000):
+            whole = in_order.Unwalked(walking.START_OF_ALL._replace(names=b"\0".join(names), number=len(names), weight=weight))
+            found: List[bytes] = []
+            while whole.left:
+                piece = whole.cut(4)
+                self.assertEqual(piece.number, piece.names.count(b"\0") + 1)
+                self.assertLessEqual(piece.number * weight, max(weight, walking.MANY))
+                found += piece.names.split(b"\0")
+            self.assertEqual(found, names)
+
     def test_a_dump_that_facl_does_not_take(self) -> None:
-        self.add_code("\nMOST_BYTES = 100\n")
+        self.add_code("from . import recording\nrecording.MOST_BYTES = 100\n")
         self.expect_status(self.snapshot("new", "tree"), 2, b"facl-snapshot: the dump has more than 100 bytes, which facl does not take: ")
         self.expect_nothing_left()
 
@@ -270,7 +247,7 @@ f' && rm folder gone && mkdir folder && mv d1 d && mv d2 d1 && mv d d2 && mv d3 
         self.expect_status(self.snapshot("whole", "tree"), 0)
         for number in range(30):
             self.write("tree/" + 200 * "x" + str(number), b"")
-        self.add_code("\nMOST_BYTES = 3000\n")
+        self.add_code("from . import recording\nrecording.MOST_BYTES = 3000\n")
         self.expect_status(self.snapshot("whole", "tree"), 2, b"the dump has more than 3,000 bytes")
         self.expect_status(self.snapshot("--split", "1000", "parts", "tree"), 0)
         found: Set[bytes] = set()
@@ -299,7 +276,7 @@ f' && rm folder gone && mkdir folder && mv d1 d && mv d2 d1 && mv d d2 && mv d3 
         self.expect_status(self.snapshot("new", "tree/b"), 1, b"most users that the dump names have no row in passwd")
         self.assertIn(b"\nuser:4091:r--\n", self.read("new/dump"))
         self.add_code(LISTS % (pack(first, *((acl_bytes.USER, 4, number) for number in range(4093)), own, *last), b"")
-                      + "of_all = attribute\nlive.attribute = lambda name, key: of_all(name, key) if not os.path.isdir(name) else None\n")
+                      + "of_all = attribute\nwalking.live.attribute = lambda name, key: of_all(name, key) if not os.path.isdir(name) else None\n")
         self.expect_status(self.snapshot("new", "tree"), 1, b"/a/1: has a list of more than 4096 entries, which facl does not take\n")
         self.assertEqual(self.below_tree(), [b"", b"a/"])
 
@@ -334,9 +311,11 @@ f' && rm folder gone && mkdir folder && mv d1 d && mv d2 d1 && mv d d2 && mv d3 
         self.assertIn([b"exclude", b"l\\012f"], self.meta("new/meta"))
 
     def test_meta_counts_what_is_unread(self) -> None:
-        self.after_find(b"echo 'find: x: no' >&2; status=1")
-        self.expect_status(self.snapshot("new", "tree"), 1)
+        self.add_code(UNREADABLE % b"tree/a")
+        text = b"dump lacks them or what is in them: 1, first: %s/: cannot be read: no\n" % os.path.realpath(self.path("tree/a")).encode()
+        self.expect_status(self.snapshot("new", "tree"), 1, text)
         self.assertIn([b"unread", b"1"], self.meta("new/meta"))
+        self.assertEqual(self.below_tree(), [b"", b"a/", b"b"])
 
     def test_hard_links_have_one_inode(self) -> None:
         os.link(self.path("tree/a/1"), self.path("tree/c"))
@@ -385,22 +364,20 @@ f' && rm folder gone && mkdir folder && mv d1 d && mv d2 d1 && mv d d2 && mv d3 
         self.expect_status(self.snapshot("new", "tree"), 0)
         old = self.read("new/dump")
         self.add_code("""
-def no(self: Opener, path: bytes) -> live.OpenFile:
-    raise NotFound(b"cannot be opened: no")
-Opener.open = no
+from . import walking
+def look(self, level, name):
+    self.complain(level.rest.path + name, PermissionError(13, "no"))
+walking.Walker.look = look
 """)
         for name in ("new", "third"):
-            self.expect_status(self.snapshot(name, "tree"), 2, b"facl-snapshot: no file could be read: /: cannot be opened: no\n")
+            self.expect_status(self.snapshot(name, "tree"), 2, b"facl-snapshot: no file could be read: /: cannot be looked at: no\n")
         self.assertEqual(self.read("new/dump"), old)
         self.assertFalse(os.path.exists(self.path("third")))
-        self.after_find(b"status=3")
-        self.expect_status(self.snapshot("new", "tree"), 2, b"facl-snapshot: find ended with status 3\n")
         self.expect_nothing_left()
 
     def test_the_environment_changes_nothing(self) -> None:
-        plain = self.read("bin/getfacl")
-        self.tool("getfacl", plain.replace(b"#!/bin/sh\n", b"#!/bin/sh\n[ -z \"${POSIXLY_CORRECT+x}\" ] || exit 1\n"))
-        self.expect_status(self.snapshot("new", "tree", POSIXLY_CORRECT="1", CDPATH="/", QUOTING_STYLE="c", LC_ALL="C.UTF-8"), 0)
+        self.expect_status(self.snapshot("new", "tree", POSIXLY_CORRECT="1", CDPATH="/", QUOTING_STYLE="c", LC_ALL="C.UTF-8", PATH="/none",
+                                         FACL="/bin/true", TMPDIR="/none", PYTHONPATH="/none"), 0)
 
 
 class People(SnapshotCase):
@@ -408,12 +385,11 @@ class People(SnapshotCase):
 
     def setUp(self) -> None:
         super().setUp()
-        self.tool("getent", DIRECTORY % os.fsencode(self.folder))
-        self.tool("id", ID % os.fsencode(self.folder))
+        self.people = DIRECTORY % self.folder
         self.listed = b"root:x:0:0::/:/bin/sh\nann:x:70001:70001::/:/bin/sh\n"
         if os.getuid():
             self.listed += b"me:x:%d:0::/:/bin/sh\n" % os.getuid()
-        self.people = self.listed.count(b"\n") + 3
+        self.number = self.listed.count(b"\n") + 3
         self.users = {name: b"%s:x:%d:%d::/:/bin/sh\n" % (name, number, group) for name, number, group in (
             (b"bea", 70010, 70100), (b"carl", 70011, 70101), (b"dora", 70012, 70001), (b"eve", 70013, 70104), (b"finn", 70014, 70001))}
         self.groups = b"root:x:0:\nann:x:70001:finn\n"
@@ -425,10 +401,10 @@ class People(SnapshotCase):
         self.write("groups.all", b"bea 70100 70102 70103 70001\ncarl 70101\ndora 70001 70102\nfinn 70001\neve 70104\n")
         self.lists({(acl_bytes.USER, 70010): 4, (acl_bytes.GROUP, 70101): 4})
 
-    def lists(self, entries: acl_bytes.Entries) -> None:
+    def lists(self, entries: acl_bytes.Entries, more_code: str = "") -> None:
         """Has each list these entries too."""
         more = {(acl_bytes.MASK, acl_bytes.NO_ID): 7} if entries else {}
-        self.add_code(LISTS % (acl_bytes.bytes_of({**acl_bytes.entries_of(acl_bytes.minimal(0o644)), **entries, **more}), b""))
+        self.add_code(LISTS % (acl_bytes.bytes_of({**acl_bytes.entries_of(acl_bytes.minimal(0o644)), **entries, **more}), b"") + more_code)
 
     def test_those_that_are_named(self) -> None:
         """Users and groups by their ids, members by their names, and the groups of these users."""
@@ -441,10 +417,10 @@ class People(SnapshotCase):
             b"root:x:0:", b"ann:x:70001:finn,bea", b"prim:x:70100:", b"lab:x:70101:carl,4711", b"staff:x:70102:bea",
             b"more:x:70103:ann,bea"]))
         text = b"new: %d users, of whom 3 are not in the list of getent: asked for by id or name, 6 groups, "
-        self.assertIn(text % self.people, done.out)
-        self.assertIn(b"\nusers %d\nusers-asked-for 3\ngroups 6\ngroups-asked-for 4\n" % self.people, self.read("new/meta"))
-        asked = self.read("asked").split()
-        self.assertEqual(sorted(asked), sorted([*set(asked) - {b"--"}, *[b"--"] * asked.count(b"--")]), "each is asked for once")
+        self.assertIn(text % self.number, done.out)
+        self.assertIn(b"\nusers %d\nusers-asked-for 3\ngroups 6\ngroups-asked-for 4\n" % self.number, self.read("new/meta"))
+        asked = self.read("asked").splitlines()
+        self.assertEqual(len(asked), len(set(asked)), "each is asked for once")
 
     def test_several_snapshots(self) -> None:
         above = os.path.realpath(self.folder).count("/") + 1
@@ -452,8 +428,8 @@ class People(SnapshotCase):
         parts = os.listdir(self.path("parts"))
         self.assertGreater(len(parts), 1)
         for part in parts:
-            self.assertEqual(self.read("parts/%s/passwd" % part).count(b"\n"), self.people)
-            self.assertIn(b"\nusers %d\n" % self.people, self.read("parts/%s/meta" % part))
+            self.assertEqual(self.read("parts/%s/passwd" % part).count(b"\n"), self.number)
+            self.assertIn(b"\nusers %d\n" % self.number, self.read("parts/%s/meta" % part))
 
     def test_users_of_a_file(self) -> None:
         self.write("more", b"\ndora\n\nann\n")
@@ -475,14 +451,16 @@ class People(SnapshotCase):
     def test_a_slow_service(self) -> None:
         """Whoever writes ids that nobody has into a list cannot keep the snapshot from ending: asking has a limit of time, and
         owners and members come first."""
-        text = self.read("commands/facl-snapshot").replace(b"most_seconds=300", b"most_seconds=4")
-        self.write("commands/facl-snapshot", text)
         ids: acl_bytes.Entries = {(acl_bytes.USER, number): 4 for number in range(2_000_000_000, 2_000_001_200)}
-        self.lists(ids)
-        self.write("commands/facl-snapshot", text)
-        os.chmod(self.path("commands/facl-snapshot"), 0o755)
-        self.tool("getent", (DIRECTORY.replace(b"for key;", b"[ $# -lt 100 ] || { echo cut:x:7; printf half:x:8:8; exec sleep 1000; }\nfor key;")
-                             % os.fsencode(self.folder)))
+        self.lists(ids, """
+from . import asking
+asking.MOST_SECONDS = 4
+find_before = find
+def find(kind, make, place, key):
+    if str(key).startswith(("200000", "u71")):
+        os.read(os.pipe()[0], 1)
+    return find_before(kind, make, place, key)
+""")
         begin = time.monotonic()
         done = self.snapshot("new", "tree")
         self.assertLess(time.monotonic() - begin, 120)
@@ -491,7 +469,6 @@ class People(SnapshotCase):
                           rb"that were not asked for or not answered: ([0-9]+)\n", done.messages)
         assert found is not None, done.messages
         self.assertGreaterEqual(int(found[1]), 1200)
-        self.assertNotIn(b"half", self.read("new/passwd"))
         self.assertEqual(sorted(os.listdir(self.path("new"))), ["dump", "group", "inodes", "links", "marks", "meta", "passwd"])
         self.write("more", b"".join(b"u%d\n" % number for number in range(71000, 71200)))
         self.expect_status(self.snapshot("--users", "more", "other", "tree"), 2, b"more: asking for its users took more than 4 seconds\n")
@@ -502,22 +479,20 @@ class People(SnapshotCase):
         rows = [b"u%d:x:%d:70001::/:/bin/sh\n" % (number, number) for number in range(71000, 72200)]
         self.write("passwd.all", self.listed + b"".join(rows))
         self.write("more", b"".join(b"u%d\n" % number for number in range(71000, 72200)))
-        self.tool("getent", DIRECTORY.replace(b"for key; do grep -E ", b"grep -E \"^($(echo \"$*\" | tr ' ' '|')):\" $kind.all; exit\n"
-                                              b"for key; do grep -E ") % os.fsencode(self.folder))
         self.expect_status(self.snapshot("--users", "more", "new", "tree"), 0)
         self.assertEqual(self.read("new/passwd"), self.listed + b"".join(rows))
 
     def test_rows_that_facl_does_not_take(self) -> None:
-        """getent prints entries of NIS without ids."""
-        rows = [b"-x::::::", b"+@net::::::", b":x:5:5:::", b"o:x:4294967295:5:::", b"p:x:5:4294967295:::", b"few:x:5:5::", b"", b"x"]
+        """Entries of NIS have no ids; Python makes 0 of them."""
+        rows = [b"-x:x:0:0:::", b"+@net:x:0:0:::", b":x:5:5:::", b"o:x:4294967295:5:::", b"p:x:5:4294967295:::"]
         good = b"zero:x:0004294967294:4294967294::/:/bin/sh\n"
         self.write("passwd.list", b"\n".join(rows) + b"\n" + good + self.listed)
-        self.write("group.list", b"-x:::\n+:::\n" + self.groups + b"q:x:4294967295:\n")
+        self.write("group.list", b"-x:x:0:\n+:x:0:\n" + self.groups + b"q:x:4294967295:\n")
         done = self.snapshot("new", "tree")
-        for word, number, first in ((b"passwd", 8, b""), (b"group", 3, b"+")):
+        for word, number, first in ((b"passwd", 5, b"+@net"), (b"group", 3, b"+")):
             self.expect_status(done, 0, b"rows of %s without a name, an id or a field, which are left out: %d, first: %s\n" % (word, number, first))
         self.assertTrue(self.read("new/passwd").startswith(good + self.listed))
-        self.assertIn(b"\nusers-left-out 8\ngroups-left-out 3\n", self.read("new/meta"))
+        self.assertIn(b"\nusers-left-out 5\ngroups-left-out 3\n", self.read("new/meta"))
 
     def test_who_is_a_person(self) -> None:
         """As all commands say it."""
@@ -581,29 +556,31 @@ class Trusted(SnapshotCase):
         self.write("mine/\033[1m\n", b"")
         self.expect_refused(["mine", "tree"], b"mine: is there, and is no snapshot of yours, or has other files too: \\033[1m\\012")
 
-    def meanwhile(self, command: bytes) -> None:
-        """Has getent do this once, in the folder of the test."""
-        self.tool("getent", GETENT % (b"cd '%s' && [ ! -e done ] && : >done && %s" % (os.fsencode(self.folder), command)))
-
     def test_files_that_come_meanwhile(self) -> None:
         self.expect_status(self.snapshot("new", "tree"), 0)
         os.mkdir(self.path("empty"))
         old = {name: self.read("new/" + name) for name in FILES}
         for folder, name in (("new", b"notes"), ("empty", b"notes"), ("empty", b"dump")):
-            self.meanwhile(b"echo mine >%s/%s" % (folder.encode(), name))
+            self.meanwhile("echo mine >%s/%s" % (folder, name.decode()))
             place = os.path.realpath(self.path(folder)).encode()
             self.expect_refused([folder, "tree"], b"%s/%s came there meanwhile; %s stays as it was" % (place, name, place))
             self.assertEqual(self.read("%s/%s" % (folder, name.decode())), b"mine\n")
             os.remove(self.path("%s/%s" % (folder, name.decode())))
-            os.remove(self.path("done"))
         self.assertEqual({name: self.read("new/" + name) for name in os.listdir(self.path("new"))}, old)
-        self.meanwhile(b"mv new first && mkdir new")
+        self.meanwhile("mv new first && mkdir new")
         self.expect_refused(["new", "tree"], os.path.realpath(self.path("new")).encode() + b"/ came there meanwhile; %s stays as it was"
                             % os.path.realpath(self.path("new")).encode())
 
     def test_files_that_come_too_late_to_be_seen(self) -> None:
         self.expect_status(self.snapshot("new", "tree"), 0)
-        self.tool("mv", b"#!/bin/sh\n/bin/mv \"$@\" || exit\ncase $5 in */new) echo mine >\"${4%/made}/old/notes\" ;; esac\n")
+        self.add_code("""
+from . import target
+look_before = target.NewSnapshot.look_again
+def look_again(self):
+    look_before(self)
+    os.close(os.open("old/notes", os.O_CREAT | os.O_WRONLY, dir_fd=self.work))
+target.NewSnapshot.look_again = look_again
+""")
         done = self.snapshot("new", "tree")
         self.expect_status(done, 0, b"warning: files that came into the replaced snapshot meanwhile are in ")
         place = done.messages.split(b"meanwhile are in ")[1].strip().decode()
@@ -627,22 +604,16 @@ class Said(SnapshotCase):
             ([name, b"tree"], 0, shown + b": ", b""),
             ([b"new", name + b"x"], 2, b"", b"facl-snapshot: " + shown + b"x: no such file\n"),
         ):
-            done = subprocess.run([SNAPSHOT.encode(), *words], cwd=self.folder, env=self.environment(), capture_output=True,
+            done = subprocess.run([self.command.encode(), *words], cwd=self.folder, env={**os.environ, "FACL": "true"}, capture_output=True,
                                   check=False)
             self.assertEqual((done.returncode, done.stdout[: len(out)], done.stderr), (status, out, message))
 
     def test_names_are_escaped_alike_everywhere(self) -> None:
-        """All that is escaped, and the neighbours of its first and last ones: in a message of facl-snapshot, which is sh, in those
-        of the commands in Python, on a page, and in by_hand, where more is."""
+        """All that is escaped, and the neighbours of its first and last ones: in messages, on a page, and in by_hand, where more is."""
         unseen = {code for code in range(1, sys.maxunicode + 1) if names.UNSEEN.match(chr(code))}
         edges = {code + step for code in unseen for step in (-1, 1)} - unseen
         near = {code + step for code in edges for step in range(-17, 18)}
         codes = sorted(code for code in unseen | near if 0 < code <= sys.maxunicode and not 0xD800 <= code < 0xE000)
-        for start in range(0, len(codes), 900):
-            text = "|".join(map(chr, codes[start: start + 900])).encode()
-            done = subprocess.run([SNAPSHOT.encode(), b"new", b"/" + text], cwd=self.folder, env=self.environment(), capture_output=True,
-                                  check=False)
-            self.assertEqual(done.stderr, b"facl-snapshot: /" + names.shown(text) + b": no such file\n")
         for code in codes:
             text = chr(code).encode()
             self.assertEqual(page_columns.shown_name(text).encode(), names.shown(names.write_name(text)))
@@ -655,12 +626,13 @@ class Said(SnapshotCase):
         words = ("--quiet", "--exclude", "b", "new", "tree")
         self.assertIn(b"warning: names of files that have another name", self.snapshot(*words[1:]).messages)
         self.assertEqual(self.snapshot(*words), Done(0, b"", b""))
-        self.assertEqual(self.snapshot(*words, FACL="", PATH=self.path("bin") + ":/usr/bin:/bin"), Done(0, b"", b""))
+        self.assertEqual(self.snapshot(*words, FACL="", PATH="/usr/bin:/bin"), Done(0, b"", b""))
         done = self.snapshot(*words, FACL="false")
         self.assertEqual((done.status, done.out, done.messages[:35]), (2, b"", b"facl-snapshot: false does not load "))
         self.assertEqual(self.snapshot("--quiet", "new", "absent"), Done(2, b"", b"facl-snapshot: absent: no such file\n"))
-        self.after_find(b"echo 'find: x: no' >&2; status=1")
-        text = b"files or folders that could not be read, so that the dump lacks them or what is in them: 1, first: find: x: no\n"
+        self.add_code(UNREADABLE % b"tree/a")
+        text = b"files or folders that could not be read, so that the dump lacks them or what is in them: 1, first: %s/: cannot be read: no\n" \
+            % os.path.realpath(self.path("tree/a")).encode()
         self.assertEqual(self.snapshot("--quiet", "other", "tree"), Done(1, b"", b"facl-snapshot: warning: " + text))
 
     def test_wrong_words(self) -> None:
@@ -673,26 +645,21 @@ class Said(SnapshotCase):
             self.expect_status(done, 2, b"\nfacl-snapshot: " + message)
             self.assertEqual((done.out, done.messages[:21]), (b"", b"usage: facl-snapshot "))
 
-    def test_messages_of_other_programs(self) -> None:
-        self.after_find(b"printf 'find: \\033]0;x\\007: no\\n' >&2; status=1")
-        done = self.snapshot("new", "tree")
-        self.expect_status(done, 1, b"the dump lacks them or what is in them: 1, first: find: \\033]0;x\\007: no\n")
-
     def test_streams(self) -> None:
         """What is made does not depend on what can be said."""
         for words, status, program in ((">&-", 5, "true"), ("2>&-", 0, "true"), (">/dev/full 2>/dev/full", 5, "true"),
                                        (">/dev/full 2>/dev/full", 1, "false"), ("2>&1 | true", 5, "true")):
             script = '(status=0; "$0" new tree || status=$?; echo $status >status) ' + words
-            subprocess.run(["sh", "-c", script, SNAPSHOT], cwd=self.folder, env=self.environment(FACL=program), capture_output=True,
-                           check=False)
+            subprocess.run(["sh", "-c", script, self.command], cwd=self.folder, env={**os.environ, "FACL": program},
+                           capture_output=True, check=False)
             self.assertEqual((words, self.read("status")), (words, b"%d\n" % status))
             self.assertEqual(sorted(os.listdir(self.path("new"))), FILES)
             shutil.rmtree(self.path("new"))
 
     def end_by(self, number: Optional[signal.Signals]) -> int:
-        """The status of a snapshot that gets this signal while getent is at work."""
-        running = subprocess.Popen([SNAPSHOT, "new", "tree"], cwd=self.folder, env=self.environment(), stdout=subprocess.DEVNULL,
-                                   stderr=subprocess.DEVNULL, preexec_fn=restore_signals)
+        """The status of a snapshot that gets this signal while users are asked for."""
+        running = subprocess.Popen([self.command, "new", "tree"], cwd=self.folder, env={**os.environ, "FACL": "true"},
+                                   stdout=subprocess.DEVNULL, stderr=subprocess.DEVNULL, preexec_fn=restore_signals)
         while not os.path.exists(self.path("at_work")):
             time.sleep(0.01)
         if number:
@@ -704,7 +671,7 @@ class Said(SnapshotCase):
     def test_signals(self) -> None:
         self.expect_status(self.snapshot("new", "tree"), 0)
         old = os.stat(self.path("new")).st_ino
-        self.tool("getent", GETENT % (b": >'%s'; sleep 0.1" % os.fsencode(self.path("at_work"))))
+        self.meanwhile(": >at_work; sleep 0.3")
         for number in (signal.SIGHUP, signal.SIGINT, signal.SIGQUIT, signal.SIGUSR1, signal.SIGUSR2, signal.SIGALRM, signal.SIGTERM):
             self.assertEqual((number, self.end_by(number)), (number, 128 + number))
             self.expect_nothing_left()

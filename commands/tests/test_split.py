@@ -7,13 +7,14 @@ import random
 import shutil
 import sys
 import unittest
-from typing import Dict, Iterable, Iterator, List, NamedTuple, Optional, Tuple
+from typing import Dict, Iterable, List, NamedTuple, Optional, Tuple
 
 from common import COMMANDS, Case
 
 sys.path.insert(0, COMMANDS)
 
 from facl_commands.base.messages import Command, Failure  # noqa: E402
+from facl_commands.base.names import sorting_key  # noqa: E402
 from facl_commands.model import sources, split_tree  # noqa: E402
 from facl_commands.program.session import find_program  # noqa: E402
 from facl_commands.questions.audit import command as audit  # noqa: E402
@@ -21,9 +22,10 @@ from facl_commands.questions.check import command as check  # noqa: E402
 from facl_commands.questions.check.report import json_of as json_of_rules  # noqa: E402
 from facl_commands.questions.diff import command as diff  # noqa: E402
 from facl_commands.questions.diff import report as diff_report  # noqa: E402
-from facl_commands.snapshot.found_names import FILE, MOST_FILES, NameTree, Node  # noqa: E402
 from facl_commands.snapshot.list_texts import shown_name  # noqa: E402
-from facl_commands.snapshot.recording import PathsOfNodes, part_of, sets_of_names  # noqa: E402
+from facl_commands.snapshot.recording import record  # noqa: E402
+from facl_commands.snapshot.runs import IS_FOLDER, LeftOut, Run  # noqa: E402
+from facl_commands.snapshot.walking import Walked  # noqa: E402
 
 COUNT = 7  # Files of a part.
 USERS = {"anna": 1001, "bert": 1002, "carl": 1003, "dora": 1004}
@@ -34,13 +36,6 @@ OWN = b"# owner: 1001\n# group: 2001\nuser::rw-\ngroup::r--\nother::---\n"
 FREE = b"# owner: 1003\n# group: 2002\nuser::rwx\ngroup::rwx\ngroup:2001:rwx\nmask::rwx\nother::rwx\n"
 CUT = b"# owner: 1003\n# group: 2002\nuser::rw-\nuser:1004:rwx\ngroup::r--\nmask::r--\nother::r--\n"
 RULES = b"never others write /\nonly anna bert read /srv/b/\nalways carl read /srv/\nnever @hr write /srv/d/\n"
-
-
-def parts_of(nodes: List[Node], count: int) -> Iterator[List[Node]]:
-    start = 0
-    while start < len(nodes):
-        part, start = part_of(nodes, start, count)
-        yield part
 
 
 class Name(NamedTuple):
@@ -74,42 +69,33 @@ class World:
         for it in [it for it in self.files if it == old or it.startswith(old + b"/")]:
             self.files[new + it[len(old):]] = self.files.pop(it)
 
-    def nodes(self) -> List[Node]:
-        """All names, as facl-snapshot has them in memory, by their components."""
-        tree = NameTree(MOST_FILES)
-        for path, it in self.files.items():
-            above, _, name = (b"/" + path).rpartition(b"/")
-            node = tree.folder(b"/" + path + b"/" * (path != b"")) if it.is_folder else tree.child(tree.folder(above + b"/"), name, FILE)
-            node.device, node.inode = 1, it.inode
-        for rank, node in enumerate(tree.in_order(of_components=False)):
-            node.rank = rank
-        return [*tree.in_order(of_components=True)]
+    def run(self) -> Run:
+        """All files, as facl-snapshot finds them."""
+        files = [(b"/" + path + b"/" * (it.is_folder and path != b""), it)
+                 for path, it in sorted(self.files.items(), key=lambda its: sorting_key(its[0]))]
+        return Run([b"# file: %s\n%s\n" % (shown_name(name), it.body) for name, it in files],
+                   [b"1 %d %d.000000001 %s\0" % (it.inode, it.inode, name) for name, it in files], [b""] * len(files),
+                   [1 << 64 | it.inode for _, it in files], [IS_FOLDER * it.is_folder for _, it in files], [0] * len(files),
+                   [(0, 0, frozenset(), frozenset())])
 
     def write(self, folder: str, count: Optional[int] = None) -> None:
         """Writes a snapshot, or its parts."""
-        parts = [*parts_of(self.nodes(), count)] if count else []
-        for number, nodes in enumerate(parts, 1):
-            self.write_part(os.path.join(folder, "%03d" % number), nodes, b"part %03d of %03d\n" % (number, len(parts)))
-        if not count:
-            self.write_part(folder, self.nodes())
+        os.makedirs(folder, 0o700)
+        opened = os.open(folder, os.O_RDONLY)
+        parts = record([Walked(self.run(), LeftOut(), [])], opened, count, LeftOut())
+        os.close(opened)
+        for part in parts:
+            more = b"part %s of %03d\n" % (part.name, len(parts)) if count else b""
+            self.write_rest(os.path.join(folder, os.fsdecode(part.name)), part.sums.files, more)
 
-    def write_part(self, folder: str, nodes: List[Node], more: bytes = b"") -> None:
-        nodes = sorted(nodes, key=lambda node: node.rank)
-        paths = PathsOfNodes()
-        names = [paths.of(node) for node in nodes]
+    def write_rest(self, folder: str, files: int, more: bytes) -> None:
         groups = "".join("%s:x:%d:%s\n" % (name, gid, ",".join(members)) for name, (gid, members) in self.groups.items())
         written: Dict[str, bytes] = {
             "passwd": ("root:x:0:0::/:/bin/sh\n" + "".join(
                 "%s:x:%d:%d::/:\n" % (name, uid, uid) for name, uid in self.users.items())).encode(),
             "group": ("root:x:0:\n" + "".join("%s:x:%d:\n" % (name, uid) for name, uid in self.users.items()) + groups).encode(),
-            "dump": b"".join(b"# file: %s\n%s\n" % (shown_name(name), self.files[name.strip(b"/")].body) for name in names),
-            "inodes": b"boot x\0" + b"".join(b"1 %d %d.000000001 %s\0" % (node.inode, node.inode, name)
-                                            for node, name in zip(nodes, names)),
-            "links": b"\n".join(b"".join(shown_name(paths.of(node)) + b"\n" for node in its) for its in sets_of_names(nodes)),
-            "marks": b"",
-            "meta": b"host srva\ndate 2026-11-27T03:10:00Z\nversion 0\nfolder /srv\nexcluded 0\nunread 0\nfiles %d\n" % len(nodes) + more,
+            "meta": b"host srva\ndate 2026-11-27T03:10:00Z\nversion 0\nfolder /srv\nexcluded 0\nunread 0\nfiles %d\n" % files + more,
         }
-        os.makedirs(folder, 0o700)
         for name, text in written.items():
             with open(os.path.join(folder, name), "wb") as file:
                 file.write(text)

@@ -1,5 +1,5 @@
 """Calls of Linux that Python does not have: a status with the birth and with what Linux looks at beside lists, a rename that
-replaces nothing, and an end of writing."""
+replaces nothing, patterns of names, and an end of writing."""
 from __future__ import annotations
 
 import ctypes
@@ -19,6 +19,7 @@ UNKNOWN = 1  # No attribute: the file system does not say whether a file has the
 RENAME_NOREPLACE, RENAME_EXCHANGE = 1, 2
 NO_OVERLAY, OF_ONE, OF_SEVERAL = range(3)
 OVERLAY, TMPFS = 0x794C7630, 0x01021994  # Kinds of file systems, as statfs(2) has them.
+OF_KERNEL = (0x9FA0, 0x62656572)  # proc and sysfs, whose files the kernel makes.
 # struct statx: the mask of what is known, attributes, names, owner, group, mode, inode, which attributes are known, birth in
 # seconds and nanoseconds, device, mount.
 STATX = struct.Struct("<I4xQIIIH2xQ16xQ16xqI44xIIQ")
@@ -115,6 +116,11 @@ def look_at(descriptor: int, name: bytes = b"") -> Tuple[Status, Beside]:
 def status_of(descriptor: int, name: bytes = b"") -> Status:
     """The status alone."""
     return look_at(descriptor, name)[0]
+
+
+def matches(pattern: bytes, name: bytes) -> bool:
+    """Whether a name matches a pattern of fnmatch(3), in which `*` goes over slashes too, in the locale of the process."""
+    return bool(LIBRARY.fnmatch(pattern, name, 0) == 0)
 
 
 def rename_new(old: bytes, new: bytes, folder: int) -> None:

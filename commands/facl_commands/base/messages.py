@@ -16,7 +16,7 @@ from .names import shown
 
 UNUSABLE = 2  # The status where the words, the input or the system do not allow it.
 NOT_SAID = 5  # The status where all is done, and what was to be printed could not be written.
-SIGNALS = (signal.SIGHUP, signal.SIGINT, signal.SIGQUIT,
+SIGNALS = (signal.SIGHUP, signal.SIGINT, signal.SIGQUIT, signal.SIGUSR1, signal.SIGUSR2, signal.SIGALRM,
            signal.SIGTERM)  # Each ends a command, and leaves nothing behind.
 
 

@@ -25,6 +25,12 @@ def give_mode(descriptor: int, mode: int) -> None:
     os.fchmod(descriptor, mode)
 
 
+def share(descriptor: int, group: int, mode: int) -> None:
+    """Gives a file or folder that the command made to a group, with this mode."""
+    os.fchown(descriptor, -1, group)
+    give_mode(descriptor, mode)
+
+
 def is_there(name: bytes, folder: int) -> bool:
     """Whether an open folder has a name."""
     try:

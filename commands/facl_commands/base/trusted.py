@@ -22,6 +22,7 @@ MOST_WRITTEN = 64 << 20  # Bytes of what a person writes: rules, accepted findin
 PIECE = 1 << 20
 DESCRIPTOR = re.compile(rb"/(?:dev|proc/self)/fd/([0-9]{1,9})")
 LINKS_LIMIT = 40  # Symbolic links on one way, as in the kernel.
+OF_OTHER, BY_ALL, BY_OTHERS = range(3)  # Why somebody else can have written a file: its owner, all users, some users.
 
 
 def owner_name(uid: int) -> bytes:
@@ -49,17 +50,25 @@ def has_list(descriptor: int) -> bool:
         return error.errno not in (errno.ENODATA, errno.ENOTSUP)
 
 
-def fault_of(descriptor: int, look: os.stat_result) -> Optional[bytes]:
-    """Why somebody else can have written a file; None where nobody can."""
+def doubt_of(descriptor: int, look: os.stat_result, may_be_sticky: bool = True) -> Optional[int]:
+    """Why somebody else can have written a file; None where nobody can. A sticky directory will do where it may be one."""
     if look.st_uid not in (0, os.geteuid()):
-        return b"belongs to " + owner_name(look.st_uid)
-    if stat.S_ISLNK(look.st_mode) or stat.S_ISDIR(look.st_mode) and look.st_mode & stat.S_ISVTX:
+        return OF_OTHER
+    if stat.S_ISLNK(look.st_mode) or may_be_sticky and stat.S_ISDIR(look.st_mode) and look.st_mode & stat.S_ISVTX:
         return None
     if look.st_mode & stat.S_IWOTH:
-        return b"can be written by everybody"
+        return BY_ALL
     if look.st_mode & stat.S_IWGRP and (has_list(descriptor) or not is_own_group(look.st_gid, look.st_uid)):
-        return b"can be written by others (its group, or users and groups of its access list)"
+        return BY_OTHERS
     return None
+
+
+def fault_of(descriptor: int, look: os.stat_result) -> Optional[bytes]:
+    """The same, as messages have it."""
+    doubt = doubt_of(descriptor, look)
+    return None if doubt is None else {
+        OF_OTHER: b"belongs to " + owner_name(look.st_uid), BY_ALL: b"can be written by everybody",
+        BY_OTHERS: b"can be written by others (its group, or users and groups of its access list)"}[doubt]
 
 
 class Way:
@@ -78,11 +87,18 @@ class Way:
         descriptor = os.open(part, os.O_PATH | os.O_NOFOLLOW | os.O_CLOEXEC, dir_fd=above)
         self.open.append(descriptor)
         self.shown.append(part.strip(b"/"))
-        fault = fault_of(descriptor, os.fstat(descriptor))
+        self.judge(descriptor, os.fstat(descriptor))
+
+    def judge(self, descriptor: int, look: os.stat_result) -> None:
+        """Fails where somebody else can have written the last component."""
+        fault = fault_of(descriptor, look)
         if fault is not None:
-            place = b"/" + b"/".join(self.shown[1:])
-            beside = b"" if place == os.path.abspath(self.name) else self.name + b": "
-            raise Failure(beside + place + b": " + fault + b", so it is not trusted")
+            beside = b"" if self.place() == os.path.abspath(self.name) else self.name + b": "
+            raise Failure(beside + self.place() + b": " + fault + b", so it is not trusted")
+
+    def place(self) -> bytes:
+        """The name of the last component, from the root."""
+        return b"/" + b"/".join(self.shown[1:])
 
     def back(self) -> None:
         os.close(self.open.pop())
@@ -108,12 +124,18 @@ class Way:
                 if len(self.open) > 1:
                     self.back()
             elif part not in (b"", b"."):
+                if not any(rest) and self.ends_before(part):
+                    return
                 self.step(part)
                 target = self.target()
                 if target is not None:
                     rest += target.split(b"/")[::-1]
                     while target.startswith(b"/") and len(self.open) > 1:
                         self.back()
+
+    def ends_before(self, part: bytes) -> bool:
+        """Whether the way ends before its last component: that of a file which has to be there does not."""
+        return False
 
     def close(self) -> None:
         while self.open:

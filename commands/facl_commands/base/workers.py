@@ -6,7 +6,8 @@ import mmap
 import os
 import select
 import signal
-from typing import Any, Callable, List, Optional
+import struct
+from typing import IO, Any, Callable, List, Optional
 
 from . import linux
 from .messages import SIGNALS
@@ -14,7 +15,22 @@ from .messages import SIGNALS
 MANY = 20_000  # Paths for which one process takes half a second.
 MOST = 4  # Processes.
 OFTEN = 0.1  # Seconds between two looks at the signals that wait.
+SIZE = struct.Struct("<Q")  # Of what is sent.
 Work = Callable[[], Any]  # Returns what marshal takes: numbers, bytes, and lists, tuples and dictionaries of them.
+
+
+def send(file: IO[bytes], what: Any) -> None:
+    """Sends another process what marshal takes."""
+    text = marshal.dumps(what)
+    file.write(SIZE.pack(len(text)) + text)
+    file.flush()
+
+
+def receive(file: IO[bytes]) -> Optional[object]:
+    """What the other process sent; None where it ended."""
+    head = file.read(SIZE.size)
+    text = file.read(SIZE.unpack(head)[0]) if len(head) == SIZE.size else b""
+    return marshal.loads(text) if text else None
 
 
 class Stop:

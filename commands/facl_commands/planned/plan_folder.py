@@ -15,7 +15,7 @@ from typing import Dict, Iterator, NamedTuple, Optional, Tuple
 
 from ..base import linux, new_file, trusted
 from ..base.messages import SIGNALS, Failure, reason, signals_wait
-from ..base.new_file import DIRECTORY, give_mode, is_there, make_directory
+from ..base.new_file import DIRECTORY, is_there, make_directory
 
 VERSION = b"facl-plan 2\n"
 LOCK = b"lock"  # Nobody but the owner can open it, also where a group reads the plan.
@@ -236,14 +236,9 @@ def share(folder: PlanFolder, group: Optional[int]) -> None:
         return
     for name in set(os.listdir(folder.descriptor)) - set(map(os.fsdecode, MARKS)):
         descriptor = os.open(name, os.O_RDONLY | os.O_NOFOLLOW | os.O_CLOEXEC, dir_fd=folder.descriptor)
-        share_one(descriptor, group, 0o640)
+        new_file.share(descriptor, group, 0o640)
         os.close(descriptor)
-    share_one(folder.descriptor, group, 0o750)
-
-
-def share_one(descriptor: int, group: int, mode: int) -> None:
-    os.fchown(descriptor, -1, group)
-    give_mode(descriptor, mode)
+    new_file.share(folder.descriptor, group, 0o750)
 
 
 def remove(place: Place, name: bytes, folder: PlanFolder) -> bool:

@@ -13,6 +13,7 @@ from typing import Dict, FrozenSet, NamedTuple, Optional, Tuple
 
 from ..base import acl_bytes
 from ..base.acl_bytes import ENTRY, GROUP, GROUP_CLASS, GROUP_OBJ, HEAD, MASK, NAMED, NO_ID, OTHER, USER, USER_OBJ
+from .runs import EMPTY_MASK, REPEATED, Whom
 
 MOST_ENTRIES = 4096  # Of a list, which the program takes.
 MOST_KEPT = 4096  # Lists whose texts are kept.
@@ -43,6 +44,8 @@ class ListText(NamedTuple):
 
 def shown_name(name: bytes) -> bytes:
     """A name as getfacl prints it."""
+    if b"\\" not in name and b"\n" not in name and b"\r" not in name:
+        return name
     return re.sub(rb"[\\\n\r]", lambda found: ESCAPES[found[0]], name)
 
 
@@ -92,20 +95,33 @@ class KnownTexts(Dict[bytes, ListText]):
 ACCESS_TEXTS, DEFAULT_TEXTS = KnownTexts(b""), KnownTexts(b"default:")
 NO_LIST = ListText(b"", frozenset(), frozenset(), False, False)
 MINIMAL = [acl_bytes.minimal(mode) for mode in range(0o1000)]
+Label = Tuple[int, int, int, Optional[bytes], Optional[bytes]]  # Mode, owner and group of a file, and the bytes of its lists.
 
 
-class FileText(NamedTuple):
-    """The record of a file, and its two lists."""
+class LabelText(NamedTuple):
+    """The record of a file after its name, its bits, and whom it names."""
 
     text: bytes
-    access: ListText
-    default: ListText
+    bits: int
+    whom: Whom
 
 
-def record_of(name: bytes, mode: int, owner: int, group: int, access: Optional[bytes], default: Optional[bytes]) -> FileText:
-    """The record of a file; without an access list the mode has its entries."""
+class KnownLabels(Dict[Label, LabelText]):
+    """The texts of the labels that came last."""
+
+    def __missing__(self, label: Label) -> LabelText:
+        if len(self) >= MOST_KEPT:
+            self.clear()
+        self[label] = label_text(label)
+        return self[label]
+
+
+def label_text(label: Label) -> LabelText:
+    """The text of a label; without an access list its mode has the entries."""
+    mode, owner, group, access, default = label
     flags = b"# flags: " + b"".join(letter if mode & bit else b"-" for bit, letter in FLAGS) + b"\n" if mode & 0o7000 else b""
     first = ACCESS_TEXTS[MINIMAL[mode & 0o777] if access is None else access]
     second = DEFAULT_TEXTS[default] if default else NO_LIST
-    head = b"# file: %s\n# owner: %d\n# group: %d\n" % (shown_name(name), owner, group)
-    return FileText(b"".join((head, flags, first.lines, second.lines, b"\n")), first, second)
+    text = b"".join((b"\n# owner: %d\n# group: %d\n" % (owner, group), flags, first.lines, second.lines, b"\n"))
+    bits = EMPTY_MASK * first.has_empty_mask | REPEATED * (first.is_repeated or second.is_repeated)
+    return LabelText(text, bits, (owner, group, first.users | second.users, first.groups | second.groups))

@@ -7,18 +7,16 @@ from __future__ import annotations
 
 import os
 import stat
-from typing import Dict, List, NamedTuple, Tuple
+from typing import Dict, NamedTuple
 
 from ..base import beside
-from ..base.linux import TMPFS, UNKNOWN, Beside, Mount, file_system_of
-from ..base.live import OpenFile
-from .found_names import Node
+from ..base.linux import OF_KERNEL, TMPFS, UNKNOWN, Mount, file_system_of
 from .list_texts import shown_name
-from .written import Written
+from .runs import BITS, Sums
 
 # Lists that are not those of acl(5), by the extended attributes that have them; TrueNAS has the second one.
-LISTS = {"system.nfs4_acl": beside.NFS4_LIST, "system.nfs4_acl_xdr": beside.NFS4_LIST, "system.richacl": beside.RICH_LIST,
-         "security.NTACL": beside.SAMBA_LIST}
+LISTS = {"system.nfs4_acl": BITS[beside.NFS4_LIST], "system.nfs4_acl_xdr": BITS[beside.NFS4_LIST],
+         "system.richacl": BITS[beside.RICH_LIST], "security.NTACL": BITS[beside.SAMBA_LIST]}
 # What is said of a snapshot that has files of a kind.
 SAID = {
     beside.IMMUTABLE: b"immutable files, which nobody can write whatever lists say (see marks)",
@@ -36,8 +34,9 @@ class KnownMount(NamedTuple):
     """A mount that was met."""
 
     word: bytes
-    kinds: Tuple[bytes, ...]  # Of its files.
+    bits: int  # Of its files.
     has_no_attributes: bool  # Where it does not say which a file has: a tmpfs that says none cannot have any.
+    is_of_kernel: bool
 
 
 class KnownMounts(Dict[Mount, KnownMount]):
@@ -46,70 +45,56 @@ class KnownMounts(Dict[Mount, KnownMount]):
     def of(self, mount: Mount, descriptor: int) -> KnownMount:
         """That of an open file."""
         if mount not in self:
-            word = beside.word_of(descriptor)
-            self[mount] = KnownMount(word, beside.of_mount(word), file_system_of(descriptor) == TMPFS)
+            word, system = beside.word_of(descriptor), file_system_of(descriptor)
+            bits = sum(BITS[kind] for kind in beside.of_mount(word))
+            self[mount] = KnownMount(word, bits, system == TMPFS, system in OF_KERNEL)
         return self[mount]
 
 
-class Marker:
-    """Writes the file marks of a snapshot, file by file, each after those that it is in."""
+class Marked(NamedTuple):
+    """What counts beside the lists of a file."""
 
-    def __init__(self, folder: bytes, mounts: KnownMounts) -> None:
-        self.file, self.mounts, self.lines = Written(folder, beside.NAME), mounts, 0
-        self.found = dict.fromkeys(beside.KINDS, 0)
-        self.first: Dict[bytes, bytes] = {}  # By kind: the name of the first file.
-
-    def add(self, node: Node, name: bytes, file: OpenFile, mode: int, its: Beside) -> None:
-        """Adds a recorded file. A device, a FIFO and a socket can be written on a read-only file system too."""
-        attributes, mount = its
-        node.mount, kinds, has_none = self.mounts.of(mount, file.descriptor)
-        if kinds and not stat.S_ISREG(mode) and not stat.S_ISDIR(mode):
-            node.mount, kinds = beside.PLAIN, ()
-        if node.mount != mount_above(node):
-            self.write(node.mount, name)
-        own = () if attributes == UNKNOWN and has_none else self.of_attributes(attributes, name)
-        for kind in (*kinds, *own, *other_lists(file.name)):
-            self.found[kind] += 1
-            self.first.setdefault(kind, name)
-
-    def of_attributes(self, attributes: int, name: bytes) -> Tuple[bytes, ...]:
-        """The kinds of a file with these, which are written."""
-        if attributes in (0, UNKNOWN):
-            return (beside.ATTRIBUTES_UNKNOWN,) if attributes else ()
-        kinds = tuple(kind for bit, kind in beside.ATTRIBUTES if attributes & bit)
-        for kind in kinds:
-            self.write(kind, name)
-        return kinds
-
-    def write(self, kind: bytes, name: bytes) -> None:
-        self.file.write(kind + b" " + shown_name(name) + b"\n")
-        self.lines += 1
-
-    def numbers(self) -> bytes:
-        """The lines of meta."""
-        return b"".join(b"%s %d\n" % it for it in ((beside.NAME, self.lines), *self.found.items()))
-
-    def said(self) -> bytes:
-        """What is warned of, a line each."""
-        return b"".join(b"%s: %d, first: %s\n" % (text, self.found[kind], shown_name(self.first[kind]))
-                        for kind, text in SAID.items() if self.found[kind])
+    word: bytes  # How it is mounted.
+    lines: bytes  # Of the file marks.
+    bits: int
 
 
-def mount_above(node: Node) -> bytes:
-    """How the nearest recorded directory above a file is mounted."""
-    above = node.parent
-    while above is not None and not above.mount:
-        above = above.parent
-    return beside.PLAIN if above is None else above.mount
+def marked(name: bytes, mode: int, attributes: int, known: KnownMount, above: bytes) -> Marked:
+    """What counts beside lists of a file with these attributes, where the directory above is mounted by the word `above`. A
+    device, a FIFO and a socket can be written on a read-only file system too."""
+    word, bits, lines = known.word, known.bits, b""
+    if bits and not stat.S_ISREG(mode) and not stat.S_ISDIR(mode):
+        word, bits = beside.PLAIN, 0
+    if word != above:
+        lines = line_of(word, name)
+    if attributes == UNKNOWN:
+        return Marked(word, lines, bits if known.has_no_attributes else bits | BITS[beside.ATTRIBUTES_UNKNOWN])
+    for bit, kind in beside.ATTRIBUTES if attributes else ():
+        if attributes & bit:
+            lines, bits = lines + line_of(kind, name), bits | BITS[kind]
+    return Marked(word, lines, bits)
 
 
-def other_lists(name: bytes) -> List[bytes]:
-    """The kinds of lists that a file has beside those of acl(5)."""
+def line_of(kind: bytes, name: bytes) -> bytes:
+    return kind + b" " + shown_name(name) + b"\n"
+
+
+def numbers_of(sums: Sums) -> bytes:
+    """The lines of meta."""
+    numbers = [(beside.NAME, sums.lines), *((kind, sums.numbers[bit]) for kind, bit in BITS.items())]
+    return b"".join(b"%s %d\n" % it for it in numbers)
+
+
+def other_lists(name: bytes) -> int:
+    """The bits of lists that a file has beside those of acl(5)."""
     try:
         names = os.listxattr(name)
     except OSError:  # There may be too many to list.
         names = [it for it in LISTS if has_attribute(name, it)]
-    return list(dict.fromkeys(LISTS[it] for it in names if it in LISTS)) if names else []
+    bits = 0
+    for it in names:
+        bits |= LISTS.get(it, 0)
+    return bits
 
 
 def has_attribute(name: bytes, attribute: str) -> bool:

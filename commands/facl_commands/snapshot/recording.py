@@ -1,269 +1,195 @@
-"""What facl-snapshot records of files: dump, inodes, links and marks of one snapshot, or of several.
-
-Each file is opened by its path, component by component and through no symbolic link, and recorded by its descriptor. It
-has to be the file that find found under this name: where it is not, or is gone, it is not recorded.
-"""
+"""The files of snapshots that are written as the walk goes on: dump, inodes, marks and links of one, or of several parts."""
 from __future__ import annotations
 
-import copy
-import itertools
-import operator
 import os
-import shutil
-import stat
-from typing import Dict, Iterable, Iterator, List, NamedTuple, Optional, Set, Tuple
+from typing import Iterable, Iterator, List, NamedTuple, Optional
 
-from ..base import acl_bytes, linux, live
-from ..base.live import NotFound, Opener
-from ..base.messages import Command, Failure, reason, run
-from . import found_names
-from .found_names import (
-    EXCLUDED, FILE, LINK, OTHER_SYSTEM, START, UNKNOWN, Choice, Complaints, NameTree, Node, find_below, find_words,
-)
-from .list_texts import FileText, NoList, record_of, shown_name
-from .marking import KnownMounts, Marker
-from .written import Written, close_all, write_file
+from ..base import beside, linux
+from ..base.messages import Failure
+from ..base.new_file import make_directory
+from . import scope as scopes
+from .linked import LinkedNames, Linker
+from .list_texts import shown_name
+from .marking import SAID, numbers_of
+from .runs import BITS, EMPTY_MASK, IS_FOLDER, REPEATED, UNREAD, LeftOut, Run, Sums
+from .walking import Walked
+from .written import Written, write_file
 
 MOST_BYTES = 268_435_456  # Of a dump, which the program reads.
-MOST_PATHS = 4096  # Directories whose paths are kept.
-EXCHANGED = b"was exchanged for another file, or removed, meanwhile"
-BY_FILE = operator.attrgetter("device", "inode")
-BY_RANK = operator.attrgetter("rank")
 
 
-class TooLarge(Failure):
-    """The dump of a snapshot would have more than MOST_BYTES; `fitting` of its files fit."""
+class RecordedFiles(NamedTuple):
+    """What is recorded of the files of a snapshot."""
 
-    def __init__(self, fitting: int) -> None:
-        super().__init__(b"the dump has more than %s bytes, which facl does not take: name fewer FOLDERs, or take several snapshots "
-                         b"by --split COUNT" % format(MOST_BYTES, ",").encode())
-        self.fitting = fitting
+    name: bytes  # Of the folder of a part; empty for one snapshot.
+    sums: Sums
+    unread: int
+    first_unread: bytes
+    linked: LinkedNames
 
+    def said(self) -> List[bytes]:
+        """What is warned of."""
+        linked, sums = self.linked, self.sums
+        found = [
+            (b"names of files that have another name in the snapshot too (see links)", sum(map(len, linked.sets)), linked.first),
+            (b"files with more than one link whose other names are not in the snapshot", linked.outside, linked.first_outside),
+            (b"lists with an empty mask whose others have something, which Linux grants to named users and groups too, and "
+             b"facl does not", sums.numbers[EMPTY_MASK], sums.first.get(EMPTY_MASK, b"")),
+            (b"lists with several entries of one user or group, which are recorded as one, as Linux judges by them",
+             sums.numbers[REPEATED], sums.first.get(REPEATED, b"")),
+            *((text, sums.numbers[BITS[kind]], sums.first.get(BITS[kind], b"")) for kind, text in SAID.items())]
+        return [b"%s: %d, first: %s" % (text, number, shown_name(first)) for text, number, first in found if number]
 
-class PathsOfNodes:
-    """The whole names of nodes; those of the directories that came last are kept."""
-
-    def __init__(self) -> None:
-        self.known: Dict[Node, bytes] = {}
-
-    def folder(self, node: Optional[Node]) -> bytes:
-        """That of a directory, with a slash at its end."""
-        parts = []
-        while node is not None and node not in self.known:
-            parts.append(node)
-            node = node.parent
-        path = self.known[node] if node is not None else b""
-        for part in reversed(parts):
-            path += part.name + b"/"
-            if len(self.known) >= MOST_PATHS:
-                self.known.clear()
-            self.known[part] = path
-        return path
-
-    def of(self, node: Node) -> bytes:
-        return self.folder(node) if node.below is not None else self.folder(node.parent) + node.name
+    def numbers(self) -> bytes:
+        """The lines of meta."""
+        return b"files %d\nlinked-names %d\n" % (self.sums.files, sum(map(len, self.linked.sets))) + numbers_of(self.sums)
 
 
-class Recorded(NamedTuple):
-    """What is recorded in one snapshot, and whom that names."""
+class Recording:
+    """A snapshot that is being written."""
 
-    nodes: List[Node]
-    several: List[Node]  # Plain files with more than one link.
-    empty_masks: List[Node]
-    repeated: List[Node]  # With several entries of one user or group.
-    users: Set[int]
-    groups: Set[int]
-    complaints: Complaints
-
-
-class Recorder:
-    """Writes snapshots, and beside them what facl-snapshot goes on with: a file `NUMBER.KEY` for each snapshot."""
-
-    def __init__(self, choice: Choice, opener: Opener) -> None:
-        self.choice, self.opener = choice, opener
-        self.paths, self.mounts = PathsOfNodes(), KnownMounts()
-
-    def look(self, node: Node, name: bytes, into: Recorded) -> Optional[FileText]:
-        """The record of a file, with its line of inodes in the file of this name; None, and a complaint, where it cannot be
-        looked at or is another one."""
-        node.mount = b""
-        try:
-            file = self.opener.open(name.strip(b"/"))
-        except NotFound as error:
-            into.complaints.add(shown_name(name) + b": " + (error.text if error.text.startswith(b"cannot") else EXCHANGED))
-            return None
-        try:
-            return self.record(node, name, file, into)
-        except (OSError, NoList) as error:
-            why = error.text if isinstance(error, NoList) else b"cannot be looked at: " + reason(error)
-            into.complaints.add(shown_name(name) + b": " + why)
-            return None
-        finally:
-            file.close()
-
-    def record(self, node: Node, name: bytes, file: live.OpenFile, into: Recorded) -> Optional[FileText]:
-        (mode, owner, group, links, device, inode, birth), beside = linux.look_at(file.descriptor)
-        is_other = stat.S_ISLNK(mode) or stat.S_ISDIR(mode) != (node.below is not None)
-        if is_other or node.device != UNKNOWN and (node.device, node.inode) != (device, inode):
-            into.complaints.add(shown_name(name) + b": " + EXCHANGED)
-            return None
-        default = live.attribute(file.name, acl_bytes.DEFAULT) if node.below is not None else None
-        found = record_of(name, mode, owner, group, live.attribute(file.name, acl_bytes.ACCESS), default)
-        node.device, node.inode = device, inode
-        self.marker.add(node, name, file, mode, beside)
-        self.inodes.write(b"%d %d %d.%09d %s\0" % (device, inode, *divmod(birth, 1_000_000_000), name))
-        into.nodes.append(node)
-        if links > 1 and node.below is None:
-            into.several.append(node)
-        if found.access.has_empty_mask:
-            into.empty_masks.append(node)
-        if found.access.is_repeated or found.default.is_repeated:
-            into.repeated.append(node)
-        into.users.update((owner,), found.access.users, found.default.users)
-        into.groups.update((group,), found.access.groups, found.default.groups)
-        return found
-
-    def write(self, folder: bytes, nodes: Iterable[Node], complaints: Complaints, number: int) -> None:
-        """Writes a snapshot, and what is said of it."""
-        into = Recorded([], [], [], [], set(), set(), complaints)
-        dump, self.inodes, self.marker = Written(folder, b"dump"), Written(folder, b"inodes"), Marker(folder, self.mounts)
+    def __init__(self, folder: int, name: bytes = b"") -> None:
+        self.folder, self.name = folder, name
+        self.dump, self.inodes, self.marks = (Written(folder, name) for name in (b"dump", b"inodes", beside.NAME))
         self.inodes.write(b"boot " + linux.boot().encode() + b"\0")
-        for node in nodes:
-            found = self.look(node, self.paths.of(node), into)
-            if found is not None:
-                dump.write(found.text)
-                if dump.size > MOST_BYTES:
-                    close_all(dump, self.inodes, self.marker.file)
-                    raise TooLarge(len(into.nodes) - 1)
-        close_all(dump, self.inodes, self.marker.file)
-        if not into.nodes:
-            raise Failure(b"no file could be read: " + complaints.first)
-        self.write_rest(folder, into, b"%03d." % number)
+        self.sums, self.linker = Sums(), Linker()
+        self.unread, self.first_unread = 0, b""
 
-    def write_rest(self, folder: bytes, into: Recorded, prefix: bytes) -> None:
-        links = Written(folder, b"links")
-        linked: List[Node] = []
-        for names in sets_of_names(into.nodes):
-            links.write(b"\n" * bool(linked) + b"".join(shown_name(self.paths.of(node)) + b"\n" for node in names))
-            linked += names
-        links.close()
-        linked.sort(key=BY_RANK)
-        known = {*linked}
-        outside = [node for node in into.several if node not in known]
-        said = ((b"names of files that have another name in the snapshot too (see links)", linked),
-                (b"files with more than one link whose other names are not in the snapshot", outside),
-                (b"lists with an empty mask whose others have something, which Linux grants to named users and groups too, and "
-                 b"facl does not", into.empty_masks),
-                (b"lists with several entries of one user or group, which are recorded as one, as Linux judges by them",
-                 into.repeated))
-        work = self.choice.work
-        write_file(work, prefix + b"said", b"".join(
-            b"%s: %d, first: %s\n" % (text, len(nodes), shown_name(self.paths.of(nodes[0]))) for text, nodes in said if nodes)
-                   + self.marker.said())
-        write_file(work, prefix + b"numbers", b"files %d\nlinked-names %d\n" % (len(into.nodes), len(linked))
-                   + self.marker.numbers())
-        write_file(work, prefix + b"passwd", b"".join(b"%d\n" % number for number in into.users))
-        write_file(work, prefix + b"group", b"".join(b"%d\n" % number for number in into.groups))
-        write_file(work, prefix + b"unread", b"%d\n%s\n" % (into.complaints.number, into.complaints.first))
+    def has_room(self, number: int, size: int, most: int) -> bool:
+        """Whether so many more files, of so many bytes of the dump, fit."""
+        return self.sums.files + number <= most and self.dump.size + size <= MOST_BYTES
+
+    def add(self, run: Run) -> None:
+        self.dump.write(b"".join(run.dump))
+        self.inodes.write(b"".join(run.inodes))
+        self.marks.write(b"".join(run.marks))
+        self.sums.add(run)
+        self.linker.add(run)
+
+    def complain(self, left_out: LeftOut) -> None:
+        """Counts what could not be read."""
+        self.first_unread = self.first_unread or left_out.first[UNREAD]
+        self.unread += left_out.numbers[UNREAD]
+
+    def finish(self) -> RecordedFiles:
+        """Writes links, which needs all names, and closes its files."""
+        if not self.sums.files:
+            raise Failure(b"no file could be read: " + self.first_unread)
+        self.inodes.flush()
+        linked = self.linker.names(self.inodes.file)
+        for file in (self.dump, self.inodes, self.marks):
+            file.close()
+        write_file(self.folder, b"links", b"\n".join(b"".join(shown_name(name) + b"\n" for name in names) for names in linked.sets))
+        return RecordedFiles(self.name, self.sums, self.unread, self.first_unread, linked)
 
 
-def sets_of_names(nodes: List[Node]) -> Iterator[List[Node]]:
-    """The names that are one file, in the order of devices and inodes."""
-    for _, group in itertools.groupby(sorted(nodes, key=BY_FILE), BY_FILE):
-        names = [*group]
-        if len(names) > 1:
-            yield names
+def too_large() -> Failure:
+    return Failure(b"the dump has more than %s bytes, which facl does not take: name fewer FOLDERs, or take several snapshots "
+                   b"by --split COUNT" % format(MOST_BYTES, ",").encode())
 
 
-def above_of(node: Node) -> List[Node]:
-    """The directories above a name."""
-    found = []
-    while node.parent is not None:
-        node = node.parent
-        found.append(node)
-    return found
+def record_whole(found: Iterable[Walked], made: int) -> List[RecordedFiles]:
+    """Writes one snapshot."""
+    recording = Recording(made)
+    for walked in found:
+        recording.complain(walked.left_out)
+        recording.add(walked.run)
+        if recording.dump.size > MOST_BYTES:
+            raise too_large()
+    return [recording.finish()]
 
 
-def too_few(count: int, node: Node) -> Failure:
-    return Failure(b"--split %d: is too few for the directories above %s" % (count, shown_name(PathsOfNodes().of(node))))
+class Parts:
+    """Snapshots of at most `count` files each: as many as fit, in the order of paths, and the directories above them. A directory
+    at the end is left to the next one, where the following name is in it."""
+
+    def __init__(self, made: int, count: int) -> None:
+        self.made, self.count = made, count
+        self.above: List[Run] = []  # The directories above the last file, and that where it is one.
+        self.held = 0  # The last ones of them that are not written yet.
+        self.recording: Optional[Recording] = None
+        self.own = 0  # Files of the part that are not only above others.
+        self.done: List[RecordedFiles] = []
+
+    def add(self, run: Run) -> None:
+        """Adds a file."""
+        name = run.name(0)
+        while self.above and not name.startswith(self.above[-1].name(0)):
+            self.write_held()
+            self.above.pop()
+        if not self.has_room_for(run):
+            self.begin_next(run)
+        if run.bits[0] & IS_FOLDER:
+            self.above.append(run)
+            self.held += 1
+        else:
+            self.write_held()
+            self.write(run)
+            self.own += 1
+
+    def has_room_for(self, run: Run) -> bool:
+        held = [*self.above[len(self.above) - self.held :], run]
+        return self.current().has_room(len(held), sum(len(it.dump[0]) for it in held), self.count)
+
+    def current(self) -> Recording:
+        if self.recording is None:
+            name = b"%03d" % (len(self.done) + 1)
+            self.recording = Recording(make_directory(name, self.made), name)
+        return self.recording
+
+    def write(self, run: Run) -> None:
+        self.current().add(run)
+
+    def write_held(self) -> None:
+        """Writes the directories at the end: they are of this part."""
+        for run in self.above[len(self.above) - self.held :] if self.held else ():
+            self.write(run)
+            self.own += 1
+        self.held = 0
+
+    def begin_next(self, following: Run) -> None:
+        """Begins a part with the directories above a file."""
+        if self.own:
+            self.end()
+            self.own = 0
+            for run in self.above[: len(self.above) - self.held]:
+                self.write(run)
+        if not self.has_room_for(following):
+            name = shown_name(following.name(0))
+            raise Failure(b"--split %d: is too few for the directories above %s" % (self.count, name))
+
+    def end(self) -> None:
+        if self.recording is not None:
+            self.done.append(self.recording.finish())
+            os.close(self.recording.folder)
+        self.recording = None
 
 
-def part_of(nodes: List[Node], start: int, count: int) -> Tuple[List[Node], int]:
-    """The names of the snapshot that begins with one of these: the directories above it, and as many as fit; and where the
-    next one begins. A directory at the end is left to the next snapshot, where the following name is in it."""
-    above = above_of(nodes[start])
-    end = start + count - len(above)
-    if end <= start:
-        raise too_few(count, nodes[start])
-    following = nodes[end] if end < len(nodes) else None
-    while end < len(nodes) and nodes[end].parent is nodes[end - 1]:
-        end -= 1
-        if end == start:
-            raise too_few(count, following or nodes[start])
-    return sorted([*above, *nodes[start:end]], key=BY_RANK), end
+def record_parts(found: Iterable[Walked], made: int, count: int) -> List[RecordedFiles]:
+    """Writes several snapshots."""
+    parts = Parts(made, count)
+    for walked in found:
+        parts.current().complain(walked.left_out)
+        for place in range(len(walked.run.bits)):
+            parts.add(walked.run.part(place, place + 1))
+    parts.write_held()
+    parts.end()
+    return parts.done
 
 
-def record_parts(recorder: Recorder, nodes: List[Node], made: bytes, count: int, complaints: Complaints) -> None:
-    """Writes snapshots of at most `count` files. One whose dump is too large is written once more, of fewer files, so that
-    nobody keeps a snapshot from being made by long names and lists."""
-    start, number, size = 0, 1, count
-    while start < len(nodes):
-        part, end = part_of(nodes, start, size)
-        folder = os.path.join(made, b"%03d" % number)
-        os.mkdir(folder)
-        try:
-            recorder.write(folder, part, copy.copy(complaints) if number == 1 else Complaints(), number)
-        except TooLarge as fault:
-            shutil.rmtree(folder)
-            size = min(size // 2, fault.fitting)
-            continue
-        start, number, size = end, number + 1, min(count, 2 * size)
+def limited(found: Iterable[Walked], left_out: LeftOut, most: int) -> Iterator[Walked]:
+    """What is found, as long as it is not more files than this, and not too many names; what is left out is counted."""
+    for walked in found:
+        left_out.join(walked.left_out.row())
+        left_out.recorded += len(walked.run.bits)
+        for number, limit in ((left_out.recorded, most), (left_out.recorded + left_out.total(), scopes.MOST_NAMES)):
+            if number > limit:
+                raise scopes.too_many(limit)
+        yield walked
 
 
-def write_left_out(tree: NameTree, choice: Choice, paths: PathsOfNodes) -> None:
-    """Writes of each kind of names that are left out their number and the first one, and the mount points for meta."""
-    found: Dict[bytes, List[Node]] = {LINK: [], EXCLUDED: [], OTHER_SYSTEM: []}
-    for node in tree.in_order(of_components=False):
-        if node.kind != FILE:
-            found[node.kind].append(node)
-    for kind, nodes in found.items():
-        first = shown_name(paths.of(nodes[0])) if nodes else b""
-        write_file(choice.work, b"left_out_" + kind, b"%d\n%s\n" % (len(nodes), first))
-    long = min(tree.long, default=b"")
-    write_file(choice.work, b"left_out_x", b"%d\n%s..\n" % (len(tree.long), shown_name(long[:START])))
-    write_file(choice.work, b"mounts", b"".join(b"other-file-system " + paths.of(node) + b"\0" for node in found[OTHER_SYSTEM]))
-
-
-def record(choice: Choice, made: bytes, count: Optional[int]) -> None:
-    """Writes one snapshot, or several of so many files each."""
-    live.check_proc()
-    tree, complaints = NameTree(found_names.MOST_FILES if count is None else found_names.MOST_NAMES), Complaints()
-    for folder in choice.folders:
-        tree.folder(folder.rpartition(b"/")[0] + b"/")
-        find_below(find_words(folder, os.lstat(folder).st_dev, choice), tree, complaints)
-    write_left_out(tree, choice, PathsOfNodes())
-    write_file(choice.work, b"files", b"%d\n" % tree.files)
-    nodes = []
-    for rank, node in enumerate(tree.in_order(of_components=False)):
-        node.rank = rank
-        nodes.append(node)
-    with Opener() as opener:
-        recorder = Recorder(choice, opener)
-        if count is None:
-            recorder.write(made, (node for node in nodes if node.kind == FILE), complaints, 1)
-            return
-        nodes = [node for node in tree.in_order(of_components=True) if node.kind == FILE]
-        record_parts(recorder, nodes, made, count, complaints)
-
-
-def body(_command: Command, words: List[str]) -> int:
-    """The words: the work folder, that of the snapshot, COUNT or nothing, a word where other file systems are recorded or
-    nothing, the number of GLOBs, these, and the FOLDERs."""
-    work, made, count, crosses, number, *rest = map(os.fsencode, words)
-    globs = int(number)
-    record(Choice(rest[globs:], rest[:globs], bool(crosses), work), made, int(count) if count else None)
-    return 0
-
-
-def main() -> None:
-    run("facl-snapshot", body)
+def record(found: Iterable[Walked], made: int, count: Optional[int], left_out: LeftOut) -> List[RecordedFiles]:
+    """Writes one snapshot, or several of so many files each; counts what is left out of all."""
+    if count is None:
+        return record_whole(limited(found, left_out, scopes.MOST_FILES), made)
+    return record_parts(limited(found, left_out, scopes.MOST_NAMES), made, count)

@@ -1,19 +1,19 @@
-"""A file of a snapshot, as facl-snapshot writes it."""
+"""A file of a snapshot, as facl-snapshot writes it: a new one in an open folder of the command's own, of the caller alone."""
 from __future__ import annotations
 
-import os
 from typing import IO
 
 from ..base.messages import Failure, reason
+from ..base.new_file import create
 
 
 class Written:
-    """A file of a snapshot, which is written from its start to its end; Failure where that cannot be."""
+    """A file that is written from its start to its end; Failure where that cannot be."""
 
-    def __init__(self, folder: bytes, name: bytes) -> None:
+    def __init__(self, folder: int, name: bytes) -> None:
         self.name, self.size = name, 0
         try:
-            self.file: IO[bytes] = open(os.path.join(folder, name), "xb")
+            self.file: IO[bytes] = open(create(name, folder), "w+b")
         except OSError as error:
             raise self.failure(error) from error
 
@@ -27,6 +27,12 @@ class Written:
         except OSError as error:
             raise self.failure(error) from error
 
+    def flush(self) -> None:
+        try:
+            self.file.flush()
+        except OSError as error:
+            raise self.failure(error) from error
+
     def close(self) -> None:
         try:
             self.file.close()
@@ -34,12 +40,7 @@ class Written:
             raise self.failure(error) from error
 
 
-def write_file(folder: bytes, name: bytes, text: bytes) -> None:
+def write_file(folder: int, name: bytes, text: bytes) -> None:
     file = Written(folder, name)
     file.write(text)
     file.close()
-
-
-def close_all(*files: Written) -> None:
-    for file in files:
-        file.close()

@@ -1,0 +1,132 @@
+"""What the system says of users and groups, by its lists and by look-ups, as /etc/nsswitch.conf has it.
+
+A directory service may be slow, or not answer: another process asks it, some at a time, and is ended when the time is over.
+"""
+from __future__ import annotations
+
+import grp
+import os
+import pwd
+import time
+from functools import partial
+from typing import Any, Callable, Iterable, List, NamedTuple, Optional, Sequence, Tuple, Union
+
+from ..base.accounts import LAST_ID
+from ..base.messages import Failure
+from ..base.workers import Helper
+
+MOST_SECONDS = 300.0  # For all look-ups.
+MANY = 500  # Look-ups of one process.
+COLONS = {b"passwd": 6, b"group": 3}
+Key = Union[int, bytes]  # An id or a name.
+
+
+class Account(NamedTuple):
+    """A user or a group."""
+
+    kind: bytes  # passwd or group.
+    start: bytes  # Its row, without the members of a group.
+    name: bytes
+    ids: Tuple[int, ...]  # Its own, and the first group of a user.
+    members: Tuple[bytes, ...]
+
+    def row(self) -> bytes:
+        return self.start + b",".join(self.members)
+
+    def is_taken(self) -> bool:
+        """Whether the program takes the row. Entries of NIS, as +user, have no ids."""
+        row = self.row()
+        return (self.name != b"" and self.name[:1] not in (b"+", b"-") and max(self.ids) <= LAST_ID
+                and b"\n" not in row and row.count(b":") == COLONS[self.kind])
+
+
+def texts(*fields: Optional[str]) -> List[bytes]:
+    return [os.fsencode(it or "") for it in fields]
+
+
+def ids_of(*numbers: int) -> Tuple[int, ...]:
+    """Ids as the kernel has them: Python makes -1 of the last one."""
+    return tuple(it & 0xFFFFFFFF for it in numbers)
+
+
+def user_of(it: pwd.struct_passwd) -> Account:
+    name, word, about, home, shell = texts(it.pw_name, it.pw_passwd, it.pw_gecos, it.pw_dir, it.pw_shell)
+    ids = ids_of(it.pw_uid, it.pw_gid)
+    about = about.replace(b":", b" ").replace(b"\n", b" ")
+    return Account(b"passwd", b"%s:%s:%d:%d:%s:%s:%s" % (name, word, ids[0], ids[1], about, home, shell), name, ids, ())
+
+
+def group_of(it: grp.struct_group) -> Account:
+    name, word, *members = texts(it.gr_name, it.gr_passwd, *it.gr_mem)
+    ids = ids_of(it.gr_gid)
+    return Account(b"group", b"%s:%s:%d:" % (name, word, ids[0]), name, ids, tuple(members))
+
+
+def user_by(key: Key) -> Account:
+    return user_of(pwd.getpwuid(key) if isinstance(key, int) else pwd.getpwnam(os.fsdecode(key)))
+
+
+def group_by(key: Key) -> Account:
+    return group_of(grp.getgrgid(key) if isinstance(key, int) else grp.getgrnam(os.fsdecode(key)))
+
+
+def groups_of(user: Account) -> Tuple[bytes, List[int]]:
+    """A user's name, and the ids of all groups of that user."""
+    return user.name, os.getgrouplist(os.fsdecode(user.name), user.ids[1])
+
+
+def all_users() -> List[Account]:
+    return [*map(user_of, pwd.getpwall())]
+
+
+def all_groups() -> List[Account]:
+    return [*map(group_of, grp.getgrall())]
+
+
+def found(look_up: Callable[[Any], Tuple[Any, ...]], keys: Iterable[Any]) -> List[Tuple[Any, ...]]:
+    """What there is of some keys."""
+    rows = []
+    for key in keys:
+        try:
+            rows.append(tuple(look_up(key)))
+        except (KeyError, ValueError, OverflowError):  # There is none, or none can have this key.
+            pass
+    return rows
+
+
+def in_time(work: Callable[[], Any], until: float) -> Any:
+    """What a process finds; None where it does not end in time."""
+    helper = Helper(work, keeps_signals=False)
+    try:
+        while not helper.has_result():
+            if time.monotonic() > until:
+                return None
+        return helper.result()
+    finally:
+        helper.end()
+
+
+class Service:
+    """Look-ups in the time that there is for them, which begins with the first one."""
+
+    def __init__(self) -> None:
+        self.until: Optional[float] = None
+        self.unasked = 0  # Keys that were not asked for, or not answered.
+
+    def listed(self, what: Callable[[], List[Account]], kind: str) -> List[Account]:
+        rows = in_time(lambda: [tuple(it) for it in what()], float("inf"))
+        if rows is None:
+            raise Failure(b"the list of " + kind.encode() + b" cannot be read")
+        return [Account(*it) for it in rows]
+
+    def ask(self, look_up: Callable[[Any], Tuple[Any, ...]], keys: Sequence[Any]) -> List[Tuple[Any, ...]]:
+        """What there is of some keys."""
+        if self.until is None and keys:
+            self.until = time.monotonic() + MOST_SECONDS
+        rows: List[Tuple[Any, ...]] = []
+        for start in range(0, len(keys), MANY):
+            some = keys[start : start + MANY]
+            answer = in_time(partial(found, look_up, some), self.until or 0) if time.monotonic() < (self.until or 0) else None
+            self.unasked += len(some) if answer is None else 0
+            rows += answer or []
+        return rows

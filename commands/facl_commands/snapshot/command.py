@@ -1,0 +1,89 @@
+"""facl-snapshot: takes a snapshot of a live system for the program facl: its users, its groups, and the access control lists of
+the files in some folders."""
+from __future__ import annotations
+
+import grp
+import locale
+import os
+import shutil
+from typing import List, Optional
+
+from .. import VERSION
+from ..base import linux, live
+from ..base.messages import NOT_SAID, Command, Failure
+from ..base.names import number_of
+from .runs import EXCLUDED, LINK, OTHER_SYSTEM
+from .taking import Given, Program, Taking
+from .target import NewSnapshot, place_of
+from .words import HELP, read_words
+
+NEVER = (b"/proc", b"/sys")  # What the kernel makes is never recorded.
+
+
+def program_of(given: Optional[str]) -> Optional[Program]:
+    """The program that has to load the snapshot: the given one, $FACL, or facl on the path; None where there is none."""
+    wanted = given or os.environ.get("FACL", "")
+    found = shutil.which(wanted or "facl")
+    if wanted and found is None:
+        raise Failure(os.fsencode(wanted) + b": no such program")
+    return Program(os.fsencode(wanted or "facl"), os.path.abspath(found)) if found else None
+
+
+def group_of(word: str) -> int:
+    """The id of a group that is given by its name or its id."""
+    try:
+        is_id = word.isascii() and word.isdigit()
+        return (grp.getgrgid(number_of(word.encode())) if is_id else grp.getgrnam(word)).gr_gid
+    except (KeyError, ValueError, OverflowError):
+        raise Failure(os.fsencode(word) + b": no such group") from None
+
+
+def folder_of(name: bytes) -> bytes:
+    """The name of a FOLDER, from the root and without symbolic links."""
+    try:
+        descriptor = os.open(name, os.O_PATH | os.O_CLOEXEC)
+    except OSError as error:
+        raise Failure(name + b": no such file") from error
+    system = linux.file_system_of(descriptor)
+    os.close(descriptor)
+    path = os.path.realpath(name)
+    if path in NEVER or path.startswith(tuple(it + b"/" for it in NEVER)):
+        raise Failure(name + b": is never recorded")
+    if system in linux.OF_KERNEL:
+        raise Failure(name + b": is never recorded, as /proc and /sys")
+    return path
+
+
+def tell(command: Command, taking: Taking, given: bytes) -> bool:
+    """Says what is made; whether that could be written, whatever became of the messages before."""
+    command.fault = None
+    left_out = taking.left_out
+    command.tell(given + b": " + taking.report() + b"; symbolic links left out: %d" % left_out.numbers[LINK])
+    for why, text in ((OTHER_SYSTEM, b"as other file systems"), (EXCLUDED, b"by --exclude")):
+        if left_out.numbers[why]:
+            command.tell(given + b": left out " + text + b": %d, first: " % left_out.numbers[why] + left_out.first[why])
+    command.flush()
+    return command.fault is None
+
+
+def body(command: Command, words: List[str]) -> int:
+    if words[:1] in (["--help"], ["--version"]):
+        command.write((HELP if words[0] == "--help" else f"facl-snapshot {VERSION}\n").encode())
+        return 0
+    read = read_words(command, words)
+    locale.setlocale(locale.LC_ALL, "C")  # A pattern is one of bytes.
+    live.check_proc()
+    program = program_of(read.program)
+    readers = None if read.readers is None else group_of(read.readers)
+    place = place_of(read.target)
+    given = Given(read, program, [*map(folder_of, read.folders)])
+    with NewSnapshot(place, command.say) as new:
+        taking = Taking(command, given, new)
+        taking.take()
+        new.put_in_place(readers)
+    status = 1 if taking.lacks else 0
+    if not read.is_quiet and not tell(command, taking, read.target):
+        command.say(read.target + b": is made, but the line that says so could not be written")
+        status = status or NOT_SAID
+    command.fault = None  # Of messages.
+    return status
