@@ -43,7 +43,7 @@ case $version in *[!0-9a-z.]*) fail "$version: is no version" ;; esac
 prefix=${1:-/usr/local}
 case $prefix in /*) ;; *) fail "$prefix: PREFIX has to begin with a slash" ;; esac
 to=${DESTDIR:-}${prefix%/}
-# facl_commands is beside them; facl-snapshot is one in sh, which calls it.
+# facl_commands is beside them.
 commands='facl-snapshot facl-ask facl-plan facl-apply facl-report facl-who facl-diff facl-audit facl-check facl-daily'
 pages="facl facl-commands $commands"
 completions=share/bash-completion/completions
@@ -85,7 +85,6 @@ install_files() {
     sed -i "s/^VERSION = \"0\"/VERSION = \"$version\"/" "$to/lib/facl/facl_commands/__init__.py"
     for name in $commands; do
         install -m 755 -- "$top/commands/$name" "$to/lib/facl"
-        sed -i "s/^version=0\>/version=$version/" "$to/lib/facl/$name"
         ln -sf -- "../lib/facl/$name" "$to/bin/$name"
     done
     # A start reads what is compiled; a package compiles it where it is installed.
@@ -107,7 +106,7 @@ warn() {
 
 # say_what_is_missing: what the commands call, and where they are looked for
 say_what_is_missing() {
-    for needed in 'getfacl acl' 'setfacl acl' 'getent libc-bin' 'find findutils' 'xargs findutils' "$python python3"; do
+    for needed in 'setfacl acl' 'getent libc-bin' 'find findutils' "$python python3"; do
         command -v "${needed% *}" >/dev/null || warn "without ${needed% *} (package ${needed#* }) the commands fail"
     done
     ! command -v $python >/dev/null || $python -c 'import sys; sys.exit(sys.version_info < (3, 9))' ||

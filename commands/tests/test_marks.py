@@ -27,16 +27,16 @@ FILE_SYSTEMS = """
 from ..base import beside, linux
 from . import marking
 FOUND = %r
-of_system, place_of = linux.look_at, lambda descriptor: os.readlink(b"/proc/self/fd/%%d" %% descriptor)
+of_system, path_of = linux.look_at, lambda descriptor: os.readlink(b"/proc/self/fd/%%d" %% descriptor)
 def mount_of(path: bytes) -> bytes:
     return max((it for it in FOUND if it[:1] == b"/" and (path + b"/").find(it + b"/") >= 0), key=len, default=b"")
 def look_at(descriptor: int, name: bytes = b"") -> object:
     status, _ = of_system(descriptor, name)
-    path = place_of(descriptor)
+    path = path_of(descriptor)
     return status, (FOUND.get(path.rpartition(b"/")[2], 0), (1, hash(mount_of(path))))
 linux.look_at = look_at
 marking.file_system_of = lambda descriptor: 0
-beside.word_of = lambda descriptor: FOUND.get(mount_of(place_of(descriptor)), b"rw")
+beside.word_of = lambda descriptor: FOUND.get(mount_of(path_of(descriptor)), b"rw")
 os.listxattr = lambda name: FOUND.get(os.readlink(name).rpartition(b"/")[2] + b"?", [])
 """
 SRV = "/srv/project"

@@ -485,7 +485,7 @@ def find(kind, make, place, key):
     def test_rows_that_facl_does_not_take(self) -> None:
         """Entries of NIS have no ids; Python makes 0 of them."""
         rows = [b"-x:x:0:0:::", b"+@net:x:0:0:::", b":x:5:5:::", b"o:x:4294967295:5:::", b"p:x:5:4294967295:::"]
-        good = b"zero:x:0004294967294:4294967294::/:/bin/sh\n"
+        good = b"zero:x:4294967294:4294967294::/:/bin/sh\n"
         self.write("passwd.list", b"\n".join(rows) + b"\n" + good + self.listed)
         self.write("group.list", b"-x:x:0:\n+:x:0:\n" + self.groups + b"q:x:4294967295:\n")
         done = self.snapshot("new", "tree")

@@ -47,7 +47,7 @@ TOOLS = os.path.dirname(os.path.dirname(os.path.realpath(__file__)))
 sys.path[:0] = [TOOLS, os.path.join(TOOLS, "lib")]
 import grow  # noqa: E402
 from kit import make_room  # noqa: E402
-from script import TOP, Failed, run, say  # noqa: E402
+from script import TOP, WITH_PEOPLE, Failed, run, say  # noqa: E402
 from session import MeasuredSession, best_of, first_records, program_at  # noqa: E402
 from sessions import (LOAD, LOAD_BYTES, MAX_RESTORED, OF_INDEX, OF_LIMITS, OF_LOAD, OF_TOOLS, WHO, Figures,  # noqa: E402
                       NumberOf, Step, Tree, print_table, session_times, steps_of, write_labels)
@@ -226,15 +226,14 @@ SYSTEM_TOOLS = ("getfacl -R -n", "setfacl --restore")
 
 
 def write_live_people(folder: str, users: int) -> None:
-    """Users and groups, and a getent that prints them, so that no account is made."""
+    """Users and groups, of whom no account is made."""
     names, ids = ["guest", *(f"u{k}" for k in range(1, users))], [f"{FIRST_ID + k}" for k in range(users)]
     texts = {"passwd": "".join(f"{name}:x:{it}:{it}::/:/bin/sh\n" for name, it in zip(names, ids)),
              "group": "".join(f"g{k}:x:{it}:{names[k // 2]}\n" for k, it in enumerate(ids)),
-             "getent": f'#!/bin/sh\ncat "{folder}/$1"\n', "edits": f"setfacl -R -m u:guest:rX {folder}/srv\n"}
+             "edits": f"setfacl -R -m u:guest:rX {folder}/srv\n"}
     for name, text in texts.items():
         with open(f"{folder}/{name}", "w", encoding="utf-8") as out:
             out.write(text)
-    os.chmod(f"{folder}/getent", 0o755)
 
 
 def make_live_tree(folder: str, files: int, users: int) -> None:
@@ -260,7 +259,7 @@ def live_steps(folder: str, number: int) -> Dict[str, List[str]]:
     return {
         "getfacl -R -n": ["getfacl", "-R", "-n", "-p", f"{folder}/srv"],
         "setfacl --restore": ["setfacl", "--restore=records"],
-        "facl-snapshot": ["facl-snapshot", "before", f"{folder}/srv"],
+        "facl-snapshot": [WITH_PEOPLE, folder, "facl-snapshot", "before", f"{folder}/srv"],
         "facl-plan": ["facl-plan", "--plan", plan, "before", "edits"],
         "facl-plan --file-alone": ["facl-plan", "--file-alone", "--plan", plan + ".alone", "before", "edits"],
         "facl-apply": ["facl-apply", plan],

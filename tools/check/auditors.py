@@ -28,7 +28,7 @@ sys.dont_write_bytecode = True
 sys.path.insert(0, os.path.join(os.path.dirname(os.path.realpath(__file__)), "..", "lib"))
 sys.path.insert(0, os.path.dirname(os.path.realpath(__file__)))
 from kernel import AT_FDCWD, asked, printed, show_odd  # noqa: E402
-from script import Failed, TOP, run  # noqa: E402
+from script import Failed, TOP, WITH_PEOPLE, run  # noqa: E402
 from session import conclude, options_of  # noqa: E402
 
 FIRST_UID, FIRST_GID, NOBODY = 71000, 72000, 71999
@@ -49,7 +49,7 @@ class Rule(NamedTuple):
 
 
 class World:
-    """A tree, and its users and groups, who are in a getent of its own."""
+    """A tree, and its users and groups, who are in files of its own."""
 
     def __init__(self, work: str, given: argparse.Namespace) -> None:
         self.work, self.program, self.chance = work, given.program, random.Random(given.seed)
@@ -100,17 +100,16 @@ class World:
         texts = {"passwd": "".join(f"{it}:x:{self.uids[it]}:{self.uids[it]}::/:/bin/sh\n" for it in self.users),
                  "group": "".join(f"{it}:x:{self.uids[it]}:\n" for it in self.users) + "".join(
                      f"{name}:x:{FIRST_GID + number}:{','.join(its)}\n" for number, (name, its) in enumerate(self.groups.items())),
-                 "getent": f'#!/bin/sh\n[ $# -gt 1 ] || exec cat "{self.work}/$1"\nexit 2\n'}
+                 }
         for name, text in texts.items():
             with open(os.path.join(self.work, name), "w", encoding="ascii") as file:
                 file.write(text)
-        os.chmod(os.path.join(self.work, "getent"), 0o755)
 
     def command(self, name: str, *words: str) -> str:
         """What a command prints, which finds something or nothing."""
-        environment = {**os.environ, "PATH": self.work + ":" + os.environ["PATH"], "FACL": self.program}
-        done = subprocess.run([os.path.join(TOP, "commands", name), *words], env=environment, capture_output=True, text=True,
-                              check=False)
+        start = [WITH_PEOPLE, self.work] if name == "facl-snapshot" else []
+        done = subprocess.run([*start, os.path.join(TOP, "commands", name), *words], env={**os.environ, "FACL": self.program},
+                              capture_output=True, text=True, check=False)
         if done.returncode not in (0, 1) or done.stderr:
             raise Failed(f"{name} ended with status {done.returncode}: {done.stderr[-300:]}")
         return done.stdout

@@ -28,7 +28,7 @@ from typing import Callable, Dict, List, Optional, Set, Tuple
 sys.dont_write_bytecode = True
 sys.path.insert(0, os.path.join(os.path.dirname(os.path.realpath(__file__)), "..", "lib"))
 from answers import components  # noqa: E402
-from script import Failed, TOP, run  # noqa: E402
+from script import Failed, TOP, WITH_PEOPLE, run  # noqa: E402
 from session import conclude, options_of  # noqa: E402
 
 REQUESTS = ["---", "--x", "-w-", "-wx", "r--", "r-x", "rw-", "rwx"]
@@ -57,7 +57,7 @@ def tool(*words: object, text: Optional[bytes] = None, **variables: str) -> byte
 
 
 class World:
-    """A tree with its users and groups, who are in a getent of its own."""
+    """A tree with its users and groups, who are in files of its own."""
 
     def __init__(self, work: str, given: argparse.Namespace, seed: int) -> None:
         self.work, self.given, self.chance = os.fsencode(work), given, random.Random(seed)
@@ -125,14 +125,10 @@ class World:
             names = [it for it in names if it != name] if name in names else [*names, name]
         row[3] = b",".join(names)
 
-    def write_getent(self) -> None:
+    def write_people(self) -> None:
         for name, rows in (("passwd", self.users), ("group", self.groups)):
             with open(os.path.join(self.work, name.encode()), "wb") as file:
                 file.write(b"".join(b":".join(row) + b"\n" for row in rows))
-        text = b'#!/bin/sh\n[ $# -gt 1 ] || exec cat "%s/$1"\nexit 2\n' % self.work
-        with open(os.path.join(self.work, b"getent"), "wb") as script:
-            script.write(text)
-        os.chmod(os.path.join(self.work, b"getent"), 0o755)
 
     # --- files
 
@@ -207,12 +203,11 @@ class World:
         self.chance.choice(changes)()
 
     def snapshot(self, name: str) -> str:
-        self.write_getent()
+        self.write_people()
         target = os.path.join(os.fsdecode(self.work), name)
-        path = os.fsdecode(self.work) + ":" + os.environ["PATH"]
         command = os.path.join(TOP, "commands", "facl-snapshot")
-        variables = os.environ | {"PATH": path, "FACL": self.given.program}
-        done = subprocess.run([command, "--quiet", target, self.top], env=variables, capture_output=True, check=False)
+        done = subprocess.run([WITH_PEOPLE, self.work, command, "--quiet", target, self.top], capture_output=True, check=False,
+                              env=os.environ | {"FACL": self.given.program})
         if done.returncode not in (0, 1):
             raise Failed(f"facl-snapshot ended with status {done.returncode}: {done.stderr[-300:]!r}")
         return target

@@ -28,7 +28,7 @@ from typing import Dict, Iterable, Iterator, List, Set, Tuple
 
 sys.dont_write_bytecode = True
 sys.path.insert(0, os.path.join(os.path.dirname(os.path.realpath(__file__)), "..", "lib"))
-from script import Failed, TOP, run  # noqa: E402
+from script import Failed, TOP, WITH_PEOPLE, run  # noqa: E402
 from session import conclude, options_of  # noqa: E402
 
 LIBRARY = ctypes.CDLL(None, use_errno=True)
@@ -50,7 +50,7 @@ def printed(words: List[str], text: str = "", **variables: str) -> str:
 
 
 class World:
-    """A tree, and its users and groups, who are in a getent of its own."""
+    """A tree, and its users and groups, who are in files of its own."""
 
     def __init__(self, work: str, given: argparse.Namespace) -> None:
         self.work, self.program, self.users, self.chance = work, given.program, given.users, random.Random(given.seed)
@@ -68,7 +68,7 @@ class World:
             self.files.append(place)
         for place in self.files[1:]:
             self.dress(place)
-        self.write_getent()
+        self.write_people()
 
     def entry(self) -> str:
         user, group = self.chance.randrange(self.users), self.chance.randrange(len(self.groups))
@@ -84,19 +84,17 @@ class World:
         if self.chance.random() < 0.2:
             printed(["setfacl", "-m", "m::" + self.chance.choice(("r--", "r-x", "--x")), place])
 
-    def write_getent(self) -> None:
+    def write_people(self) -> None:
         members = [",".join(f"k{user}" for user in users) for users in self.groups] + [""]
         texts = {"passwd": "".join(f"k{it}:x:{FIRST_UID + it}:{ALL}::/:/bin/sh\n" for it in range(self.users)),
-                 "group": "".join(f"g{it}:x:{FIRST_GID + it}:{names}\n" for it, names in enumerate(members)),
-                 "getent": f'#!/bin/sh\n[ $# -gt 1 ] || exec cat "{self.work}/$1"\nexit 2\n'}
+                 "group": "".join(f"g{it}:x:{FIRST_GID + it}:{names}\n" for it, names in enumerate(members))}
         for name, text in texts.items():
             with open(os.path.join(self.work, name), "w", encoding="ascii") as file:
                 file.write(text)
-        os.chmod(os.path.join(self.work, "getent"), 0o755)
 
     def command(self, name: str, *words: str, text: str = "") -> str:
-        path = self.work + ":" + os.environ["PATH"]
-        return printed([os.path.join(TOP, "commands", name), *words], text, PATH=path, FACL=self.program)
+        start = [WITH_PEOPLE, self.work] if name == "facl-snapshot" else []
+        return printed([*start, os.path.join(TOP, "commands", name), *words], text, FACL=self.program)
 
     def kept(self) -> Set[str]:
         """The files on which acl(5) and Linux agree, along their paths too: no mask there is empty."""

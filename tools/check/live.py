@@ -1,7 +1,7 @@
 #!/usr/bin/env python3
 """The way to the live system and back on a real file system, as root: facl-snapshot, facl-plan, facl-apply.
 
-It makes a folder of its own, and removes it; users and groups are those of a getent of its own, so that no account is
+It makes a folder of its own, and removes it; users and groups are those of files of its own, so that no account is
 made. It needs the packages acl, strace, e2fsprogs and libcap2-bin. --help prints its parts.
 
 The exit status is 1 where something is not as it has to be, 2 where the words are others, a tool is not installed or it

@@ -390,9 +390,9 @@ class Check:
         self.bin = make(self.name("bin/"), 0o755)
         users, groups = {b"root": (0, 0), **USERS}, {b"root": (0, b""), **GROUPS}
         rows = [b"%s:x:%d:%d::/:/bin/sh\n" % (name, *ids) for name, ids in users.items()]
-        make(self.name("passwd.txt"), text=b"".join(rows))
-        make(self.name("group.txt"), text=b"".join(b"%s:x:%d:%s\n" % (name, *row) for name, row in groups.items()))
-        make(self.name("bin/getent"), 0o755, text=b'#!/bin/sh\ncat "%s/$1.txt"\n' % self.work)
+        self.people = make(self.name("people/"), 0o755)  # Who is there for facl-snapshot.
+        make(self.name("people/passwd"), text=b"".join(rows))
+        make(self.name("people/group"), text=b"".join(b"%s:x:%d:%s\n" % (name, *row) for name, row in groups.items()))
 
     def begin(self) -> None:
         """Before each try."""
@@ -413,8 +413,8 @@ class Check:
 
     def words(self, name: bytes, *words: bytes) -> List[bytes]:
         """The words that start a command."""
-        start = [] if name == b"facl-snapshot" else [PYTHON, b"-I"]
-        return [*start, os.path.join(self.commands, name), *words]
+        start = [os.fsencode(script.WITH_PEOPLE), self.people] if name == b"facl-snapshot" else []
+        return [*start, PYTHON, b"-I", os.path.join(self.commands, name), *words]
 
     def command(self, name: bytes, *words: bytes, user: int = 0) -> Done:
         """Runs a command, as a user where one is given."""

@@ -11,6 +11,7 @@ from types import FrameType
 from typing import Callable, List, NoReturn, Optional
 
 TOP = os.path.dirname(os.path.dirname(os.path.dirname(os.path.realpath(__file__))))
+WITH_PEOPLE = os.path.join(TOP, "tools", "lib", "with_people.sh")  # Before a folder of people and a command.
 PAGE = os.path.join(TOP, "docs", "CHECKS.md")
 SIGNALS = (signal.SIGHUP, signal.SIGINT, signal.SIGTERM)
 

@@ -1,7 +1,6 @@
 """A user who exchanges and moves files and folders while facl-snapshot records them, and what a snapshot may have of them."""
 from __future__ import annotations
 
-import itertools
 import os
 import time
 from typing import Callable, Dict, List, NamedTuple, NoReturn, Tuple
@@ -81,25 +80,11 @@ def meddling(top: bytes, way: Way) -> Callable[[], NoReturn]:
     return meddle
 
 
-def name_after(folder: bytes, first: bytes) -> bytes:
-    """A name that comes after another one in the list of a directory, where it is made before."""
-    for name in (b"%d" % number for number in itertools.count()):
-        made = [os.path.join(folder, it) for it in (name, first)]
-        for place in made:
-            os.mkdir(place)
-        names = os.listdir(folder)
-        for place in made:
-            os.rmdir(place)
-        if names.index(first) < names.index(name):
-            return name
-    raise AssertionError
-
-
 def make_chain(top: bytes) -> List[bytes]:
-    """A chain of directories of MALLORY, and a large one in the first of them, which find reads before the next of the chain;
+    """A chain of directories of MALLORY, and a large one in the first of them, which is looked at before the next of the chain;
     the places of the large one in all of them."""
     make(top + b"/", 0o755, MALLORY, MALLORY)
-    name = name_after(top, b"large")
+    name = b"next"
     places = [top + b"/large"]
     for _ in range(LEVELS):
         above = os.path.dirname(places[-1])
