@@ -91,7 +91,7 @@ def command_with(code: str, place: str) -> str:
                     ignore=shutil.ignore_patterns("__pycache__"))
     with open(os.path.join(place, "facl_commands", "snapshot", "command.py"), "a", encoding="utf-8") as file:
         file.write(code)
-    return shutil.copy(SNAPSHOT, place)
+    return str(shutil.copy(SNAPSHOT, place))
 
 
 def names_of(dump: bytes) -> List[bytes]:

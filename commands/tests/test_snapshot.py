@@ -218,11 +218,11 @@ ln -sf kept 'l\nf'; rm folder gone; mkdir folder; mv d1 d && mv d2 d1 && mv d d2
         several = few + "from ..base import workers\nfrom . import in_order\nin_order.MANY, workers.MANY = 7, 10\nos.geteuid = lambda: 0\nos.cpu_count = lambda: 3\n"
         ended = several + "real = walking.Walker.walk\ndef walk(self, rests):\n    if os.getppid() == FIRST and any(b'20' in it.names for it in rests):\n" \
             "        os._exit(1)\n    return real(self, rests)\nwalking.Walker.walk, FIRST = walk, os.getpid()\n"
-        for name, code in (("one", ""), ("two", few), ("three", several), ("four", ended)):
+        for target, code in (("one", ""), ("two", few), ("three", several), ("four", ended)):
             self.add_code(code)
-            self.expect_status(self.snapshot(name, "tree"), 0)
+            self.expect_status(self.snapshot(target, "tree"), 0)
             for file in ("dump", "inodes", "links", "marks"):
-                self.assertEqual((name, file, self.read(f"{name}/{file}")), (name, file, self.read(f"one/{file}")))
+                self.assertEqual((target, file, self.read(f"{target}/{file}")), (target, file, self.read(f"one/{file}")))
 
     def test_errands_are_cut_of_rests(self) -> None:
         """Each name once, in order."""

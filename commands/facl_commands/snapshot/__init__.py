@@ -1,2 +1,1 @@
-"""The part of facl-snapshot that is in Python: it reads names, records and lists of the live system, and changes nothing
-there."""
+"""facl-snapshot: it reads names, records and lists of the live system, and changes nothing there but DIR."""

@@ -7,7 +7,7 @@ from __future__ import annotations
 import os
 import select
 import signal
-from typing import Iterator, List, Optional, Union
+from typing import IO, Iterator, List, Optional, Union
 
 from ..base import linux, workers
 from ..base.messages import SIGNALS
@@ -100,6 +100,8 @@ class Line:
 
 class Follower:
     """A process that walks errands; it ends where the first one does."""
+
+    errands: IO[bytes]
 
     def __init__(self, walker: Walker, others: List[Follower]) -> None:
         self.errand: Optional[Errand] = None
