@@ -77,7 +77,8 @@ walking.sorted_names = sorted_names
 # Lists of all files.
 LISTS = """
 import types
-from . import walking
+from . import marking, walking
+marking.LISTING = ()
 def attribute(name: bytes, attribute_name: bytes, follow: bool = True) -> Optional[bytes]:
     return {b"system.posix_acl_access": %r, b"system.posix_acl_default": %r}[attribute_name]
 walking.live = types.SimpleNamespace(**{**vars(live), "attribute": attribute})

@@ -7,7 +7,7 @@ from __future__ import annotations
 
 import os
 import stat
-from typing import Dict, NamedTuple
+from typing import Dict, List, NamedTuple, Optional
 
 from ..base import beside
 from ..base.linux import OF_KERNEL, TMPFS, UNKNOWN, Mount, file_system_of
@@ -30,6 +30,10 @@ SAID = {
 }
 
 
+# File systems that list the attributes of lists, where a file has them: ext4, xfs, btrfs, tmpfs. Others may have lists all the same.
+LISTING = (0xEF53, 0x58465342, 0x9123683E, TMPFS)
+
+
 class KnownMount(NamedTuple):
     """A mount that was met."""
 
@@ -37,6 +41,7 @@ class KnownMount(NamedTuple):
     bits: int  # Of its files.
     has_no_attributes: bool  # Where it does not say which a file has: a tmpfs that says none cannot have any.
     is_of_kernel: bool
+    lists_all: bool  # Whether a file has no list that is not among its attributes.
 
 
 class KnownMounts(Dict[Mount, KnownMount]):
@@ -47,7 +52,7 @@ class KnownMounts(Dict[Mount, KnownMount]):
         if mount not in self:
             word, system = beside.word_of(descriptor), file_system_of(descriptor)
             bits = sum(BITS[kind] for kind in beside.of_mount(word))
-            self[mount] = KnownMount(word, bits, system == TMPFS, system in OF_KERNEL)
+            self[mount] = KnownMount(word, bits, system == TMPFS, system in OF_KERNEL, system in LISTING)
         return self[mount]
 
 
@@ -85,12 +90,18 @@ def numbers_of(sums: Sums) -> bytes:
     return b"".join(b"%s %d\n" % it for it in numbers)
 
 
-def other_lists(name: bytes) -> int:
-    """The bits of lists that a file has beside those of acl(5)."""
+def attributes_of(place: bytes) -> Optional[List[str]]:
+    """The names of the attributes of an open file; None where they cannot be listed, as where there are too many."""
     try:
-        names = os.listxattr(name)
-    except OSError:  # There may be too many to list.
-        names = [it for it in LISTS if has_attribute(name, it)]
+        return os.listxattr(place)
+    except OSError:
+        return None
+
+
+def other_lists(place: bytes, names: Optional[List[str]]) -> int:
+    """The bits of lists that an open file with these attributes has beside those of acl(5)."""
+    if names is None:
+        names = [it for it in LISTS if has_attribute(place, it)]
     bits = 0
     for it in names:
         bits |= LISTS.get(it, 0)

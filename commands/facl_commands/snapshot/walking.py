@@ -18,7 +18,7 @@ from ..base.live import NotFound, Opener
 from ..base.messages import reason
 from .list_texts import KnownLabels, Label, NoList, shown_name
 from .long_names import EXCHANGED, START, LongNames
-from .marking import KnownMount, KnownMounts, marked, other_lists
+from .marking import KnownMount, KnownMounts, attributes_of, marked, other_lists
 from .runs import EXCLUDED, IS_FOLDER, LINK, LONG, OTHER_SYSTEM, SEVERAL, UNREAD, LeftOut, Run
 from .scope import LONGEST_NAME, Scope, of_folder
 
@@ -88,6 +88,11 @@ def merged(parts: List[bytes]) -> Iterator[bytes]:
         if not some:
             return
         yield some
+
+
+def lists_of(place: bytes, is_folder: bool) -> Tuple[Optional[bytes], Optional[bytes]]:
+    """The lists of an open file, as its attributes have them."""
+    return live.attribute(place, acl_bytes.ACCESS), live.attribute(place, acl_bytes.DEFAULT) if is_folder else None
 
 
 class Walker:
@@ -203,9 +208,10 @@ class Walker:
         mode, owner, group, links, device, inode, birth = status
         place, is_folder = b"/proc/self/fd/%d" % descriptor, stat.S_ISDIR(mode)
         its = marked(name, mode, attributes, known, level.rest.mount)
+        names = attributes_of(place)
         try:
-            default = live.attribute(place, acl_bytes.DEFAULT) if is_folder else None
-            label = mode & 0o7777, owner, group, live.attribute(place, acl_bytes.ACCESS), default
+            access, default = lists_of(place, is_folder) if names != [] or not known.lists_all else (None, None)
+            label = mode & 0o7777, owner, group, access, default
             text = self.labels[label]
         except (OSError, NoList) as error:
             self.complain(name, error)
@@ -215,7 +221,7 @@ class Walker:
         run.inodes.append(b"%d %d %d.%09d %s\0" % (device, inode, birth // SECOND, birth % SECOND, name))
         run.marks.append(its.lines)
         run.files.append(device << 64 | inode)
-        run.bits.append(text.bits | its.bits | other_lists(place)
+        run.bits.append(text.bits | its.bits | (other_lists(place, names) if names != [] else 0)
                         | (IS_FOLDER if is_folder else SEVERAL if links > 1 else 0))
         at = self.places.setdefault(label, len(run.named))
         if at == len(run.named):
