@@ -216,9 +216,9 @@ class Snapshots(Check):
     def check_rows(self, _seed: int) -> None:
         """Users, groups and members without a row, and rows that are none."""
         returns = "with a carriage return, which facl takes for a part of a name: 1, first: "
-        self.people_are("root:x:0:0::/:/bin/sh\nmara:x:1:0::/:/bin/sh\r\nina:x:70001:0::/:/bin/sh\n",
+        self.people_are("root:x:0:0::/:/bin/sh\nmara:x:1:0::/:/bin/sh\r\nina:x:70001:0::/:/bin/sh\nnobody:x:65534:65534::/:/bin/sh\n",
                         "root:x:0:\nstaff:x:5:ines,dora,dora\nlab:x:6:emil\n")
-        self.shell("cd masks; : >ids; setfacl -m u:4711:r,u:4714:r,g:4712:r,u:1:r,g:5:r ids; setfacl -m d:u:4713:r .")
+        self.shell("cd masks; : >ids; setfacl -m u:4711:r,u:4714:r,u:4715:r,g:4712:r,u:1:r,g:5:r ids; setfacl -m d:u:4713:r .")
         self.took(1, "before masks", "ids in the dump without a row in passwd or group: 5, first: user 4711",
                   "members of groups without a row in passwd: 3, first: dora", f"rows of passwd {returns}mara")
         wrong = [it for it in (b"rows of group", b"passwd is empty") if it in self.done.stderr]
