@@ -83,6 +83,7 @@ install_files() {
     install -d -m 755 -- "$to/lib/facl"
     install_modules
     sed -i "s/^VERSION = \"0\"/VERSION = \"$version\"/" "$to/lib/facl/facl_commands/__init__.py"
+    install -m 755 -- "$top/commands/facl-by-hand" "$to/lib/facl" # which by_hand of a plan starts, and nobody by name
     for name in $commands; do
         install -m 755 -- "$top/commands/$name" "$to/lib/facl"
         ln -sf -- "../lib/facl/$name" "$to/bin/$name"

@@ -12,7 +12,7 @@ from common import COMMANDS, HERE, Case
 
 sys.path.insert(0, COMMANDS)
 
-from facl_commands.base import names  # noqa: E402
+from facl_commands.base import names, user_tools  # noqa: E402
 from facl_commands.base.messages import Failure  # noqa: E402
 from facl_commands.model import entries, people, records, superuser  # noqa: E402
 from facl_commands.plan import hard_links  # noqa: E402
@@ -163,7 +163,7 @@ class People(unittest.TestCase):
         self.assertEqual(found.groups[0].members, [b"y", b"x"])
         self.assertIsNone(found.change([b"gpasswd", b"-a", b"x", b"g"]))
         change = found.change([b"gpasswd", b"-d", b"1", b"5"])
-        self.assertEqual(change, people.PeopleChange(people.REMOVE_MEMBER, people.User(b"x", 1, 1), b"g", 5))
+        self.assertEqual(change, user_tools.PeopleChange(user_tools.REMOVE_MEMBER, user_tools.User(b"x", 1, 1), b"g", 5))
 
     def test_words_of_users(self) -> None:
         users = people.users_in(b"ann:x:1:1::/:\n7:x:8:1::/:\n9:x:1:1::/:\na b:x:010:1::/:\n12:x:011:1::/:\n")

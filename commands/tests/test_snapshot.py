@@ -24,7 +24,6 @@ from facl_commands.base import acl_bytes, beside, names  # noqa: E402
 from facl_commands.base.accounts import is_person  # noqa: E402
 from facl_commands.base.names import path_order  # noqa: E402
 from facl_commands.page import columns as page_columns  # noqa: E402
-from facl_commands.plan import by_hand  # noqa: E402
 from facl_commands.snapshot import in_order, scope, walking  # noqa: E402
 
 FILES = ["dump", "group", "inodes", "links", "marks", "meta", "passwd"]
@@ -609,7 +608,7 @@ class Said(SnapshotCase):
             self.assertEqual((done.returncode, done.stdout[: len(out)], done.stderr), (status, out, message))
 
     def test_names_are_escaped_alike_everywhere(self) -> None:
-        """All that is escaped, and the neighbours of its first and last ones: in messages, on a page, and in by_hand, where more is."""
+        """All that is escaped, and the neighbours of its first and last ones: in messages of the commands, which by_hand has too, and on a page."""
         unseen = {code for code in range(1, sys.maxunicode + 1) if names.UNSEEN.match(chr(code))}
         edges = {code + step for code in unseen for step in (-1, 1)} - unseen
         near = {code + step for code in edges for step in range(-17, 18)}
@@ -617,8 +616,6 @@ class Said(SnapshotCase):
         for code in codes:
             text = chr(code).encode()
             self.assertEqual(page_columns.shown_name(text).encode(), names.shown(names.write_name(text)))
-            if code in unseen:
-                self.assertEqual(by_hand.escaped(text), names.shown(text))
 
     def test_quiet(self) -> None:
         """Only what could not be read, and errors; the status is that without --quiet."""

@@ -28,7 +28,7 @@ from live_tree import (  # noqa: E402
 
 TEXTS = [b"---", b"--x", b"-w-", b"-wx", b"r--", b"r-x", b"rw-", b"rwx"]
 SEEN = CHANGING + ["fsync", "syncfs", "rename", "unlink", "unlinkat", "openat"]
-KNOWN = {b"plan", b"lock", b"meta", b"edits", b"old", b"new", b"files", b"by_hand", b"by_hand_undo", b"by_hand_done",
+KNOWN = {b"plan", b"lock", b"meta", b"edits", b"old", b"new", b"files", b"steps", b"by_hand", b"by_hand_undo", b"by_hand_done",
          b"journal", b"state"}
 WAYS: List[List[bytes]] = [[], [UNDO]]
 # What somebody changes between plan and apply, and what facl-apply says: nothing of files that are not planned. A file

@@ -6,6 +6,7 @@ import ctypes
 import errno
 import os
 import signal
+import stat
 import struct
 from typing import Dict, NamedTuple, Set, Tuple
 
@@ -123,17 +124,44 @@ def matches(pattern: bytes, name: bytes) -> bool:
     return bool(LIBRARY.fnmatch(pattern, name, 0) == 0)
 
 
+def is_renamed(old: bytes, source: int, new: bytes, target: int) -> bool:
+    """Renames from a folder to another one, by their descriptors; fails where there is something of the new name. False where
+    the file system has no such rename."""
+    if not hasattr(LIBRARY, "renameat2"):
+        return False
+    if LIBRARY.renameat2(source, old, target, new, RENAME_NOREPLACE) == 0:
+        return True
+    number = ctypes.get_errno()
+    if number not in (errno.EINVAL, errno.ENOSYS):
+        raise OSError(number, os.strerror(number), os.fsdecode(new))
+    return False
+
+
 def rename_new(old: bytes, new: bytes, folder: int) -> None:
     """Renames within a folder, by its descriptor; fails where there is something of the new name."""
-    if hasattr(LIBRARY, "renameat2"):
-        if LIBRARY.renameat2(folder, old, folder, new, RENAME_NOREPLACE) == 0:
-            return
-        number = ctypes.get_errno()
-        if number not in (errno.EINVAL, errno.ENOSYS):  # Which say that the file system does not have it.
-            raise OSError(number, os.strerror(number), os.fsdecode(new))
+    if is_renamed(old, folder, new, folder):
+        return
     if new in map(os.fsencode, os.listdir(folder)):
         raise FileExistsError(errno.EEXIST, os.strerror(errno.EEXIST), os.fsdecode(new))
     os.rename(old, new, src_dir_fd=folder, dst_dir_fd=folder)
+
+
+def move(name: bytes, source: int, target: int) -> None:
+    """Moves what has a name in a folder to another one, in which others may be at work; fails where there is something of the
+    name. Where the file system has no such rename, a file gets a second name and loses its first; a directory replaces no
+    more than an empty one that is made at that moment."""
+    if is_renamed(name, source, name, target):
+        return
+    if not stat.S_ISDIR(os.stat(name, dir_fd=source, follow_symlinks=False).st_mode):
+        os.link(name, name, src_dir_fd=source, dst_dir_fd=target, follow_symlinks=False)
+        os.unlink(name, dir_fd=source)
+        return
+    try:
+        os.stat(name, dir_fd=target, follow_symlinks=False)
+    except FileNotFoundError:
+        os.rename(name, name, src_dir_fd=source, dst_dir_fd=target)
+        return
+    raise FileExistsError(errno.EEXIST, os.strerror(errno.EEXIST), os.fsdecode(name))
 
 
 def exchange(made: bytes, there: bytes, folder: int) -> None:

@@ -159,8 +159,9 @@ class Opener:
     """Opens files by their paths. The directories of the last path are kept open, so in path order each is opened once;
     of a long path the last ones alone."""
 
-    def __init__(self) -> None:
-        self.root = os.open(b"/", PATH | os.O_DIRECTORY)
+    def __init__(self, top: Optional[int] = None) -> None:
+        """Opens paths from the root on, or from an open directory."""
+        self.root = os.open(b"/" if top is None else b".", PATH | os.O_DIRECTORY, dir_fd=top)
         self.parts: List[bytes] = []  # The directories from the root on,
         self.open_ones: List[int] = []  # and the descriptors of the last of them.
         self.above: Optional[bytes] = None  # The path of the last of them.

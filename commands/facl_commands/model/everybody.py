@@ -17,10 +17,11 @@ from ..base import scratch
 from ..base.accounts import LAST_ID
 from ..base.names import read_path, write_user
 from ..base.trusted import read_trusted
+from ..base.user_tools import User
 from ..program.protocol import FREE_FILE_LINE, LIST, LIST_EFFECTIVE
 from ..program.session import OutputSlice, Session
 from .meta import Meta, users_asked_for
-from .people import User, needed_word, plain_id, rows_of, users_in
+from .people import needed_word, plain_id, rows_of, users_in
 from .records import Listing, list_files, path_of
 from .snapshot import NEEDED
 from .sources import DUMP, Source, find_tops, operands_of

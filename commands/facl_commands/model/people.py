@@ -4,53 +4,15 @@ from __future__ import annotations
 from typing import Callable, Dict, Iterable, List, NamedTuple, Optional, Set
 
 from ..base.messages import Failure
-from ..base.names import number_of, read_name, script_word, shell_word, write_user
+from ..base.names import number_of, read_name, script_word, write_user
+from ..base.user_tools import ADD_MEMBER, ADD_USER, CHANGE_GROUP, REMOVE_MEMBER, REMOVE_USER, PeopleChange, User
 from ..program.tools import Split, split
-
-ADD_MEMBER, REMOVE_MEMBER, CHANGE_GROUP = b"gpasswd -a", b"gpasswd -d", b"usermod -g"
-ADD_USER, REMOVE_USER = b"useradd", b"userdel"
-
-
-class User(NamedTuple):
-    name: bytes
-    uid: int
-    gid: int
 
 
 class Group(NamedTuple):
     name: bytes
     gid: int
     members: List[bytes]
-
-
-class PeopleChange(NamedTuple):
-    """What an accepted line changes of users and groups: one of the kinds above."""
-
-    kind: bytes
-    user: User  # As before; one that is added, as afterwards.
-    group: bytes  # The group of the membership, or the primary group afterwards; empty for a user that is removed.
-    gid: int
-
-    def tool(self) -> bytes:
-        return self.kind.split(b" ")[0]
-
-
-def option_word(word: bytes) -> List[bytes]:
-    """An operand, after the end of the options where it looks like one of them."""
-    return [b"--", word] if word.startswith(b"-") else [word]
-
-
-def shown_change(change: PeopleChange) -> bytes:
-    """A change as the command that a person would write. A group whose name is digits alone is an id for the tools."""
-    group = b"%d" % change.gid if change.group.isdigit() else change.group
-    words = {
-        ADD_MEMBER: [b"-a", change.user.name, *option_word(change.group)],
-        REMOVE_MEMBER: [b"-d", change.user.name, *option_word(change.group)],
-        CHANGE_GROUP: [b"-g", group, *option_word(change.user.name)],
-        ADD_USER: [b"-u", b"%d" % change.user.uid, b"-g", group, *option_word(change.user.name)],
-        REMOVE_USER: option_word(change.user.name),
-    }
-    return b" ".join(shell_word(word) for word in [change.tool(), *words[change.kind]])
 
 
 def rows_of(text: bytes) -> List[List[bytes]]:

@@ -5,9 +5,10 @@ from typing import Dict, Iterable, Iterator, Set, Tuple
 
 from ..base.accounts import SUPERUSER
 from ..base.names import read_name
+from ..base.user_tools import ADD_USER
 from ..program.scripts import Unit
 from ..program.tools import ABOUT_USERS, split, user_in
-from .people import ADD_USER, rows_of
+from .people import rows_of
 
 NOTE = (b"left out of who, below, changes, gains and index: %s, to whom the kernel grants nearly everything; "
         b"--with-root for all")

@@ -1,288 +1,145 @@
-"""What a restore cannot do, as commands that a person reads, as a script of sh that does it, and as one that takes it
-back.
-
-The things of a plan have numbers from 1 in the order in which by_hand does them: changes of users and groups, files
-that go, files that are made. The two scripts know them by these in the file by_hand_done, in which by_hand notes what
-it has done. """
+"""What facl-apply does not do of a plan, as facl-plan writes it: the steps as data, and by_hand and by_hand_undo, which a person
+reads and runs."""
 from __future__ import annotations
 
-from typing import Dict, List, NamedTuple, Tuple
+import os
+from typing import Dict, List
 
+from ..base.acl_bytes import Record
+from ..base.environment import HOME
 from ..base.linux import Identity
 from ..base.messages import counted
-from ..base.names import UNSEEN, live_path, parent_of, path_order, shell_word
-from ..model.people import ADD_MEMBER, ADD_USER, CHANGE_GROUP, REMOVE_MEMBER, REMOVE_USER, PeopleChange, shown_change
-from ..model.records import ChangedPaths, File, Files
-from ..program.protocol import FILE_HEAD, FLAGS_HEAD
-from . import by_hand_files, by_hand_undo, chown
-from . import by_hand_texts as texts
+from ..base.names import live_name, parent_of, path_order, shell_word, shown
+from ..base.user_tools import CHANGE_GROUP, REMOVE_USER, PeopleChange, shown_change
+from ..model.records import ChangedPaths, Files
+from ..planned.steps import Making, PeopleStep, Removal, Step, Steps, line_of
+from . import chown
 
-Identities = Dict[bytes, Identity]  # By path, as in the snapshot; a path that is not there has none.
-NO_IDENTITY = b"-"
-FUNCTIONS = {ADD_MEMBER: b"add_member", REMOVE_MEMBER: b"remove_member", CHANGE_GROUP: b"change_group",
-             ADD_USER: b"add_user",
-             REMOVE_USER: b"remove_user"}
-MADE = {True: b"make_directory", False: b"make_file"}
-REMOVED = {True: b"remove_directory", False: b"remove_file"}
+HEAD = b"""\
+#!/bin/sh
+# What facl-apply does not do of this plan: %(what)s.
+#
+# Read it. Then run it as root, after facl-apply: sh PLAN/by_hand. Each line with a number is one thing; a directory that is
+# made is one with all that is made in it. What is done is in the file steps; a line says it, and can only be put after a #,
+# where it is done already in another way, or is not wanted.
+#
+# Each thing is said before it is done, and before that it is looked whether the users, groups, folders and files are those
+# of the snapshot: ids of names; device, inode and birth of a folder that is opened by its path without following a symbolic
+# link, and of a file that goes. No file is replaced. What is made is made in a folder .facl.* of its own beside the place,
+# which nobody else may enter; there it gets its owners, groups, flags and lists, and then one rename puts it in place. A file
+# that goes is moved to such a folder, looked at again, and removed there, or moved back.
+%(blind)s#
+# Where something is not as in the snapshot, it stops before that thing, with a message and the status 1. A tool that fails
+# ends it with the status of that tool. Mend what is wrong, and run it again: what is done is noted in the file by_hand_done
+# beside it, and is not done twice. It stops with the status 2 if somebody else may have written the plan or that file. When
+# it was killed, a folder .facl.* may be left in the folder where it was at work: move back what was taken there, and remove it.
+#
+# The tools of the system change rows of /etc/passwd and /etc/group alone. A user or a group of a directory service is
+# named, with what has to be done there; the other things are done, and the status is 1.
+#
+# What can be taken back by_hand_undo takes back.
+"""
+BLIND = b"""\
+# The snapshot lacks devices and inodes (all, or some), so only the paths are compared there: let nobody else work in these
+# folders meanwhile.
+"""
+UNDO_HEAD = b"""\
+#!/bin/sh
+# Takes back what by_hand of this plan has done, the last thing first.
+#
+# Read it. Then run it as root, before facl-apply --undo or after it: sh PLAN/by_hand_undo. Each line with a number takes one
+# thing back; put a # before one that is to stay. What by_hand has done is in the file by_hand_done; what it has not done, or
+# found done already, is left as it is. A file that was made is removed where it is still that file and still empty, a
+# directory where it is still that one and is empty by then. Both are looked up as by_hand does it.
+%(blind)s#
+# Where something is not as by_hand left it, it is left so, with a message, the others are taken back, and the status is 1.
+# So it is if by_hand removed users or files: they do not come back, and the message has the files of the snapshot that
+# belong to a number without a user then. It can be run again. It stops with the status 2 if somebody else may have written
+# the plan or by_hand_done. To do again what was taken back, make a new snapshot and a new plan.
+#
+# userdel removes the user's row, memberships and mail, and a group of the user's name that nobody else has; the home
+# directory and the files stay, with the number of the user as their owner.
+"""
+START = b"exec %s %s\"$0\"\n\n"  # What follows is no line of sh, which ends here.
 
 
-class Things(NamedTuple):
-    """What is to be done by hand; the removed paths with what is below a directory first, the made ones with it
-    last."""
-
-    people: List[PeopleChange]
-    removed: List[bytes]
-    made: List[bytes]
-    old: Files
-    new: Files
-    inodes: Identities
-
-    def number_removed(self) -> int:
-        """The number of the first file that goes."""
-        return len(self.people) + 1
-
-    def number_made(self) -> int:
-        return self.number_removed() + len(self.removed)
-
-    def kept(self) -> List[File]:
-        """The files of the snapshot that are not removed."""
-        removed = set(self.removed)
-        return [file for path, file in self.old.items() if path not in removed]
+def steps_of(boot: str, inodes: Dict[bytes, Identity], people: List[PeopleChange], changes: ChangedPaths, old: Files, new: Files,
+             records: Dict[bytes, Record]) -> Steps:
+    """The steps, in their order; `records` has the record of each body of a file that is made."""
+    gone = set(changes.removed)
+    kept = [file for path, file in old.items() if path not in gone]
+    changed = [PeopleStep(number, it, *(chown.files_of(it.user.uid, it.user.gid, kept) if it.kind == REMOVE_USER else (0, 0)))
+               for number, it in enumerate(people, 1)]
+    removed = [Removal(number, path, old[path].is_directory)
+               for number, path in enumerate(sorted(gone, key=path_order, reverse=True), len(people) + 1)]
+    made = [Making(number, path, new[path].is_directory, records[new[path].body])
+            for number, path in enumerate(sorted(changes.made, key=path_order), len(people) + len(removed) + 1)]
+    looked_at = {path: inodes[path] for path in looked_at_of(changes) if path in inodes}
+    return Steps(boot, looked_at, changed, removed, made)
 
 
-def things_of(people: List[PeopleChange], changes: ChangedPaths, old: Files, new: Files, inodes: Identities) -> Things:
-    removed = sorted(changes.removed, key=path_order, reverse=True)
-    return Things(people, removed, sorted(changes.made, key=path_order), old, new, inodes)
+def looked_at_of(changes: ChangedPaths) -> List[bytes]:
+    """The files of the snapshot that are compared: those that go, and the folders of these and of what is made."""
+    folders = {parent_of(path) for path in (*changes.removed, *changes.made)} - set(changes.made)
+    return sorted(folders | set(changes.removed), key=path_order)
+
+
+def commands_of(people: List[PeopleChange], changes: ChangedPaths, old: Files, new: Files) -> List[bytes]:
+    """What is to be done, a command each, in the order of by_hand. A directory that goes has to be empty by then: what was put
+    there meanwhile stays."""
+    nothing = Record(0, 0, 0, b"", b"")
+    steps = steps_of("-", {}, people, changes, old, new, {file.body: nothing for file in new.values()})
+    return [it.command() for it in steps.all()]
 
 
 # --- what a person reads
 
 
-def commands_of(people: List[PeopleChange], changes: ChangedPaths, old: Files, new: Files) -> List[bytes]:
-    """What is to be done, a line each, in the order of the script. A directory that goes has to be empty by then: what
-    was put there meanwhile stays."""
-    things = things_of(people, changes, old, new, {})
-    removed = [(b"rmdir -- " if old[path].is_directory else b"rm -- ") + shell_word(live_path(path))
-               for path in things.removed]
-    made = [(b"mkdir -m 700 -- " if new[path].is_directory else b": >") + shell_word(live_path(path))
-            for path in things.made]
-    return [shown_change(change) for change in people] + removed + made
-
-
-# --- words of the scripts
-
-
-def escaped(name: bytes) -> bytes:
-    """A name as characters that a person sees: each byte of another one, and a backslash, is a backslash and three octal
-    digits."""
-    found = []
-    for character in name.decode("utf-8", "surrogateescape"):
-        plain = character.encode("utf-8", "surrogateescape")
-        is_seen = character.isprintable() and character != "\\" and not UNSEEN.match(character)
-        found.append(plain if is_seen else b"".join(b"\\%03o" % byte for byte in plain))
-    return b"".join(found)
-
-
-def word(name: bytes) -> bytes:
-    return shell_word(escaped(name))
-
-
-def call(*words: bytes) -> bytes:
-    return b" ".join(words) + b"\n"
-
-
-def number_word(number: int) -> bytes:
-    return b"%d" % number
-
-
-def identity_word(path: bytes, inodes: Identities) -> bytes:
-    """The identity that the scripts compare; the time of birth is a part of it where the file system has one."""
-    if path not in inodes:
-        return NO_IDENTITY
-    known = inodes[path]
-    text = b"%d:%d" % (known.device, known.inode)
-    return text + b":%d.%09d" % divmod(known.birth, 1_000_000_000) if known.birth else text
-
-
-def place_words(path: bytes, inodes: Identities) -> List[bytes]:
-    """The folder of a file, its identity, and the name in it."""
-    folder = parent_of(path)
-    return [word(live_path(folder)), identity_word(folder, inodes), word(path.rpartition(b"/")[2])]
-
-
-# --- by_hand
-
-
-def ids_of(change: PeopleChange, *group: bytes) -> List[bytes]:
-    """The user and the group of a change, with their ids, as the functions take them."""
-    before = [b"%d" % change.user.gid] * (change.kind in (CHANGE_GROUP, REMOVE_USER))
-    after = [*group, b"%d" % change.gid] if change.kind != REMOVE_USER else []
-    return [word(change.user.name), b"%d" % change.user.uid, *before, *after]
-
-
-def people_line(number: int, change: PeopleChange) -> bytes:
-    begins_with_dash = [name for name in (change.user.name, change.group) if name.startswith(b"-")]
-    if begins_with_dash:
-        text = shown_change(change) + b": " + begins_with_dash[0] + b" is an option for the tools of the system"
-        return call(b"refuse", number_word(number), word(text))
-    return call(FUNCTIONS[change.kind], number_word(number), *ids_of(change, word(change.group)))
-
-
-def removal_line(number: int, path: bytes, things: Things) -> bytes:
-    if path == b"":
-        return call(b"refuse", number_word(number), b"'/: is the root of the system, which nothing removes'")
-    return call(REMOVED[things.old[path].is_directory], number_word(number), *place_words(path, things.inodes),
-                identity_word(path, things.inodes))
-
-
-def trees_of(made: List[bytes]) -> List[List[bytes]]:
-    """The made paths, in path order, by the greatest subtrees: the first of each is in a folder that is not made."""
-    known = set(made)
-    found: List[List[bytes]] = []
-    for path in made:
-        if parent_of(path) in known:
-            found[-1].append(path)
-        else:
-            found.append([path])
-    return found
-
-
-def relative(path: bytes, top: bytes) -> bytes:
-    """The name of a file of a tree, from the folder in which the tree is."""
-    return path[len(parent_of(top)) :].lstrip(b"/")
-
-
-def record_of(path: bytes, top: bytes, file: File) -> bytes:
-    """The record of a made file: twice where it has flags, as end_tree has it."""
-    name = escaped(relative(path, top)).replace(b" ", b"\\040")
-    return (FILE_HEAD + b"./" + name + b"\n" + file.body + b"\n") * (2 if FLAGS_HEAD in file.body else 1)
-
-
-def tree_lines(number: int, tree: List[bytes], things: Things) -> bytes:
-    top = tree[0]
-    lines = call(b"begin_tree", number_word(number), *place_words(top, things.inodes))
-    for place, path in enumerate(tree):
-        lines += call(MADE[things.new[path].is_directory], number_word(number + place), word(relative(path, top)))
-    records = b"".join(record_of(path, top, things.new[path]) for path in reversed(tree))
-    return lines + b"end_tree <<'END'\n" + records + b"END\n"
-
-
-def tree_blocks(things: Things) -> List[bytes]:
-    number = things.number_made()
-    blocks = []
-    for tree in trees_of(things.made):
-        blocks.append(tree_lines(number, tree, things))
-        number += len(tree)
-    return blocks
-
-
-def what(things: Things) -> bytes:
-    """What a script is about."""
-    nouns = ((len(things.people), "change of users and groups", "changes of users and groups"),
-             (len(things.removed), "file or directory goes", "files and directories go"),
-             (len(things.made), "file or directory is made", "files and directories are made"))
+def what(steps: Steps) -> bytes:
+    """What by_hand is about."""
+    nouns = ((len(steps.people), "change of users and groups", "changes of users and groups"),
+             (len(steps.removed), "file or directory goes", "files and directories go"),
+             (len(steps.made), "file or directory is made", "files and directories are made"))
     return b", ".join(counted(*it) for it in nouns if it[0])
 
 
-def is_blind(things: Things) -> bool:
-    """Whether the snapshot lacks the identity of a file that the script looks at."""
-    made = set(things.made)
-    looked_at = {parent_of(path) for path in things.removed + things.made} | set(things.removed)
-    return any(path not in things.inodes for path in looked_at - made)
+def start_of(head: bytes, steps: Steps, option: bytes) -> bytes:
+    folders = {parent_of(it.path) for it in (*steps.removed, *steps.made)} - {it.path for it in steps.made}
+    is_blind = not steps.identities.keys() >= folders | {it.path for it in steps.removed}
+    command = shell_word(os.path.join(os.fsencode(HOME), b"facl-by-hand"))
+    return head % {b"what": what(steps), b"blind": BLIND * is_blind} + START % (command, option)
 
 
-def common(name: bytes, things: Things, has_files: bool) -> bytes:
-    tools = [b"flock", b"sed", b"awk"]
-    if things.people:
-        tools += [b"getent"] + sorted({change.tool() for change in things.people})
-    if has_files:
-        tools += [b"stat", b"find", b"mktemp", b"setfacl", b"python3"]
-    return texts.COMMON % {b"name": name, b"tools": b" ".join(tools)}
+def details(it: Step, new: Files) -> List[bytes]:
+    """What a person has to know beside the command: ids, and the record of a file that is made."""
+    why = it.not_done()
+    if why is not None:
+        return [b"is not done: " + why]
+    if isinstance(it, Making):
+        return new[it.path].body.splitlines()
+    if isinstance(it, PeopleStep):
+        before = b"%d before, " % it.change.user.gid if it.change.kind == CHANGE_GROUP else b""
+        return [b"user id %d, group id %s%d" % (it.change.user.uid, before, it.change.gid)]
+    return []
 
 
-def functions_of(things: Things, refuses: bool) -> bytes:
-    """The functions that the lines of by_hand call."""
-    wanted = [
-        (bool(things.people), texts.USERS + texts.CHANGE_USERS),
-        (bool(things.removed or things.made), by_hand_files.FOLDERS + by_hand_files.PRIVATE),
-        (bool(things.removed), by_hand_files.REMOVE),
-        (bool(things.made), by_hand_files.MAKE),
-        (refuses, texts.REFUSE),
-    ]
-    return b"".join(text for is_wanted, text in wanted if is_wanted)
-
-
-def script_of(people: List[PeopleChange], changes: ChangedPaths, old: Files, new: Files, inodes: Identities) -> bytes:
+def script_of(steps: Steps, new: Files) -> bytes:
     """by_hand; empty where there is nothing to do."""
-    things = things_of(people, changes, old, new, inodes)
-    lines = [people_line(number, change) for number, change in enumerate(people, 1)]
-    lines += [removal_line(number, path, things) for number, path in enumerate(things.removed, things.number_removed())]
-    lines += tree_blocks(things)
-    if not lines:
+    lines = [line for it in steps.all()
+             for line in (line_of(it.number, it.command()), *(b"#       " + shown(text) for text in details(it, new)))]
+    return start_of(HEAD, steps, b"") + b"\n".join(lines) + b"\n" if lines else b""
+
+
+def undo_script_of(steps: Steps) -> bytes:
+    """by_hand_undo; empty where by_hand does nothing that it takes back or has to name."""
+    if not steps.lines_back() and not steps.is_lost():
         return b""
-    head = texts.HEAD % {b"what": what(things), b"blind": texts.BLIND * is_blind(things)}
-    head += common(b"by_hand", things, bool(things.removed or things.made))
-    refuses = any(line.startswith(b"refuse ") for line in lines)
-    end = texts.CHANGES_END if people else b""
-    return head + functions_of(things, refuses) + b"\n" + b"".join(lines) + end
+    back = {number: line for line, number in steps.lines_back().items()}
+    lines = [back[it.number] for it in reversed(steps.made)]
+    lines += [lost(live_name(it.path) + b" is gone") for it in reversed(steps.removed)]
+    lines += [back.get(it.number, lost(shown_change(it.change))) for it in reversed(steps.people)]
+    return start_of(UNDO_HEAD, steps, b"--undo ") + b"\n".join(lines) + b"\n"
 
 
-# --- by_hand_undo
-
-
-def people_back(number: int, place: int, things: Things) -> bytes:
-    """The line that takes a change of users back; a comment where nothing does."""
-    change = things.people[place]
-    is_removed_later = any(it.kind == REMOVE_USER and it.user.name == change.user.name
-                           for it in things.people[place + 1 :])
-    if is_removed_later or people_line(number, change).startswith(b"refuse "):
-        return comment(shown_change(change))
-    if change.kind == REMOVE_USER:
-        owned, grouped = chown.files_of(change.user.uid, change.user.gid, things.kept())
-        return call(b"lost_user", number_word(number), *ids_of(change)[:2], number_word(owned),
-                    number_word(change.user.gid), number_word(grouped))
-    group = [word(change.group)] if change.kind in (ADD_MEMBER, REMOVE_MEMBER) else []
-    return call(FUNCTIONS[change.kind] + b"_back", number_word(number), *ids_of(change, *group))
-
-
-def comment(text: bytes) -> bytes:
-    return b"# is not taken back: " + escaped(text) + b"\n"
-
-
-def made_back(number: int, path: bytes, things: Things, numbers: Dict[bytes, int]) -> bytes:
-    folder, identity, name = place_words(path, things.inodes)
-    parent = parent_of(path)
-    kind = b"unmake_directory" if things.new[path].is_directory else b"unmake_file"
-    return call(kind, number_word(number), folder, b"@%d" % numbers[parent] if parent in numbers else identity, name)
-
-
-def undo_lines(things: Things) -> Tuple[List[bytes], List[bytes]]:
-    """The lines of files and of users, the last thing first."""
-    numbers = {path: number for number, path in enumerate(things.made, things.number_made())}
-    files = [made_back(numbers[path], path, things, numbers) for path in reversed(things.made)]
-    files += [comment(live_path(path) + b" is gone") for path in reversed(things.removed)]
-    if things.removed:
-        files.append(call(b"lost_files", number_word(things.number_removed()), number_word(things.number_made() - 1)))
-    places = range(len(things.people))
-    return files, [people_back(place + 1, place, things) for place in reversed(places)]
-
-
-def undo_script_of(people: List[PeopleChange], changes: ChangedPaths, old: Files, new: Files, inodes: Identities) -> bytes:
-    """by_hand_undo; empty if by_hand does nothing that it takes back or has to name."""
-    things = things_of(people, changes, old, new, inodes)
-    files, users = undo_lines(things)
-    lines = files + users
-    if all(line.startswith(b"# ") for line in lines):
-        return b""
-    head = by_hand_undo.UNDO_HEAD % {b"blind": texts.BLIND * is_blind(things)}
-    head += by_hand_undo.LOST_HEAD if any(line.startswith((b"# ", b"lost_")) for line in lines) else b""
-    wanted = [
-        (bool(things.made), by_hand_files.FOLDERS + by_hand_files.PRIVATE + by_hand_undo.UNMAKE),
-        (bool(things.removed), by_hand_undo.LOST_FILES),
-        (not all(line.startswith(b"# ") for line in users), texts.USERS),
-        (any(b"_back " in line for line in users), by_hand_undo.UNDO_USERS),
-        (any(line.startswith(b"lost_user ") for line in users), by_hand_undo.LOST_USERS),
-    ]
-    head += common(b"by_hand_undo", things, bool(things.made)) + by_hand_undo.UNDO
-    functions = b"".join(text for is_wanted, text in wanted if is_wanted)
-    return head + functions + b"\n" + b"".join(lines) + by_hand_undo.UNDO_END
+def lost(text: bytes) -> bytes:
+    return b"# is not taken back: " + shown(text)

@@ -17,10 +17,11 @@ from ..model.records import ChangedPaths, Listing, compare, write_records
 from ..model.snapshot import Snapshot, read_snapshot
 from ..model.superuser import superusers_among
 from ..planned import plan_folder
+from ..planned.steps import text_of
 from ..program.scripts import Script, Unit, read_text
 from ..program.session import Session, find_program
 from . import chown, no_gain
-from .records_file import work_text
+from .records_file import ask_records, work_text
 from .replay import Replay, list_below
 from .report import answers_text, json_report, kinds_of, text_report
 from .report import Outcome as Outcome
@@ -40,7 +41,8 @@ What facl-apply needs is written to a folder, SNAPSHOT.plan:
   edits      the lines, as they were given
   files      the files whose owner, group, flags or lists change, with their inodes and the bytes of both lists
   old, new   their records, as they are and as they would be, for a person and for setfacl --restore
-  by_hand    what facl-apply does not do, as a script of sh: users and memberships, files that go, files that are made
+  by_hand    what facl-apply does not do: users and memberships, files that go, files that are made; the file steps
+             has it as data
 
 Questions in a SCRIPT are answered, and are no part of the plan. An edit of a file that has other names in the
 snapshot is planned for all of them.
@@ -191,23 +193,29 @@ def commands_by_hand(outcome: Outcome, changes: ChangedPaths) -> List[bytes]:
     return commands_of(outcome.commands, changes, outcome.old, outcome.new)
 
 
+def hand_files(program: str, snapshot: Snapshot, outcome: Outcome, changes: ChangedPaths, comments: bytes) -> Dict[bytes, bytes]:
+    """The files of what facl-apply does not do, which are empty where there is nothing."""
+    if not outcome.commands and not changes.made and not changes.removed:
+        return dict.fromkeys((b"steps", b"by_hand", b"by_hand_undo"), b"")
+    from . import by_hand  # Few plans need it.
+
+    bodies = [outcome.new[path].body for path in changes.made]
+    steps = by_hand.steps_of(snapshot.boot, snapshot.inodes, outcome.commands, changes, outcome.old, outcome.new,
+                             ask_records(program, bodies) if bodies else {})
+    return {b"steps": text_of(steps), b"by_hand": by_hand.script_of(steps, outcome.new) + comments,
+            b"by_hand_undo": by_hand.undo_script_of(steps)}
+
+
 def plan_files(
     program: str, snapshot: Snapshot, scripts: List[Script], outcome: Outcome, changes: ChangedPaths
 ) -> Dict[bytes, bytes]:
-    by_hand = by_hand_undo = b""
-    if outcome.commands or changes.made or changes.removed:
-        from .by_hand import script_of, undo_script_of
-
-        things = outcome.commands, changes, outcome.old, outcome.new, snapshot.inodes
-        by_hand, by_hand_undo = script_of(*things), undo_script_of(*things)
     comments = [line + b"\n" for left in outcome.left for line in chown.comments(left)]
     return {
         b"edits": b"".join(text + b"\n" * (text[-1:] not in (b"", b"\n")) for _, text in scripts),
         b"old": write_records(outcome.old, changes.changed),
         b"new": write_records(outcome.new, changes.changed),
         b"files": work_text(program, snapshot, changes, outcome.old, outcome.new),
-        b"by_hand": by_hand + b"".join(comments),
-        b"by_hand_undo": by_hand_undo,
+        **hand_files(program, snapshot, outcome, changes, b"".join(comments)),
         meta.NAME: meta.text_of(snapshot.folder),
     }
 

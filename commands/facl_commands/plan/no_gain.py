@@ -6,9 +6,10 @@ from typing import Dict, FrozenSet, Iterator, List, NamedTuple, Optional, Set, T
 
 from ..base.messages import counted
 from ..base.names import file_word, path_word, plain_word, sorting_key, write_user
+from ..base.user_tools import User
 from ..model.entries import GROUP, USER, Entries, Entry, read_record
 from ..model.entries import named as named_in
-from ..model.people import Group, People, User, groups_by_user
+from ..model.people import Group, People, groups_by_user
 from ..model.records import Files
 from ..model.rights import NOTHING, SEARCH, FileAnswers, directories_to_find, directory_of, lanes, places_in
 from ..program.session import LINE_ROOM, Session

@@ -4,8 +4,9 @@ from __future__ import annotations
 from typing import Iterator, List, Optional, Tuple
 
 from ..base.names import PLAIN_SHELL_WORD, path_word
+from ..base.user_tools import User
 from ..model.entries import GROUP, OTHER_KEY, OWNER_KEY, USER, Entries, entries_of, named, read_record
-from ..model.people import Group, User, user_word
+from ..model.people import Group, user_word
 from ..program.protocol import ENTRIES_OF
 from ..program.session import Session
 

@@ -5,6 +5,7 @@ from __future__ import annotations
 from typing import List, NamedTuple, Union
 
 from ..base.names import live_path
+from ..base.user_tools import PeopleChange
 from ..model import people, sources
 from ..model.records import Files, Listing, list_files
 from ..model.snapshot import Snapshot
@@ -52,7 +53,7 @@ class Replay:
         self.people = people.People(snapshot.passwd, snapshot.group)
         self.asked: List[Asked] = []
         self.messages: List[Message] = []
-        self.commands: List[people.PeopleChange] = []
+        self.commands: List[PeopleChange] = []
         self.changes_of_people = b""  # The lines that were accepted.
 
     def answer_all(self, units: List[Unit]) -> None:

@@ -10,7 +10,8 @@ from typing import Dict, Iterable, Iterator, List, NamedTuple, Optional, Set
 
 from ..base.messages import counted
 from ..base.names import file_name, json_text, shell_word, shown
-from ..model import meta, people, rights
+from ..base.user_tools import PeopleChange
+from ..model import meta, rights
 from ..model.gains import Gain
 from ..model.records import ChangedPaths, Files
 from ..program.answering import below_heading
@@ -40,7 +41,7 @@ class Outcome(NamedTuple):
     users: List[bytes]
     asked: List[Asked]
     messages: List[Message]
-    commands: List[people.PeopleChange]  # Of users and memberships.
+    commands: List[PeopleChange]  # Of users and memberships.
     left: List[chown.Left]  # Users who are removed, with what they leave.
     is_whole: bool  # Whether names start at the root of the file system.
     about: meta.Meta  # What the snapshot is of.

@@ -1,34 +1,88 @@
-"""What the script by_hand of a plan has done: by its lines, and by the file by_hand_done, in which it notes what it does."""
+"""What by_hand of a plan has done: the file by_hand_done, in which it notes what it does. A line is `NUMBER STATE`, and of
+what is made `DEVICE:INODE:BIRTH` may follow."""
 from __future__ import annotations
 
-import re
-from typing import Dict
+import os
+from typing import Dict, Iterable, NamedTuple, Optional
 
-from .plan_folder import PlanFolder
+from ..base import new_file, trusted
+from ..base.linux import Identity
+from ..base.messages import Failure, reason
+from . import steps
+from .plan_folder import DONE_BY_HAND, PlanFolder
 
-# A line of by_hand that is one thing, with its number; what is made in a tree is done with the tree.
-# A line lost_ takes nothing back.
-THING = re.compile(rb"^(?!make_|lost_)[a-z_]+ ([0-9]+) ", re.MULTILINE)
-FINISHED, FOUND, BEGUN = b"finished", b"found", b"begun"
-
-
-def states_of(notes: bytes) -> Dict[bytes, bytes]:
-    """The last state of each thing, by its number; a line is `NUMBER STATE`, and an identity may follow."""
-    lines = (line.split(b" ") for line in notes.splitlines())
-    return {words[0]: words[1] for words in lines if len(words) > 1}
+FINISHED, FOUND, BEGUN, UNDONE = b"finished", b"found", b"begun", b"undone"
+OURS = (BEGUN, FINISHED)  # What by_hand has done, and did not find done already.
 
 
-def read(folder: PlanFolder, name: bytes) -> bytes:
-    return folder.read(name) if folder.has(name) else b""
+class Note(NamedTuple):
+    state: bytes = b""
+    identity: Optional[Identity] = None
+
+
+def identity_of(words: Iterable[bytes]) -> Optional[Identity]:
+    """The identity that a note ends with, if it has one."""
+    for word in words:
+        numbers = word.split(b":")
+        if len(numbers) == 3 and all(it.lstrip(b"-").isdigit() and len(it) < 40 for it in numbers):
+            return Identity(*map(int, numbers))
+    return None
+
+
+def states_of(notes: bytes) -> Dict[int, Note]:
+    """The last state of each step, by its number."""
+    lines = [line.split(b" ") for line in notes.splitlines()]
+    return {int(it[0]): Note(it[1], identity_of(it[2:])) for it in lines if len(it) > 1 and it[0].isdigit() and len(it[0]) < 20}
+
+
+class Notes:
+    """The notes of a plan, to which a command adds."""
+
+    def __init__(self, folder: PlanFolder) -> None:
+        if not folder.has(DONE_BY_HAND):
+            os.close(new_file.create(DONE_BY_HAND, folder.descriptor))
+        mark = trusted.open_mark(folder.descriptor, folder.name, DONE_BY_HAND)
+        if trusted.has_list(mark):
+            raise trusted.mark_failure(folder.name, DONE_BY_HAND, b"has an access control list")
+        text = folder.read(DONE_BY_HAND)
+        self.states = states_of(text)
+        self.file = os.open(b"/proc/self/fd/%d" % mark, os.O_WRONLY | os.O_APPEND | os.O_CLOEXEC)
+        self.start = b"\n" * (text[-1:] not in (b"", b"\n"))  # After a line that was cut off.
+        os.close(mark)
+
+    def of(self, number: int) -> Note:
+        return self.states.get(number, Note())
+
+    def is_ours(self, number: int) -> bool:
+        return self.of(number).state in OURS
+
+    def add(self, state: bytes, *numbers: int, identities: Iterable[Identity] = ()) -> None:
+        """Notes one state of some steps, and, where these are given, the identity of each."""
+        its = [*identities] or [None] * len(numbers)
+        text = b"".join(b"%d %s" % (number, state) + (b" %d:%d:%d" % it if it else b"") + b"\n" for number, it in zip(numbers, its))
+        try:
+            if os.write(self.file, self.start + text) < len(self.start + text):
+                raise OSError(0, "is cut off")
+        except OSError as error:
+            raise Failure(DONE_BY_HAND + b": cannot be written: " + reason(error), 1) from error
+        self.start = b""
+        self.states.update((number, Note(state, it)) for number, it in zip(numbers, its))
+
+
+def noted(folder: PlanFolder) -> Dict[int, Note]:
+    return states_of(folder.read(DONE_BY_HAND)) if folder.has(DONE_BY_HAND) else {}
 
 
 def is_left(folder: PlanFolder) -> bool:
-    """Whether by_hand has something that is not done yet."""
-    states = states_of(read(folder, b"by_hand_done"))
-    return any(states.get(it) not in (FINISHED, FOUND) for it in THING.findall(read(folder, b"by_hand")))
+    """Whether by_hand has something that is not done yet; what is made in a tree is done with the tree."""
+    found, states = steps.steps_of(folder), noted(folder)
+    inner = {it.number for tree in found.trees() for it in tree[1:]}
+    wanted = steps.chosen_in(folder, steps.BY_HAND, found.lines()) - inner
+    return any(states.get(number, Note()).state not in (FINISHED, FOUND) for number in wanted)
 
 
 def is_to_take_back(folder: PlanFolder) -> bool:
     """Whether by_hand has done something that by_hand_undo can take back, and did not."""
-    states = states_of(read(folder, b"by_hand_done"))
-    return any(states.get(it) in (BEGUN, FINISHED) for it in THING.findall(read(folder, b"by_hand_undo")))
+    found, states = steps.steps_of(folder), noted(folder)
+    wanted = steps.chosen_in(folder, steps.UNDO, found.lines_back())
+    return any(states.get(number, Note()).state in OURS for number in wanted)

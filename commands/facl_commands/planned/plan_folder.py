@@ -17,10 +17,10 @@ from ..base import linux, new_file, trusted
 from ..base.messages import SIGNALS, Failure, reason, signals_wait
 from ..base.new_file import DIRECTORY, is_there, make_directory
 
-VERSION = b"facl-plan 2\n"
+VERSION = b"facl-plan 3\n"
 LOCK = b"lock"  # Nobody but the owner can open it, also where a group reads the plan.
-NAMES = (LOCK, b"plan", b"edits", b"old", b"new", b"files", b"by_hand", b"by_hand_undo", b"by_hand_done", b"meta",
-         b"journal", b"state")
+NAMES = (LOCK, b"plan", b"edits", b"old", b"new", b"files", b"steps", b"by_hand", b"by_hand_undo", b"by_hand_done",
+         b"meta", b"journal", b"state")
 DONE_BY_HAND = b"by_hand_done"
 MARKS = (LOCK, DONE_BY_HAND, b"journal", b"state")  # What is believed later; of the owner alone, also for --readers.
 NEW = b".new"  # At the end of a name while the file is written.
@@ -90,7 +90,7 @@ class PlanFolder(NamedTuple):
         try:
             fcntl.flock(descriptor, fcntl.LOCK_EX | fcntl.LOCK_NB)
         except BlockingIOError as error:
-            raise Failure(self.name + b": another facl-plan or facl-apply is at work on it") from error
+            raise Failure(self.name + b": another facl-plan, facl-apply or by_hand is at work on it") from error
 
     def is_of(self, place: "Place") -> bool:
         """Whether a name leads to this folder."""

@@ -11,7 +11,8 @@ from typing import Dict, Iterable, List, NamedTuple, Optional, Set, Tuple
 
 from ...base.messages import counted
 from ...base.names import is_at_or_below, path_word, read_name, read_path, script_word, shown_path, sorting_key, write_name
-from ...model.people import ADD_USER, REMOVE_USER, People
+from ...base.user_tools import ADD_USER, REMOVE_USER
+from ...model.people import People
 from ...model.records import path_of
 from ...program.protocol import NO_FILE, NOT_THERE, is_refused, lacks_file, message_of
 from ...program.scripts import Unit

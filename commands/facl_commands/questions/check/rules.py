@@ -11,9 +11,10 @@ from typing import Callable, List, NamedTuple, Optional, Set, Tuple
 from ...base.messages import Failure
 from ...base.names import plain_word, read_name, read_path, shown_path, write_name
 from ...base.trusted import read_given
+from ...base.user_tools import User
 from ...model.choice import is_recorded
 from ...model.everybody import World
-from ...model.people import Group, People, User, is_named, users_by_group
+from ...model.people import Group, People, is_named, users_by_group
 from ...model.superuser import ids_in, superusers_among
 from ...program.scripts import WORD, lines_with_numbers, read_text, words_of
 
