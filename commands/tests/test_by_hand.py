@@ -24,7 +24,7 @@ from facl_commands.base.messages import Command, Failure  # noqa: E402
 from facl_commands.base.user_tools import PeopleChange, shown_change  # noqa: E402
 from facl_commands.model import entries, records  # noqa: E402
 from facl_commands.model.people import People  # noqa: E402
-from facl_commands.model.records import File, Files  # noqa: E402
+from facl_commands.model.records import File  # noqa: E402
 from facl_commands.plan import by_hand  # noqa: E402
 from facl_commands.planned import by_hand_done, plan_folder, steps  # noqa: E402
 
@@ -160,7 +160,7 @@ class Data(unittest.TestCase):
     """The file `steps`, and the lines of by_hand."""
 
     PEOPLE = [PeopleChange(b"userdel", People(PASSWD, GROUP).users[1], b"", 100)]
-    MADE: Files = {b"d": FOLDER, b"d/\xe9 f": FILE}
+    MADE: records.Files = {b"d": FOLDER, b"d/\xe9 f": FILE}
 
     def written(self) -> steps.Steps:
         changes = records.ChangedPaths([], [*self.MADE], [b"a\n"])
@@ -261,7 +261,7 @@ class Scripts(Case):
         inodes = self.identities(list(old)) if with_identities else {}
         self.write_plan(list(people), changes, old, new, inodes)
 
-    def write_plan(self, people: List[PeopleChange], changes: records.ChangedPaths, old: Files, new: Files,
+    def write_plan(self, people: List[PeopleChange], changes: records.ChangedPaths, old: records.Files, new: records.Files,
                    inodes: Dict[bytes, Identity]) -> None:
         known = {new[path].body: record_of(new[path]) for path in changes.made}
         found = by_hand.steps_of(linux.boot(), inodes, people, changes, old, new, known)
@@ -285,10 +285,12 @@ class Scripts(Case):
         return Done(done.returncode, done.stdout, done.stderr)
 
     def expect_run(self, name: str, status: int, message: str = "", shell: str = "sh") -> None:
+        self.expect_said(name, status, f"{name}: {message}\n" if message else "", shell)
+
+    def expect_said(self, name: str, status: int, messages: str, shell: str = "sh") -> None:
         """What is said before a step is its line."""
-        whole = f"{name}: {message}\n".encode() if message else b""
         done = self.run_script(name, shell)
-        self.assertEqual((done.status, done.messages), (status, whole))
+        self.assertEqual((done.status, done.messages), (status, messages.encode()))
         self.assertLessEqual(set(done.out.splitlines()), set(self.read("plan/" + name).splitlines()))
 
     def names(self, folder: str = "") -> List[str]:
@@ -676,7 +678,7 @@ class DirectoryServices(UserScripts):
     def expect_left(self, *messages: str) -> None:
         for shell in SHELLS * 2:
             whole = "".join(f"by_hand: {it}\n" for it in messages) + self.SUMMARY % len(messages)
-            self.expect(self.run_script("by_hand", shell), 1, b"", whole.encode())
+            self.expect_said("by_hand", 1, whole, shell)
 
     def test_a_user_of_the_service(self) -> None:
         self.write_scripts(people=self.changes(b"usermod -g staff stefan", b"userdel stefan", b"gpasswd -a ben design"))
@@ -763,9 +765,8 @@ class Lost(UserScripts):
         self.write_plan(self.changes(b"userdel mara"), records.ChangedPaths([], [], []), old, old, {})
 
     def expect_lost(self, *messages: str) -> None:
-        whole = "".join(f"by_hand_undo: {it}\n" for it in messages).encode()
         for shell in SHELLS:
-            self.expect(self.run_script("by_hand_undo", shell), 1 if messages else 0, b"", whole)
+            self.expect_said("by_hand_undo", 1 if messages else 0, "".join(f"by_hand_undo: {it}\n" for it in messages), shell)
 
     def test_files_of_a_number(self) -> None:
         os.mkdir(self.path("plan"))

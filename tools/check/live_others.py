@@ -38,7 +38,8 @@ NO_CHANGE, NOT_TAKEN, SAW, TOOK = range(10, 14)  # How a process ends that is af
 TAKEN = {NO_CHANGE: "saw no change", NOT_TAKEN: "got nothing", SAW: "saw the program with the group",
          TOOK: "ran the program with the group", 1: "failed"}
 LOOKING = ["openat", "newfstatat", "fstat", "statx", "getxattr", "fstatfs", "flock", "rename", "fsync", "syncfs"]
-BY_HAND = ",".join(CHANGING) + ",chdir,mkdir,unlink,unlinkat,rmdir,rename,renameat2,newfstatat,statx,openat"
+# Not openat and newfstatat: Python has some hundred of these before it begins.
+BY_HAND = ",".join(CHANGING) + ",mkdirat,unlinkat,renameat2,linkat,statx,fstat,getdents64,fchmod,fremovexattr"
 RECORDS = b"""\
 setfacl --restore=-
 # file: %(o)s/d/f
@@ -485,7 +486,8 @@ class Others(Check):
         number = child(MALLORY, lambda: attack_for_a_while(self.hand, what, chance))
         script = words[1].rpartition(b"/")[2].decode()
         if chance.random() < 0.67:
-            traced = f"trace={BY_HAND}", f"inject={BY_HAND}:delay_enter={chance.choice([200, 1000, 3000])}"
+            delay = chance.choice([200, 1000, 3000])
+            traced = f"trace={BY_HAND}", f"inject={BY_HAND}:delay_enter={delay}:delay_exit={delay}"
             options = [part.encode() for text in traced for part in ("-e", text)]
             words = [b"strace", b"-f", b"-qq", b"-o", b"/dev/null", *options, *words]
         done = run(words)

@@ -4,13 +4,15 @@ from __future__ import annotations
 
 import os
 import secrets
+import shutil
 import stat
-from typing import Iterable
 
 from ..base import linux, new_file
-from ..base.live import Opener
 from ..base.messages import reason
 from ..base.new_file import DIRECTORY
+
+
+EXCHANGED = b"somebody exchanges files there; an empty folder .facl.* may be left"
 
 
 class HandFault(Exception):
@@ -31,53 +33,33 @@ class ClosedFolder:
         try:
             self.descriptor = os.open(self.name, DIRECTORY, dir_fd=folder)
         except OSError as error:
-            raise HandFault(b"somebody exchanges files there; an empty folder .facl.* may be left") from error
+            raise HandFault(EXCHANGED) from error
         look = os.fstat(self.descriptor)
         self.identity = look.st_dev, look.st_ino
         if look.st_uid != os.geteuid() or stat.S_IMODE(look.st_mode) & 0o5077 or os.listdir(self.descriptor):
             os.close(self.descriptor)
-            raise HandFault(b"somebody exchanges files there; an empty folder .facl.* may be left")
+            raise HandFault(EXCHANGED)
         new_file.give_mode(self.descriptor, 0o700)
 
     def take(self, name: bytes) -> None:
-        try:
-            linux.move(name, self.folder, self.descriptor)
-        except OSError as error:
-            raise HandFault(b"cannot be taken from its place: " + reason(error)) from error
+        moved(name, self.folder, self.descriptor, b"cannot be taken from its place")
 
     def put(self, name: bytes) -> None:
         """Puts what was made in its place."""
-        try:
-            linux.move(name, self.descriptor, self.folder)
-        except OSError as error:
-            raise HandFault(b"cannot be put in place: " + reason(error)) from error
+        moved(name, self.descriptor, self.folder, b"cannot be put in place")
 
     def give_back(self, name: bytes) -> None:
-        """Puts what was taken to its place again, where it is not there by another hand."""
-        if not new_file.is_there(name, self.descriptor):
-            return
-        try:
-            linux.move(name, self.descriptor, self.folder)
-        except OSError as error:
-            raise HandFault(b"was taken to a folder " + self.name + b" beside its place, and cannot be put back: "
-                            + reason(error)) from error
+        """Puts what was taken to its place again, where it is not removed."""
+        if new_file.is_there(name, self.descriptor):
+            moved(name, self.descriptor, self.folder, b"was taken to a folder " + self.name + b" beside its place, and cannot be put back")
 
-    def clear(self, paths: Iterable[bytes]) -> None:
-        """Removes what was made of a tree, whose paths these are."""
-        with Opener(self.descriptor) as opener:
-            made = []
-            for path in paths:
-                above, _, name = path.rpartition(b"/")
-                if not new_file.is_there(name, opener.folder(above)):
-                    break
-                file = opener.open(path)
-                made.append((path, stat.S_ISDIR(file.mode())))
-                if made[-1][1]:
-                    file.set_mode(0o700)
-                file.close()
-            for path, is_directory in reversed(made):
-                above, _, name = path.rpartition(b"/")
-                remove(opener.folder(above), name, is_directory)
+    def clear(self, name: bytes) -> None:
+        """Removes what was made."""
+        if new_file.is_there(name, self.descriptor):
+            if stat.S_ISDIR(os.stat(name, dir_fd=self.descriptor, follow_symlinks=False).st_mode):
+                shutil.rmtree("/proc/self/fd/%d/%s" % (self.descriptor, os.fsdecode(name)), ignore_errors=True)
+            else:
+                os.unlink(name, dir_fd=self.descriptor)
 
     def end(self) -> bool:
         """Removes it; whether it is gone. No call of the system removes exactly that one: who puts another one there after the
@@ -94,8 +76,8 @@ class ClosedFolder:
             os.close(self.descriptor)
 
 
-def remove(folder: int, name: bytes, is_directory: bool) -> None:
-    if is_directory:
-        os.rmdir(name, dir_fd=folder)
-    else:
-        os.unlink(name, dir_fd=folder)
+def moved(name: bytes, source: int, target: int, fault: bytes) -> None:
+    try:
+        linux.move(name, source, target)
+    except OSError as error:
+        raise HandFault(fault + b": " + reason(error)) from error

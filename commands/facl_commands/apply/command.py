@@ -29,7 +29,7 @@ one differs, it is named, and all get their old records back. So they do where t
 killed, run it again, to go on or with --undo: PLAN has what it was about.
 
 Each file is opened once, without following a symbolic link, and is known by its descriptor from then on: whatever
-others do to its name, no other file is changed. What a plan cannot do is in PLAN/by_hand, which is not run.
+others do to its name, no other file is changed. What it does not do is in PLAN/by_hand, which is not run.
 """
 STATUS = """\
 The exit status is 0 where it is done, and 3 where there is nothing to do; 1 where it is not done, and the files are

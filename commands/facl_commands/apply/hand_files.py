@@ -18,7 +18,7 @@ from ..planned.by_hand_done import BEGUN, FINISHED, UNDONE, Notes
 from ..planned.plan_files import NOWHERE, Devices
 from ..planned.steps import Making, Removal, Steps
 from .carrying import OFTEN, Mismatch, change
-from .closed_folder import ClosedFolder, HandFault, remove
+from .closed_folder import ClosedFolder, HandFault
 
 OTHER_MADE = b"is another file than the one that was made"
 
@@ -51,9 +51,7 @@ def step_on(path: bytes) -> Iterator[None]:
     """What fails in a step on a file is said of that file."""
     try:
         yield
-    except HandFault as error:
-        raise HandFault(live_name(path) + b": " + error.text) from error
-    except (NotFound, Mismatch) as error:
+    except (HandFault, NotFound, Mismatch) as error:
         raise HandFault(live_name(path) + b": " + error.text) from error
     except OSError as error:
         raise HandFault(live_name(path) + b": " + reason(error)) from error
@@ -77,7 +75,8 @@ class HandFiles:
         except OSError as error:
             raise live.not_found(error) from error
         status = linux.status_of(folder)
-        if made != identity_of(status) if made else not self.is_same(self.steps.identity(parent_of(path)), status):
+        is_it = identity_of(status) == made if made else self.is_same(self.steps.identity(parent_of(path)), status)
+        if not is_it:
             raise HandFault(b"is another folder than that of the plan")
         return folder
 
@@ -101,7 +100,7 @@ class HandFiles:
             try:
                 is_one = fits(closed.descriptor, name, linux.status_of(closed.descriptor, name))
                 if is_one:
-                    remove(closed.descriptor, name, it.is_directory)
+                    (os.rmdir if it.is_directory else os.unlink)(name, dir_fd=closed.descriptor)
             finally:
                 closed.give_back(name)
             if is_one:
@@ -179,7 +178,7 @@ class HandFiles:
             self.notes.add(BEGUN, *[it.number for it in tree], identities=found)
             closed.put(paths[0])
         except BaseException:
-            closed.clear(paths)
+            closed.clear(paths[0])
             raise
         self.notes.add(FINISHED, tree[0].number, identities=found[:1])
 

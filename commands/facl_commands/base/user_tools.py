@@ -28,12 +28,15 @@ class PeopleChange(NamedTuple):
     def tool(self) -> bytes:
         return self.kind.split(b" ")[0]
 
-    def words(self) -> List[bytes]:
-        """The tool with its words. Of a group it gets the number, but of a membership: it takes a name of digits for an id."""
-        user, gid = self.user.name, b"%d" % self.gid
-        words = {CHANGE_GROUP: [b"-g", gid, b"--", user], ADD_USER: [b"-u", b"%d" % self.user.uid, b"-g", gid, b"--", user],
-                 REMOVE_USER: [b"--", user]}
-        return [self.tool(), *words.get(self.kind, [self.kind[-2:], user, b"--", self.group])]
+    def words(self, is_shown: bool = False) -> List[bytes]:
+        """The tool with its words. It gets numbers of groups where it takes a name of digits for an id. A person reads names,
+        and -- before what looks like an option alone."""
+        name = is_shown and self.group and not self.group.isdigit()
+        ids = [b"-g", self.group if name else b"%d" % self.gid]
+        options: Dict[bytes, List[bytes]] = {CHANGE_GROUP: ids, ADD_USER: [b"-u", b"%d" % self.user.uid, *ids], REMOVE_USER: []}
+        chosen = options.get(self.kind, [self.kind[-2:], self.user.name])
+        operand = self.group if self.kind in MEMBERSHIPS else self.user.name
+        return [self.tool(), *chosen, *[b"--"] * (not is_shown or operand.startswith(b"-")), operand]
 
     def back(self) -> Optional[PeopleChange]:
         """What takes it back; None for a user that is removed, who does not come back."""
@@ -51,20 +54,6 @@ class PeopleChange(NamedTuple):
         return dashed[0] + b" is an option for the tools of the system" if dashed else None
 
 
-def option_word(word: bytes) -> List[bytes]:
-    """An operand, after the end of the options where it looks like one of them."""
-    return [b"--", word] if word.startswith(b"-") else [word]
-
-
 def shown_change(change: PeopleChange) -> bytes:
-    """A change as the command that a person would write. A group whose name is digits alone is an id for the tools, and so is
-    one without a name."""
-    group = b"%d" % change.gid if change.group.isdigit() or not change.group else change.group
-    words: Dict[bytes, List[bytes]] = {
-        ADD_MEMBER: [b"-a", change.user.name, *option_word(change.group)],
-        REMOVE_MEMBER: [b"-d", change.user.name, *option_word(change.group)],
-        CHANGE_GROUP: [b"-g", group, *option_word(change.user.name)],
-        ADD_USER: [b"-u", b"%d" % change.user.uid, b"-g", group, *option_word(change.user.name)],
-        REMOVE_USER: option_word(change.user.name),
-    }
-    return b" ".join(shell_word(word) for word in [change.tool(), *words[change.kind]])
+    """A change as the command that a person would write."""
+    return b" ".join(map(shell_word, change.words(is_shown=True)))

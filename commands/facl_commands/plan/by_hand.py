@@ -9,7 +9,7 @@ from ..base.acl_bytes import Record
 from ..base.environment import HOME
 from ..base.linux import Identity
 from ..base.messages import counted
-from ..base.names import live_name, parent_of, path_order, shell_word, shown
+from ..base.names import live_name, path_order, shell_word, shown
 from ..base.user_tools import CHANGE_GROUP, REMOVE_USER, PeopleChange, shown_change
 from ..model.records import ChangedPaths, Files
 from ..planned.steps import Making, PeopleStep, Removal, Step, Steps, line_of
@@ -74,14 +74,8 @@ def steps_of(boot: str, inodes: Dict[bytes, Identity], people: List[PeopleChange
                for number, path in enumerate(sorted(gone, key=path_order, reverse=True), len(people) + 1)]
     made = [Making(number, path, new[path].is_directory, records[new[path].body])
             for number, path in enumerate(sorted(changes.made, key=path_order), len(people) + len(removed) + 1)]
-    looked_at = {path: inodes[path] for path in looked_at_of(changes) if path in inodes}
-    return Steps(boot, looked_at, changed, removed, made)
-
-
-def looked_at_of(changes: ChangedPaths) -> List[bytes]:
-    """The files of the snapshot that are compared: those that go, and the folders of these and of what is made."""
-    folders = {parent_of(path) for path in (*changes.removed, *changes.made)} - set(changes.made)
-    return sorted(folders | set(changes.removed), key=path_order)
+    steps = Steps(boot, {}, changed, removed, made)
+    return steps._replace(identities={path: inodes[path] for path in sorted(steps.looked_at()) if path in inodes})
 
 
 def commands_of(people: List[PeopleChange], changes: ChangedPaths, old: Files, new: Files) -> List[bytes]:
@@ -104,8 +98,7 @@ def what(steps: Steps) -> bytes:
 
 
 def start_of(head: bytes, steps: Steps, option: bytes) -> bytes:
-    folders = {parent_of(it.path) for it in (*steps.removed, *steps.made)} - {it.path for it in steps.made}
-    is_blind = not steps.identities.keys() >= folders | {it.path for it in steps.removed}
+    is_blind = len(steps.identities) < len(steps.looked_at())
     command = shell_word(os.path.join(os.fsencode(HOME), b"facl-by-hand"))
     return head % {b"what": what(steps), b"blind": BLIND * is_blind} + START % (command, option)
 

@@ -6,12 +6,12 @@ made. A line is the number and a command; a person puts a # before one that is n
 from __future__ import annotations
 
 import json
-from typing import Dict, List, NamedTuple, Optional, Set, Tuple, Union
+from typing import Dict, List, NamedTuple, Optional, Set, Union
 
 from ..base.acl_bytes import NO_ID, Record
 from ..base.linux import Identity
 from ..base.messages import Failure
-from ..base.names import live_name, parent_of, shell_word, shown
+from ..base.names import live_name, parent_of, path_order, shell_word, shown
 from ..base.user_tools import KINDS, REMOVE_USER, PeopleChange, User, shown_change
 from .plan_files import NOWHERE, identity_of, is_path, number_of, read_record
 from .plan_folder import PlanFolder
@@ -83,6 +83,11 @@ class Steps(NamedTuple):
 
     def all(self) -> List[Step]:
         return [*self.people, *self.removed, *self.made]
+
+    def looked_at(self) -> Set[bytes]:
+        """The files of the snapshot that are compared: those that go, and the folders of these and of what is made."""
+        removed, made = {it.path for it in self.removed}, {it.path for it in self.made}
+        return removed | {parent_of(path) for path in removed | made} - made
 
     def identity(self, path: bytes) -> Identity:
         return self.identities.get(path, NOWHERE)
@@ -176,7 +181,8 @@ def read_steps(name: bytes, text: bytes) -> Steps:
                    for number, (path, kind) in enumerate(fields["removed"], len(people) + 1)]
         made = [read_made(number, *row) for number, row in enumerate(fields["made"], len(people) + len(removed) + 1)]
         files: List[Union[Removal, Making]] = [*removed, *made]
-        if not isinstance(fields["boot"], str) or not all(is_path(it.path) for it in files):
+        paths = [it.path for it in made]
+        if not isinstance(fields["boot"], str) or not all(is_path(it.path) for it in files) or paths != sorted({*paths}, key=path_order):
             raise ValueError
         return Steps(fields["boot"], identities, people, removed, made)
     except (ValueError, KeyError, TypeError, IndexError, AttributeError, RecursionError, OverflowError, MemoryError) as error:
