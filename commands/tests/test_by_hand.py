@@ -198,9 +198,9 @@ class Data(unittest.TestCase):
         self.assertEqual([[it.path for it in tree] for tree in found], [[b"a", b"a/b", b"a/b/c"], [b"ab"], [b"d/e"], [b"d/f"]])
 
     def test_notes(self) -> None:
-        notes = b"1 begun 1:2:-3\n1 finished 1:2:-3\n2 found\n3 begun 1:2\nx 4\n\n5 beg"
+        notes = b"1 begun 1:2:-3\n1 finished 1:2:-3\n2 found\n3 begun 1:2\nx 4\n6 begun 1:2:--3\n\n5 beg"
         self.assertEqual(by_hand_done.states_of(notes), {
-            1: (b"finished", Identity(1, 2, -3)), 2: (b"found", None), 3: (b"begun", None), 5: (b"beg", None)})
+            1: (b"finished", Identity(1, 2, -3)), 2: (b"found", None), 5: (b"beg", None)})
 
 
 def record_of(file: File) -> Record:

@@ -11,7 +11,6 @@ from ..base import linux, new_file
 from ..base.messages import reason
 from ..base.new_file import DIRECTORY
 
-
 EXCHANGED = b"somebody exchanges files there; an empty folder .facl.* may be left"
 
 

@@ -3,6 +3,7 @@ what is made `DEVICE:INODE:BIRTH` may follow."""
 from __future__ import annotations
 
 import os
+import re
 from typing import Dict, Iterable, NamedTuple, Optional
 
 from ..base import new_file, trusted
@@ -12,6 +13,7 @@ from . import steps
 from .plan_folder import DONE_BY_HAND, PlanFolder
 
 FINISHED, FOUND, BEGUN, UNDONE = b"finished", b"found", b"begun", b"undone"
+LINE = re.compile(rb"^(\d{1,18}) ([a-z]+)(?: (-?\d{1,20}):(-?\d{1,20}):(-?\d{1,20}))?$", re.MULTILINE)
 OURS = (BEGUN, FINISHED)  # What by_hand has done, and did not find done already.
 
 
@@ -20,19 +22,9 @@ class Note(NamedTuple):
     identity: Optional[Identity] = None
 
 
-def identity_of(words: Iterable[bytes]) -> Optional[Identity]:
-    """The identity that a note ends with, if it has one."""
-    for word in words:
-        numbers = word.split(b":")
-        if len(numbers) == 3 and all(it.lstrip(b"-").isdigit() and len(it) < 40 for it in numbers):
-            return Identity(*map(int, numbers))
-    return None
-
-
 def states_of(notes: bytes) -> Dict[int, Note]:
     """The last state of each step, by its number."""
-    lines = [line.split(b" ") for line in notes.splitlines()]
-    return {int(it[0]): Note(it[1], identity_of(it[2:])) for it in lines if len(it) > 1 and it[0].isdigit() and len(it[0]) < 20}
+    return {int(it[1]): Note(it[2], Identity(int(it[3]), int(it[4]), int(it[5])) if it[3] else None) for it in LINE.finditer(notes)}
 
 
 class Notes:
