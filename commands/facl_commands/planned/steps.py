@@ -121,7 +121,8 @@ class Steps(NamedTuple):
 
     def is_lost(self) -> bool:
         """Whether something is done that does not come back."""
-        return any(it.not_done() is None for it in [*self.removed, *[it for it in self.people if it.change.kind == REMOVE_USER]])
+        lost: List[Step] = [*self.removed, *[it for it in self.people if it.change.kind == REMOVE_USER]]
+        return any(it.not_done() is None for it in lost)
 
 
 NO_STEPS = Steps("-", {}, [], [], [])
