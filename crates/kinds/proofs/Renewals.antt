@@ -1,5 +1,5 @@
 -- Kinds whose nodes become others: which entries they have, and what counts for them.
-use Rattle.std.proofs.Common.{◌≡◌, ◌≢◌, ℕ, zero, suc, ◌+◌, ◌*◌, ◌<◌, ◌≤◌, Bool, true, false, cond, List, [], ◌∷◌, ◌++◌, length, get_or, Option, Some, None}
+use Rattle.std.proofs.Common.{◌≡◌, ◌≢◌, ℕ, zero, suc, ◌+◌, ◌-◌, ◌*◌, ◌<◌, ◌≤◌, Bool, true, false, cond, List, [], ◌∷◌, ◌++◌, length, get_or, Option, Some, None}
 use Rattle.std.proofs.Common.{refl, sym, ap, subst, ◌∙◌, arith, nat_lt, ltb-true, ltb-false}
 use Rattle.std.specs.Prelude.{option_map, ◌==◌}
 use Rattle.std.specs.List.{AllByRecursion}
@@ -7,7 +7,7 @@ use Rattle.std.specs.Option.{option_map_or}
 use Rattle.std.proofs.lemmas.List.{length-append, get_or_past, map-append}
 use Rattle.std.proofs.lemmas.List.Sums.{sum_by-cons}
 use Rattle.acl_names.proofs.Basics.{sum_times, none_times}
-use Rattle.kinds.specs.Kinds.{KindsOf, kinds_of, node_at, count_at, HasRoom}
+use Rattle.kinds.specs.Kinds.{KindsOf, kinds_of, node_at, count_at}
 use Rattle.kinds.specs.Numbered.{Numbers, with_node, entries_by, one_if, paths_with, AreUsed, AreSound}
 use Rattle.kinds.specs.Renewed.{renewed, weight_of, renewed_if, renewed_before, counts_before, weight_at, weight_before, Renews}
 use Rattle.kinds.proofs.Numbers.{eq_true, eq_false, push_read, node_within}
@@ -56,15 +56,6 @@ module _ {N M : Type 0} (f : N → M) (k : KindsOf N) where
       by true is before = ap (λ i. count_at k i) (sym (eq_true n m is))
       by false is before = let other : n ≢ m = eq_false n m is in before (omega (arith, lt, other))
 
-  counts_all : HasRoom k → (n : ℕ) → get_or (counts_before k (length k.0)) n 0 ≡ count_at k n
-  counts_all room n = by (nat_lt n (length k.0)) refl
-    where
-      by : (b : Bool) → nat_lt n (length k.0) ≡ b → get_or (counts_before k (length k.0)) n 0 ≡ count_at k n
-      by true is = counts_read (length k.0) n (ltb-true _ _ is)
-      by false is =
-          let ge = ltb-false _ _ is in
-          get_or_past (counts_before k (length k.0)) n 0 (omega (arith, ge, length-counts (length k.0))) ∙ sym (get_or_past k.1 n 0 (omega (arith, room, ge)))
-
   -- one slot more
   pub renewed_more : (n : ℕ) (slots : List (Option M × ℕ)) (s : Option M × ℕ) → kinds_of slots ≡ (renewed_before f k n, counts_before k n)
       → s ≡ (renewed_if f (node_at k n) (count_at k n), count_at k n)
@@ -73,20 +64,33 @@ module _ {N M : Type 0} (f : N → M) (k : KindsOf N) where
       (λ i. (map-append (λ (s : Option M × ℕ). s.0) slots (s ∷ []) i, map-append (λ (s : Option M × ℕ). s.1) slots (s ∷ []) i))
       ∙ (λ i. ((h i).0 ++ (is i).0 ∷ [], (h i).1 ++ (is i).1 ∷ []))
 
-  pub renews : HasRoom k → Renews f k (renewed_before f k (length k.0), counts_before k (length k.0))
-  renews room = record {
-    nodes = λ n lt. by n lt (nat_lt n (length k.0)) refl;
-    counts = counts_all room;
+  -- all slots, if no path has another number
+  pub renews : (end : ℕ) → ((n : ℕ) → end ≤ n → count_at k n ≡ 0) → Renews f k (renewed_before f k end, counts_before k end)
+  renews end past = record {
+    nodes = λ n lt. node n lt (nat_lt n end) refl;
+    counts = λ n. count n (nat_lt n end) refl;
   }
     where
-      by : (n : ℕ) → 0 < count_at k n → (b : Bool) → nat_lt n (length k.0) ≡ b → get_or (renewed_before f k (length k.0)) n None ≡ option_map f (node_at k n)
-      by n lt true is = renewed_read (length k.0) n (ltb-true _ _ is) ∙ some_renewed (node_at k n) (count_at k n) lt
-      by n lt false is =
+      node : (n : ℕ) → 0 < count_at k n → (b : Bool) → nat_lt n end ≡ b → get_or (renewed_before f k end) n None ≡ option_map f (node_at k n)
+      node n lt true is = renewed_read end n (ltb-true _ _ is) ∙ some_renewed (node_at k n) (count_at k n) lt
+      node n lt false is = absurd (let none = past n (ltb-false _ _ is) in omega (arith, lt, none))
+
+      count : (n : ℕ) → (b : Bool) → nat_lt n end ≡ b → get_or (counts_before k end) n 0 ≡ count_at k n
+      count n true is = counts_read end n (ltb-true _ _ is)
+      count n false is =
           let ge = ltb-false _ _ is in
-          let none : count_at k n ≡ 0 = get_or_past k.1 n 0 (omega (arith, room, ge)) in
-          absurd (omega (arith, lt, none))
+          get_or_past (counts_before k end) n 0 (omega (arith, ge, length-counts end)) ∙ sym (past n ge)
 
 -- ---- what counts
+
+-- no path has one of the numbers from one less on
+pub past_before : {N : Type 0} (k : KindsOf N) (end : ℕ) → 0 < end → count_at k (end - 1) ≡ 0 → ((n : ℕ) → end ≤ n → count_at k n ≡ 0)
+    → (n : ℕ) → end - 1 ≤ n → count_at k n ≡ 0
+past_before k end lt none past n le = by (n == end - 1) refl
+  where
+    by : (b : Bool) → (n == end - 1) ≡ b → count_at k n ≡ 0
+    by true is = ap (λ i. count_at k i) (eq_true n (end - 1) is) ∙ none
+    by false is = let other : n ≢ end - 1 = eq_false n (end - 1) is in past n (omega (arith, le, lt, other))
 
 module _ {N : Type 0} (w : N → ℕ) (k : KindsOf N) where
   pub weight_grows : (n m : ℕ) → n ≤ m → weight_before w k n ≤ weight_before w k m
@@ -101,6 +105,21 @@ module _ {N : Type 0} (w : N → ℕ) (k : KindsOf N) where
   -- what counts for a number, and for the numbers before it, is no more than what counts for all
   pub weight_fits : (n m : ℕ) → n < m → weight_before w k n + weight_at w k n ≤ weight_before w k m
   weight_fits n m lt = weight_grows (suc n) m (omega (arith, lt))
+
+  -- numbers that no path has count for nothing
+  pub weight_past : (end m : ℕ) → end ≤ m → ((n : ℕ) → end ≤ n → count_at k n ≡ 0) → weight_before w k m ≡ weight_before w k end
+  weight_past end zero le past = let same : zero ≡ end = omega (arith, le) in ap (weight_before w k) same
+  weight_past end (suc m) le past = by (nat_lt m end) refl (weight_past end m)
+    where
+      by : (b : Bool) → nat_lt m end ≡ b → (end ≤ m → ((n : ℕ) → end ≤ n → count_at k n ≡ 0) → weight_before w k m ≡ weight_before w k end)
+          → weight_before w k (suc m) ≡ weight_before w k end
+      by true is before = let lt = ltb-true _ _ is in let same : suc m ≡ end = omega (arith, lt, le) in ap (weight_before w k) same
+      by false is before =
+          let ge = ltb-false _ _ is in
+          let weight = option_map_or w (node_at k m) 0 in
+          let none : weight_at w k m ≡ 0 = ap (λ c. c * weight) (past m ge) ∙ none_times weight in
+          let h = before ge past in
+          omega (arith, none, h)
 
   abbrev node_weight : ℕ → ℕ
   node_weight n = option_map_or w (node_at k n) 0

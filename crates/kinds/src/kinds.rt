@@ -252,9 +252,35 @@ impl<N> Kinds<N> {
             _ => Ok(Slot {
                 node: None,
                 count: paths,
-                next: self.next_of(number),
+                next: self.unused_from(number.saturating_add(1)),
             }),
         }
+    }
+
+    /// Returns the first number from `start` on that no path has.
+    fn unused_from(&self, start: usize) -> usize {
+        for number in start..self.len() {
+            if self.count(number) == 0 {
+                return number;
+            }
+        }
+        NONE
+    }
+
+    /// Returns the number after the last one that paths have; 0 if there is none.
+    fn used_end(&self) -> usize
+        ensures within { result ≤ length self.now.0 }
+        ensures past { (n : ℕ) → result ≤ n → count_at self.now n ≡ 0 }
+    {
+        let mut end = self.len();
+        while 0 < end {
+            let paths = self.count(end - 1);
+            if paths > 0 {
+                return end;
+            }
+            end -= 1;
+        }
+        end
     }
 
     /// Returns the number after a free one in the free list.
@@ -265,7 +291,8 @@ impl<N> Kinds<N> {
         }
     }
 
-    /// Renews the node of each number that paths have, with the same counts.
+    /// Renews the node of each number that paths have, with the same counts. Free numbers are left out after the last of
+    /// these, and the lowest one is given first.
     pub(crate) fn renewed<M: Drop, S, R: Renewal<N, M, S>>(
         &self,
         alloc: Global,
@@ -278,14 +305,12 @@ impl<N> Kinds<N> {
         ensures at_most { R.counted state.new ≤ R.counted state.old + weight_before (R.weight renewal.now) self.now (length self.now.0) }
     {
         let mut slots = SharedList::new(alloc);
-        for number in 0..self.slots.len() {
+        for number in 0..self.used_end() {
             let slot = self.renewed_slot(alloc, state, renewal, number)?;
             slots = slots.pushed(alloc, slot)?;
         }
-        Ok(Kinds {
-            slots,
-            free: self.free,
-        })
+        let free = self.unused_from(0);
+        Ok(Kinds { slots, free })
     }
 }
 

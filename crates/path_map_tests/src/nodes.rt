@@ -95,4 +95,5 @@ fn a_node_that_no_path_has_is_not_renewed(rt: HostRuntime) {
     let (new, renewed) = with_nines(&rt, rt.alloc(), &b_freed(&rt, rt.alloc()));
     assert!(rt; renewed == 1);
     assert!(rt; new.used(1).is_none());
+    assert!(rt; new.numbers_len() == 1);
 }

@@ -1,6 +1,6 @@
 use Rattle.std.proofs.Common.{◌≡◌, ◌+◌, suc, None, length, sym, ap, subst, ◌∙◌, arith}
 use Rattle.std.specs.Prelude.{option_map}
-use Rattle.std.proofs.lemmas.List.{length-map, get_or-map}
+use Rattle.std.proofs.lemmas.List.{length-map, get_or-map, get_or_past}
 use Rattle.kinds.specs.Kinds.{KindsOf, kinds_of, node_at, count_at, HasRoom}
 use Rattle.kinds.specs.Renewed.{renewed_if, renewed_before, counts_before, Renews}
 use Rattle.kinds.specs.Given.{shared_nodes}
@@ -29,4 +29,4 @@ returns g c =
     let made : kinds_of c.loop-number.slots ≡ (renewed_before (λ x. x) k (length k.0), counts_before k (length k.0)) = c.loop-number.invariant
     ∙ ap (λ m. (renewed_before (λ x. x) k m, counts_before k m)) end in
     let has_room : HasRoom k = subst (λ (k : KindsOf g.row.N.Denot). HasRoom k) c.self.view_is (room c.self.inside.slots) ∙ sym c.requires ∙ sym long in
-    subst (λ (new : KindsOf g.row.M.Denot). Renews (λ x. x) k new) (sym made) (renews (λ x. x) k has_room)
+    subst (λ (new : KindsOf g.row.M.Denot). Renews (λ x. x) k new) (sym made) (renews (λ x. x) k (length k.0) (λ n le. get_or_past k.1 n 0 (omega (arith, has_room, le))))
