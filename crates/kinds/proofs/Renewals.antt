@@ -86,9 +86,9 @@ module _ {N M : Type 0} (f : N → M) (k : KindsOf N) where
 -- no path has one of the numbers from one less on
 pub past_before : {N : Type 0} (k : KindsOf N) (end : ℕ) → 0 < end → count_at k (end - 1) ≡ 0 → ((n : ℕ) → end ≤ n → count_at k n ≡ 0)
     → (n : ℕ) → end - 1 ≤ n → count_at k n ≡ 0
-past_before k end lt none past n le = by (n == end - 1) refl
+past_before k end lt none past n le = by (n == (end - 1)) refl
   where
-    by : (b : Bool) → (n == end - 1) ≡ b → count_at k n ≡ 0
+    by : (b : Bool) → (n == (end - 1)) ≡ b → count_at k n ≡ 0
     by true is = ap (λ i. count_at k i) (eq_true n (end - 1) is) ∙ none
     by false is = let other : n ≢ end - 1 = eq_false n (end - 1) is in past n (omega (arith, le, lt, other))
 

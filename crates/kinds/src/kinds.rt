@@ -291,8 +291,8 @@ impl<N> Kinds<N> {
         }
     }
 
-    /// Renews the node of each number that paths have, with the same counts. Free numbers are left out after the last of
-    /// these, and the lowest one is given first.
+    /// Renews the node of each number that paths have, with the same counts. Free numbers after the last of these are
+    /// left out, and the lowest free one is given first.
     pub(crate) fn renewed<M: Drop, S, R: Renewal<N, M, S>>(
         &self,
         alloc: Global,
