@@ -1,9 +1,13 @@
 pub mod Bytes
 pub mod CommandFaults
 pub mod Ending
+pub mod Failing
 pub mod FirstPart
 pub mod HasWords
 pub mod LineParts
+pub mod MemoryOfCommands
+pub mod MemoryOfLines
+pub mod MemoryOfTexts
 pub mod MemorySaid
 pub mod NoPaths
 pub mod Outcomes

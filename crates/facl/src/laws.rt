@@ -4,7 +4,7 @@
 ghost use Rattle.std.specs.Prelude.{◌≡◌, false};
 ghost use Rattle.facl_script.specs.Units.{ScriptUnit};
 ghost use Rattle.acl_rights.specs.Deciders.{Judging};
-ghost use Rattle.facl.specs.Laws.{NoMemoryIsSaid};
+ghost use Rattle.facl.specs.Laws.{NoMemoryIsNoFault, NoMemoryIsSaid};
 ghost use Rattle.facl.specs.LineParts.{IsAnsweredByFirst};
 ghost use Rattle.acl_rights.specs.declared.indexed.States.{States};
 ghost use Rattle.facl.specs.Units.{is_silent};
@@ -15,6 +15,12 @@ ghost use Rattle.facl.specs.Units.{is_silent};
 /// exactly if one of them is at fault, and for the first of those in one order.
 pub fn lines_are_refused_for_their_first_fault()
     ensures { (judge : Judging) (w : States) (u : ScriptUnit) → is_silent u.line ≡ false → IsAnsweredByFirst judge w u }
+{}
+
+/// Proof only: no line has as its own fault that memory ran out: what it does by definition is its reply, or another
+/// fault. So `facl: no memory` is the message of a line for which memory ran out, and of no other.
+pub fn no_memory_is_no_fault_of_a_line()
+    ensures { NoMemoryIsNoFault }
 {}
 
 /// Proof only: if no line of a session's messages ends in `: facl: no memory`, memory ran out for none of its lines:
