@@ -24,7 +24,8 @@ mod tools;
 mod words;
 
 pub use laws::{
-    lines_are_refused_for_their_first_fault, no_memory_is_no_fault_of_a_line, session_says_where_memory_ran_out,
+    lines_are_refused_for_their_first_fault, no_memory_is_no_fault_of_a_line,
+    session_says_where_memory_ran_out,
 };
 pub use program::{run, run_from, run_judged};
 pub use setup::{Setup, initial_state};
