@@ -30,7 +30,7 @@ use Rattle.acl_tree.specs.Restoring.{paths_of, restore_one, restored_tree}
 use Rattle.acl_tree.specs.State.{State}
 use Rattle.acl_tree.specs.Step.{Applies, step}
 use Rattle.acl_tree.specs.declared.command.Command.{Command}
-use Rattle.acl_tree.specs.declared.command.Command.TheVariants.{Load, Chmod, Edit, Restore, Creat, Rm, Gpasswd, Usermod, Useradd, Userdel}
+use Rattle.acl_tree.specs.declared.command.Command.TheVariants as commands
 use Rattle.acl_tree.specs.declared.command.NewFile.{NewFile}
 use Rattle.acl_tree.specs.declared.command.Table.{Table}
 use Rattle.acl_tree.specs.declared.command.Table.TheVariants.{Passwd, Group, Dump}
@@ -117,7 +117,7 @@ refused : (s : State) (c : Command) → IsRefusedForFirst s c → IfErr (step s 
 refused s c law = by (step s c) refl
   where
     never : (c : Command) → Applies s c trees.NoMemory → ⊥
-    never (Load which bytes) h = h
+    never (commands.Load which bytes) h = h
     never c h = h
 
     by : (r : Result State TreeFault) → step s c ≡ r → IfErr r IsOther
@@ -126,13 +126,13 @@ refused s c law = by (step s c) refl
     by (Err fault) is = tt
 
 pub step_has_memory : (s : State) (c : Command) → IfErr (step s c) IsOther
-step_has_memory s (Load which bytes) = load_has_memory s which bytes.now
-step_has_memory s (Chmod paths mode recursive) = refused s (Chmod paths mode recursive) (chmod_refused s paths mode recursive)
-step_has_memory s (Edit paths e recursive) = both IsOther (edited_tree recursive paths e s.tree) _ (edit_has_memory recursive paths e s.tree) (λ tree. tt)
-step_has_memory s (Restore records) = both IsOther (restored_tree records s.tree) _ (restore_has_memory records s.tree) (λ tree. tt)
-step_has_memory s (Creat new) = both IsOther (creat new s.people s.tree) _ (creat_has_memory new s.people s.tree) (λ tree. tt)
-step_has_memory s (Rm paths recursive) = refused s (Rm paths recursive) (rm_refused s recursive paths)
-step_has_memory s (Gpasswd user group change) = refused s (Gpasswd user group change) (gpasswd_refused s user group change)
-step_has_memory s (Usermod user group) = refused s (Usermod user group) (usermod_refused s user group)
-step_has_memory s (Useradd new) = refused s (Useradd new) (useradd_refused s new)
-step_has_memory s (Userdel user) = refused s (Userdel user) (userdel_refused s user)
+step_has_memory s (commands.Load which bytes) = load_has_memory s which bytes.now
+step_has_memory s (commands.Chmod paths mode recursive) = refused s (commands.Chmod paths mode recursive) (chmod_refused s paths mode recursive)
+step_has_memory s (commands.Edit paths e recursive) = both IsOther (edited_tree recursive paths e s.tree) _ (edit_has_memory recursive paths e s.tree) (λ tree. tt)
+step_has_memory s (commands.Restore records) = both IsOther (restored_tree records s.tree) _ (restore_has_memory records s.tree) (λ tree. tt)
+step_has_memory s (commands.Creat new) = both IsOther (creat new s.people s.tree) _ (creat_has_memory new s.people s.tree) (λ tree. tt)
+step_has_memory s (commands.Rm paths recursive) = refused s (commands.Rm paths recursive) (rm_refused s recursive paths)
+step_has_memory s (commands.Gpasswd user group change) = refused s (commands.Gpasswd user group change) (gpasswd_refused s user group change)
+step_has_memory s (commands.Usermod user group) = refused s (commands.Usermod user group) (usermod_refused s user group)
+step_has_memory s (commands.Useradd new) = refused s (commands.Useradd new) (useradd_refused s new)
+step_has_memory s (commands.Userdel user) = refused s (commands.Userdel user) (userdel_refused s user)

@@ -1,6 +1,6 @@
 -- No text has as its fault that memory ran out.
-use Rattle.std.proofs.Common.{◌≡◌, ℕ, ◌+◌, ◌≤◌, List, [], ◌∷◌, ◌++◌, length, Option, Some, None, Result, Ok, Err, refl, sym, subst, arith, inl, inr}
-use Rattle.std.specs.Prelude.{◌==◌, IfErr, nat_le}
+use Rattle.std.proofs.Common.{◌≡◌, ℕ, ◌+◌, ◌≤◌, Bool, true, false, if◌then◌else◌, List, [], ◌∷◌, ◌++◌, length, Option, Some, None, Result, Ok, Err, refl, sym, subst, arith, inl, inr}
+use Rattle.std.specs.Prelude.{◌==◌, IfErr, codes, nat_le}
 use Rattle.acl_entry.specs.Lists.{KeyMap, fault}
 use Rattle.acl_entry.specs.declared.entry.Entry.{Entry}
 use Rattle.acl_entry.specs.declared.entry.ListFault.{ListFault}
@@ -10,19 +10,19 @@ use Rattle.acl_text.proofs.Lowest.{entry_lowest, fields-kind}
 use Rattle.acl_text.proofs.LowestLines.{line_lowest}
 use Rattle.acl_text.proofs.ReadBack.{faulty_where}
 use Rattle.acl_text.specs.Attr.{attr_of}
-use Rattle.acl_text.specs.Blanks.{trimmed}
+use Rattle.acl_text.specs.Blanks.{trim_front, trimmed}
 use Rattle.acl_text.specs.DumpLowest.{HasInItself}
 use Rattle.acl_text.specs.Entries as lists
 use Rattle.acl_text.specs.Fields.{default_of, entry_fields}
 use Rattle.acl_text.specs.Groups.{grouped, group_of, in_turn}
 use Rattle.acl_text.specs.InTurn.{at_place, read_each_from}
-use Rattle.acl_text.specs.Lines.{content_of}
+use Rattle.acl_text.specs.Lines.{begins_with, content_after_white_space, content_of, header_of}
 use Rattle.acl_text.specs.Lowest.{number, ReportsLowest, EntryHas}
 use Rattle.acl_text.specs.Naming.{Naming}
 use Rattle.acl_text.specs.Records as dumps
-use Rattle.acl_text.specs.declared.draft.RecordDraft.{RecordDraft}
 use Rattle.acl_text.specs.declared.entries.Rules.{Rules}
 use Rattle.acl_text.specs.declared.entries.Sep.{Sep}
+use Rattle.acl_text.specs.declared.entries.Sep.TheVariants.{Line}
 use Rattle.acl_text.specs.declared.entries.Spec.{Spec}
 use Rattle.acl_text.specs.declared.entries.Want.{Want}
 use Rattle.acl_text.specs.declared.fault.FaultKind.{FaultKind}
@@ -30,8 +30,6 @@ use Rattle.acl_text.specs.declared.fault.FaultKind.TheVariants as kinds
 use Rattle.acl_text.specs.declared.fault.TextFault.{TextFault}
 use Rattle.acl_text.specs.declared.fault.Which.{Which}
 use Rattle.acl_text.specs.declared.fault.Which.TheVariants.{Access, Default}
-use Rattle.acl_text.specs.declared.line.LineKind.{LineKind}
-use Rattle.acl_text.specs.declared.line.LineKind.TheVariants as lines
 use Rattle.acl_text.specs.declared.record.DumpRecord.{DumpRecord}
 use Rattle.acl_text.specs.declared.record.DumpUse.{DumpUse}
 use Rattle.facl.proofs.Failing.{both, either, there}
@@ -98,22 +96,35 @@ opened : (records : List DumpRecord) (at : ℕ) (value : List ℕ) → IfErr (du
 opened records at [] = tt
 opened records at (b ∷ bs) = there IsOther (path_of (b ∷ bs)) kinds.BadPath _ tt (λ path. either IsOther (dumps.is_repeated records path) _ _ tt tt)
 
-module _ (dump_use : DumpUse) (naming : Naming) where
-  itself : (kind : LineKind) (value : List ℕ) (k : FaultKind) → HasInItself naming kind value k → IsOther k
-  itself lines.Owner value k h = elim h [ inl e ↦ same_other k _ e.is tt | inr n ↦ same_other k _ n.is tt ]
-  itself lines.OwningGroup value k h = elim h [ inl e ↦ same_other k _ e.is tt | inr n ↦ same_other k _ n.is tt ]
-  itself lines.Flags value k h = same_other k _ h.is tt
-  itself lines.Entry value k h = entry_has naming dumps.rules value k h
-  itself kind value k h = absurd h
+-- the kinds of fault that something has by its kind and its value are other ones
+abbrev Fine : {K : Type 0} → (K → List ℕ → FaultKind → Type 0) → K → List ℕ → Type 0
+Fine Has kind value = (k : FaultKind) → Has kind value k → IsOther k
 
-  line : (draft : Option RecordDraft) (l : dumps.Numbered) → IfErr (dumps.line_in naming draft l) IsOtherAt
+fine_either : {K : Type 0} (Has : K → List ℕ → FaultKind → Type 0) (b : Bool) (x y : K × List ℕ) → Fine Has x.0 x.1 → Fine Has y.0 y.1
+    → Fine Has (if b then x else y).0 (if b then x else y).1
+fine_either Has true x y h g = h
+fine_either Has false x y h g = g
+
+module _ (dump_use : DumpUse) (naming : Naming) where
+  header : (text : List ℕ) → Fine (HasInItself naming) (header_of text).0 (header_of text).1
+  header text =
+      fine_either (HasInItself naming) (begins_with text (codes "file:")) _ _ (λ k h. absurd h)
+      (fine_either (HasInItself naming) (begins_with text (codes "owner:")) _ _ (λ k h. elim h [ inl e ↦ same_other k _ e.is tt | inr n ↦ same_other k _ n.is tt ])
+      (fine_either (HasInItself naming) (begins_with text (codes "group:")) _ _ (λ k h. elim h [ inl e ↦ same_other k _ e.is tt | inr n ↦ same_other k _ n.is tt ])
+      (fine_either (HasInItself naming) (begins_with text (codes "flags:")) _ _ (λ k h. same_other k _ h.is tt) (λ k h. absurd h))))
+
+  itself : (line : List ℕ) → Fine (HasInItself naming) (content_after_white_space line).0 (content_after_white_space line).1
+  itself [] = λ k h. absurd h
+  itself (b ∷ bs) = fine_either (HasInItself naming) (b == 35) _ _ (header (trim_front bs)) (entry_has naming dumps.rules (lists.content Line (b ∷ bs)))
+
+  line : (draft : _) (l : dumps.Numbered) → IfErr (dumps.line_in naming draft l) IsOtherAt
   line draft l =
       placed l.0 (dumps.judged naming draft l) _
       (lowest _ _ (line_lowest naming draft l)
-      (λ k h. elim h [ inl own ↦ itself (content_of l.1).0 (content_of l.1).1 k own | inr other ↦ elim other [ inl m ↦ same_other k _ m.is tt | inr m ↦ same_other k _ m.is tt ] ]))
+      (λ k h. elim h [ inl own ↦ itself (trim_front l.1) k own | inr other ↦ elim other [ inl m ↦ same_other k _ m.is tt | inr m ↦ same_other k _ m.is tt ] ]))
       (λ new. tt)
 
-  closed : (records : List DumpRecord) (o : Option RecordDraft) → IfErr (dumps.close dump_use records o) IsOtherAt
+  closed : (records : List DumpRecord) (o : _) → IfErr (dumps.close dump_use records o) IsOtherAt
   closed records None = tt
   closed records (Some draft) =
       placed draft.at (dumps.record_of dump_use draft) _
