@@ -1,5 +1,5 @@
 -- No line has as its own fault that memory ran out.
-use Rattle.std.proofs.Common.{◌≡◌, ℕ, ◌+◌, Bool, true, false, if◌then◌else◌, List, [], ◌∷◌, length, map, Option, Some, None, option_map, Result, Ok, Err, subst}
+use Rattle.std.proofs.Common.{ℕ, ◌+◌, Bool, true, false, if◌then◌else◌, List, [], ◌∷◌, length, map, Option, Some, None, option_map, Result, Ok, Err, subst}
 use Rattle.std.specs.Prelude.{IfErr, nat_lt, ok_or}
 use Rattle.std.specs.Option.{option_map_or}
 use Rattle.std.specs.Str.{is_utf8}
@@ -11,7 +11,7 @@ use Rattle.acl_entry.specs.declared.entry.Entry.{Entry}
 use Rattle.acl_entry.specs.declared.entry.Key.{Key}
 use Rattle.acl_entry.specs.declared.entry.ListFault.TheVariants as list_faults
 use Rattle.acl_names.specs.Paths.{path_of, PathOf}
-use Rattle.acl_people.specs.KnownPeople.{KnownPeople, naming_of, users_of}
+use Rattle.acl_people.specs.KnownPeople.{naming_of, users_of}
 use Rattle.acl_people.specs.NameTables.{place_of_word}
 use Rattle.acl_rights.specs.Rows.{Verdict}
 use Rattle.acl_rights.specs.Verdicts.{can_requests}
@@ -50,7 +50,7 @@ use Rattle.facl_output.specs.declared.fault.LineFault.TheVariants as faults
 use Rattle.facl_output.specs.declared.fault.Source.{Source}
 use Rattle.facl_output.specs.declared.fault.Source.TheVariants.{AttributeEntry, DefaultEntry, Entry as InEntry, TextLine}
 use Rattle.facl_script.specs.Forms.{Text}
-use Rattle.facl_script.specs.Units.{ScriptUnit, UnitText, none}
+use Rattle.facl_script.specs.Units.{UnitText, none}
 use Rattle.facl_script.specs.Words.{has_no_words, line_words, words_of}
 use Rattle.facl_script.specs.declared.words.SplitFault.TheVariants.{OpenQuote, NotUtf8}
 use Rattle.facl_tools.specs.Chacl.{task_done}
@@ -58,7 +58,7 @@ use Rattle.facl_tools.specs.Creat.{new_file}
 use Rattle.facl_tools.specs.Edits as edits
 use Rattle.facl_tools.specs.Lists.{entry_of, list_from, list_of_text, specs_of}
 use Rattle.facl_tools.specs.Operands.{bad_operand, name_meant, not_recorded, path_at, paths_from}
-use Rattle.facl_tools.specs.Replies.{Reply, done, replied}
+use Rattle.facl_tools.specs.Replies.{done, replied}
 use Rattle.facl_tools.specs.Setattr as setattr
 use Rattle.facl_tools.specs.Setfacl.{both_at, change_files, change_line, done_or_tested, edit_of, edited_or_tested, entries_given, entries_of_line, records_of, restore_line}
 use Rattle.facl_tools.specs.Useradd.{new_user}
