@@ -17,8 +17,8 @@ pub fn lines_are_refused_for_their_first_fault()
     ensures { (judge : Judging) (w : States) (u : ScriptUnit) → is_silent u.line ≡ false → IsAnsweredByFirst judge w u }
 {}
 
-/// Proof only: no line has as its own fault that memory ran out: what it does by definition is its reply, or another
-/// fault. So `facl: no memory` is the message of a line for which memory ran out, and of no other.
+/// Proof only: no line has as its own fault that memory ran out: by its definition it has a reply, or another fault. So
+/// only a line for which memory ran out is refused with that one.
 pub fn no_memory_is_no_fault_of_a_line()
     ensures { NoMemoryIsNoFault }
 {}
