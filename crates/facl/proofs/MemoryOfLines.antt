@@ -16,7 +16,7 @@ use Rattle.acl_people.specs.NameTables.{place_of_word}
 use Rattle.acl_rights.specs.Rows.{Verdict}
 use Rattle.acl_rights.specs.Verdicts.{can_requests}
 use Rattle.acl_rights.specs.declared.indexed.States.{States}
-use Rattle.acl_text.specs.Attr.{attr_of}
+use Rattle.acl_text.specs.Attr.{attr_of, bad_attr}
 use Rattle.acl_text.specs.Entries.{entries_of}
 use Rattle.acl_text.specs.InTurn.{of_list}
 use Rattle.acl_text.specs.Records.{dump_of}
@@ -68,6 +68,7 @@ use Rattle.facl_tools.specs.declared.setfacl.ChangeLine.{ChangeLine}
 use Rattle.facl_tools.specs.declared.setfacl.EntrySource.{EntrySource}
 use Rattle.facl_tools.specs.declared.setfacl.EntrySource.TheVariants.{InText, InWord}
 use Rattle.facl_tools.specs.declared.setfacl.SetfaclLine.TheVariants as setfacl_lines
+use Rattle.hex.specs.Hex.{decode_of}
 use Rattle.facl.proofs.Failing.{both, found, there, checked, seen}
 use Rattle.facl.proofs.MemoryOfCommands as of_commands
 use Rattle.facl.proofs.MemoryOfCommands.{edit_has_memory, restore_has_memory, load_has_memory, step_has_memory}
@@ -198,7 +199,7 @@ module _ (s : State) where
 
 of_digits : (digits : Text) → IfErr (setattr.list_of_digits digits) IsOther
 of_digits digits =
-    both IsOther (setattr.bytes_of digits) _ (seen IsOther _ _ (λ e is. tt))
+    both IsOther (setattr.bytes_of digits) _ (seen IsOther (λ e. faults.Text AttributeEntry (bad_attr 0)) (decode_of digits) (λ e is. tt))
     (λ bytes. read AttributeEntry (attr_of bytes) (attr_has_memory bytes))
 
 -- ---- what a line does
