@@ -13,7 +13,7 @@ use Rattle.acl_entry.specs.declared.entry.ListFault.TheVariants as list_faults
 use Rattle.acl_names.specs.Paths.{path_of, PathOf}
 use Rattle.acl_people.specs.KnownPeople.{naming_of, users_of}
 use Rattle.acl_people.specs.NameTables.{place_of_word}
-use Rattle.acl_rights.specs.Rows.{Verdict}
+use Rattle.acl_rights.specs.Deciders.{Judging}
 use Rattle.acl_rights.specs.Verdicts.{can_requests}
 use Rattle.acl_rights.specs.declared.indexed.States.{States}
 use Rattle.acl_text.specs.Attr.{attr_of, bad_attr}
@@ -204,46 +204,46 @@ of_digits digits =
 
 -- ---- what a line does
 
-does : (verdict : Verdict) (loaded s : State) (line : ToolLine) (text : List ℕ) → IfErr (answered verdict loaded s line text) IsOther
+does : (judge : Judging) (loaded s : State) (line : ToolLine) (text : List ℕ) → IfErr (answered judge loaded s line text) IsOther
 unfolding answered
-does verdict loaded s (lines.Load line) text = made (load_moves line.table) (load s line.table text) (load_has_memory s line.table text)
-does verdict loaded s (lines.Getfacl line) text = with_paths line.files _ (λ paths. recorded paths s.tree.files _)
-does verdict loaded s (lines.Setfacl (setfacl_lines.Change line)) text = changed s line text
-does verdict loaded s (lines.Setfacl (setfacl_lines.Restore test)) text = restored s test text
-does verdict loaded s (lines.Chacl line) text = has_task s line.recursive line.task line.files
-does verdict loaded s (lines.Chmod line) text = with_paths line.files _ (λ paths. is_done s (commands.Chmod paths line.mode line.recursive))
-does verdict loaded s (lines.Creat line) text =
+does judge loaded s (lines.Load line) text = made (load_moves line.table) (load s line.table text) (load_has_memory s line.table text)
+does judge loaded s (lines.Getfacl line) text = with_paths line.files _ (λ paths. recorded paths s.tree.files _)
+does judge loaded s (lines.Setfacl (setfacl_lines.Change line)) text = changed s line text
+does judge loaded s (lines.Setfacl (setfacl_lines.Restore test)) text = restored s test text
+does judge loaded s (lines.Chacl line) text = has_task s line.recursive line.task line.files
+does judge loaded s (lines.Chmod line) text = with_paths line.files _ (λ paths. is_done s (commands.Chmod paths line.mode line.recursive))
+does judge loaded s (lines.Creat line) text =
     both IsOther (new_file line) _ (there IsOther (path_of line.file) (bad_operand 1) _ tt (λ path. tt)) (λ new. is_done s (commands.Creat new))
-does verdict loaded s (lines.Rm line) text = with_paths line.files _ (λ paths. is_done s (commands.Rm paths line.recursive))
-does verdict loaded s (lines.Gpasswd line) text = is_done s (commands.Gpasswd (name_meant line.user) (name_meant line.group) line.change)
-does verdict loaded s (lines.Usermod line) text = is_done s (commands.Usermod (name_meant line.user) (name_meant line.group))
-does verdict loaded s (lines.Attr line) text = with_paths line.files _ (λ paths. recorded paths s.tree.files _)
-does verdict loaded s (lines.Setattr line) text =
+does judge loaded s (lines.Rm line) text = with_paths line.files _ (λ paths. is_done s (commands.Rm paths line.recursive))
+does judge loaded s (lines.Gpasswd line) text = is_done s (commands.Gpasswd (name_meant line.user) (name_meant line.group) line.change)
+does judge loaded s (lines.Usermod line) text = is_done s (commands.Usermod (name_meant line.user) (name_meant line.group))
+does judge loaded s (lines.Attr line) text = with_paths line.files _ (λ paths. recorded paths s.tree.files _)
+does judge loaded s (lines.Setattr line) text =
     both IsOther (setattr.list_of_digits line.attribute.digits) _ (of_digits line.attribute.digits) (λ acl. edited s false (setattr.put_of line.attribute.which acl) line.files)
-does verdict loaded s (lines.Can line) text =
-    both IsOther (path_at 1 line.file >>= can_of verdict line.reach s line.user) _
+does judge loaded s (lines.Can line) text =
+    both IsOther (path_at 1 line.file >>= can_of judge.verdict line.reach s line.user) _
     (there IsOther (path_of line.file) (bad_operand 1) _ tt
     (λ path. there IsOther (place_of_word (name_meant line.user) (users_of s.people)) (faults.Tree (trees.NoSuchUser (name_meant line.user))) _ tt
-    (λ user. there IsOther (can_requests verdict line.reach s user path) (faults.Tree (trees.NoSuchFile path)) _ tt (λ granted. tt))))
+    (λ user. there IsOther (can_requests judge.verdict line.reach s user path) (faults.Tree (trees.NoSuchFile path)) _ tt (λ granted. tt))))
     (λ out. tt)
-does verdict loaded s (lines.Who line) text =
-    both IsOther (who_of verdict line.reach s line.file line.request) _
-    (there IsOther (path_of line.file) (bad_operand 1) _ tt (λ path. found IsOther (who_text verdict line.reach s line.request path) (faults.Tree (trees.NoSuchFile path)) tt))
+does judge loaded s (lines.Who line) text =
+    both IsOther (who_of judge.verdict line.reach s line.file line.request) _
+    (there IsOther (path_of line.file) (bad_operand 1) _ tt (λ path. found IsOther (who_text judge.verdict line.reach s line.request path) (faults.Tree (trees.NoSuchFile path)) tt))
     (λ out. tt)
-does verdict loaded s (lines.May line) text =
-    there IsOther (may_text_of verdict line.reach s line.request (name_meant line.user)) (faults.Tree (trees.NoSuchUser (name_meant line.user))) _ tt (λ out. tt)
-does verdict loaded s (lines.Below line) text = with_paths line.files _ (λ paths. recorded paths s.tree.files _)
-does verdict loaded s (lines.Why line) text =
-    both IsOther (paths_from 1 line.files >>= why_of s line.reach line.user) _
+does judge loaded s (lines.May line) text =
+    there IsOther (may_text_of judge.verdict line.reach s line.request (name_meant line.user)) (faults.Tree (trees.NoSuchUser (name_meant line.user))) _ tt (λ out. tt)
+does judge loaded s (lines.Below line) text = with_paths line.files _ (λ paths. recorded paths s.tree.files _)
+does judge loaded s (lines.Why line) text =
+    both IsOther (paths_from 1 line.files >>= why_of judge.decider s line.reach line.user) _
     (with_paths line.files _
     (λ paths. there IsOther (person_named s.people (name_meant line.user)) (faults.Tree (trees.NoSuchUser (name_meant line.user))) _ tt
     (λ u. recorded paths s.tree.files _)))
     (λ out. tt)
-does verdict loaded s lines.Index text = tt
-does verdict loaded s (lines.Changes line) text = tt
-does verdict loaded s (lines.Gains line) text = tt
-does verdict loaded s (lines.Useradd line) text = is_done s (commands.Useradd (new_user line))
-does verdict loaded s (lines.Userdel line) text = is_done s (commands.Userdel (name_meant line.user))
+does judge loaded s lines.Index text = tt
+does judge loaded s (lines.Changes line) text = tt
+does judge loaded s (lines.Gains line) text = tt
+does judge loaded s (lines.Useradd line) text = is_done s (commands.Useradd (new_user line))
+does judge loaded s (lines.Userdel line) text = is_done s (commands.Userdel (name_meant line.user))
 
 -- ---- the words of a line
 
@@ -260,17 +260,17 @@ text_read : (text : UnitText) → IfErr (text_of text) IsOther
 text_read none = tt
 text_read text = tt
 
-replies : (verdict : Verdict) (w : States) (text : UnitText) (words : List Text) → IfErr (reply verdict w text words) IsOther
-replies verdict w text [] = tt
-replies verdict w text (name ∷ words) =
+replies : (judge : Judging) (w : States) (text : UnitText) (words : List Text) → IfErr (reply judge w text words) IsOther
+replies judge w text [] = tt
+replies judge w text (name ∷ words) =
     there IsOther (tool_named name) faults.UnknownTool _ tt
     (λ tool. both IsOther (text_of text) _ (text_read text)
-    (λ content. subst (λ r. IfErr r IsOther) (tool_line_is verdict w.loaded w.now tool words content)
-    (there IsOther (line_read tool words) faults.Usage _ tt (λ line. does verdict w.loaded w.now line content))))
+    (λ content. subst (λ r. IfErr r IsOther) (tool_line_is judge w.loaded w.now tool words content)
+    (there IsOther (line_read tool words) faults.Usage _ tt (λ line. does judge w.loaded w.now line content))))
 
 pub no_memory_is_no_fault : NoMemoryIsNoFault
-no_memory_is_no_fault verdict w u = λ is. subst (λ r. IfErr r IsOther) is of_outcome
+no_memory_is_no_fault judge w u = λ is. subst (λ r. IfErr r IsOther) is of_outcome
   where
-    of_outcome : IfErr (outcome verdict w u) IsOther
+    of_outcome : IfErr (outcome judge w u) IsOther
     of_outcome =
-        both IsOther (words_of_line u.line) _ (there IsOther u.line faults.LineTooLong _ tt words_read) (λ words. replies verdict w u.text words)
+        both IsOther (words_of_line u.line) _ (there IsOther u.line faults.LineTooLong _ tt words_read) (λ words. replies judge w u.text words)
