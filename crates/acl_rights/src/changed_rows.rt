@@ -214,7 +214,7 @@ fn sum_up_to(most: usize, one: usize, other: usize) -> usize
 
 impl KindRows {
     /// Returns the rows after some files got other labels and others are gone, and of how many files the answers
-    /// along their paths were found again. One verdict per user is asked for each distinct label that hints do not
+    /// along their paths were found again. The judge gives one verdict per user for each distinct label that hints do not
     /// find (more if hashes collide); the clause bounds that by the files.
     fn with_labels<'a, J: Judge, W>(
         &self,

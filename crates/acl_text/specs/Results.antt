@@ -1,7 +1,7 @@
 -- How a fault is passed on. A value, or else this fault: std's `ok_or`.
 use Rattle.std.specs.Prelude.{Option, Some, None, Result, Ok, Err}
 
--- Goes on with the value, unless there is a fault. So faults are looked for in this order, and the first is returned; of
+-- Goes on with the value, unless there is a fault. So faults are checked in this order, and the first is returned; of
 -- one piece that is the order of their kinds, and the lowest.
 infixl 10 ◌>>=◌
 abbrev pub ◌>>=◌ : {A B F : Type 0} → Result A F → (A → Result B F) → Result B F

@@ -51,7 +51,7 @@ is_loaded s Passwd = s.tree.loaded || s.people.passwd_loaded
 is_loaded s Group = s.tree.loaded || s.people.group_loaded
 is_loaded s Dump = s.tree.loaded
 
--- how a load moves the users: before a dump is loaded nobody's rights are asked for
+-- how a load moves the users: before a dump is loaded no right is judged
 abbrev pub load_moves : Table → UserChange
 load_moves Passwd = Loaded
 load_moves Group = Loaded

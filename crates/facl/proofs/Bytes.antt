@@ -70,7 +70,7 @@ module _ (judge : Judging) where
         asks = ends.gives.spends;
       }
 
-  -- a script that was answered, of which all pairs were asked for by its start
+  -- a script that was answered, of which all pairs were judged by its start
   pub runs_asking : (setup : Result State RunFault) (start : State) (first states : States) (known : Option (List ℕ)) (is_refused : Bool) (status : Status)
       (asked asked' : ℕ) (old new : Streams) → setup ≡ Ok start → first ≡ from_start start → asked ≡ all_pairs start → has_refused status ≡ is_refused
       → IfSome known (λ script. Ends line_asks (counted.answered judge) script is_refused (moment first asked old) (moment states asked' new))

@@ -25,7 +25,7 @@ end_of_run Write judge initial_state start states asked old new e h = record { s
 end_of_run TooLong judge initial_state start states asked old new e h = record { start = start; starts = e; states = states; stops = h }
 end_of_run NoMemory judge initial_state start states asked old new e h = inr (record { start = start; starts = e; states = states; stops = h })
 
--- a script that stopped, of which all pairs were asked for by its start
+-- a script that stopped, of which all pairs were judged by its start
 pub ends_by : (fault : ScriptFault) (judge : Judging) (initial_state : Result State RunFault) (start : State) (first states : States) (asked asked' : ℕ) (old new : Devices)
     → initial_state ≡ Ok start → first ≡ from_start start → asked ≡ all_pairs start
     → IfSome old.remaining (λ script. StopsWith line_asks fault (answered judge) script new.remaining (moment first asked old.streams) (moment states asked' new.streams))

@@ -38,7 +38,7 @@ of_text setup =
     (λ t. of_one Dump (option_map (λ t. t.now) setup.dump) t))
 
 module _ (judge : Judging) (setup : Setup) (old new : Devices) where
-  -- nothing is asked for, read or written where the setup has a fault, or memory ran out for it
+  -- nothing is judged, read or written where the setup has a fault, or memory ran out for it
   pub ends_by_setup : (fault : RunFault) → (fault ≢ runs.NoMemory → initial_state setup ≡ Err fault) → IsUntouched old new → EndsBy fault judge (initial_state setup) 0 old new
   ends_by_setup (runs.Setup which fault) is untouched = (is (λ e. cc), refl, untouched)
   ends_by_setup runs.NoMemory is untouched = inl (record { untouched = untouched; asks = omega arith })

@@ -12,12 +12,12 @@ use Rattle.facl.specs.Counted.{answered}
 use Rattle.facl.specs.Headline.{RunsTo}
 use Rattle.facl.specs.declared.status.Status.{Status}
 
--- the most verdicts that the judge is asked for: on every user and every file at the start, and what each unit costs
+-- the most verdicts that the judge gives: on every user and every file at the start, and what each unit costs
 abbrev pub most_asked : Judging → (setup : Result State RunFault) → (script : List ℕ) → (m : ℕ → Bool) → ℕ
 most_asked judge (Ok start) script m = all_pairs start + (session line_asks (answered judge) m script (from_start start)).cost
 most_asked judge (Err fault) script m = 0
 
--- the whole script was answered, and the judge was asked for no more verdicts
+-- the whole script was answered, and the judge gave no more verdicts
 pub record RunsAsking (judge : Judging) (setup : Result State RunFault) (script : List ℕ) (status : Status) (asked : ℕ) (old new : Streams) : Type 0 where
   pub runs : RunsTo judge setup script status old new
   pub asks : asked ≤ most_asked judge setup script runs.m

@@ -29,7 +29,7 @@ pub record IsUntouched (old new : Devices) : Type 0 where
   pub writes_out : new.streams.out ≡ old.streams.out
   pub writes_err : new.streams.err ≡ old.streams.err
 
--- The run started at this state, and its script stopped so: the judge was asked for no more verdicts than on every user and
+-- The run started at this state, and its script stopped so: the judge gave no more verdicts than on every user and
 -- every file at the start, and what each unit costs that was read.
 pub record Stops (fault : ScriptFault) (judge : Judging) (initial_state : Result State RunFault) (asked : ℕ) (old new : Devices) : Type 0 where
   pub start : State
@@ -38,7 +38,7 @@ pub record Stops (fault : ScriptFault) (judge : Judging) (initial_state : Result
   pub stops : IfSome old.remaining (λ script. StopsWith line_asks fault (answered judge) script new.remaining
       (moment (from_start start) (all_pairs start) old.streams) (moment states asked new.streams))
 
--- the most verdicts that the judge is asked for before the script is read: on every user and every file of the state that the
+-- the most verdicts that the judge gives before the script is read: on every user and every file of the state that the
 -- setup gives, and none where it gives none
 abbrev pub most_at_start : Result State RunFault → ℕ
 most_at_start (Ok start) = all_pairs start

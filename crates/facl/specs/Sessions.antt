@@ -27,7 +27,7 @@ pub record IsQuiet {J : Type 0} (f : FaclSession J) : Type 0 where
   pub memory : f.lacks_memory ≡ false
 
 -- The session gives this answer to a line, or that memory ran out for it: it is at the answer's states, with its output
--- and its message, the judge was asked for no more verdicts than it costs, and the line is refused where the answer is.
+-- and its message, the judge gave no more verdicts than it costs, and the line is refused where the answer is.
 abbrev pub Answers : {J : Type 0} → (number : ℕ) → Answer States → (old new : FaclSession J) → (asked asked' : ℕ) → (is_refused : Bool) → Type 0
 Answers number a old new asked asked' is_refused =
     IsAnswer (unless_out_of_memory (ran_out_of_memory new) number (states_of old) a) (states_of new) asked asked' (out_of new) (err_of new) is_refused

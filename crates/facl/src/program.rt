@@ -60,7 +60,7 @@ pub fn run_from<J: Judge, R: Feed, O: Sink, E: Sink>(
     Ok(Status::of(is_refused))
 }
 
-/// [`run`] with a judge of who may do what in the place of acl(5)'s check. The judge is asked for at most one verdict for
+/// [`run`] with a judge of who may do what in the place of acl(5)'s check. The judge gives at most one verdict for
 /// each user and file at the start, and for each accepted line at most one more for each verdict that it can have
 /// changed. Questions, `--test` and lines refused for a fault add nothing to this bound, which is a sum over the script; a
 /// line for which memory ran out adds what it would add if it were accepted.
