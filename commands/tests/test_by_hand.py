@@ -9,7 +9,7 @@ import struct
 import subprocess
 import sys
 import unittest
-from typing import Dict, List, Optional, Sequence
+from typing import Dict, List, Optional, Sequence, Tuple
 from unittest import mock
 
 from common import COMMANDS, Case, Done, restore_signals
@@ -474,8 +474,10 @@ class Exchanges(Scripts):
     CLOSED = "once(closed_folder.secrets, 'token_hex', lambda *_: sh(%r))"
 
     def test_the_folder(self) -> None:
-        for removed, moment in ((["d/gone"], self.CLOSED), ([], self.CLOSED), (["d/gone"], "once(linux, 'move', lambda *_: sh(%r))"),
-                                (["d/gone"], "once(hand_files, 'look_at', lambda *_: sh(%r))")):
+        moments: Sequence[Tuple[Sequence[str], str]] = (
+            (["d/gone"], self.CLOSED), ([], self.CLOSED), (["d/gone"], "once(linux, 'move', lambda *_: sh(%r))"),
+            (["d/gone"], "once(hand_files, 'look_at', lambda *_: sh(%r))"))
+        for removed, moment in moments:
             self.make_tree()
             self.write_scripts(removed, self.MADE)
             self.assertIn(self.run_patched(moment % "mv d away; ln -s secret d").status, (0, 1))

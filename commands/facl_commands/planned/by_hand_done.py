@@ -4,7 +4,7 @@ from __future__ import annotations
 
 import os
 import re
-from typing import Dict, Iterable, NamedTuple, Optional
+from typing import Dict, Iterable, List, NamedTuple, Optional
 
 from ..base import new_file, trusted
 from ..base.linux import Identity
@@ -50,7 +50,7 @@ class Notes:
 
     def add(self, state: bytes, *numbers: int, identities: Iterable[Identity] = ()) -> None:
         """Notes one state of some steps, and, where these are given, the identity of each."""
-        its = [*identities] or [None] * len(numbers)
+        its: List[Optional[Identity]] = [*identities] or [None] * len(numbers)
         text = b"".join(b"%d %s" % (number, state) + (b" %d:%d:%d" % it if it else b"") + b"\n" for number, it in zip(numbers, its))
         try:
             if os.write(self.file, self.start + text) < len(self.start + text):
