@@ -11,18 +11,18 @@ use Rattle.acl_text.specs.Results.{◌>>=◌}
 use Rattle.facl.proofs.tools.why.why_of.Goals as goal
 
 pub returns-in_err-name : goal.returns-in_err-name
-returns-in_err-name c = grind (arith, common_steps)
+returns-in_err-name g c = grind (arith, common_steps)
 
 pub returns-in-Some : goal.returns-in-Some
-returns-in-Some c =
-    let s = c.args.state.now in
+returns-in-Some g c =
+    let s = c.args.indexed.now in
     let word = name_meant c.args.word.now in
     let named : Some c.in-Some.subject.now ≡ person_named s.people word =
     sym (ap option_copied c.in-Some.is) ∙ c.subject_named.ensures
-    ∙ ap (λ known. person_named known c.in_ok-name.name) c.people.ensures
+    ∙ ap (λ known. person_named known c.in_ok-name.name) (c.people.ensures ∙ ap (λ s. s.people) c.state.ensures)
     ∙ ap (person_named s.people) c.in_ok-name.ensures in
-    subst (λ user. Gives (λ out. out.items) c.why_at.result (ok_or user (Tree (NoSuchUser word)) >>= why_at s c.args.along c.args.paths))
+    subst (λ user. Gives (λ out. out.items) c.why_at.result (ok_or user (Tree (NoSuchUser word)) >>= why_at g.J.Judge.decider_of s c.args.along c.args.paths))
     named c.why_at.ensures
 
 pub returns-in-None : goal.returns-in-None
-returns-in-None c = grind (arith, common_steps)
+returns-in-None g c = grind (arith, common_steps)
