@@ -45,7 +45,7 @@ case $prefix in /*) ;; *) fail "$prefix: PREFIX has to begin with a slash" ;; es
 to=${DESTDIR:-}${prefix%/}
 # facl_commands is beside them.
 commands='facl-snapshot facl-ask facl-plan facl-apply facl-report facl-who facl-diff facl-audit facl-check facl-daily'
-pages="facl facl-commands $commands"
+pages="facl facl_linux facl-commands $commands"
 completions=share/bash-completion/completions
 
 uninstall() {
@@ -76,6 +76,12 @@ install_modules() {
     done
 }
 
+# name_page NAME PAGE: a page that is another one by its own name
+name_page() {
+    echo ".so man1/$2.1" >"$to/share/man/man1/$1.1"
+    chmod 644 "$to/share/man/man1/$1.1"
+}
+
 install_files() {
     install -m 755 -- "$program" "$to/bin/facl"
     [ -z "$linux_program" ] || install -m 755 -- "$linux_program" "$to/bin/facl_linux"
@@ -91,10 +97,8 @@ install_files() {
     # A start reads what is compiled; a package compiles it where it is installed.
     [ -n "${DESTDIR:-}" ] || ! command -v $python >/dev/null || $python -m compileall -q "$to/lib/facl/facl_commands"
     for page in facl facl-commands; do install -m 644 -- "$top/docs/$page.1" "$to/share/man/man1"; done
-    for name in $commands; do
-        echo ".so man1/facl-commands.1" >"$to/share/man/man1/$name.1"
-        chmod 644 "$to/share/man/man1/$name.1"
-    done
+    [ -z "$linux_program" ] || name_page facl_linux facl
+    for name in $commands; do name_page "$name" facl-commands; done
     install -m 644 -- "$top/commands/completion/facl.bash" "$to/lib/facl/facl.bash"
     for name in $commands; do
         ln -sf -- ../../../lib/facl/facl.bash "$to/$completions/$name"
