@@ -52,7 +52,7 @@ lint() {
 
 # run_linters: all of them, each with what it found
 run_linters() {
-    lint shellcheck -x .ci/run commands/completion/facl.bash tools/*.sh tools/*/*.sh
+    lint shellcheck -x .ci/run commands/completion/facl.bash debian/*.sh debian/*.postrm tools/*.sh tools/*/*.sh
     lint mypy
     lint pyflakes3 commands tools
     for check in tools/check/documents.py tools/check/memory_faults.py tools/check/line_lengths.py tools/check/edits_apply.py; do

@@ -16,7 +16,7 @@ usage: tools/check/documents.py [--write | --files [CRATE]..]
 - tools/README.md names each script of tools/, and none that is not there.
 - The blocks `<!-- graph -->` of docs/ARCHITECTURE.md, `<!-- index -->` of docs/PROOFS.md and `<!-- chain -->` of
   docs/READING.md, which chain.py counts, are as the sources have them; --write makes them so, and does nothing else.
-- Each file of src/ and specs/ of a crate, and each script of commands/ and tools/, has a sentence at its head; --files
+- Each file of src/ and specs/ of a crate, and each script of commands/, debian/ and tools/, has a sentence at its head; --files
   prints these sentences, of some crates or of all and the scripts, and does nothing else.
 - All documents: each link within the repository, and each path that starts with a folder of it or of a crate, leads to
   something; each name with `_` or `::` is a word of the sources, or of the tests of the commands.
@@ -45,7 +45,7 @@ PROOFS, ARCHITECTURE, READING, PAGE = "docs/PROOFS.md", "docs/ARCHITECTURE.md", 
 CONTRIBUTING, TOOLS, SPECIFICATION = "CONTRIBUTING.md", "tools/README.md", "docs/SPECIFICATION.md"
 POINTS, LEFT = "The points", "What an error leaves as it was"
 LINK = re.compile(r"\[[^\]]*\]\(([^)\s]+)\)")
-PATH = re.compile(r"(?<![\w/.-])((?:tools|commands|docs|demo|crates|\.ci)/[\w./-]*[\w/])")
+PATH = re.compile(r"(?<![\w/.-])((?:tools|commands|docs|demo|debian|crates|\.ci)/[\w./-]*[\w/])")
 IN_CRATE = re.compile(r"(?<![\w/])((?:\w+/)?(?:src|specs|proofs)/(?:\w+/)*\w+\.(?:rt|antt))\b")
 SCRIPT = re.compile(r"(?<![\w/.])(?:\w+/)*\w+\.(?:py|sh|c)\b")
 NAME = re.compile(r"(?:[A-Za-z]\w*::)*[A-Za-z]\w*")
@@ -69,7 +69,7 @@ READ = {
 }
 # The folders of edits that must be refused: by rt ci, which checks the whole crate, and by tools/edits.py, one function.
 EDITS = {"must-fail": "Wrong bodies", "wrong": "Wrong bodies, each tried by its function alone"}
-SCRIPTS = ("commands/facl-*", "commands/facl_commands/**/*.py",
+SCRIPTS = ("commands/facl-*", "commands/facl_commands/**/*.py", "debian/*.sh",
            *(f"tools/{file}" for file in ("*.py", "*.sh", "*/*.py", "*/*.sh", "*/*.c")))
 Fault = Tuple[str, int, str]
 
