@@ -35,18 +35,24 @@ mount -t overlay overlay -o lowerdir=/,upperdir=up,workdir=work root
 mount -t tmpfs tmpfs root/tmp; mount -t tmpfs tmpfs root/run; mount --rbind /dev root/dev; mount -t proc proc root/proc
 cp -- "$@" root/tmp
 inside() { DEBIAN_FRONTEND=noninteractive chroot root "$@" </dev/null 2>&1; }
-step() { echo "== $1"; (cd up && find . ! -type d ! -path "./var/lib/dpkg/*" ! -path "./var/cache/*" ! -path "./var/log/*" ! -path "./var/lib/apt/*"); }
+step() {
+    echo "== $1"
+    (cd up && find . \( ! -type d -o -empty -name "*facl*" \) ! -path "./var/lib/dpkg/*" ! -path "./var/cache/*" ! -path "./var/log/*" \
+        ! -path "./var/lib/apt/*" ! -path "./var/lib/man-db/*")
+}
+rm -f root/var/lib/man-db/auto-update # Else pages are indexed after each step, for minutes.
+mkdir -p root/etc/systemd/system/timers.target.wants
 enabled=
 for package; do
     inside dpkg -i "/tmp/${package##*/}"
-    [ "$enabled" ] || inside deb-systemd-helper enable facl-daily.timer
+    [ "$enabled" ] || ln -s /lib/systemd/system/facl-daily.timer root/etc/systemd/system/timers.target.wants
     enabled=yes
     inside facl-who --version
     step installed
 done
 mkdir -p root/var/lib/facl/day; echo text >root/var/lib/facl/day/dump
-inside apt-get remove -y facl; step removed
-inside apt-get purge -y facl; step purged
+inside dpkg --remove facl; step removed
+inside dpkg --purge facl; step purged
 """
 LINK, KEPT = "./etc/systemd/system/timers.target.wants/facl-daily.timer", "./var/lib/facl/day/dump"
 SETTINGS = "./etc/default/facl-daily"
