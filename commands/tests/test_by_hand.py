@@ -2,22 +2,26 @@
 tools of users. What is expected follows from the operands of those tools, from acl(5) and from rename(2)."""
 from __future__ import annotations
 
+import errno
 import fcntl
+import mmap
 import os
 import shutil
+import signal
 import struct
 import subprocess
 import sys
+import tempfile
 import unittest
-from typing import Dict, List, Optional, Sequence, Tuple
+from typing import Callable, Dict, List, Optional, Sequence, Set, Tuple
 from unittest import mock
 
 from common import COMMANDS, Case, Done, restore_signals
 
 sys.path.insert(0, COMMANDS)
 
-from facl_commands.apply import command as apply  # noqa: E402
-from facl_commands.base import acl_bytes, linux  # noqa: E402
+from facl_commands.apply import by_hand as run_by_hand, command as apply  # noqa: E402
+from facl_commands.base import acl_bytes, linux, messages  # noqa: E402
 from facl_commands.base.acl_bytes import Record  # noqa: E402
 from facl_commands.base.linux import Identity  # noqa: E402
 from facl_commands.base.messages import Command, Failure  # noqa: E402
@@ -52,7 +56,8 @@ PATCHED = """\
 import os, signal, subprocess, sys
 sys.path.insert(0, %(commands)r)
 from facl_commands.apply import by_hand, closed_folder, hand_files
-from facl_commands.base import linux, messages
+from facl_commands.base import linux, messages, new_file
+from facl_commands.planned import by_hand_done
 done = []
 def sh(text):
     subprocess.run(["sh", "-c", text], cwd=%(tree)r, check=True)
@@ -104,7 +109,7 @@ class Lines(Case):
         ])
         self.assertEqual(self.lines_of("by_hand_undo"), [
             b"9 rm -- '/srv/share/new/it'\\''s'", b"8 rmdir -- /srv/share/new",
-            b"# is not taken back: /srv/share/drafts is gone", b"# is not taken back: /srv/share/drafts/logo.svg is gone",
+            b"# is not taken back: rmdir -- /srv/share/drafts", b"# is not taken back: rm -- /srv/share/drafts/logo.svg",
             b"# is not taken back: userdel mara", b"4 gpasswd -a ben audit", b"3 userdel 'new one'", b"2 usermod -g 100 ben",
             b"1 gpasswd -d guest audit",
         ])
@@ -123,7 +128,7 @@ class Lines(Case):
 
     def test_nothing_can_be_taken_back(self) -> None:
         self.plan(b"userdel mara\nrm srv/share/one\n")
-        self.assertEqual(self.lines_of("by_hand_undo"), [b"# is not taken back: /srv/share/one is gone", b"# is not taken back: userdel mara"])
+        self.assertEqual(self.lines_of("by_hand_undo"), [b"# is not taken back: rm -- /srv/share/one", b"# is not taken back: userdel mara"])
         found = steps.read_steps(b"steps", self.read("before.plan/steps"))
         self.assertEqual([(it.owned, it.grouped) for it in found.people], [(2, 2)])
         self.plan(b"chmod 600 srv/share/one\n")
@@ -171,36 +176,40 @@ class Data(unittest.TestCase):
         found = self.written()
         self.assertEqual(steps.read_steps(b"steps", steps.text_of(found)), found)
         self.assertEqual(steps.read_steps(b"steps", b""), steps.NO_STEPS)
-        self.assertEqual((found.identity(b"a\n"), found.identity(b"")), (Identity(1, 2, -3), Identity(0, 0, 0)))
+        self.assertEqual(found.identities, {b"a\n": Identity(1, 2, -3)})
 
     def test_what_facl_plan_does_not_write(self) -> None:
         text = steps.text_of(self.written())
         for one, other in ((b'"userdel"', b'"userdel -r"'), (b'"d"', b'"d/.."'), (b'"d"', b'""'), (b'["a\\n"', b'["/a"'), (b"1002,", b"-1,"),
                            (b"ffffffff", b"ff"), (b'"boot":"boot"', b'"boot":1'), (b'"people":[', b'"people":[1,'), (b"}", b""),
-                           (b'"ben"', b'"b\\u0000n"'), (b'"ben"', b'""'), (b'"d/', b'"d//'), (b'"made"', b'"mode"')):
+                           (b'"ben"', b'"b\\u0000n"'), (b'"ben"', b'""'), (b'"d/', b'"d//'), (b'"files"', b'"file"')):
             self.assertIn(one, text)
             with self.assertRaises(Failure):
                 steps.read_steps(b"steps", text.replace(one, other))
 
+    def chosen(self, text: bytes, found: steps.Steps) -> Set[int]:
+        with mock.patch.multiple(plan_folder.PlanFolder, has=lambda *_: True, read=lambda *_: text):
+            return steps.chosen(plan_folder.PlanFolder(-1, b"plan"), b"by_hand", found.lines())
+
     def test_lines(self) -> None:
         found = self.written()
         text = by_hand.script_of(found, self.MADE)
-        self.assertEqual(steps.chosen(b"by_hand", text, found.lines()), {1, 2, 3, 4})
+        self.assertEqual(self.chosen(text, found), {1, 2, 3, 4})
         self.assertIn(b"\n2 rm -- '/a\\012'\n", text)
-        self.assertEqual(steps.chosen(b"by_hand", text.replace(b"\n2 rm", b"\n# 2 rm"), found.lines()), {1, 3, 4})
+        self.assertEqual(self.chosen(text.replace(b"\n2 rm", b"\n# 2 rm"), found), {1, 3, 4})
         for line in (b"2 rm -- /b", b"3 rm -- '/a\\012'", b" 2 rm -- '/a\\012'", b"rm -- /a"):
             with self.assertRaises(Failure):
-                steps.chosen(b"by_hand", text + line + b"\n", found.lines())
+                self.chosen(text + line + b"\n", found)
 
     def test_trees(self) -> None:
-        made = [steps.Making(1, path, True, record_of(FOLDER)) for path in (b"a", b"a/b", b"a/b/c", b"ab", b"d/e", b"d/f")]
-        found = steps.NO_STEPS._replace(made=made).trees()
-        self.assertEqual([[it.path for it in tree] for tree in found], [[b"a", b"a/b", b"a/b/c"], [b"ab"], [b"d/e"], [b"d/f"]])
+        paths = (b"a", b"a/b", b"a/b/c", b"ab", b"d/e", b"d/f")
+        found = steps.NO_STEPS._replace(files=[steps.FileStep(number, path, True, record_of(FOLDER)) for number, path in enumerate(paths)])
+        for wanted, trees in (({*range(6)}, {0: [0, 1, 2], 3: [3], 4: [4], 5: [5]}), ({0, 2, 3}, {0: [0], 3: [3]}), ({1, 2, 5}, {5: [5]})):
+            self.assertEqual({top: [it.number for it in tree] for top, tree in found.trees(wanted).items()}, trees)
 
     def test_notes(self) -> None:
-        notes = b"1 begun 1:2:-3\n1 finished 1:2:-3\n2 found\n3 begun 1:2\nx 4\n6 begun 1:2:--3\n\n5 beg"
-        self.assertEqual(by_hand_done.states_of(notes), {
-            1: (b"finished", Identity(1, 2, -3)), 2: (b"found", None), 5: (b"beg", None)})
+        notes = b"1 begun 1:2:-3\n1 finished 1:2:-3\n2 found\n3 begun 1:2\nx 4\n6 begun 1:2:--3\n\n7 beg\n8 begun is cut off\n5 begun"
+        self.assertEqual(by_hand_done.Notes(notes), {1: (b"finished", Identity(1, 2, -3)), 2: (b"found", None)})
 
 
 def record_of(file: File) -> Record:
@@ -446,7 +455,7 @@ class Files(Scripts):
         self.assertEqual((done.status, self.names("d/new")), (1, ["a", "b"]))
         self.assertEqual(done.messages.decode().splitlines(), [
             f"by_hand_undo: {place}b: is another file than the one that was made; it is left as it is",
-            f"by_hand_undo: {place}a: has contents, or is another file than the one that was made; it is left as it is",
+            f"by_hand_undo: {place}a: has contents; it is left as it is",
             f"by_hand_undo: {place[:-1]}: is not empty; it is left as it is",
         ])
         os.unlink(place + "a")
@@ -476,7 +485,7 @@ class Exchanges(Scripts):
     def test_the_folder(self) -> None:
         moments: Sequence[Tuple[Sequence[str], str]] = (
             (["d/gone"], self.CLOSED), ([], self.CLOSED), (["d/gone"], "once(linux, 'move', lambda *_: sh(%r))"),
-            (["d/gone"], "once(hand_files, 'look_at', lambda *_: sh(%r))"))
+            (["d/gone"], "once(new_file, 'is_there', lambda *_: sh(%r))"))
         for removed, moment in moments:
             self.make_tree()
             self.write_scripts(removed, self.MADE)
@@ -532,10 +541,10 @@ class Exchanges(Scripts):
             shutil.rmtree(self.tree + "/d/new") if text[0] == "m" else os.unlink(self.tree + "/d/new")
 
     def test_a_signal(self) -> None:
-        for signal, status in zip(("HUP", "INT", "QUIT", "TERM"), (129, 130, 131, 143)):
+        for name, status in zip(("HUP", "INT", "QUIT", "TERM"), (129, 130, 131, 143)):
             self.make_tree()
             self.write_scripts(["d/gone"], self.MADE)
-            done = self.run_patched(f"once(hand_files, 'stop_at_signal', lambda *_: os.kill(os.getpid(), signal.SIG{signal}))")
+            done = self.run_patched(f"once(hand_files, 'stop_at_signal', lambda *_: os.kill(os.getpid(), signal.SIG{name}))")
             self.assertEqual((done.status, done.messages, self.names("d")), (status, b"", ["stays"]))
             self.expect_run("by_hand", 0)
             self.assertEqual(self.names("d"), ["new", "newfile", "stays"])
@@ -570,14 +579,212 @@ class Exchanges(Scripts):
         self.assertEqual((done.status, done.messages), (1, f"by_hand: {self.tree}/d/new: No space left on device\n".encode()))
         self.assertEqual(self.names("d"), ["gone", "stays"])
 
+    def test_a_file_that_is_hidden_between_two_runs(self) -> None:
+        """Its owner has the first run fail, and then moves it away: the next one does not take it for removed."""
+        self.write_scripts(["d/gone"])
+        lines = "once(linux, 'move', lambda *_: sh('mv d/gone d/hidden; echo other >d/gone'))"
+        self.assertEqual(self.run_patched(lines).status, 1)
+        os.unlink(self.tree + "/d/gone")
+        self.expect_run("by_hand", 1, self.tree + "/d/gone: is not there any more")
+        self.expect_run("by_hand_undo", 0)
+        self.write_scripts(["secret/gone"])
+        self.assertEqual(self.run_patched("once(by_hand_done.Doing, 'add', lambda *_: os.kill(os.getpid(), 9))").status, -9)
+        os.rename(self.tree + "/secret", self.tree + "/hidden")
+        self.expect_run("by_hand", 1, self.tree + "/secret: is gone")
+
+    def test_folders_of_others_with_the_name_of_a_closed_one(self) -> None:
+        """None of them is named as one that was left."""
+        self.write_scripts(["d/gone"])
+        os.unlink(self.tree + "/d/gone")
+        os.mkdir(self.tree + "/d/.facl.1", 0o755)
+        os.symlink("../secret", self.tree + "/d/.facl.2")
+        self.write("tree/d/.facl.3", b"")
+        self.expect_run("by_hand", 1, self.tree + "/d/gone: is not there any more")
+        os.mkdir(self.tree + "/d/.facl.4\n", 0o700)
+        self.expect_run("by_hand", 1, self.tree + "/d/gone: is not there any more; a folder .facl.4\\012 is left there by a run that was "
+                                      "killed: move back what is in it, and remove it")
+
+    def test_a_target_that_is_taken_and_free_again(self) -> None:
+        """What could not be put in place is none that by_hand_undo has to take back."""
+        self.write_scripts(made=self.MADE)
+        self.assertEqual(self.run_patched("once(linux, 'move', lambda *_: sh(': >d/new'))").status, 1)
+        self.assertEqual({it.state for it in by_hand_done.Notes(self.read("plan/by_hand_done")).values()}, {b"undone"})
+        self.expect_run("by_hand_undo", 0)
+        self.assertEqual(self.names("d"), ["gone", "new", "stays"])
+
+    def test_kinds_in_the_place_of_a_file(self) -> None:
+        for text in ("mkfifo d/gone", "ln d/stays d/gone", "mkdir d/gone", "ln -s ../secret/gone d/gone", "ln d/away d/gone; rm d/away; echo >d/away"):
+            for moment in ("once(new_file, 'is_there', lambda *_: sh(%r))", self.CLOSED, "once(linux, 'move', lambda *_: sh(%r))"):
+                self.make_tree()
+                self.write_scripts(["d/gone"])
+                done = self.run_patched(moment % ("mv d/gone d/away; " + text))
+                is_it = "rm" in text  # Another name of the very file.
+                message = b"" if is_it else f"by_hand: {self.tree}/d/gone: is another file than in the snapshot\n".encode()
+                self.assertEqual((done.status, done.messages), (0 if is_it else 1, message), text)
+                self.assertEqual(self.names("d"), ["away", "stays"] if is_it else ["away", "gone", "stays"], text)
+                self.assertEqual((self.names("secret"), self.read("tree/d/stays")), (["gone"], b"text"))
+
     def test_a_file_that_grows_before_it_is_taken_back(self) -> None:
         self.write_scripts(made=self.MADE)
         self.expect_run("by_hand", 0)
         grow = "once(closed_folder.secrets, 'token_hex', lambda *_: sh('echo text >d/newfile'))"
         done = self.run_patched(grow, "by_hand_undo")
-        said = f"by_hand_undo: {self.tree}/d/newfile: has contents, or is another file than the one that was made; it is left as it is\n"
+        said = f"by_hand_undo: {self.tree}/d/newfile: has contents; it is left as it is\n"
         self.assertEqual((done.status, done.messages.decode()), (1, said))
         self.assertEqual(self.names("d"), ["gone", "newfile", "stays"])
+
+
+class Cut(Scripts):
+    """by_hand and by_hand_undo that end at one of their calls that change something: at each in turn."""
+
+    MADE = {b"d/new": FOLDER, b"d/new/f": FILE, b"d/newfile": FILE}
+    CHANGING = [(os, name) for name in ("mkdir", "rmdir", "unlink", "write", "fdatasync", "fchmod", "chmod", "chown", "setxattr")]
+
+    def ended(self, name: str, at: int, act: Callable[[], object]) -> Tuple[int, bytes, bool]:
+        """A run in a process of its own, which acts before the call of this number: its status, what it said, and whether it
+        came that far."""
+        with tempfile.TemporaryFile() as said, mmap.mmap(-1, 1) as reached:
+            number = os.fork()
+            if number == 0:
+                try:
+                    os.dup2(said.fileno(), 2)
+                    os.dup2(os.open(os.devnull, os.O_WRONLY), 1)
+                    restore_signals()
+                    self.act_at(at, act, reached)
+                    sys.argv = ["", *["--undo"] * (name == "by_hand_undo"), self.path("plan/" + name)]
+                    messages.run(name, run_by_hand.body, goes_on=True)
+                finally:
+                    os._exit(99)
+            status = os.waitstatus_to_exitcode(os.waitpid(number, 0)[1])
+            said.seek(0)
+            return status, said.read(), reached[0] == 1
+
+    def act_at(self, at: int, act: Callable[[], object], reached: mmap.mmap) -> None:
+        calls = iter(range(1 << 20))
+
+        def acting(called: Callable[..., object], is_counted: Callable[..., bool]) -> Callable[..., object]:
+            def replaced(*words: object, **named: object) -> object:
+                if is_counted(*words) and next(calls) == at:
+                    reached[0] = 1
+                    act()
+                return called(*words, **named)
+            return replaced
+
+        for module, name in [*self.CHANGING, (linux, "is_renamed")]:
+            setattr(module, name, acting(getattr(module, name), lambda *_: True))
+        os.open = acting(os.open, lambda _name, flags=0, *_: bool(flags & os.O_CREAT))  # type: ignore[assignment]
+
+    def run_script(self, name: str, shell: str = "sh") -> Done:
+        status, said, _is_reached = self.ended(name, -1, lambda: None)
+        return Done(status, b"", said)
+
+    def mend(self, done: Done) -> None:
+        """What a person does where a file was on its way: it is moved back, or its line is put after a #."""
+        message = f"{self.tree}/d/gone: is not there any more"
+        self.assertEqual((done.status, message in done.messages.decode()), (1, True), done)
+        left = [name for name in self.names("d") if name.startswith(".facl.") and os.listdir(f"{self.tree}/d/{name}") == ["gone"]]
+        if left:
+            self.assertIn(f"; a folder {left[0]} is left there by a run that was killed: ", done.messages.decode())
+            os.rename(f"{self.tree}/d/{left[0]}/gone", f"{self.tree}/d/gone")
+        else:
+            self.write("plan/by_hand", self.read("plan/by_hand").replace(b"\n1 ", b"\n# 1 "))
+
+    def go_on(self, at: int) -> None:
+        """After a run that was cut off: the next one does what is left, and by_hand_undo takes back what was made."""
+        done = self.run_script("by_hand")
+        if done.status:
+            self.mend(done)
+            self.expect_run("by_hand", 0)
+        left = [name for name in self.names("d") if name.startswith(".facl.")]
+        self.assertEqual([os.lstat(f"{self.tree}/d/{name}").st_mode & 0o7777 for name in left], [0o700] * len(left))
+        self.assertEqual((self.names("d"), self.names("d/new")), ([*left, "new", "newfile", "stays"], ["f"]), at)
+        for name in left:
+            shutil.rmtree(f"{self.tree}/d/{name}")
+        self.run_script("by_hand_undo")
+        self.assertEqual(self.names("d"), ["stays"], at)
+
+    def cut(self, act: Callable[[], object], check: Callable[[int, bytes], None]) -> None:
+        for at in range(1000):
+            self.make_tree()
+            self.write_scripts(["d/gone"], self.MADE)
+            status, said, is_reached = self.ended("by_hand", at, act)
+            if not is_reached:
+                self.assertEqual((status, said, at > 30), (0, b"", True))
+                return
+            check(status, said)
+            self.go_on(at)
+
+    def test_a_kill(self) -> None:
+        self.cut(lambda: os.kill(os.getpid(), signal.SIGKILL), lambda status, _: self.assertEqual(status, -signal.SIGKILL))
+
+    def test_a_signal(self) -> None:
+        """It leaves nothing behind."""
+
+        def check(status: int, said: bytes) -> None:
+            self.assertEqual((status, said, [it for it in self.names("d") if it.startswith(".facl.")]), (128 + signal.SIGTERM, b"", []))
+
+        self.cut(lambda: os.kill(os.getpid(), signal.SIGTERM), check)
+
+    def test_a_call_that_fails(self) -> None:
+        """It is said, as of a full disk."""
+
+        def fail() -> None:
+            raise OSError(errno.ENOSPC, os.strerror(errno.ENOSPC))
+
+        def check(status: int, said: bytes) -> None:
+            self.assertTrue(status in (1, 2) and b"No space left" in said or status == 0 and b"is left beside it" in said, said)
+
+        self.cut(fail, check)
+
+    def test_the_way_back(self) -> None:
+        """After a kill of by_hand_undo at each call it goes on; a file that was on its way is named."""
+        for at in range(1000):
+            self.make_tree()
+            self.write_scripts(made=self.MADE)
+            self.expect_run("by_hand", 0)
+            if not self.ended("by_hand_undo", at, lambda: os.kill(os.getpid(), signal.SIGKILL))[2]:
+                self.assertGreater(at, 15)
+                return
+            done = self.run_script("by_hand_undo")
+            left = [f"{place}/{name}" for place in ("d", "d/new") if "new" in self.names("d") or place == "d"
+                    for name in self.names(place) if name.startswith(".facl.")]
+            for each in left:
+                shutil.rmtree(f"{self.tree}/{each}")
+            self.assertIn((done.status, b" is left there by a run that was killed: " in done.messages or b"is not empty" in done.messages),
+                          [(0, False), (1, bool(left))])
+            self.expect_run("by_hand_undo", 0)
+            self.assertEqual(self.names("d"), ["gone", "stays"])
+
+    def test_notes_that_are_cut_off(self) -> None:
+        """A line of which a part was written is none."""
+        self.write_scripts(["d/gone"], self.MADE)
+        self.expect_run("by_hand", 0)
+        whole = self.read("plan/by_hand_done")
+        for size in range(len(whole)):
+            self.write("plan/by_hand_done", whole[:size])
+            self.assertEqual(by_hand_done.Notes(whole[:size]), by_hand_done.Notes(whole[: whole.rfind(b"\n", 0, size) + 1]))
+        self.make_tree()
+        self.write_scripts(["d/gone"], self.MADE)
+        self.write("plan/by_hand_done", b"1 finished")
+        os.chmod(self.path("plan/by_hand_done"), 0o600)
+        self.expect_run("by_hand", 0)
+        self.assertEqual(self.names("d"), ["new", "newfile", "stays"])
+        self.assertTrue(self.read("plan/by_hand_done").startswith(b"1 finished is cut off\n1 begun\n1 finished\n2 begun "))
+
+    def test_twice(self) -> None:
+        """A copy of a plan knows nothing of what the plan did, and replaces and removes nothing."""
+        self.write_scripts(["d/gone"], self.MADE)
+        shutil.copytree(self.path("plan"), self.path("copy"))
+        self.expect_run("by_hand", 0)
+        before = os.lstat(self.tree + "/d/new").st_ino
+        for line, message in ((b"", "d/gone: is not there any more"), (b"\n1 ", "d/new: is there already")):
+            text = self.read("copy/by_hand")
+            self.write("copy/by_hand", text.replace(line, b"\n# 1 ") if line else text)
+            done = subprocess.run(["sh", self.path("copy/by_hand")], capture_output=True, check=False)
+            self.assertEqual((done.returncode, done.stderr.decode()), (1, f"by_hand: {self.tree}/{message}\n"))
+        self.assertEqual((self.names("d"), os.lstat(self.tree + "/d/new").st_ino), (["new", "newfile", "stays"], before))
+        done = subprocess.run(["sh", self.path("copy/by_hand_undo")], capture_output=True, check=False)
+        self.assertEqual((done.returncode, done.stderr, len(self.names("d"))), (0, b"", 3))
 
 
 class UserScripts(Scripts):
@@ -915,6 +1122,15 @@ class Starts(Scripts):
         os.chmod(self.path("plan"), 0o700)
         os.chmod(self.path("plan/steps"), 0o666)
         self.assertEqual((self.run_script("by_hand").status, self.names("d")), (2, ["gone", "stays"]))
+        os.chmod(self.path("plan/steps"), 0o600)
+        os.chmod(self.folder, 0o777)
+        done = self.run_script("by_hand")
+        self.assertEqual((done.status, done.messages[-42:]), (2, b" written by everybody, so it is not trusted\n"[-42:]))
+        os.chmod(self.folder, 0o700)
+        for name in ("steps", "plan/steps"):
+            os.rename(self.path("plan/steps"), self.path("steps")) if name == "steps" else os.mkfifo(self.path(name), 0o600)
+            done = self.run_script("by_hand")
+            self.assertEqual((done.status, self.names("d")), (2, ["gone", "stays"]), done)
 
     def test_a_plan_in_use(self) -> None:
         self.write_scripts(["d/gone"])

@@ -3,107 +3,70 @@ back. Nothing else runs it."""
 from __future__ import annotations
 
 import os
-from typing import List, Set
+from functools import partial
+from typing import Callable, Iterator, List, Set
 
 from ..base import live
 from ..base.messages import Command, Failure
-from ..base.names import parent_of
 from ..base.user_tools import REMOVE_USER
 from ..planned import plan_folder, steps
-from ..planned.by_hand_done import FINISHED, Notes
-from ..planned.plan_folder import PlanFolder
-from ..planned.steps import Making, Step, Steps
-from .closed_folder import HandFault
+from ..planned.by_hand_done import FINISHED, Doing
+from ..planned.steps import PeopleStep, Steps
+from . import hand_users
+from .carrying import Mismatch
 from .hand_files import HandFiles
-from .hand_users import HandUsers, tool_of
 
 NOT_DONE = 1
 
 
-class ByHand:
-    """The steps of a plan, with what was noted of them."""
-
-    def __init__(self, command: Command, folder: PlanFolder, found: Steps) -> None:
-        self.command, self.steps = command, found
-        self.notes = Notes(folder)
-        self.files = HandFiles(command, found, self.notes, self.tell)
-        self.users = HandUsers(command, self.notes, self.tell)
-        self.is_left = False
-
-    def tell(self, number: int, text: bytes) -> None:
-        """Says a step before it is done."""
-        self.command.tell(steps.line_of(number, text))
-        self.command.flush()
-
-    # --- by_hand
-
-    def run(self, wanted: Set[int]) -> int:
-        """Does the steps of these numbers, up to the first that cannot be done."""
-        for tool in {it.change.tool() for it in self.steps.people if it.number in wanted}:
-            tool_of(tool)
-        try:
-            for it in self.steps.people:
-                if self.is_to_do(it, wanted):
-                    self.users.make(it)
-            for removal in self.steps.removed:
-                if self.is_to_do(removal, wanted):
-                    self.files.remove(removal)
-            for tree in self.steps.trees():
-                if tree[0].number in wanted:
-                    self.files.make(wanted_of(tree, wanted))
-        except HandFault as fault:
-            raise Failure(fault.text, NOT_DONE) from fault
-        if self.users.left:
-            raise Failure(b"left to be done in a directory service: %d" % self.users.left, NOT_DONE)
-        return 0
-
-    def is_to_do(self, it: Step, wanted: Set[int]) -> bool:
-        why = it.not_done() if it.number in wanted and self.notes.of(it.number).state != FINISHED else None
+def run(found: Steps, doing: Doing, wanted: Set[int]) -> Iterator[bytes]:
+    """Does the steps of these numbers, up to the first that cannot be done; says what is left to be done in a directory
+    service."""
+    for tool in {it.change.tool() for it in found.people if it.number in wanted}:
+        hand_users.tool_of(tool)
+    files, trees = HandFiles(found, doing, False), found.trees(wanted)
+    for it in found.all():
+        if it.number not in wanted or doing[it.number].state == FINISHED:
+            continue
+        why = it.not_done()
         if why is not None:
-            raise HandFault(it.command() + b": " + why + b"; do it in another way, and put a # before this line")
-        return it.number in wanted
-
-    # --- by_hand_undo
-
-    def take_back(self, wanted: Set[int]) -> int:
-        """Takes back what by_hand has done, the last step first; what cannot be is left, with a message."""
-        for it in reversed(self.steps.made):
-            if it.number in wanted and self.notes.is_ours(it.number):
-                try:
-                    self.files.unmake(it)
-                except HandFault as fault:
-                    self.lose(fault.text + b"; it is left as it is")
-        lost = sum(self.notes.is_ours(it.number) for it in self.steps.removed)
-        if lost:
-            self.lose(b"files and directories that by_hand removed, and that do not come back: %d" % lost)
-        for number in range(len(self.steps.people), 0, -1):
-            if self.notes.is_ours(number):
-                self.take_user_back(number, number in wanted)
-        return NOT_DONE if self.is_left else 0
-
-    def take_user_back(self, number: int, is_wanted: bool) -> None:
-        it = self.steps.people[number - 1]
-        back = self.steps.way_back(it)
-        try:
-            if back is not None and is_wanted:
-                self.users.take_back(it, back)
-            for line in self.users.losses(it) if it.change.kind == REMOVE_USER else []:
-                self.lose(line)
-        except HandFault as fault:
-            self.lose(fault.text + b"; it is left as it is")
-
-    def lose(self, text: bytes) -> None:
-        self.command.say(text)
-        self.is_left = True
+            raise Mismatch(it.command() + b": " + why + b"; do it in another way, and put a # before this line")
+        if isinstance(it, PeopleStep):
+            try:
+                hand_users.make(doing, it)
+            except hand_users.OfService as fault:
+                yield fault.text
+        elif it.record is None:
+            files.do(partial(files.remove, it), it.path)
+        elif it.number in trees:
+            files.do(partial(files.make, trees[it.number]), it.path)
 
 
-def wanted_of(tree: List[Making], wanted: Set[int]) -> List[Making]:
-    """A tree without what has a # before it, and what is below that."""
-    kept = {tree[0].path: tree[0]}
-    for it in tree[1:]:
-        if it.number in wanted and parent_of(it.path) in kept:
-            kept[it.path] = it
-    return list(kept.values())
+def take_back(found: Steps, doing: Doing, wanted: Set[int]) -> Iterator[bytes]:
+    """Takes back what by_hand has done, the last step first; what cannot be is left, and said."""
+    files = HandFiles(found, doing, True)
+    for it in reversed(found.made):
+        if it.number in wanted and doing.is_ours(it.number):
+            yield from left_by(partial(files.do, partial(files.remove, it), it.path))
+    lost = sum(doing.is_ours(it.number) for it in found.removed)
+    if lost:
+        yield b"files and directories that by_hand removed, and that do not come back: %d" % lost
+    for step in reversed(found.people):
+        back = found.way_back(step) if step.number in wanted else None
+        if not doing.is_ours(step.number):
+            continue
+        if back is not None:
+            yield from left_by(partial(hand_users.take_back, doing, step, back))
+        elif step.change.kind == REMOVE_USER:
+            yield from hand_users.losses(doing, step)
+
+
+def left_by(step: Callable[[], None]) -> Iterator[bytes]:
+    """Why a step is not done, where it cannot be."""
+    try:
+        step()
+    except Mismatch as fault:
+        yield fault.text + b"; it is left as it is"
 
 
 def body(command: Command, words: List[str]) -> int:
@@ -116,6 +79,14 @@ def body(command: Command, words: List[str]) -> int:
     live.check_proc()
     plan = plan_folder.open_plan(folder or b".")
     found = steps.steps_of(plan)
-    wanted = steps.chosen_in(plan, name, found.lines_back() if is_undo else found.lines())
-    by_hand = ByHand(command, plan, found)
-    return by_hand.take_back(wanted) if is_undo else by_hand.run(wanted)
+    wanted = steps.chosen(plan, name, found.lines_back() if is_undo else found.lines())
+    left = 0
+    try:
+        for text in (take_back if is_undo else run)(found, Doing(command, plan), wanted):
+            command.say(text)
+            left += 1
+    except Mismatch as fault:
+        raise Failure(fault.text, NOT_DONE) from fault
+    if left and not is_undo:
+        raise Failure(b"left to be done in a directory service: %d" % left, NOT_DONE)
+    return NOT_DONE if left else 0

@@ -6,19 +6,18 @@ import os
 import shutil
 import signal
 import subprocess
-from typing import Callable, Dict, List, NamedTuple, Optional, Tuple
+from typing import Dict, Iterator, NamedTuple, Optional, Tuple
 
 from ..base.environment import environment_of_called
-from ..base.messages import SIGNALS, Command, Failure, signals_wait
+from ..base.messages import SIGNALS, Failure, signals_wait
 from ..base.names import write_name
 from ..base.user_tools import ADD_USER, MEMBERSHIPS, REMOVE_MEMBER, REMOVE_USER, PeopleChange, shown_change
-from ..planned.by_hand_done import BEGUN, FINISHED, FOUND, UNDONE, Notes
+from ..planned.by_hand_done import BEGUN, FINISHED, FOUND, UNDONE, Doing
 from ..planned.steps import PeopleStep
-from .closed_folder import HandFault
+from .carrying import Mismatch
 
 NOT_FOUND = 2  # The status of getent where there is no such row.
 Ids = Tuple[bytes, bytes]
-Tell = Callable[[int, bytes], None]  # Says a step before it is done: its number and its command.
 
 
 class Row(NamedTuple):
@@ -32,7 +31,7 @@ class Row(NamedTuple):
         return self.local is not None and self.found is not None and self.local[0] == self.found[0]
 
 
-class OfService(HandFault):
+class OfService(Mismatch):
     """What has to be done in a directory service."""
 
 
@@ -83,21 +82,11 @@ def run_tool(change: PeopleChange) -> int:
 # --- a change, before it is made
 
 
-def shown_row(row: Optional[Ids]) -> bytes:
-    return b"(none)" if row is None else b":".join(row)
-
-
-def rows_of_user(change: PeopleChange) -> Tuple[Optional[Ids], Optional[Ids]]:
-    """What the row of a user has before a change and after it."""
-    uid, before, after = b"%d" % change.user.uid, b"%d" % change.user.gid, b"%d" % change.gid
-    return None if change.kind == ADD_USER else (uid, before), None if change.kind == REMOVE_USER else (uid, after)
-
-
-def row_with(database: bytes, kind: bytes, name: bytes, number: int) -> Row:
+def row_with(database: bytes, what: bytes, number: int) -> Row:
     """The row of a name, which has to have this id."""
-    row = look_up(database, name, number)
+    row = look_up(database, what, number)
     if row.found is None or row.found[0] != b"%d" % number:
-        raise HandFault(kind + write_name(name) + b": is not there with the id %d" % number)
+        raise Mismatch((b"user " if database == b"passwd" else b"group ") + write_name(what) + b": is not there with the id %d" % number)
     return row
 
 
@@ -105,10 +94,10 @@ def is_made(change: PeopleChange) -> bool:
     """Whether a change is made already; fails where the system is another one than it has to be, and with OfService where the
     tools do not make the change."""
     if change.kind in MEMBERSHIPS:
-        row_with(b"passwd", b"user ", change.user.name, change.user.uid)
-        return is_member_made(change, row_with(b"group", b"group ", change.group, change.gid))
-    if change.group:
-        row_with(b"group", b"group ", change.group, change.gid)
+        row_with(b"passwd", change.user.name, change.user.uid)
+    group = row_with(b"group", change.group, change.gid) if change.group else None
+    if group is not None and change.kind in MEMBERSHIPS:
+        return is_member_made(change, group)
     return is_user_made(change)
 
 
@@ -127,75 +116,66 @@ def is_member_made(change: PeopleChange, group: Row) -> bool:
 
 
 def is_user_made(change: PeopleChange) -> bool:
-    before, after = rows_of_user(change)
+    uid, name = b"%d" % change.user.uid, b"user " + write_name(change.user.name)
+    before = None if change.kind == ADD_USER else (uid, b"%d" % change.user.gid)
+    after = None if change.kind == REMOVE_USER else (uid, b"%d" % change.gid)
     row = look_up(b"passwd", change.user.name, change.user.uid)
-    name = b"user " + write_name(change.user.name)
     if row.found == after:
         return True
     if row.found is not None and not row.is_local() and row.found == (before or row.found):
         raise OfService(name + b": is of a directory service, and not of /etc/passwd, so %s is not run: %s the user there"
                         % (change.tool(), b"remove" if change.kind == REMOVE_USER else b"change"))
     if row.found != before:
-        raise HandFault(name + b": has the ids %s, and not %s" % (shown_row(row.found), shown_row(before)))
+        shown = tuple(b":".join(it) if it else b"(none)" for it in (row.found, before))
+        raise Mismatch(name + b": has the ids %s, and not %s" % shown)
     return False
 
 
-class HandUsers:
-    """Changes of users and groups, with the number of those that are left to be made in a directory service."""
+# --- there and back
 
-    def __init__(self, command: Command, notes: Notes, tell: Tell) -> None:
-        self.command, self.notes, self.tell, self.left = command, notes, tell, 0
 
-    def make(self, it: PeopleStep) -> None:
-        state = self.notes.of(it.number).state
-        if state == FINISHED:
-            return
-        try:
-            is_done = is_made(it.change)
-        except OfService as fault:
-            self.command.say(fault.text)
-            self.left += 1
-            return
-        if is_done:
-            if it.change.kind == REMOVE_USER and not state:
-                self.command.say(b"user " + write_name(it.change.user.name) + b": is not there, or a directory service does not "
-                                 b"answer; userdel has nothing to do")
-            if state != FOUND:  # Where it was not begun, somebody else did it, and by_hand_undo leaves it.
-                self.notes.add(FINISHED if state == BEGUN else FOUND, it.number)
-            return
-        self.tell(it.number, it.command())
-        self.notes.add(BEGUN, it.number)
+def make(doing: Doing, it: PeopleStep) -> None:
+    state = doing[it.number].state
+    if not is_made(it.change):
+        doing.tell(it.number, it.command())
+        doing.add(BEGUN, it.number)
         status = run_tool(it.change)
         if status != 0:
             raise Failure(it.command() + b": fails with the status %d" % status, abs(status))
-        self.notes.add(FINISHED, it.number)
-
-    def take_back(self, it: PeopleStep, change: PeopleChange) -> None:
-        if not is_made(change):
-            self.tell(it.number, shown_change(change))
-            if run_tool(change) != 0:
-                raise HandFault(shown_change(change) + b": fails")
-        self.notes.add(UNDONE, it.number)
-
-    def losses(self, it: PeopleStep) -> List[bytes]:
-        """What does not come back of a user who was removed: the row, and whose the files of the ids are. userdel removes a
-        group of the user's name."""
-        user = it.change.user
-        row = look_up(b"passwd", user.name, user.uid).found
-        if row is not None and row[0] == b"%d" % user.uid:
-            self.notes.add(UNDONE, it.number)
-            return []
-        lines = [b"user " + write_name(user.name) + b": was removed by by_hand, and does not come back"]
-        lines += holder_of(b"user", b"passwd", user.uid, it.owned)
-        if getent(b"group", b"--", b"%d" % user.gid)[0] != 0:
-            lines += holder_of(b"group", b"group", user.gid, it.grouped)
-        return lines
+        doing.add(FINISHED, it.number)
+        return
+    if it.change.kind == REMOVE_USER and not state:
+        doing.command.say(b"user " + write_name(it.change.user.name) + b": is not there, or a directory service does not answer; "
+                          b"userdel has nothing to do")
+    if state != FOUND:  # Where it was not begun, somebody else did it, and by_hand_undo leaves it.
+        doing.add(FINISHED if state == BEGUN else FOUND, it.number)
 
 
-def holder_of(kind: bytes, database: bytes, number: int, files: int) -> List[bytes]:
-    """Whose the files of an id are, if there are any."""
-    if not files:
-        return []
+def take_back(doing: Doing, it: PeopleStep, change: PeopleChange) -> None:
+    if not is_made(change):
+        doing.tell(it.number, shown_change(change))
+        if run_tool(change) != 0:
+            raise Mismatch(shown_change(change) + b": fails")
+    doing.add(UNDONE, it.number)
+
+
+def losses(doing: Doing, it: PeopleStep) -> Iterator[bytes]:
+    """What does not come back of a user who was removed: the row, and whose the files of the ids are. userdel removes a group of
+    the user's name."""
+    user = it.change.user
+    row = look_up(b"passwd", user.name, user.uid).found
+    if row is not None and row[0] == b"%d" % user.uid:
+        doing.add(UNDONE, it.number)
+        return
+    yield b"user " + write_name(user.name) + b": was removed by by_hand, and does not come back"
+    if it.owned:
+        yield holder_of(b"user", b"passwd", user.uid, it.owned)
+    if it.grouped and getent(b"group", b"--", b"%d" % user.gid)[0] != 0:
+        yield holder_of(b"group", b"group", user.gid, it.grouped)
+
+
+def holder_of(kind: bytes, database: bytes, number: int, files: int) -> bytes:
+    """Whose the files of an id are."""
     held = {0: b"which another %s has now" % kind, NOT_FOUND: b"which has no %s now" % kind}
     by_whom = held.get(getent(database, b"--", b"%d" % number)[0], b"and getent %s fails" % database)
-    return [b"files of the snapshot that belong to the %s id %d, %s: %d" % (kind, number, by_whom, files)]
+    return b"files of the snapshot that belong to the %s id %d, %s: %d" % (kind, number, by_whom, files)

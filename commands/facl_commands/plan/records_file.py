@@ -11,7 +11,7 @@ from ..model.entries import flag_digit, read_record
 from ..model.records import ChangedPaths, Files
 from ..model.snapshot import Snapshot
 from ..planned import differences
-from ..planned.plan_files import NOWHERE, are_valid
+from ..planned.plan_files import NOWHERE, are_valid, fields_of
 from ..program.protocol import ATTRIBUTE_LINES, ATTRIBUTES_OF, FILE_HEAD
 from ..program.session import session_over
 
@@ -60,5 +60,5 @@ def work_text(program: str, snapshot: Snapshot, changes: ChangedPaths, old: File
          numbers[old[path].body], numbers[new[path].body]]
         for path in changes.changed
     ]
-    rows = [[*record[:3], record.access.hex(), record.default.hex()] for record in records.values()]
+    rows = [fields_of(record) for record in records.values()]
     return json.dumps({"boot": snapshot.boot, "records": rows, "files": files}, separators=(",", ":")).encode() + b"\n"

@@ -2,8 +2,9 @@
 record and its new one. And what it found when it began, the journal."""
 from __future__ import annotations
 
+import contextlib
 import json
-from typing import Dict, List, NamedTuple, Optional
+from typing import Dict, Iterator, List, NamedTuple, Optional
 
 from ..base import acl_bytes
 from ..base.acl_bytes import Record
@@ -31,6 +32,11 @@ class Work(NamedTuple):
 def are_valid(record: Record) -> bool:
     """Whether the lists of a record are lists; it may have no default list."""
     return acl_bytes.is_valid(record.access) and (record.default == b"" or acl_bytes.is_valid(record.default))
+
+
+def fields_of(record: Record) -> List[object]:
+    """A record as a plan has it."""
+    return [*record[:3], record.access.hex(), record.default.hex()]
 
 
 def read_record(fields: List[object]) -> Record:
@@ -72,9 +78,18 @@ def read_file(fields: List[object], records: List[Record]) -> PlannedFile:
     return file
 
 
+@contextlib.contextmanager
+def as_written(name: bytes, by_whom: bytes) -> Iterator[None]:
+    """Has a file of a plan read, which fails where it is another one than was written."""
+    try:
+        yield
+    except (ValueError, KeyError, TypeError, IndexError, AttributeError, RecursionError, OverflowError, MemoryError) as error:
+        raise Failure(name + b": is not as " + by_whom) from error
+
+
 def read_work(name: bytes, text: bytes) -> Work:
     """What work_text wrote; each path once, in path order."""
-    try:
+    with as_written(name, b"facl-plan wrote it: make the plan again"):
         fields = json.loads(text)
         boot, rows = fields["boot"], fields["files"]
         records = [read_record(row) for row in fields["records"]]
@@ -85,8 +100,6 @@ def read_work(name: bytes, text: bytes) -> Work:
         if paths != sorted(paths, key=path_order) or not all(map(is_path, paths)):
             raise ValueError
         return Work(boot, files)
-    except (ValueError, KeyError, TypeError, IndexError, AttributeError, RecursionError, OverflowError, MemoryError) as error:
-        raise Failure(name + b": is not as facl-plan wrote it: make the plan again") from error
 
 
 def is_path(path: bytes) -> bool:
@@ -108,12 +121,10 @@ def journal_text(boot: str, files: Dict[bytes, Identity]) -> bytes:
 
 
 def read_journal(name: bytes, text: bytes) -> Journal:
-    try:
+    with as_written(name, b"facl-apply wrote it"):
         fields = json.loads(text)
         files = {path.encode("latin-1"): identity_of(identity) for path, *identity in fields["files"]}
         return Journal(str(fields["boot"]), files)
-    except (ValueError, KeyError, TypeError, AttributeError, RecursionError, OverflowError, MemoryError) as error:
-        raise Failure(name + b": is not as facl-apply wrote it") from error
 
 
 class Devices:

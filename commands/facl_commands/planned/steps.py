@@ -13,7 +13,7 @@ from ..base.linux import Identity
 from ..base.messages import Failure
 from ..base.names import live_name, parent_of, path_order, shell_word, shown
 from ..base.user_tools import KINDS, REMOVE_USER, PeopleChange, User, shown_change
-from .plan_files import NOWHERE, identity_of, is_path, number_of, read_record
+from .plan_files import as_written, fields_of, identity_of, is_path, number_of, read_record
 from .plan_folder import PlanFolder
 
 STEPS, BY_HAND, UNDO = b"steps", b"by_hand", b"by_hand_undo"
@@ -34,40 +34,28 @@ class PeopleStep(NamedTuple):
         return self.change.not_done()
 
 
-class Removal(NamedTuple):
-    """A file that goes, or a directory, which is empty by then."""
+class FileStep(NamedTuple):
+    """A file or directory that goes, which is empty by then; or one that is made, which has its record as soon as it has its
+    place."""
 
     number: int
     path: bytes
     is_directory: bool
+    record: Optional[Record]  # None where it goes.
 
     def command(self) -> bytes:
-        return (b"rmdir -- " if self.is_directory else b"rm -- ") + shell_word(live_name(self.path))
+        starts = (b"rm -- ", b"rmdir -- ") if self.record is None else (b": >", b"mkdir -m 700 -- ")
+        return starts[self.is_directory] + shell_word(live_name(self.path))
+
+    def back(self) -> bytes:
+        """The command that removes it."""
+        return self._replace(record=None).command()
 
     def not_done(self) -> Optional[bytes]:
         return None if self.path else b"it is the root of the system, which nothing removes"
 
 
-class Making(NamedTuple):
-    """A file or directory that is made; the record is its own as soon as it has its place."""
-
-    number: int
-    path: bytes
-    is_directory: bool
-    record: Record
-
-    def command(self) -> bytes:
-        return (b"mkdir -m 700 -- " if self.is_directory else b": >") + shell_word(live_name(self.path))
-
-    def back(self) -> bytes:
-        """The command that takes it back."""
-        return Removal(self.number, self.path, self.is_directory).command()
-
-    def not_done(self) -> Optional[bytes]:
-        return None
-
-
-Step = Union[PeopleStep, Removal, Making]
+Step = Union[PeopleStep, FileStep]
 
 
 def line_of(number: int, command: bytes) -> bytes:
@@ -78,29 +66,35 @@ class Steps(NamedTuple):
     boot: str  # The start of the system in which devices had their numbers.
     identities: Dict[bytes, Identity]  # By path: folders in which something is done, and files that go.
     people: List[PeopleStep]
-    removed: List[Removal]  # What is below a directory first.
-    made: List[Making]  # In path order.
+    files: List[FileStep]  # Those that go, what is below a directory first; then those that are made, in path order.
+
+    @property
+    def removed(self) -> List[FileStep]:
+        return [it for it in self.files if it.record is None]
+
+    @property
+    def made(self) -> List[FileStep]:
+        return [it for it in self.files if it.record is not None]
 
     def all(self) -> List[Step]:
-        return [*self.people, *self.removed, *self.made]
+        return [*self.people, *self.files]
 
     def looked_at(self) -> Set[bytes]:
         """The files of the snapshot that are compared: those that go, and the folders of these and of what is made."""
         removed, made = {it.path for it in self.removed}, {it.path for it in self.made}
         return removed | {parent_of(path) for path in removed | made} - made
 
-    def identity(self, path: bytes) -> Identity:
-        return self.identities.get(path, NOWHERE)
-
-    def trees(self) -> List[List[Making]]:
-        """What is made, by the greatest subtrees: the first of each is in a folder that is not made."""
-        known = {it.path for it in self.made}
-        found: List[List[Making]] = []
+    def trees(self, wanted: Set[int]) -> Dict[int, List[FileStep]]:
+        """What is made of these numbers, by the greatest subtrees: by the number of the first of each, which is in a folder that
+        is not made. What is below one that is not wanted is not made either."""
+        made = {it.path for it in self.made}
+        tops: Dict[bytes, int] = {}
+        found: Dict[int, List[FileStep]] = {}
         for it in self.made:
-            if parent_of(it.path) in known:
-                found[-1].append(it)
-            else:
-                found.append([it])
+            above = parent_of(it.path)
+            if it.number in wanted and (above in tops or above not in made):
+                tops[it.path] = tops.get(above, it.number)
+                found.setdefault(tops[it.path], []).append(it)
         return found
 
     def lines(self) -> Dict[bytes, int]:
@@ -119,22 +113,8 @@ class Steps(NamedTuple):
         back = [(it.number, self.way_back(it)) for it in reversed(self.people)]
         return {**found, **{line_of(number, shown_change(it)): number for number, it in back if it is not None}}
 
-    def is_lost(self) -> bool:
-        """Whether something is done that does not come back."""
-        lost: List[Step] = [*self.removed, *[it for it in self.people if it.change.kind == REMOVE_USER]]
-        return any(it.not_done() is None for it in lost)
 
-
-NO_STEPS = Steps("-", {}, [], [], [])
-
-
-def chosen(name: bytes, text: bytes, lines: Dict[bytes, int]) -> Set[int]:
-    """The numbers of the lines of a text that have no # before them. Each has to be one that facl-plan wrote."""
-    found = {line for line in text.split(b"\n") if line and not line.startswith((b"#", b"exec "))}
-    others = sorted(found - lines.keys())
-    if others:
-        raise Failure(name + b": has a line that facl-plan did not write, which can only be put after a #: " + others[0])
-    return {lines[line] for line in found}
+NO_STEPS = Steps("-", {}, [], [])
 
 
 # --- the file
@@ -143,10 +123,8 @@ def chosen(name: bytes, text: bytes, lines: Dict[bytes, int]) -> Set[int]:
 def text_of(steps: Steps) -> bytes:
     people = [[*map(latin, (it.change.kind, it.change.user.name, it.change.group)), it.change.user.uid, it.change.user.gid,
                it.change.gid, it.owned, it.grouped] for it in steps.people]
-    fields = {"boot": steps.boot, "identities": [[latin(path), *its] for path, its in steps.identities.items()],
-              "people": people, "removed": [[latin(it.path), int(it.is_directory)] for it in steps.removed],
-              "made": [[latin(it.path), int(it.is_directory), *it.record[:3], it.record.access.hex(), it.record.default.hex()]
-                       for it in steps.made]}
+    fields = {"boot": steps.boot, "identities": [[latin(path), *its] for path, its in steps.identities.items()], "people": people,
+              "files": [[latin(it.path), int(it.is_directory), *(fields_of(it.record) if it.record else ())] for it in steps.files]}
     return json.dumps(fields, separators=(",", ":")).encode() + b"\n"
 
 
@@ -162,9 +140,10 @@ def read_change(fields: List[object]) -> PeopleChange:
     return PeopleChange(kind, User(user, uid, user_gid), group, gid)
 
 
-def read_made(number: int, path: str, kind: object, *record: object) -> Making:
-    found = Making(number, path.encode("latin-1"), bool(number_of(kind)), read_record(list(record)))
-    if not found.path or found.record.default and not found.is_directory:
+def read_file_step(number: int, path: str, kind: object, *record: object) -> FileStep:
+    found = FileStep(number, path.encode("latin-1"), bool(number_of(kind)), read_record(list(record)) if record else None)
+    its = found.record
+    if not is_path(found.path) or its is not None and (not found.path or its.default and not found.is_directory):
         raise ValueError
     return found
 
@@ -173,27 +152,28 @@ def read_steps(name: bytes, text: bytes) -> Steps:
     """What text_of made; none of an empty text."""
     if not text:
         return NO_STEPS
-    try:
+    with as_written(name, b"facl-plan wrote it: make the plan again"):
         fields = json.loads(text)
         identities = {path.encode("latin-1"): identity_of(its) for path, *its in fields["identities"]}
         people = [PeopleStep(number, read_change(row[:6]), *map(number_of, row[6:]))
                   for number, row in enumerate(fields["people"], 1)]
-        removed = [Removal(number, path.encode("latin-1"), bool(number_of(kind)))
-                   for number, (path, kind) in enumerate(fields["removed"], len(people) + 1)]
-        made = [read_made(number, *row) for number, row in enumerate(fields["made"], len(people) + len(removed) + 1)]
-        files: List[Union[Removal, Making]] = [*removed, *made]
-        paths = [it.path for it in made]
-        if not isinstance(fields["boot"], str) or not all(is_path(it.path) for it in files) or paths != sorted({*paths}, key=path_order):
+        files = [read_file_step(number, *row) for number, row in enumerate(fields["files"], len(people) + 1)]
+        found = Steps(fields["boot"], identities, people, files)
+        made = [it.path for it in found.made]
+        if not isinstance(found.boot, str) or files != found.removed + found.made or made != sorted({*made}, key=path_order):
             raise ValueError
-        return Steps(fields["boot"], identities, people, removed, made)
-    except (ValueError, KeyError, TypeError, IndexError, AttributeError, RecursionError, OverflowError, MemoryError) as error:
-        raise Failure(name + b": is not as facl-plan wrote it: make the plan again") from error
+        return found
 
 
 def steps_of(folder: PlanFolder) -> Steps:
     return read_steps(folder.name + b"/" + STEPS, folder.read(STEPS) if folder.has(STEPS) else b"")
 
 
-def chosen_in(folder: PlanFolder, name: bytes, lines: Dict[bytes, int]) -> Set[int]:
-    """The numbers of the lines of by_hand or by_hand_undo."""
-    return chosen(folder.name + b"/" + name, folder.read(name) if folder.has(name) else b"", lines)
+def chosen(folder: PlanFolder, name: bytes, lines: Dict[bytes, int]) -> Set[int]:
+    """The numbers of the lines of by_hand or by_hand_undo that have no # before them. Each has to be one that facl-plan wrote."""
+    text = folder.read(name) if folder.has(name) else b""
+    found = {line for line in text.split(b"\n") if line and not line.startswith((b"#", b"exec "))}
+    others = sorted(found - lines.keys())
+    if others:
+        raise Failure(folder.name + b"/" + name + b": has a line that facl-plan did not write, which can only be put after a #: " + others[0])
+    return {lines[line] for line in found}
