@@ -247,7 +247,7 @@ class Plans(Case):
         ):
             self.write("other/by_hand_done", notes.encode())
             os.chmod(self.path("other/by_hand_done"), 0o600)
-            self.assertEqual((by_hand_done.is_left(folder), by_hand_done.is_to_take_back(folder)), (is_left, is_to_take_back), notes)
+            self.assertEqual((by_hand_done.is_left(folder, False), by_hand_done.is_left(folder, True)), (is_left, is_to_take_back), notes)
         os.close(folder.descriptor)
 
     def test_by_hand_undo_does_not_hinder_the_way_back(self) -> None:

@@ -200,14 +200,14 @@ def say_without_row(command: Command, records: List[Record]) -> None:
 def by_hand(way: Direction) -> List[bytes]:
     """The line that names what is to be done by hand, where there is something. It is made before anything is touched:
     a script that cannot be read has no part in what is said of the files."""
-    if not way.is_undo:
-        is_left = by_hand_done.is_left(way.folder)
-        return [b"still to be done by hand: sh " + shell_word(way.file(b"by_hand"))] if is_left else []
     try:
-        is_left = by_hand_done.is_to_take_back(way.folder)
-    except Failure as failure:  # The way back of files does not depend on it.
+        is_left = by_hand_done.is_left(way.folder, way.is_undo)
+    except Failure as failure:
+        if not way.is_undo:  # The way back of files does not depend on it.
+            raise
         return [failure.text]
-    return [b"to take back what by_hand did: sh " + shell_word(way.file(b"by_hand_undo"))] if is_left else []
+    what, name = (b"to take back what by_hand did", b"by_hand_undo") if way.is_undo else (b"still to be done by hand", b"by_hand")
+    return [what + b": sh " + shell_word(way.file(name))] if is_left else []
 
 
 def body(command: Command, words: List[str]) -> int:

@@ -75,19 +75,13 @@ class Doing(Notes):
         self.update(notes)
 
 
-def noted(folder: PlanFolder) -> Notes:
-    return Notes(folder.read(DONE_BY_HAND) if folder.has(DONE_BY_HAND) else b"")
-
-
-def is_left(folder: PlanFolder) -> bool:
-    """Whether by_hand has something that is not done yet; what is made in a tree is done with the tree."""
-    found, notes = steps.steps_of(folder), noted(folder)
+def is_left(folder: PlanFolder, is_undo: bool) -> bool:
+    """Whether by_hand has something that is not done yet, where what is made in a tree is done with the tree; or by_hand_undo
+    something that by_hand has done and that is not taken back."""
+    found = steps.steps_of(folder)
+    notes = Notes(folder.read(DONE_BY_HAND) if folder.has(DONE_BY_HAND) else b"")
+    if is_undo:
+        return any(map(notes.is_ours, steps.chosen(folder, steps.UNDO, found.lines_back())))
     wanted = steps.chosen(folder, steps.BY_HAND, found.lines())
     inner = {it.number for it in found.made} - found.trees(wanted).keys()
     return any(notes[number].state not in (FINISHED, FOUND) for number in wanted - inner)
-
-
-def is_to_take_back(folder: PlanFolder) -> bool:
-    """Whether by_hand has done something that by_hand_undo can take back, and did not."""
-    found, notes = steps.steps_of(folder), noted(folder)
-    return any(map(notes.is_ours, steps.chosen(folder, steps.UNDO, found.lines_back())))
