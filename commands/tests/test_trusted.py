@@ -160,7 +160,7 @@ class PlansInTheirPlace(RealCase):
 
         folder = plan_folder.open_plan(os.fsencode(self.path("before.plan")))
         self.addCleanup(os.close, folder.descriptor)
-        message = b"before.plan: another facl-plan or facl-apply is at work on it\n"
+        message = b"before.plan: another facl-plan, facl-apply or by_hand is at work on it\n"
         for done in (self.plan(b"chmod 644 " + self.word("a") + b"\n"), self.apply()):
             self.assertEqual((done.status, done.out), (2, b""))
             self.assertTrue(done.messages.endswith(message), done.messages)
