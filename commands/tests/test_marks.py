@@ -27,14 +27,16 @@ FILE_SYSTEMS = """
 from ..base import beside, linux
 from . import marking
 FOUND = %r
-of_system, path_of = linux.look_at, lambda descriptor: os.readlink(b"/proc/self/fd/%%d" %% descriptor)
+of_system, path_of = linux.statx, lambda descriptor: os.readlink(b"/proc/self/fd/%%d" %% descriptor)
 def mount_of(path: bytes) -> bytes:
     return max((it for it in FOUND if it[:1] == b"/" and (path + b"/").find(it + b"/") >= 0), key=len, default=b"")
-def look_at(descriptor: int, name: bytes = b"") -> object:
-    status, _ = of_system(descriptor, name)
+def statx(descriptor: int, name: bytes = b"") -> object:
+    known, _, *others, place = of_system(descriptor, name)
     path = path_of(descriptor)
-    return status, (FOUND.get(path.rpartition(b"/")[2], 0), (1, hash(mount_of(path))))
-linux.look_at = look_at
+    has = FOUND.get(path.rpartition(b"/")[2], 0)
+    others[3] = 0 if has == linux.UNKNOWN else linux.ATTRIBUTES
+    return (known, has, *others, place[:8] + (hash(mount_of(path)) & 0xFFFFFFFF).to_bytes(8, "little"))
+linux.statx = statx
 marking.file_system_of = lambda descriptor: 0
 beside.word_of = lambda descriptor: FOUND.get(mount_of(path_of(descriptor)), b"rw")
 os.listxattr = lambda name: FOUND.get(os.readlink(name).rpartition(b"/")[2] + b"?", [])

@@ -24,7 +24,7 @@ from facl_commands.base import acl_bytes, beside, names  # noqa: E402
 from facl_commands.base.accounts import is_person  # noqa: E402
 from facl_commands.base.names import path_order  # noqa: E402
 from facl_commands.page import columns as page_columns  # noqa: E402
-from facl_commands.snapshot import in_order, scope, walking  # noqa: E402
+from facl_commands.snapshot import in_order, list_texts, runs, scope, walking  # noqa: E402
 
 FILES = ["dump", "group", "inodes", "links", "marks", "meta", "passwd"]
 
@@ -193,12 +193,16 @@ ln -sf kept 'l\nf'; rm folder gone; mkdir folder; mv d1 d && mv d2 d1 && mv d d2
     def test_names_that_never_end(self) -> None:
         """Whoever makes names without end, or directories in one another, does not keep it from ending."""
         self.add_code("from . import scope\nscope.MOST_FILES, scope.MOST_NAMES = 16, 64\n")
-        for number in range(70):
+        for number in range(35):
             os.symlink("a", self.path(f"tree/link{number}"))
+            os.symlink("a", self.path(f"tree/a/link{number}"))
         for words, most in (((), b"64"), (("--exclude", "link*"), b"64"), (("--split", "20"), b"64")):
             done = self.snapshot(*words, "new", "tree")
             self.expect_status(done, 2, b"facl-snapshot: more than %s names were found: name fewer FOLDERs; " % most)
             self.expect_nothing_left()
+        for code in ("scope.MOST_NAMES = 30", "walking.MOST_BYTES = 150"):  # Its names are not even read to their end.
+            self.add_code("from . import scope, walking\nwalking.SORTED_AT_ONCE = 10\n" + code)
+            self.expect_status(self.snapshot("new", "tree"), 2, b"tree: more names are in it than can be recorded: leave it out by --exclude\n")
         for number in range(20):
             self.write(f"tree/a/file{number}", b"")
         self.add_code("from . import scope\nscope.MOST_FILES = 16\n")
@@ -358,6 +362,48 @@ ln -sf kept 'l\nf'; rm folder gone; mkdir folder; mv d1 d && mv d2 d1 && mv d d2
         names = names_of(self.read("new/dump"))
         self.assertIn(os.path.realpath(self.path("tree/z/last")).encode(), names)
         self.assertEqual(sum(b"d" * 250 in name for name in names), short)
+
+    def test_long_names_that_match(self) -> None:
+        """Below a name that is too long only the last part of a name matches --exclude, so that no whole name is kept."""
+        here = os.open(self.path("tree/a"), os.O_RDONLY)
+        for _ in range(30):
+            os.mkdir("d" * 250, dir_fd=here)
+            os.mkdir("no", dir_fd=here)
+            below = os.open("d" * 250, os.O_RDONLY, dir_fd=here)
+            os.close(here)
+            here = below
+        os.close(here)
+        short = (4094 - len(os.path.realpath(self.path("tree/a")))) // 251
+        for glob, number in (("*/no", 59 - 2 * short), ("no", 30 - short)):
+            self.expect_status(self.snapshot("--exclude", glob, "new", "tree"), 1, b"which are not recorded: %d, first: " % number)
+        self.add_code("from . import scope\nscope.MOST_NAMES = 40\n")
+        self.expect_status(self.snapshot("new", "tree"), 2, b"more than 40 names were found")
+
+    def test_few_open_files(self) -> None:
+        """It has as many open as it needs, or says that it may not."""
+        for soft, hard, status in ((64, 512, 0), (64, 64, 2)):
+            done = subprocess.run(["prlimit", f"--nofile={soft}:{hard}", self.command, "new", "tree"], cwd=self.folder, env={**os.environ, "FACL": "true"},
+                                  capture_output=True, check=False)
+            self.expect_status(Done(done.returncode, done.stdout, done.stderr), status,
+                               b"64 files may be open at once (ulimit -n), and directories in one another need 512\n" if status else b"")
+
+    def test_texts_that_are_kept(self) -> None:
+        """Whoever writes long lists does not fill the memory with them."""
+        texts = list_texts.KnownTexts(b"")
+        for number in range(40):
+            entries: acl_bytes.Entries = {(acl_bytes.USER, 100_000 * number + it): 4 for it in range(4000)}
+            self.assertEqual(len(texts[acl_bytes.bytes_of(entries)].users), 4000)
+            self.assertLessEqual(sum(len(it.lines) for it in texts.values()), list_texts.MOST_KEPT)
+        self.assertGreater(len(texts), 1)
+
+    def test_ids_that_are_kept(self) -> None:
+        """Nor with ids; that of an owner is there all the same, and it says that some may be missing."""
+        sums = runs.Sums()
+        for number in range(3):
+            ids = frozenset(range(10 ** 6 * number, 10 ** 6 * number + 200_000))
+            sums.add(runs.Run([b""], [b"1 1 0.0 /%d\0" % number], [b""], [1], [0], [0], [(number, number, ids, ids)]))
+        self.assertEqual((sums.owners, sums.owning_groups, len(sums.users), len(sums.groups), sums.has_too_many_ids),
+                         ({0, 1, 2}, {0, 1, 2}, 400_000, 400_000, True))
 
     def test_nothing_can_be_read(self) -> None:
         self.expect_status(self.snapshot("new", "tree"), 0)

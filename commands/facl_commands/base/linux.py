@@ -11,7 +11,9 @@ import struct
 from typing import Dict, NamedTuple, Set, Tuple
 
 LIBRARY = ctypes.CDLL(None, use_errno=True)
-AT_EMPTY_PATH, AT_SYMLINK_NOFOLLOW = 0x1000, 0x100
+AT_EMPTY_PATH, AT_SYMLINK_NOFOLLOW, AT_STATX_DONT_SYNC = 0x1000, 0x100, 0x4000
+ITSELF = AT_EMPTY_PATH | AT_SYMLINK_NOFOLLOW
+AS_KNOWN = ITSELF | AT_STATX_DONT_SYNC  # What Linux knows, without asking whoever has the files of a network or of a user.
 STATX_BASIC_STATS, STATX_BTIME, STATX_MNT_ID = 0x7FF, 0x800, 0x1000
 STATX_WANTED = STATX_BASIC_STATS | STATX_BTIME | STATX_MNT_ID
 IMMUTABLE, APPEND_ONLY = 0x10, 0x20  # Attributes of statx(2), which are those of chattr(1).
@@ -21,11 +23,12 @@ RENAME_NOREPLACE, RENAME_EXCHANGE = 1, 2
 NO_OVERLAY, OF_ONE, OF_SEVERAL = range(3)
 OVERLAY, TMPFS = 0x794C7630, 0x01021994  # Kinds of file systems, as statfs(2) has them.
 OF_KERNEL = (0x9FA0, 0x62656572)  # proc and sysfs, whose files the kernel makes.
-# struct statx: the mask of what is known, attributes, names, owner, group, mode, inode, which attributes are known, birth in
-# seconds and nanoseconds, device, mount.
-STATX = struct.Struct("<I4xQIIIH2xQ16xQ16xqI44xIIQ")
+# struct statx: the mask of what is known, attributes, names, the label (owner, group, mode), inode, which attributes are known,
+# birth in seconds and nanoseconds, the mount (device in two parts, number).
+STATX = struct.Struct("<I4xQI10s2xQ16xQ16xqI44x16s")
+LABEL, MOUNT = struct.Struct("<IIH"), struct.Struct("<IIQ")
 BUFFER = ctypes.create_string_buffer(256)
-STATX_CALL = getattr(LIBRARY, "statx", None)
+STATX_CALL = getattr(ctypes.PyDLL(None, use_errno=True), "statx", None)  # It is quicker where other threads do not go on.
 NO_DESCRIPTOR = -1
 PR_SET_PDEATHSIG = 1
 MOUNTS_FILE = "/proc/self/mountinfo"
@@ -38,6 +41,7 @@ Status = Tuple[int, int, int, int, int, int, int]
 Mount = Tuple[int, int]  # A device, and the number of the mount, which is 0 where Linux does not say it.
 # What Linux looks at beside the lists of a file: ATTRIBUTES that it has, or UNKNOWN; and what it is mounted by.
 Beside = Tuple[int, Mount]
+Raw = Tuple[int, int, int, bytes, int, int, int, int, bytes]  # A status as STATX has it.
 
 
 class Identity(NamedTuple):
@@ -95,23 +99,41 @@ def overlays() -> Set[bytes]:
     return {first.split()[2] for first, second in halves if second.split()[0] == b"overlay"}
 
 
-def look_at(descriptor: int, name: bytes = b"") -> Tuple[Status, Beside]:
-    """The status of an open file, or of a name in an open directory, which is not followed where it is a link; and what counts
-    beside lists. Nothing is opened for it."""
+def statx(descriptor: int, name: bytes = b"", flags: int = ITSELF, wanted: int = STATX_WANTED) -> Raw:
+    """The status of an open file, or of a name in an open directory, which is not followed where it is a link. Nothing is opened
+    for it."""
     if STATX_CALL is None:
         found = os.stat(name, dir_fd=descriptor, follow_symlinks=False) if name else os.fstat(descriptor)
-        status = found.st_mode, found.st_uid, found.st_gid, found.st_nlink, found.st_dev, found.st_ino, 0
-        return status, (UNKNOWN, (found.st_dev, 0))
-    if STATX_CALL(descriptor, name, AT_EMPTY_PATH | AT_SYMLINK_NOFOLLOW, STATX_WANTED, BUFFER) != 0:
+        mount = MOUNT.pack(os.major(found.st_dev), os.minor(found.st_dev), 0)
+        return 0, 0, found.st_nlink, LABEL.pack(found.st_uid, found.st_gid, found.st_mode), found.st_ino, 0, 0, 0, mount
+    if STATX_CALL(descriptor, name, flags, wanted, BUFFER) != 0:
         number = ctypes.get_errno()
         raise OSError(number, os.strerror(number))
-    known, its, names, owner, group, mode, inode, says, seconds, nanoseconds, major, minor, mount = STATX.unpack_from(BUFFER)
+    return STATX.unpack_from(BUFFER)  # type: ignore[return-value]
+
+
+def keeps_birth(raw: Raw) -> bool:
+    """Whether files of the device of a file keep their birth."""
+    major, minor, _ = MOUNT.unpack(raw[8])
+    return KEPT_BIRTHS[major, minor]
+
+
+def read_status(raw: Raw) -> Tuple[Status, Beside]:
+    """A status, and what counts beside lists."""
+    known, its, names, label, inode, says, seconds, nanoseconds, place = raw
+    owner, group, mode = LABEL.unpack(label)
+    major, minor, mount = MOUNT.unpack(place)
     has_birth = known & STATX_BTIME and KEPT_BIRTHS[major, minor]
     birth = seconds * 1_000_000_000 + nanoseconds if has_birth else 0
     device = DEVICES[major, minor]
     attributes = its & ATTRIBUTES if says & ATTRIBUTES == ATTRIBUTES else UNKNOWN
     return ((mode, owner, group, names, device, inode, birth),
             (attributes, (device, mount if known & STATX_MNT_ID else 0)))
+
+
+def look_at(descriptor: int, name: bytes = b"") -> Tuple[Status, Beside]:
+    """The status of an open file, or of a name in an open directory, and what counts beside lists."""
+    return read_status(statx(descriptor, name))
 
 
 def status_of(descriptor: int, name: bytes = b"") -> Status:

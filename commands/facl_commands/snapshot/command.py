@@ -5,6 +5,7 @@ from __future__ import annotations
 import grp
 import locale
 import os
+import resource
 import shutil
 from typing import List, Optional
 
@@ -18,6 +19,7 @@ from .target import NewSnapshot, place_of
 from .words import HELP, read_words
 
 NEVER = (b"/proc", b"/sys")  # What the kernel makes is never recorded.
+OPEN_FILES = 512  # At once in a process: those of walking.DEEPEST and live.OPEN_LIMIT, and others.
 
 
 def program_of(given: Optional[str]) -> Optional[Program]:
@@ -54,6 +56,15 @@ def folder_of(name: bytes) -> bytes:
     return path
 
 
+def check_limits() -> None:
+    """Has as many files open as directories in one another need."""
+    soft, hard = resource.getrlimit(resource.RLIMIT_NOFILE)
+    if soft != resource.RLIM_INFINITY and soft < OPEN_FILES:
+        if hard != resource.RLIM_INFINITY and hard < OPEN_FILES:
+            raise Failure(b"%d files may be open at once (ulimit -n), and directories in one another need %d" % (hard, OPEN_FILES))
+        resource.setrlimit(resource.RLIMIT_NOFILE, (OPEN_FILES, hard))
+
+
 def tell(command: Command, taking: Taking, given: bytes) -> bool:
     """Says what is made; whether that could be written, whatever became of the messages before."""
     command.fault = None
@@ -73,6 +84,7 @@ def body(command: Command, words: List[str]) -> int:
     read = read_words(command, words)
     locale.setlocale(locale.LC_ALL, "C")  # A pattern is one of bytes.
     live.check_proc()
+    check_limits()
     program = program_of(read.program)
     readers = None if read.readers is None else group_of(read.readers)
     place = place_of(read.target)

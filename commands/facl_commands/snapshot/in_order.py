@@ -123,6 +123,7 @@ class Follower:
             linux.end_with(parent)
             for number in SIGNALS:
                 signal.signal(number, signal.SIG_DFL)
+            walker.has_own_process()
             with open(errands, "rb") as come, open(answers, "wb") as go:
                 while True:
                     rests = receive(come)

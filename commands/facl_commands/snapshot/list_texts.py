@@ -9,14 +9,14 @@ from __future__ import annotations
 import re
 import stat
 import struct
-from typing import Dict, FrozenSet, NamedTuple, Optional, Tuple
+from typing import Dict, FrozenSet, NamedTuple, Optional, Tuple, TypeVar
 
-from ..base import acl_bytes
+from ..base import acl_bytes, linux
 from ..base.acl_bytes import ENTRY, GROUP, GROUP_CLASS, GROUP_OBJ, HEAD, MASK, NAMED, NO_ID, OTHER, USER, USER_OBJ
 from .runs import EMPTY_MASK, REPEATED, Whom
 
 MOST_ENTRIES = 4096  # Of a list, which the program takes.
-MOST_KEPT = 4096  # Lists whose texts are kept.
+MOST_KEPT = 1 << 19  # Bytes of the texts that are kept.
 PERMISSIONS = [b"".join(letter if bits >> place & 1 else b"-" for letter, place in ((b"r", 2), (b"w", 1), (b"x", 0)))
                for bits in range(8)]
 TAGS = {USER_OBJ: b"user:", USER: b"user:", GROUP_OBJ: b"group:", GROUP: b"group:", MASK: b"mask:", OTHER: b"other:"}
@@ -78,24 +78,46 @@ def text_of(data: bytes, prefix: bytes) -> ListText:
     return ListText(b"\n".join(lines) + b"\n", users, groups, mask == 0 < entries.get((OTHER, NO_ID), 0), is_repeated)
 
 
-class KnownTexts(Dict[bytes, ListText]):
-    """The texts of the lists that came last, by their bytes."""
+Bytes = TypeVar("Bytes")
+Text = TypeVar("Text")
+
+
+class Known(Dict[Bytes, Text]):
+    """Texts that came last, by the bytes that they are made of: not many of long ones, which anybody can write."""
+
+    size = 0
+
+    def made(self, data: Bytes) -> Tuple[Text, int]:
+        """The text and its size."""
+        raise NotImplementedError
+
+    def __missing__(self, data: Bytes) -> Text:
+        text, size = self.made(data)
+        self.size += size
+        if self.size > MOST_KEPT:
+            self.clear()
+            self.size = size
+        self[data] = text
+        return text
+
+
+class KnownTexts(Known[bytes, ListText]):
+    """The texts of lists."""
 
     def __init__(self, prefix: bytes) -> None:
         super().__init__()
         self.prefix = prefix
 
-    def __missing__(self, data: bytes) -> ListText:
-        if len(self) >= MOST_KEPT:
-            self.clear()
-        self[data] = text_of(data, self.prefix)
-        return self[data]
+    def made(self, data: bytes) -> Tuple[ListText, int]:
+        text = text_of(data, self.prefix)
+        return text, len(text.lines)
 
 
 ACCESS_TEXTS, DEFAULT_TEXTS = KnownTexts(b""), KnownTexts(b"default:")
 NO_LIST = ListText(b"", frozenset(), frozenset(), False, False)
 MINIMAL = [acl_bytes.minimal(mode) for mode in range(0o1000)]
-Label = Tuple[int, int, int, Optional[bytes], Optional[bytes]]  # Mode, owner and group of a file, and the bytes of its lists.
+# The bytes of the owner, group and mode of a file, as a status has them, and those of its lists.
+Label = Tuple[bytes, Optional[bytes], Optional[bytes]]
 
 
 class LabelText(NamedTuple):
@@ -106,19 +128,18 @@ class LabelText(NamedTuple):
     whom: Whom
 
 
-class KnownLabels(Dict[Label, LabelText]):
-    """The texts of the labels that came last."""
+class KnownLabels(Known[Label, LabelText]):
+    """The texts of labels."""
 
-    def __missing__(self, label: Label) -> LabelText:
-        if len(self) >= MOST_KEPT:
-            self.clear()
-        self[label] = label_text(label)
-        return self[label]
+    def made(self, data: Label) -> Tuple[LabelText, int]:
+        text = label_text(data)
+        return text, len(text.text)
 
 
 def label_text(label: Label) -> LabelText:
     """The text of a label; without an access list its mode has the entries."""
-    mode, owner, group, access, default = label
+    its, access, default = label
+    owner, group, mode = linux.LABEL.unpack(its)
     flags = b"# flags: " + b"".join(letter if mode & bit else b"-" for bit, letter in FLAGS) + b"\n" if mode & 0o7000 else b""
     first = ACCESS_TEXTS[MINIMAL[mode & 0o777] if access is None else access]
     second = DEFAULT_TEXTS[default] if default else NO_LIST

@@ -12,10 +12,9 @@ from .linked import LinkedNames, Linker
 from .list_texts import shown_name
 from .marking import SAID, numbers_of
 from .runs import BITS, EMPTY_MASK, IS_FOLDER, REPEATED, UNREAD, LeftOut, Run, Sums
+from .scope import MOST_BYTES
 from .walking import Walked
 from .written import Written, write_file
-
-MOST_BYTES = 268_435_456  # Of a dump, which the program reads.
 
 
 class RecordedFiles(NamedTuple):

@@ -6,6 +6,7 @@ from typing import Dict, FrozenSet, List, NamedTuple, Set, Tuple
 
 from ..base import beside
 
+MOST_IDS = 262_144  # Of users, and of groups, that are asked for: the program takes a quarter of them.
 # What is counted of recorded files: bits, of which those of KINDS are the first ones.
 BITS = {kind: 1 << place for place, kind in enumerate(beside.KINDS)}
 SEVERAL, EMPTY_MASK, REPEATED, IS_FOLDER = (1 << place for place in range(len(beside.KINDS), len(beside.KINDS) + 4))
@@ -79,6 +80,7 @@ class Sums:
         self.owning_groups: Set[int] = set()
         self.users: Set[int] = set()  # Owners too.
         self.groups: Set[int] = set()
+        self.has_too_many_ids = False  # So that some are not in these.
 
     def add(self, run: Run) -> None:
         self.files += len(run.bits)
@@ -91,7 +93,9 @@ class Sums:
                     self.first.setdefault(bit, run.name(run.bits.index(value)))
         for place in {*run.whom}:
             owner, group, users, groups = run.named[place]
-            self.owners.add(owner)
-            self.owning_groups.add(group)
-            self.users.update((owner,), users)
-            self.groups.update((group,), groups)
+            for ids, more in ((self.owners, {owner}), (self.owning_groups, {group}), (self.users, users | {owner}),
+                              (self.groups, groups | {group})):
+                if len(ids) < MOST_IDS:
+                    ids |= more
+                else:
+                    self.has_too_many_ids |= not more <= ids

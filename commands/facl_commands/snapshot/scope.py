@@ -12,6 +12,7 @@ from ..base.messages import Failure
 
 MOST_FILES = 1_048_576  # The program takes them.
 MOST_NAMES = 4 * MOST_FILES  # Of several snapshots, and of all that is found.
+MOST_BYTES = 268_435_456  # Of a dump, which the program reads, and of the names in a directory.
 LONGEST_NAME = 4095
 NONE: FrozenSet[bytes] = frozenset()
 

@@ -16,7 +16,7 @@ from .in_order import SharedWalk
 from .list_texts import shown_name
 from .people import PeopleOfSystem, Warned, strangers, warned_of, why_incomplete
 from .recording import RecordedFiles, record
-from .runs import EXCLUDED, LINK, LONG, UNREAD, LeftOut
+from .runs import EXCLUDED, LINK, LONG, MOST_IDS, UNREAD, LeftOut
 from .scope import Scope
 from .target import NewSnapshot
 from .walking import Walker
@@ -108,6 +108,9 @@ class Taking:
         for line in part.said() if not self.quiet else ():
             self.command.say(b"warning: " + line)
         self.warn_of(strangers(self.people, part.sums))
+        if part.sums.has_too_many_ids:
+            self.lacks = True
+            self.command.say(b"files and lists have more than %d ids of users, or of groups, so the snapshot may lack some" % MOST_IDS)
         why = why_incomplete(self.people, part.sums)
         if why and not self.has_said_why:
             self.command.say(why + SERVICES)
