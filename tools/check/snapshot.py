@@ -22,14 +22,14 @@ sys.dont_write_bytecode = True
 sys.path.insert(0, os.path.join(os.path.dirname(os.path.realpath(__file__)), "..", "lib"))
 import script  # noqa: E402
 from live_tree import (  # noqa: E402
-    COMMANDS, MALLORY, Check, State, child, expect, main, make, mounted, must, records_of, remove, run, state_of,
+    COMMANDS, LIBRARY, MALLORY, Check, State, child, expect, main, make, mounted, must, records_of, remove, run, state_of,
 )
 from snapshot_races import (  # noqa: E402
     WAYS, known_records, make_chain, make_race, meddling, moving, wrong_records,
 )
 
 NAMES = ("words targets replacing names links warnings rows kills chain streams packages trust private_groups "
-         "unreadable without_lists file_systems marks full_disk endless races").split()
+         "unreadable without_lists file_systems hangs marks full_disk endless races").split()
 SNAPSHOT = os.fsdecode(os.path.join(COMMANDS, b"facl-snapshot"))
 PERSON = "ina:x:70001:0::/:/bin/sh\n"  # Who is there in any case.
 NOBODY = 65534
@@ -341,6 +341,22 @@ class Snapshots(Check):
         with mounted(self.name("mount"), b"--bind", self.name("odd/-d")):
             self.took(0, "before mount odd/-d")
         expect(self.name("mount/") in self.lines("links"), "links lacks a folder that is mounted twice")
+
+    def check_hangs(self, _seed: int) -> None:
+        """A FIFO, and file systems of a user whose process never answers, or which keep root out: it ends, and leaves them out."""
+        self.make("users/file", "users/mount/")
+        os.mkfifo(self.name("users/fifo"))
+        place = self.name("users/mount")
+        for options in (b"allow_other,user_id=0,group_id=0", b"user_id=65534,group_id=65534"):
+            device = os.open("/dev/fuse", os.O_RDWR)
+            try:
+                made = LIBRARY.mount(b"none", place, b"fuse", 0, b"fd=%d,rootmode=40755,%s" % (device, options))
+                expect(made == 0, "FUSE cannot be mounted")
+                self.took(0, "before users", out=[f"left out as other file systems: 1, first: {self.text('users/mount/')}"],
+                          has=["users/file", "users/fifo"], lacks=["users/mount/"], start=["timeout", "-s", "KILL", "60"])
+            finally:
+                os.close(device)
+                LIBRARY.umount2(place, 2)  # Also where it is in use.
 
     def check_marks(self, _seed: int) -> None:
         """On ext4: immutable and append-only files, also where nothing of a file may be read or it is none to be opened; places

@@ -50,13 +50,15 @@ can be read.
 
 Each name comes once, in the order of paths: a directory, and then what is in it. That of a directory ends in a slash. Symbolic
 links are counted and left out: none is followed, but a FOLDER that is one is taken as what it leads to. A name of more than
-4,095 bytes is left out too, since no program can use it: it counts as a file that could not be read. So does a file that
-somebody removes or exchanges while the snapshot is made: what is recorded is always of the file that was found under its name,
-and never of a link.
+4,095 bytes is left out too, since no program can use it: it counts as a file that could not be read, and below it a GLOB matches
+the last part of a name alone. A file that somebody removes or exchanges while the snapshot is made counts so too: what is
+recorded is always of the file that was found under its name, and never of a link.
 
 A snapshot has at most 1,048,576 files, and its dump at most 268,435,456 bytes, as much as the program takes. Where more is
 found, also because somebody renames folders meanwhile, no snapshot is made; with --split a part has fewer files where their
-records are long. At most 4,194,304 names are found in all, with symbolic links, excluded names and those that cannot be read.
+records are long. At most 4,194,304 names are found in all, with symbolic links, excluded names and those that cannot be read;
+and no directory may have more, or names of more than 268,435,456 bytes. Where fewer than 512 files may be open (ulimit -n),
+none is made.
 Nothing is written for each file but the snapshot itself.
 
 DIR is a new folder, in a folder that is there. A DIR that is a snapshot already, with no other file in it, is replaced,
@@ -70,7 +72,7 @@ removed where that fails, or where the command is interrupted. Only SIGKILL leav
 in it, as `old`.
 
 The exit status is 0 where the snapshot is made; 1 where it is made, but lacks files that could not be read, or users and
-groups, since asking for them takes five minutes at most, or most users that the dump names, or has no people among its users, or
+groups, since asking for them takes five minutes at most and is for 262,144 ids at most of each, or most users that the dump names, or has no people among its users, or
 the program does not load it; 2 where none is made, and DIR is as it was; 5 where it is made as it should be, but the last
 line could not be printed. A snapshot that the program does not load takes the place of no other one.
 """
