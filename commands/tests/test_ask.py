@@ -25,11 +25,12 @@ from facl_commands.ask import completion, manual, terminal  # noqa: E402
 from facl_commands.ask.prompt import ALONE, WORDS_OF_PROMPT, Prompt  # noqa: E402
 from facl_commands.base.messages import Failure  # noqa: E402
 from facl_commands.base.names import shown  # noqa: E402
+from facl_commands.base.programs import LINUX  # noqa: E402
 from facl_commands.model import overview  # noqa: E402
 from facl_commands.model.snapshot import check_texts  # noqa: E402
 from facl_commands.model.superuser import Superusers  # noqa: E402
 from facl_commands.program import tools  # noqa: E402
-from facl_commands.program.session import Session, find_program  # noqa: E402
+from facl_commands.program.session import Session  # noqa: E402
 
 SHARE = os.fsencode(os.path.join(HERE, "snapshots", "share"))
 SCRIPT = b"who r srv/share/notes\nfrob\nsetfacl -d -m d:u:guest:r,u:guest:x srv/share/drafts\nmay guest r\nwho 'open\n\xff\ngetfacl -M - x\nindex"
@@ -45,7 +46,7 @@ def completer(folder: bytes = SHARE) -> completion.Completer:
 
 class AsTheProgram(Case):
     def program(self, folder: bytes, script: bytes) -> List[object]:
-        words = [os.fsencode(find_program(None))]
+        words = [os.fsencode(LINUX.find())]
         for name in (b"passwd", b"group", b"dump"):
             words += [b"--" + name, os.path.join(folder, name)]
         done = subprocess.run(words, input=script, capture_output=True, cwd=self.folder, check=False)
@@ -98,7 +99,7 @@ class AsTheProgram(Case):
         self.write("script", b"index\n" * 3000)
         command = "%s before script | head -n 1; echo ${PIPESTATUS[0]}" % os.path.join(COMMANDS, "facl-ask")
         done = subprocess.run(["bash", "-c", command], cwd=self.folder, capture_output=True, check=False)
-        command = "$FACL --passwd before/passwd --group before/group --dump before/dump <script | head -n 1; echo ${PIPESTATUS[0]}"
+        command = "$FACL_LINUX --passwd before/passwd --group before/group --dump before/dump <script | head -n 1; echo ${PIPESTATUS[0]}"
         wanted = subprocess.run(["bash", "-c", command], cwd=self.folder, capture_output=True, check=False)
         self.assertEqual((done.stdout, done.stderr), (wanted.stdout, wanted.stderr))
 
@@ -271,7 +272,7 @@ class Manual(unittest.TestCase):
 
     def test_each_tool_is_completed_and_has_help(self) -> None:
         self.assertEqual(set(self.page.tools), set(completion.TOOL_WORDS))
-        with Session(find_program(None), SHARE) as session:
+        with Session(LINUX.find(), SHARE) as session:
             for name in self.page.tools:
                 self.assertNotEqual(session.ask(name.encode() + b" --frob\n.\n").messages[0], b"facl: unknown tool")
 
@@ -332,7 +333,7 @@ class Completion(unittest.TestCase):
 
     def test_each_completed_path_is_a_file(self) -> None:
         start, found = completer().complete("can ines srv/share/")
-        with Session(find_program(None), SHARE) as session:
+        with Session(LINUX.find(), SHARE) as session:
             for word in found:
                 self.assertEqual(session.ask(b"can ines " + word.encode() + b"\n").messages, [])
         self.assertEqual((start, len(found)), (9, 10))
@@ -405,7 +406,7 @@ class Prompts(unittest.TestCase):
     def prompt(self) -> Prompt:
         self.printed: List[bytes] = []
         known = completer()
-        prompt = Prompt(lambda: Session(find_program(None), SHARE), known.page, known, self.printed.append,
+        prompt = Prompt(lambda: Session(LINUX.find(), SHARE), known.page, known, self.printed.append,
                         lambda line: b"~" + line, Superusers(self.without))
         prompt.noted.update(self.noted)
         self.addCleanup(prompt.close)

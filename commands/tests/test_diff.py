@@ -506,7 +506,7 @@ facl-diff: warning: left out of before alone as another file system, so what is 
             started = self.path("started%d" % number)
             self.write("slow", (SLOW % started).encode())
             os.chmod(self.path("slow"), 0o755)
-            environment = {**os.environ, "TMPDIR": self.path("tmp"), "FACL": self.path("slow")}
+            environment = {**os.environ, "TMPDIR": self.path("tmp"), "FACL_LINUX": self.path("slow")}
             words = [sys.executable, "-I", os.path.join(COMMANDS, "facl-diff"), *PAIR]
             with subprocess.Popen(words, cwd=self.folder, env=environment, preexec_fn=restore_signals,
                                   stdout=subprocess.PIPE, stderr=subprocess.PIPE) as run:

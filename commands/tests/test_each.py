@@ -22,9 +22,10 @@ from facl_commands.ask.parts import agreement, counts, join, worker  # noqa: E40
 from facl_commands.ask.parts import hosts as servers  # noqa: E402
 from facl_commands.base.messages import Failure  # noqa: E402
 from facl_commands.base.names import path_order, read_path  # noqa: E402
+from facl_commands.base.programs import LINUX  # noqa: E402
 from facl_commands.model import sources  # noqa: E402
 from facl_commands.program.scripts import read_script  # noqa: E402
-from facl_commands.program.session import LINE_ROOM, OutputSlice, Session, find_program  # noqa: E402
+from facl_commands.program.session import LINE_ROOM, OutputSlice, Session  # noqa: E402
 
 class Split(Case):
     """The names that facl-snapshot --split puts in each snapshot, without a file system that has lists."""
@@ -214,7 +215,7 @@ class Tops(Case):
         dump = self.read("before/dump")
         self.write("before/dump", dump[dump.index(b"# file: /srv/share/") :].replace(b"# file: /srv/share/\n", b"# file: /srv/other\n"))
         folder = os.fsencode(self.path("before"))
-        with Session(find_program(None), folder) as session:
+        with Session(LINUX.find(), folder) as session:
             tops = sources.find_tops(session, folder)
             self.assertEqual((len(tops), tops[0]), (11, b"srv/other"))
             whole = b"".join(output.read() for output in sources.list_below(session, tops))

@@ -18,7 +18,7 @@ from examples import REPOSITORY, blocks_of, difference, examples_of, read_lines,
 
 sys.path.insert(0, COMMANDS)
 
-from facl_commands.program.session import find_program  # noqa: E402
+from facl_commands.base.programs import ACL5, LINUX  # noqa: E402
 
 SNAPSHOTS = os.path.join(HERE, "snapshots")
 # With the snapshot that each is about.
@@ -90,7 +90,7 @@ class Reader(Case):
         shell = Shell(self.folder, {"PATH": os.environ["PATH"]})
         self.addCleanup(shell.close)
         faults = [fault for example in found for fault in difference(example, shell.run(example.command))]
-        wanted = ":21: $ cat kept\n@@ -1,2 +1,2 @@\n # owner: ines\n-one\n+two\n"
+        wanted = ":21: $ cat kept\n -1,2 +1,2 \n # owner: ines\n-one\n+two\n"
         self.assertEqual(faults, [self.path("sample.md") + wanted])
 
     def test_a_shell_that_ends(self) -> None:
@@ -109,7 +109,8 @@ class Documents(Case):
             os.mkdir(os.path.dirname(self.path(name)))
             self.write(name, text.encode())
             os.chmod(self.path(name), 0o755)
-        os.symlink(find_program(None), self.path("bin/facl"))
+        for program in (LINUX, ACL5):
+            os.symlink(program.find(), self.path("bin/" + program.name))
         os.symlink(COMMANDS, self.path("commands"))
         shutil.copytree(os.path.join(REPOSITORY, "demo"), self.path("demo"))
 

@@ -68,7 +68,7 @@ ANSWERS: Dict[str, Callable[[bytes], bytes]] = {
     "deep": text_of(b"users", b"[" * 100_000), "deep_objects": text_of(b"users", b'{"a":' * 100_000),
     "people_as_list": of_head("users", ["ines"]), "ids_as_text": of_head("users", {"ines": "7"}), "negative_id": of_head("groups", {"x": -1}),
     "other_letters": of_head("users", {"\u20ac": 0}), "lone_half": of_head("unknown", ["\ud800"]),
-    "part_as_number": of_head("part", 7), "notices_as_text": of_head("unknown", "x"), "files_as_numbers": of_head("masks", [1]),
+    "part_as_number": of_head("part", 7), "notices_as_text": of_head("unknown", "x"), "files_as_numbers": of_head("otherwise", [1]),
     "messages_as_text": of_header("messages", "refused"), "message_as_list": of_header("messages", [["x"]]),
     "message_of_two_lines": of_header("messages", ["who: usage\ngood: line 3: forged"]),
     "files_as_object": of_header("lacks", {"a": 1}), "another_line": of_header("line", 99), "line_as_list": of_header("line", [1]),

@@ -17,7 +17,8 @@ from real import RealCase
 from facl_commands.apply import changing  # noqa: E402
 from facl_commands.base import acl_bytes, live  # noqa: E402
 from facl_commands.base.acl_bytes import Record  # noqa: E402
-from facl_commands.program.session import Session, find_program  # noqa: E402
+from facl_commands.base.programs import LINUX  # noqa: E402
+from facl_commands.program.session import Session  # noqa: E402
 
 UIDS, GIDS = range(1, 7), range(11, 16)
 NAMES = {1: b"user:", 2: b"user:", 4: b"group:", 8: b"group:", 16: b"mask:", 32: b"other:"}
@@ -118,7 +119,7 @@ class Moments(Case):
     def granted(self, moments: List[Moment]) -> List[List[int]]:
         """For each moment the requests of each user, as bits."""
         self.write("asked/dump", b"".join(record_text(b"%05d" % number, it) for number, it in enumerate(moments)))
-        with Session(find_program(None), os.fsencode(self.path("asked"))) as session:
+        with Session(LINUX.find(), os.fsencode(self.path("asked"))) as session:
             rows = [int(line[:2], 16) for line in session.ask_accepted(b"index").lines()]
         users = len(rows) // len(moments)
         return [rows[k : k + users] for k in range(0, len(rows), users)]

@@ -13,7 +13,8 @@ from common import COMMANDS, HERE, Case
 sys.path.insert(0, COMMANDS)
 
 from facl_commands.ask import manual  # noqa: E402
-from facl_commands.program.session import Session, find_program  # noqa: E402
+from facl_commands.base.programs import LINUX  # noqa: E402
+from facl_commands.program.session import Session  # noqa: E402
 
 REPOSITORY = os.path.join(COMMANDS, "..")
 SHARE = os.fsencode(os.path.join(HERE, "snapshots", "share"))
@@ -89,7 +90,7 @@ def words_of(text: str) -> str:
 
 class Messages(Case):
     def test_each_line_gives_its_message(self) -> None:
-        with Session(find_program(None), SHARE) as session:
+        with Session(LINUX.find(), SHARE) as session:
             for line, message in MESSAGES.items():
                 with self.subTest(line[:60]):
                     self.assertEqual(session.ask(line + b"\n").messages, [message])
@@ -113,7 +114,7 @@ class Messages(Case):
             self.assertTrue(literal in text or literal == "mask:: missing", literal)
 
     def test_the_end_of_a_run(self) -> None:
-        program = find_program(None)
+        program = LINUX.find()
         self.write("rows", b"root:x:0\n")
         rows: List[Tuple[List[str], bytes]] = [
             ([], b""), (["--frob"], b"facl: usage\n"), (["--passwd", "absent"], b"facl: absent: cannot read\n"),
@@ -148,7 +149,7 @@ class Notes(unittest.TestCase):
         self.assertEqual(sides, ["There", "Here"] * (len(sides) // 2))
 
     def test_what_is_left_out(self) -> None:
-        with Session(find_program(None), SHARE) as session:
+        with Session(LINUX.find(), SHARE) as session:
             for line in LEFT_OUT:
                 self.assertEqual((line, session.ask(line + b"\n").messages), (line, [line.split()[0] + b": usage"]))
             for tool in NO_TOOLS:
@@ -162,7 +163,7 @@ class Notes(unittest.TestCase):
                 (b"setfacl -x m -m u:ben:r srv/share/two\ngetfacl -c srv/share/two", b"mask::r--\n"),
                 (b"chacl u::6,g::4,o::0 srv/share/two\nchacl -l srv/share/two", b"[u::rw-,g::r--,o::---]\n"),
                 (b"creat --user=guest --mode=0600 srv/share/drafts/new\ncan guest srv/share/drafts/new", b"rw-\n"))
-        with Session(find_program(None), SHARE) as session:
+        with Session(LINUX.find(), SHARE) as session:
             for lines, answer in rows:
                 self.assertIn(answer, b"".join(session.ask(line + b"\n").output.read() for line in lines.split(b"\n")))
 

@@ -17,6 +17,7 @@ from common import COMMANDS, Case, outside_the_gate
 sys.path.insert(0, COMMANDS)
 
 from facl_commands.base.names import path_order, script_word, write_name  # noqa: E402
+from facl_commands.base.programs import LINUX  # noqa: E402
 from facl_commands.model.people import People  # noqa: E402
 from facl_commands.model.records import Files, read_listing  # noqa: E402
 from facl_commands.model.snapshot import Snapshot, read_snapshot  # noqa: E402
@@ -24,7 +25,7 @@ from facl_commands.plan import chown  # noqa: E402
 from facl_commands.plan.hard_links import Links  # noqa: E402
 from facl_commands.program import tools  # noqa: E402
 from facl_commands.program.scripts import read_script  # noqa: E402
-from facl_commands.program.session import Session, find_program  # noqa: E402
+from facl_commands.program.session import Session  # noqa: E402
 
 
 class Run:
@@ -32,7 +33,7 @@ class Run:
 
     def __init__(self, folder: str) -> None:
         self.snapshot: Snapshot = read_snapshot(os.fsencode(folder))
-        self.session = Session(find_program(None), os.fsencode(folder))
+        self.session = Session(LINUX.find(), os.fsencode(folder))
         self.people = People(self.snapshot.passwd, self.snapshot.group)
         self.links = Links(self.snapshot.links, self.files())
 

@@ -17,7 +17,8 @@ from examples import read_lines
 sys.path.insert(0, COMMANDS)
 
 from facl_commands.ask import manual  # noqa: E402
-from facl_commands.program.session import Session, find_program  # noqa: E402
+from facl_commands.base.programs import ACL5  # noqa: E402
+from facl_commands.program.session import Session  # noqa: E402
 
 PASSWD = b"lisa:x:1001:100::/:\njoe:x:1002:200::/:\ndaemon:x:1:1::/:\n"
 GROUP = b"staff:x:100:\nusers:x:200:\ndaemon:x:1:\n"
@@ -65,7 +66,7 @@ class Lines(Case):
     def messages(self, line: str) -> List[bytes]:
         """Those of a line in a session of its own; a text gives a user something."""
         text = "\nu:lisa:r\n.\n" if re.search(r" -( |$)", line) else "\n"
-        with Session(find_program(None), os.fsencode(self.path("small"))) as session:
+        with Session(ACL5.find(), os.fsencode(self.path("small"))) as session:
             return session.ask((line + text).encode()).messages
 
     def test_usage(self) -> None:
@@ -81,7 +82,7 @@ class Lines(Case):
         rows = [line for line, _ in tagged(".SS Where the real tools", ".SS Left out")]
         self.assertEqual(rows, list(DIFFERENCES))
         for row, (lines, answer) in DIFFERENCES.items():
-            with Session(find_program(None), os.fsencode(self.path("small"))) as session:
+            with Session(ACL5.find(), os.fsencode(self.path("small"))) as session:
                 found = session.ask(lines.replace("|", "\n").encode() + b"\n")
                 messages = [re.sub(rb"^line \d+: ", b"", it) + b"\n" for it in found.messages]
                 printed = (found.output.read() + b"".join(messages)).decode().replace("\n", "|")

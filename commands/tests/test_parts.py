@@ -14,10 +14,11 @@ sys.path.insert(0, COMMANDS)
 
 from facl_commands.base import names, user_tools  # noqa: E402
 from facl_commands.base.messages import Failure  # noqa: E402
+from facl_commands.base.programs import LINUX  # noqa: E402
 from facl_commands.model import entries, people, records, superuser  # noqa: E402
 from facl_commands.plan import hard_links  # noqa: E402
 from facl_commands.program import scripts, tools  # noqa: E402
-from facl_commands.program.session import Session, find_program  # noqa: E402
+from facl_commands.program.session import Session  # noqa: E402
 
 
 class Names(unittest.TestCase):
@@ -97,7 +98,7 @@ class Scripts(Case):
 
     def check_messages(self, script: bytes) -> None:
         folder = os.path.join(HERE, "snapshots", "share")
-        words = [find_program(None), "--passwd", "passwd", "--group", "group", "--dump", "dump"]
+        words = [LINUX.find(), "--passwd", "passwd", "--group", "group", "--dump", "dump"]
         whole = subprocess.run(words, input=script, cwd=folder, capture_output=True, check=False)
         found, printed = b"", b""
         with Session(words[0], os.fsencode(folder)) as session:

@@ -16,10 +16,11 @@ from common import COMMANDS, Case, Done, restore_signals
 sys.path.insert(0, COMMANDS)
 
 from facl_commands.base.names import path_word  # noqa: E402
+from facl_commands.base.programs import LINUX  # noqa: E402
 from facl_commands.model.records import File, write_record  # noqa: E402
 from facl_commands.plan.hard_links import Links, directory_above, question  # noqa: E402
 from facl_commands.program.scripts import LINE_LIMIT, read_script  # noqa: E402
-from facl_commands.program.session import Session, find_program, parts_of  # noqa: E402
+from facl_commands.program.session import Session, parts_of  # noqa: E402
 
 WRITTEN = b"before.plan: is written; next: facl-apply before.plan\n"
 REQUESTS = [b"--x", b"-w-", b"-wx", b"r--", b"r-x", b"rw-", b"rwx"]
@@ -137,7 +138,7 @@ class Reports(Case):
             for option in ("", "--reach"):
                 done = self.plan(script, "--full", "--with-root", option or "--file-alone")
                 rows = [line.split(b"\t") for line in done.out.splitlines() if b"\t->\t" in line]
-                with Session(find_program(None), os.fsencode(self.path("before"))) as session:
+                with Session(LINUX.find(), os.fsencode(self.path("before"))) as session:
                     session.ask(script)
                     printed = list(session.ask_accepted(b"changes " + option.encode()).lines())
                 found = [b" ".join([user, word, b",".join(it for it in REQUESTS if it in more - less), file])
@@ -337,7 +338,7 @@ class ManyHardLinks(Case):
         records += b"".join(write_record(it, File(False, body)) for it in names)
         self.write("before/dump", self.read("before/dump") + records)
         self.write("before/links", b"\n".join(b"".join(b"/%s\n" % it for it in names) for names in self.sets))
-        self.write("keeps", b'#!/bin/sh\ntee ../sent | "%s" "$@"\n' % os.fsencode(find_program(None)))
+        self.write("keeps", b'#!/bin/sh\ntee ../sent | "%s" "$@"\n' % os.fsencode(LINUX.find()))
         os.chmod(self.path("keeps"), 0o755)
 
     def planned(self, script: bytes) -> bytes:
@@ -714,7 +715,7 @@ class BadInput(Case):
         self.assertEqual(sorted(os.listdir(self.folder)), ["before", "before.plan", "before.plan.1", "before.plan.2", "edits"])
 
     def test_the_program_has_a_small_environment(self) -> None:
-        self.write("shows", b'#!/bin/sh\nenv >../variables\nexec "%s" "$@"\n' % os.fsencode(find_program(None)))
+        self.write("shows", b'#!/bin/sh\nenv >../variables\nexec "%s" "$@"\n' % os.fsencode(LINUX.find()))
         os.chmod(self.path("shows"), 0o755)
         self.write("edits", b"chmod 600 srv/share/one\n")
         done = self.run_command("facl-plan", ["--program", "./shows", "before", "edits"],

@@ -17,7 +17,8 @@ from page_data import Node, nodes_of, read_data
 sys.path.insert(0, COMMANDS)
 
 from facl_commands.base.names import script_word  # noqa: E402
-from facl_commands.program.session import Session, find_program  # noqa: E402
+from facl_commands.base.programs import LINUX  # noqa: E402
+from facl_commands.program.session import Session  # noqa: E402
 
 # Rows of passwd: two of one id, a name of digits alone, one with a blank, and one that is no UTF-8.
 USERS = [b"root:x:0:0:::", b"ines:x:1001:100:::", b"ben:x:1002:100:::", b"twin:x:1002:200:::", b"77:x:1005:300:::", b"jo x:x:1006:400:::",
@@ -112,7 +113,7 @@ class Random(Case):
     def edits(self, chance: random.Random, paths: List[str]) -> None:
         """Writes a script of random edits that are all accepted."""
         lines: List[bytes] = []
-        with Session(find_program(None), os.fsencode(self.path("before"))) as session:
+        with Session(LINUX.find(), os.fsencode(self.path("before"))) as session:
             for edit in chance.sample(EDITS, 6):
                 line = edit % script_word(chance.choice(paths).replace("'", "\\047").encode()) if b"%s" in edit else edit
                 if line.split() != [b"rm", b"-r", b"'/'"] and not session.ask(line + b"\n").messages:
@@ -125,7 +126,7 @@ class Random(Case):
             paths = self.snapshot(chance)
             self.edits(chance, paths)
             data = self.page("edits")
-            with self.subTest(seed), Session(find_program(None), os.fsencode(self.path("before"))) as session:
+            with self.subTest(seed), Session(LINUX.find(), os.fsencode(self.path("before"))) as session:
                 self.assertEqual(self.shown(data, True), self.asked(session))
                 session.ask(self.read("edits"))
                 self.assertEqual(self.shown(data, False), self.asked(session))
@@ -145,7 +146,7 @@ class Random(Case):
             self.page()
             words = ["node", os.path.join(HERE, "page.js"), self.path("page.html")]
             alone, along = json.loads(subprocess.run(words, capture_output=True, check=True).stdout)
-            with self.subTest(seed), Session(find_program(None), os.fsencode(self.path("before"))) as session:
+            with self.subTest(seed), Session(LINUX.find(), os.fsencode(self.path("before"))) as session:
                 self.assertEqual(sorted(alone), sorted(path.rstrip("/") or "/" for path in paths))
                 rights: Dict[Key, str] = {}
                 for path in alone:

@@ -24,11 +24,12 @@ sys.path.insert(0, COMMANDS)
 from facl_commands.base.messages import Failure  # noqa: E402
 from facl_commands.base.names import path_order, write_name  # noqa: E402
 from facl_commands.base.new_file import NewFile  # noqa: E402
+from facl_commands.base.programs import LINUX  # noqa: E402
 from facl_commands.model.label_answers import LabelAnswers  # noqa: E402
 from facl_commands.page import columns as page_columns  # noqa: E402
 from facl_commands.page import frame as page_html  # noqa: E402
 from facl_commands.page import tree as page_tree  # noqa: E402
-from facl_commands.program.session import OutputSlice, Session, find_program  # noqa: E402
+from facl_commands.program.session import OutputSlice, Session  # noqa: E402
 
 HOSTILE = [b"<script>alert(1)", b"<!--", b"</title><img src=x onerror=alert(1)>", b"&amp;", b"\\033[31m", b"\\351", b"\\342\\200\\250",
            b"\\342\\200\\256x", b"{{7*7}}", b"'\"`", b"c\\012d"]
@@ -48,7 +49,7 @@ class Report(Case):
     def test_rights_are_those_of_the_program(self) -> None:
         _, data = self.report()
         nodes, places = nodes_of(data), places_of(data)
-        with Session(find_program(None), os.fsencode(self.path("before"))) as session:
+        with Session(LINUX.find(), os.fsencode(self.path("before"))) as session:
             for user in ("root", "ines", "ben", "mara", "guest"):
                 for request in range(8):
                     for option, is_reached in ((b"", False), (b"--reach ", True)):

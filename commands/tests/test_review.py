@@ -17,7 +17,8 @@ from pdf_text import pages_of
 sys.path.insert(0, COMMANDS)
 
 from facl_commands.base.names import read_name  # noqa: E402
-from facl_commands.program.session import Session, find_program  # noqa: E402
+from facl_commands.base.programs import LINUX  # noqa: E402
+from facl_commands.program.session import Session  # noqa: E402
 
 FOLDER = "srv/finance"
 LOW_CONTRAST = Path(HERE, "contrast.js").read_text(encoding="utf-8")
@@ -45,7 +46,7 @@ class Review(FirmCase):
             data = self.page(*words)
             people = {it["name"]: it for it in data["people"]}
             self.assertEqual(list(people), ["everybody else", "anna", "bert", "carla", "dirk", "xaver"])
-            with Session(find_program(None), os.fsencode(self.path("firm"))) as session:
+            with Session(LINUX.find(), os.fsencode(self.path("firm"))) as session:
                 for key, request in (("reads", b"r"), ("changes", b"w")):
                     lines = session.ask_accepted(b"below %s%s srv/finance" % (option, request)).read().decode().splitlines()
                     wanted = {line.split(" ")[1]: int(line.split(" ")[0]) for line in lines if line.split(" ")[1] != "root"}
@@ -137,7 +138,7 @@ class InBrowser(FirmCase):
 
     def changed(self, snapshot: str, lines: List[bytes]) -> Set[Tuple[str, str]]:
         """What the program changes by lines: file and entry of each that is gone; nothing else may differ."""
-        with Session(find_program(None), os.fsencode(snapshot)) as session:
+        with Session(LINUX.find(), os.fsencode(snapshot)) as session:
             before = entries_in(session)
             for line in lines:
                 self.assertEqual(session.ask(line + b"\n").messages, [], line)
@@ -148,7 +149,7 @@ class InBrowser(FirmCase):
 
     def wanted(self, data: Data, ticked: List[Tuple[int, int]], snapshot: str) -> Set[Tuple[str, str]]:
         """The entries that have these boxes, with their files as the program prints them."""
-        with Session(find_program(None), os.fsencode(snapshot)) as session:
+        with Session(LINUX.find(), os.fsencode(snapshot)) as session:
             names = list(entries_in(session))
         files = [name for name in names if name.startswith("# file: " + data["files"]["names"][0])]
         self.assertEqual(len(files), len(data["files"]["lists"]))

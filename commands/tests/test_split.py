@@ -15,8 +15,8 @@ sys.path.insert(0, COMMANDS)
 
 from facl_commands.base.messages import Command, Failure  # noqa: E402
 from facl_commands.base.names import sorting_key  # noqa: E402
+from facl_commands.base.programs import LINUX  # noqa: E402
 from facl_commands.model import sources, split_tree  # noqa: E402
-from facl_commands.program.session import find_program  # noqa: E402
 from facl_commands.questions.audit import command as audit  # noqa: E402
 from facl_commands.questions.check import command as check  # noqa: E402
 from facl_commands.questions.check.report import json_of as json_of_rules  # noqa: E402
@@ -121,7 +121,7 @@ class SplitCase(Case):
     def audited(self, name: str) -> Tuple[object, ...]:
         given = audit.parse(["--json", self.path(name)])
         folder = os.fsencode(self.path(name))
-        found = audit.report_of(given, sources.Source(folder, folder, False), find_program(None))
+        found = audit.report_of(given, sources.Source(folder, folder, False), LINUX.find())
         return (found.files, found.folders, found.is_whole, {kind: sorted(its) for kind, its in found.findings.items()},
                 [kind.name for kind in found.kinds()])
 
@@ -130,7 +130,7 @@ class SplitCase(Case):
         os.chmod(self.path("rules"), 0o600)
         given = check.parse(["--json", self.path(name), self.path("rules")])
         folder = os.fsencode(self.path(name))
-        found = check.report_of(given, sources.Source(folder, folder, False), find_program(None))[0]
+        found = check.report_of(given, sources.Source(folder, folder, False), LINUX.find())[0]
         return {key: value for key, value in json_of_rules(found).items() if key != "snapshot"}
 
 

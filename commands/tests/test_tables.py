@@ -18,9 +18,10 @@ sys.path.insert(0, COMMANDS)
 
 from facl_commands.base import names, tables  # noqa: E402
 from facl_commands.base.messages import Failure  # noqa: E402
+from facl_commands.base.programs import LINUX  # noqa: E402
 from facl_commands.base.tables import Column  # noqa: E402
 from facl_commands.model import choice  # noqa: E402
-from facl_commands.program.session import Session, find_program  # noqa: E402
+from facl_commands.program.session import Session  # noqa: E402
 
 PASSWD = b"".join(b"%s:x:%d:100::/:\n" % row for row in (
     (b"root", 0), (b"toor", 0), (b"daemon", 1), (b"svc", 999), (b"ann", 1000), (b"bob", 59999), (b"home", 60513), (b"dyn", 60514), (b"old", 65533),
@@ -119,7 +120,7 @@ class Users(unittest.TestCase):
 
 class Folders(Case):
     def folders(self, snapshot: str, *words: bytes) -> List[bytes]:
-        with Session(find_program(None), os.fsencode(os.path.join(HERE, "snapshots", snapshot))) as session:
+        with Session(LINUX.find(), os.fsencode(os.path.join(HERE, "snapshots", snapshot))) as session:
             return choice.folders_of(session, map(os.fsdecode, words))
 
     def test_folders_as_a_person_writes_them(self) -> None:
@@ -138,7 +139,7 @@ class Folders(Case):
 
     def test_folders_that_a_snapshot_was_made_of(self) -> None:
         for snapshot, wanted in (("project", [b"srv/project"]), ("recipes", [b"srv"]), ("share", [b""])):
-            with Session(find_program(None), os.fsencode(os.path.join(HERE, "snapshots", snapshot))) as session:
+            with Session(LINUX.find(), os.fsencode(os.path.join(HERE, "snapshots", snapshot))) as session:
                 self.assertEqual(choice.folders_made_of(session), wanted)
 
 

@@ -10,7 +10,7 @@ from common import COMMANDS, Case
 
 sys.path.insert(0, COMMANDS)
 
-from facl_commands.program.session import find_program  # noqa: E402
+from facl_commands.base.programs import LINUX  # noqa: E402
 
 # Runs the program as it is, but where it is asked for the bytes of lists: there `bodies` changes the records that it is given,
 # and `answers` what it prints. Else `listings` changes the records.
@@ -52,7 +52,7 @@ class Tampered(Case):
 
     def planned_by(self, changes: str, edit: bytes = EDIT) -> int:
         """Plans with a stand-in; the status, where nothing else is said than that the bytes are others."""
-        text = STAND_IN % {"python": sys.executable, "changes": changes, "program": find_program(None), "folder": self.path("work")}
+        text = STAND_IN % {"python": sys.executable, "changes": changes, "program": LINUX.find(), "folder": self.path("work")}
         self.write("stand_in", text.encode())
         os.chmod(self.path("stand_in"), 0o755)
         done = self.plan(edit, "--program", "./stand_in")

@@ -14,6 +14,7 @@ from typing import Callable, Dict, Iterable, Iterator, List, NoReturn, Optional
 from ..base.environment import environment_of_called
 from ..base.messages import SIGNALS, Command, Failure, parser_of, reason
 from ..base.names import shown
+from ..base.programs import find_program
 from ..base.trusted import MOST_WRITTEN, too_large
 from ..model import overview, sources
 from ..model.marks import NO_MARKS, marks_of
@@ -22,7 +23,7 @@ from ..model.sources import Source
 from ..program.answering import answer_unit, below_heading, write_messages
 from ..program.protocol import ANSWERED, REFUSED, is_refused
 from ..program.scripts import Unit, lines_of_file, open_script, read_script, read_text, read_units
-from ..program.session import Session, find_program
+from ..program.session import Session
 from .parts.runs import SECONDS
 from .stops import marked
 
@@ -215,7 +216,7 @@ def dim(line: bytes) -> bytes:
     return b"\x1b[2m" + line.rstrip(b"\n") + b"\x1b[0m\n"
 
 
-def run_prompt(command: Command, program: str, source: Source, with_root: bool) -> int:
+def run_prompt(command: Command, program: str, source: Source, given: argparse.Namespace) -> int:
     """Answers a person's lines. Only a prompt needs these parts of the package."""
     from ..model import meta
     from ..model.superuser import Superusers, ids_in
@@ -231,14 +232,14 @@ def run_prompt(command: Command, program: str, source: Source, with_root: bool) 
         command.flush()
 
     take_signals()
-    superusers = Superusers({} if with_root else ids_in(found.passwd))
+    superusers = Superusers({} if given.with_root else ids_in(found.passwd))
     prompt = Prompt(lambda: Session(program, source.folder), completer.page, completer, out, dim, superusers,
                     marks_of(source.folder))
     with kept_terminal(), contextlib.closing(prompt):
         refuse_early_end(prompt.session)
         name = meta.named(source.shown, meta.meta_of(source.folder))
         out(shown(overview.summary(found, name)) + b"; `help` lists the tools, control-D ends\n")
-        overview.say_notices(command, source, has_masks=False)
+        overview.say_notices(command, source, given.acl5)
         for warning in overview.warnings(found):
             command.say(warning)
         if terminal.find_toolkit() is None:
@@ -250,22 +251,21 @@ def run_prompt(command: Command, program: str, source: Source, with_root: bool) 
 def answer_one(command: Command, given: argparse.Namespace, source: Source) -> int:
     """Answers over one snapshot."""
     os.close(check_texts(source.folder))
-    program = find_program(given.program)
+    program = find_program(given)
     if given.part:
         from .parts import worker
 
-        return worker.write_part(command, program, source.folder, read_text("-"), given.records,
-                                           list(map(os.fsencode, given.shared)))
+        return worker.write_part(command, program, source.folder, read_text("-"), given)
     if not given.scripts and os.isatty(0) and os.isatty(1):
-        return run_prompt(command, program, source, given.with_root)
+        return run_prompt(command, program, source, given)
     if len(given.scripts) > 1 or given.headings:
-        overview.say_notices(command, source)
+        overview.say_notices(command, source, given.acl5)
         units = [unit for name in given.scripts or ["-"] for unit in read_text(name).units()]
         return answer_units(command, program, source.folder, units, given.headings)
     name = None if given.scripts in ([], ["-"]) else os.fsencode(given.scripts[0])
     if name is not None:
         take_script(given.scripts[0])
-    overview.say_notices(command, source)
+    overview.say_notices(command, source, given.acl5)
     if os.isatty(1):
         return answer_input(command, program, source.folder, name)
     if name is not None or os.isatty(2):

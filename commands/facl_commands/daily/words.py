@@ -9,7 +9,7 @@ from ..base.messages import Failure
 
 USAGE = """\
 usage: facl-daily [--folder DIR] [--keep COUNT] [--rules FILE] [--accepted FILE] [--fail-on WEIGHT] [--mail ADDRESS]
-                  [--split COUNT] [--snapshot OPTIONS] FOLDER..
+                  [--split COUNT] [--snapshot OPTIONS] [--acl5] FOLDER..
 """
 HELP = USAGE + """
 Takes a snapshot of the FOLDERs by facl-snapshot, as DIR/YYYY-MM-DD, and says what there is to look at: what differs from
@@ -31,6 +31,7 @@ prints nothing, so that cron sends no mail. Run it as root, once a day.
   --snapshot OPTIONS
                     options of facl-snapshot, with blanks between them: --snapshot '--exclude *.tmp --cross-file-systems'.
                     A file in them has its name from the root on
+  --acl5            what is said is by acl(5)'s check, and not by what Linux grants
   --help            prints this
   --version         prints the version of facl
 
@@ -46,6 +47,7 @@ The exit status is 0 where there is nothing to look at, 1 where there is, and 2 
 something could not be asked or sent; that is said too. A signal gives 128 and its number.
 """
 OPTIONS = ("--folder", "--keep", "--rules", "--accepted", "--fail-on", "--mail", "--split", "--snapshot")
+ACL5 = "--acl5"
 WEIGHTS = ("high", "middle", "low", "none")
 ADDRESS = re.compile(r"[A-Za-z0-9@._+][A-Za-z0-9@._+-]*")
 HINT = b"; facl-daily --help prints the options"
@@ -60,6 +62,7 @@ class Words(NamedTuple):
     address: str
     options: List[str]  # Of facl-snapshot.
     folders: List[str]
+    judge: List[str]  # The option that says by which judge; empty without it.
 
 
 def address_of(words: List[str]) -> str:
@@ -76,6 +79,9 @@ def read_options(words: List[str]) -> "tuple[dict[str, str], list[str]]":
         option, sign, value = rest.pop(0).partition("=")
         if option == "--" and not sign:
             break
+        if option == ACL5 and not sign:
+            values[ACL5] = ACL5
+            continue
         if option not in OPTIONS:
             raise Failure(os.fsencode(option) + b": is no option" + HINT)
         if not sign:
@@ -119,4 +125,4 @@ def read_words(words: List[str]) -> Words:
     rules, accepted = (whole(values.get(it, "")) for it in ("--rules", "--accepted"))
     options = [*values.get("--snapshot", "").split(), *(["--split", values["--split"]] if "--split" in values else [])]
     return Words(whole(values["--folder"]), int(values["--keep"]), rules, accepted, values["--fail-on"],
-                 values.get("--mail", ""), options, folders)
+                 values.get("--mail", ""), options, folders, [ACL5] * (ACL5 in values))

@@ -61,9 +61,13 @@ class ReadRecord(NamedTuple):
         """The permissions in the second digit of the mode."""
         return self.permissions(MASK if self.has_mask() else GROUP)
 
+    def has_empty_mask(self) -> bool:
+        """Whether Linux looks at no entry of a user or a group."""
+        return self.has_mask() and self.permissions(MASK) == NOTHING
+
     def has_open_empty_mask(self) -> bool:
-        """Whether Linux grants named users and groups what others have, as the mask is empty."""
-        return self.has_mask() and self.permissions(MASK) == NOTHING and self.permissions(OTHER) != NOTHING
+        """Whether Linux grants what others have to whom entries name, as the mask is empty."""
+        return self.has_empty_mask() and self.permissions(OTHER) != NOTHING and any(it.is_named() for it in self.access)
 
     def mentioned_groups(self) -> FrozenSet[int]:
         """The ids of the groups that decide on a user: the owning one, and those of entries of the access list."""

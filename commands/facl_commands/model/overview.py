@@ -13,7 +13,7 @@ from ..base.messages import Command, counted
 from ..base.names import live_name
 from ..base.trusted import read_trusted
 from ..program.protocol import (
-    EMPTY_MASK, EMPTY_MASK_LINE, FILE_HEAD, FREE_FILE_LINE, GROUP_ID_LINE, OPEN_OTHERS_LINE, USER_ID_LINE,
+    EMPTY_MASK, EMPTY_MASK_LINE, FILE_HEAD, FREE_FILE_LINE, GROUP_ID_LINE, NAMED_LINE, OPEN_OTHERS_LINE, USER_ID_LINE,
 )
 from . import marks, meta, split_tree
 from . import sources as source_texts
@@ -26,8 +26,8 @@ GROUP_IDS = re.compile(GROUP_ID_LINE, re.MULTILINE)
 USER_IDS = re.compile(USER_ID_LINE, re.MULTILINE)
 EMPTY_MASKS_OF_LISTS = re.compile(EMPTY_MASK_LINE, re.MULTILINE)
 OTHERS_WITH_SOMETHING = re.compile(OPEN_OTHERS_LINE, re.MULTILINE)
-EMPTY_MASKS = (b"lists with an empty mask whose others have something, which Linux grants to named users and groups "
-               b"too, and facl does not")
+NAMED_ENTRY = re.compile(NAMED_LINE, re.MULTILINE)
+JUDGED_OTHERWISE = b"lists by which Linux grants otherwise than acl(5), as their mask is empty"
 
 
 class LoadedTexts(NamedTuple):
@@ -52,14 +52,16 @@ def summary(texts: LoadedTexts, name: bytes) -> bytes:
     return b"%s: %s, %s, %s" % (name, counted(users, "user"), counted(groups, "group"), counted(files, "file"))
 
 
-def open_empty_masks(dump: bytes) -> Iterator[bytes]:
-    """The files that have an empty mask, and something for others."""
+def judged_otherwise(dump: bytes) -> Iterator[bytes]:
+    """The files by whose lists Linux grants otherwise than acl(5): their mask is empty, others have something, and an entry names
+    somebody."""
     if EMPTY_MASK not in dump:  # Which is quicker to see.
         return
     for mask in EMPTY_MASKS_OF_LISTS.finditer(dump):
         start = dump.rfind(FILE_HEAD, 0, mask.start())
         end = dump.find(b"\n\n", mask.end())
-        if start >= 0 and OTHERS_WITH_SOMETHING.search(dump[start : end if end >= 0 else len(dump)]):
+        record = dump[max(start, 0) : end if end >= 0 else len(dump)]
+        if start >= 0 and OTHERS_WITH_SOMETHING.search(record) and NAMED_ENTRY.search(record):
             yield dump[start + len(FILE_HEAD) : dump.index(b"\n", start)]
 
 
@@ -106,7 +108,6 @@ def warnings(texts: LoadedTexts) -> Iterator[bytes]:
     found = [
         (b"names of files that have another name in the snapshot too (see links)",
          [live_name(path) for names in read_links(texts.links) for path in names]),
-        (EMPTY_MASKS, list(open_empty_masks(texts.dump))),
         (b"ids in the dump without a row in passwd or group", ids_without_row(texts)),
         (b"members of groups without a row in passwd", members_without_row(texts)),
         (b"users with an id that another user has too, as ID NAME", users_with_one_id(texts)),
@@ -166,9 +167,9 @@ def torn_warnings(texts: LoadedTexts, source: Source) -> Iterator[bytes]:
         yield b"warning: " + (text if source.is_made else os.path.join(source.shown, text))
 
 
-def say_notices(command: Command, source: Source, has_masks: bool = True, is_alone: bool = True) -> None:
-    """What answers over this snapshot cannot tell, and the warning of empty masks, where there are any. Answers by lists alone
-    do not tell what Linux looks at beside them."""
+def say_notices(command: Command, source: Source, is_acl5: bool, is_alone: bool = True) -> None:
+    """What answers over this snapshot cannot tell; where they are by acl(5), on how many lists those of Linux are others. Answers
+    by lists alone do not tell what Linux looks at beside them."""
     names: Dict[bytes, None] = {}  # A directory can be in several parts of a snapshot.
     for folder in split_tree.snapshots_in(source.folder):
         part = source if folder == source.folder else Source(folder, folder, False)
@@ -177,8 +178,8 @@ def say_notices(command: Command, source: Source, has_masks: bool = True, is_alo
             command.say(part.shown + b": " + text if not text.startswith(b"warning: ") else text)
         for text in (*torn_warnings(found, part), *(part.shown + b": " + it for it in marks.not_judged(folder))):
             command.say(text)
-        names.update(dict.fromkeys(open_empty_masks(found.dump) if has_masks else ()))
+        names.update(dict.fromkeys(judged_otherwise(found.dump) if is_acl5 else ()))
     if names:
-        command.say(warning_of(EMPTY_MASKS, [*names]))
+        command.say(warning_of(JUDGED_OTHERWISE, [*names]))
     for text in marks.alone(marks.marks_of(source.folder)) if is_alone else ():
         command.say(source.shown + b": " + text)

@@ -17,6 +17,7 @@ from ..base import beside, scratch
 from ..base.environment import environment_of_called
 from ..base.messages import Failure, reason
 from ..base.names import highest, path_word, read_name, read_path
+from ..base.programs import add_program, program_words
 from ..base.trusted import open_file, read_trusted
 from ..program.protocol import FILE_HEAD, FREE_FILE_LINE, LIST, LIST_ALL, lacks_file
 from ..program.session import OutputSlice, Session, parts_of
@@ -43,7 +44,7 @@ class Source(NamedTuple):
 
 def add_source(parser: argparse.ArgumentParser, words: List[str]) -> None:
     """Takes SNAPSHOT, or --dump FILE in its place; and which program is to answer."""
-    parser.add_argument("--program", metavar="FILE", help="the program facl; without it $FACL, or facl on the path")
+    add_program(parser)
     parser.add_argument("--dump", metavar="FILE", help="a file of getfacl -R, in place of SNAPSHOT")
     parser.add_argument("--passwd", metavar="FILE", help="with --dump: the users; without it those of the system")
     parser.add_argument("--group", metavar="FILE", dest="group_file",
@@ -57,8 +58,8 @@ def add_source(parser: argparse.ArgumentParser, words: List[str]) -> None:
 
 def source_words(given: argparse.Namespace) -> List[str]:
     """The words that gave it, for another command over the same."""
-    options = (("--program", given.program), ("--dump", given.dump), ("--passwd", given.passwd), ("--group", given.group_file))
-    words = [word for option, value in options if value is not None for word in (option, value)]
+    options = (("--dump", given.dump), ("--passwd", given.passwd), ("--group", given.group_file))
+    words = [*program_words(given), *(word for option, value in options if value is not None for word in (option, value))]
     return words if given.dump is not None else [*words, given.snapshot]
 
 

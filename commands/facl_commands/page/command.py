@@ -7,13 +7,14 @@ from typing import TYPE_CHECKING, Iterator, List, Optional
 
 from ..base.messages import Command, Failure, counted, parser_of
 from ..base.new_file import NewFile
+from ..base.programs import find_program
 from ..model import overview, sources
 from ..model.marks import marks_of
 from ..model.records import File, Files
 from ..model.snapshot import read_snapshot
 from ..model.sources import Source
 from ..program.scripts import Unit, read_text
-from ..program.session import Session, find_program
+from ..program.session import Session
 from . import review
 from .data import data_of, list_files
 from .frame import page_of
@@ -73,9 +74,9 @@ def answer_scripts(command: Command, run: Replay, units: List[Unit]) -> int:
 def page_over(command: Command, given: argparse.Namespace, source: Source) -> Optional[bytes]:
     """The page; None where lines were refused."""
     snapshot = read_snapshot(source.folder, needs_links=False)
-    program = find_program(given.program)
+    program = find_program(given)
     units = [unit for name in given.scripts for unit in read_text(name).units()]
-    overview.say_notices(command, source, is_alone=False)
+    overview.say_notices(command, source, given.acl5, is_alone=False)
     tree = PageTree(marks_of(snapshot.folder))
     linked: Files = {}
     with Session(program, snapshot.folder) as session:

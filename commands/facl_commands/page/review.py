@@ -17,6 +17,7 @@ from ..base.accounts import PEOPLE
 from ..base.messages import Command
 from ..base.names import directories_above, parent_of, path_word, shell_word, shown, write_name
 from ..base.numbered import Numbered
+from ..base.programs import find_program
 from ..base.trusted import read_trusted
 from ..model import choice, meta, overview, sources
 from ..model.entries import GROUP, MASK, NOTHING, OTHER, USER, Entry, NamesOfIds, entries_of, read_record
@@ -25,7 +26,7 @@ from ..model.label_answers import LabelAnswers, PeopleTexts, ask_labels
 from ..model.snapshot import check_texts
 from ..model.sources import Source
 from ..program.protocol import LIST_CUT, LIST_EFFECTIVE
-from ..program.session import Session, find_program
+from ..program.session import Session
 from .frame import page_of
 from .tree import Labels, ListedRecord, PageTree, records_of
 
@@ -279,8 +280,8 @@ def check_options(parser: argparse.ArgumentParser, given: argparse.Namespace) ->
 
 def page_over(command: Command, given: argparse.Namespace, source: Source) -> Optional[bytes]:
     os.close(check_texts(source.folder))
-    program = find_program(given.program)
-    overview.say_notices(command, source)
+    program = find_program(given)
+    overview.say_notices(command, source, given.acl5)
     with Session(program, source.folder) as session:
         reviewed = read_reviewed(session, os.fsencode(given.folder))
         is_whole = sources.find_tops(session, source.folder) == [b""]

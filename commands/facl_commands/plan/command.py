@@ -9,6 +9,7 @@ from typing import Dict, List, Set
 
 from ..base.messages import Command, Failure, counted, parser_of
 from ..base.names import live_path, number_of, write_user
+from ..base.programs import find_program
 from ..model import label_answers, meta, overview, people, rights, sources
 from ..model.entries import read_record
 from ..model.gains import ask_gains
@@ -19,7 +20,7 @@ from ..model.superuser import superusers_among
 from ..planned import plan_folder
 from ..planned.steps import text_of
 from ..program.scripts import Script, Unit, read_text
-from ..program.session import Session, find_program
+from ..program.session import Session
 from . import chown, no_gain
 from .records_file import ask_records, work_text
 from .replay import Replay, list_below
@@ -91,7 +92,7 @@ def find_no_gain(session: Session, program: str, snapshot: Snapshot, old: Listin
 
 def answer_scripts(given: argparse.Namespace, snapshot: Snapshot, units: List[Unit], is_whole: bool = True,
                    is_full: bool = False) -> Outcome:
-    program, along_paths = find_program(given.program), not given.file_alone
+    program, along_paths = find_program(given), not given.file_alone
     changes = rights.RightsChanges([], [])
     with Session(program, snapshot.folder) as session:
         tops = sources.find_tops(session, snapshot.folder)
@@ -124,10 +125,11 @@ def say_messages(command: Command, outcome: Outcome, scripts: List[Script]) -> N
             command.say(b"warning: " + name + b": has carriage returns, each of which is a part of its word")
 
 
-def warn_of_empty_masks(command: Command, changes: ChangedPaths, outcome: Outcome) -> None:
+def warn_of_acl5(command: Command, changes: ChangedPaths, outcome: Outcome) -> None:
+    """Of the files that change those by whose lists Linux grants otherwise than acl(5)."""
     found = [outcome.name_of(path) for path in changes.changed if read_record(outcome.new[path].body).has_open_empty_mask()]
     if found:
-        command.say(overview.warning_of(overview.EMPTY_MASKS, found))
+        command.say(overview.warning_of(overview.JUDGED_OTHERWISE, found))
 
 
 def warn_of_stuck(command: Command, stuck: Dict[bytes, bytes], changes: ChangedPaths, outcome: Outcome) -> None:
@@ -253,11 +255,12 @@ def plan_over(command: Command, given: argparse.Namespace, source: sources.Sourc
     written = name if is_shown and is_whole else None
     stuck = obstacles(marks_of(snapshot.folder), changes)
     if is_shown:
-        warn_of_empty_masks(command, changes, outcome)
+        if given.acl5:
+            warn_of_acl5(command, changes, outcome)
         warn_of_stuck(command, stuck, changes, outcome)
     if written is not None:
         check_inodes(snapshot, changes)
-        files = plan_files(find_program(given.program), snapshot, scripts, outcome, changes)
+        files = plan_files(find_program(given), snapshot, scripts, outcome, changes)
         kept = plan_folder.write_plan(target, files, group)
         if kept is not None:
             command.say(b"the plan that was there is " + kept + b" now")

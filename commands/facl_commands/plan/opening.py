@@ -5,7 +5,7 @@ from typing import Iterator, List, Optional, Tuple
 
 from ..base.names import PLAIN_SHELL_WORD, path_word
 from ..base.user_tools import User
-from ..model.entries import GROUP, OTHER_KEY, OWNER_KEY, USER, Entries, entries_of, named, read_record
+from ..model.entries import GROUP, OTHER_KEY, OWNER_KEY, USER, Entries, ReadRecord, entries_of, named, read_record
 from ..model.people import Group, user_word
 from ..program.protocol import ENTRIES_OF
 from ..program.session import Session
@@ -23,13 +23,24 @@ def id_word(name: bytes, number: int) -> bytes:
     return name if is_plain else b"%d" % number
 
 
-def entry_of_group(body: bytes, group: Group, granted: bytes) -> Tuple[bytes, bytes]:
+def entry_of_group(record: ReadRecord, group: Group, granted: bytes) -> Tuple[bytes, bytes]:
     """What the entry of a group begins with, and its permissions so far, or what others have."""
-    record = read_record(body)
     if int(record.group) == group.gid:
         return b"g::", record.permissions(GROUP)
     present = named(record.access).get((GROUP, b"%d" % group.gid))
     return b"g:" + id_word(group.name, group.gid) + b":", granted if present is None else present.permissions
+
+
+def opening_of_empty_mask(record: ReadRecord, user: User, group: Optional[Group], granted: bytes) -> bytes:
+    """The same where the mask is empty: entries of users and groups count again once it is not, whichever decide so far."""
+    own = named(record.access).get((USER, b"%d" % user.uid))
+    wide = b"m::" + perms(granted + b"x")
+    if own is not None and set(granted + b"x") <= set(own.permissions):
+        return wide
+    begin, present = b"u:" + id_word(user.name, user.uid) + b":", own.permissions if own is not None else b""
+    if own is None and group is not None:
+        begin, present = entry_of_group(record, group, b"")
+    return begin + perms(present + granted + b"x") + b"," + wide
 
 
 def opening(entries: Entries, body: bytes, user: User, group: Optional[Group]) -> bytes:
@@ -39,6 +50,8 @@ def opening(entries: Entries, body: bytes, user: User, group: Optional[Group]) -
     kind, record = entries[0].key, read_record(body)
     if kind == OWNER_KEY:
         return b"u::" + perms(granted + b"x")
+    if record.has_empty_mask():
+        return opening_of_empty_mask(record, user, group, granted)
     room = record.group_class()
     wide = b"m::" + perms(room + granted + b"x")
     is_of_others = kind == OTHER_KEY
@@ -47,7 +60,7 @@ def opening(entries: Entries, body: bytes, user: User, group: Optional[Group]) -
     begin = b"u:" + id_word(user.name, user.uid) + b":"
     present = entries[0].permissions if kind[0] == USER else granted
     if group is not None and kind[0] != USER:
-        begin, present = entry_of_group(body, group, granted if is_of_others else b"")
+        begin, present = entry_of_group(record, group, granted if is_of_others else b"")
     needs_room = set(granted + b"x") - set(room) and (record.has_mask() or begin != b"g::")
     return begin + perms(present + b"x") + (b"," + wide if needs_room else b"")
 

@@ -100,6 +100,7 @@ OWNER_ENTRY, EMPTY_MASK = b"\nuser::", b"\nmask::---\n"
 # Patterns of lines of records; with re.MULTILINE.
 EMPTY_MASK_LINE = rb"^mask::---$"
 OPEN_OTHERS_LINE = rb"^other::(?!---)"
+NAMED_LINE = rb"^(?:user|group):[^:\n]+:"
 USER_ID_LINE = rb"^(?:# owner: |(?:default:)?user:)([0-9]+)(?:$|:)"
 GROUP_ID_LINE = rb"^(?:# group: |(?:default:)?group:)([0-9]+)(?:$|:)"
 ATTRIBUTE_LINES = (rb"system\.posix_acl_access=0x((?:[0-9a-f]{2})+)\n"

@@ -4,13 +4,11 @@ from __future__ import annotations
 import contextlib
 import os
 import re
-import shutil
 import subprocess
 from types import TracebackType
 from typing import IO, Callable, Iterable, Iterator, List, NamedTuple, Optional, Type
 
 from ..base import scratch
-from ..base.environment import HOME
 from ..base.messages import Failure
 from .exchange import end_program, exchange, how_it_ended, pipes_of
 from .protocol import DUMP_NOT_READ, IN_LINE, PROBE, PROBE_REFUSED, SETUP, UNKNOWN_TOOL, has_text
@@ -21,23 +19,6 @@ LINES_ROOM = 1 << 20  # Bytes of lines that are asked at once.
 FILE_LIMIT = 268_435_456  # Bytes of a text that the program loads.
 LONGEST_CAUSE = 1_000  # Bytes of the last message that are quoted.
 NUMBER = re.compile(rb"\Aline [0-9]+: ")  # The beginning of a message.
-INSTALLED = os.path.join(HOME, "..", "..", "bin", "facl")
-BUILT = os.path.join(HOME, "..", "crates", "facl_cli", "out", "facl_cli")
-
-
-def find_program(given: Optional[str]) -> str:
-    """The program: the given one, $FACL, facl on the path, or the one that is installed or built beside the
-    commands."""
-    wanted = given or os.environ.get("FACL", "")
-    if wanted:
-        found = shutil.which(wanted)
-        if found is None:
-            raise Failure(os.fsencode(wanted) + b": no such program")
-        return os.path.abspath(found)
-    found = shutil.which("facl") or shutil.which(INSTALLED) or shutil.which(BUILT)
-    if found is None:
-        raise Failure(b"the program facl is not on the path: give it by --program FILE")
-    return os.path.abspath(found)
 
 
 def lines_of(pieces: Iterable[bytes], end: bytes = b"\n", longest: Optional[int] = None) -> Iterator[bytes]:

@@ -13,7 +13,7 @@ from typing import Dict, FrozenSet, NamedTuple, Optional, Tuple, TypeVar
 
 from ..base import acl_bytes, linux
 from ..base.acl_bytes import ENTRY, GROUP, GROUP_CLASS, GROUP_OBJ, HEAD, MASK, NAMED, NO_ID, OTHER, USER, USER_OBJ
-from .runs import EMPTY_MASK, REPEATED, Whom
+from .runs import REPEATED, Whom
 
 MOST_ENTRIES = 4096  # Of a list, which the program takes.
 MOST_KEPT = 1 << 19  # Bytes of the texts that are kept.
@@ -38,7 +38,6 @@ class ListText(NamedTuple):
     lines: bytes
     users: FrozenSet[int]
     groups: FrozenSet[int]
-    has_empty_mask: bool  # And others have something.
     is_repeated: bool  # Whether it has several entries of one user or group.
 
 
@@ -75,7 +74,7 @@ def text_of(data: bytes, prefix: bytes) -> ListText:
         line = prefix + TAGS[tag] + (b"%d" % number if tag in NAMED else b"") + b":" + PERMISSIONS[bits]
         lines.append(line + (b"\t#effective:" + PERMISSIONS[bits & mask] if tag in GROUP_CLASS and bits & ~mask else b""))
     users, groups = (frozenset(number for tag, number in entries if tag == kind) for kind in (USER, GROUP))
-    return ListText(b"\n".join(lines) + b"\n", users, groups, mask == 0 < entries.get((OTHER, NO_ID), 0), is_repeated)
+    return ListText(b"\n".join(lines) + b"\n", users, groups, is_repeated)
 
 
 Bytes = TypeVar("Bytes")
@@ -114,7 +113,7 @@ class KnownTexts(Known[bytes, ListText]):
 
 
 ACCESS_TEXTS, DEFAULT_TEXTS = KnownTexts(b""), KnownTexts(b"default:")
-NO_LIST = ListText(b"", frozenset(), frozenset(), False, False)
+NO_LIST = ListText(b"", frozenset(), frozenset(), False)
 MINIMAL = [acl_bytes.minimal(mode) for mode in range(0o1000)]
 # The bytes of the owner, group and mode of a file, as a status has them, and those of its lists.
 Label = Tuple[bytes, Optional[bytes], Optional[bytes]]
@@ -144,5 +143,5 @@ def label_text(label: Label) -> LabelText:
     first = ACCESS_TEXTS[MINIMAL[mode & 0o777] if access is None else access]
     second = DEFAULT_TEXTS[default] if default else NO_LIST
     text = b"".join((b"\n# owner: %d\n# group: %d\n" % (owner, group), flags, first.lines, second.lines, b"\n"))
-    bits = EMPTY_MASK * first.has_empty_mask | REPEATED * (first.is_repeated or second.is_repeated)
+    bits = REPEATED * (first.is_repeated or second.is_repeated)
     return LabelText(text, bits, (owner, group, first.users | second.users, first.groups | second.groups))

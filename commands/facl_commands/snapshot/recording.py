@@ -11,7 +11,7 @@ from . import scope as scopes
 from .linked import LinkedNames, Linker
 from .list_texts import shown_name
 from .marking import SAID, numbers_of
-from .runs import BITS, EMPTY_MASK, IS_FOLDER, REPEATED, UNREAD, LeftOut, Run, Sums
+from .runs import BITS, IS_FOLDER, REPEATED, UNREAD, LeftOut, Run, Sums
 from .scope import MOST_BYTES
 from .walking import Walked
 from .written import Written, write_file
@@ -32,8 +32,6 @@ class RecordedFiles(NamedTuple):
         found = [
             (b"names of files that have another name in the snapshot too (see links)", sum(map(len, linked.sets)), linked.first),
             (b"files with more than one link whose other names are not in the snapshot", linked.outside, linked.first_outside),
-            (b"lists with an empty mask whose others have something, which Linux grants to named users and groups too, and "
-             b"facl does not", sums.numbers[EMPTY_MASK], sums.first.get(EMPTY_MASK, b"")),
             (b"lists with several entries of one user or group, which are recorded as one, as Linux judges by them",
              sums.numbers[REPEATED], sums.first.get(REPEATED, b"")),
             *((text, sums.numbers[BITS[kind]], sums.first.get(BITS[kind], b"")) for kind, text in SAID.items())]

@@ -9,8 +9,8 @@ from ..base import beside
 MOST_IDS = 262_144  # Of users, and of groups, that are asked for: the program takes a quarter of them.
 # What is counted of recorded files: bits, of which those of KINDS are the first ones.
 BITS = {kind: 1 << place for place, kind in enumerate(beside.KINDS)}
-SEVERAL, EMPTY_MASK, REPEATED, IS_FOLDER = (1 << place for place in range(len(beside.KINDS), len(beside.KINDS) + 4))
-ALL_BITS = (*BITS.values(), SEVERAL, EMPTY_MASK, REPEATED)
+SEVERAL, REPEATED, IS_FOLDER = (1 << place for place in range(len(beside.KINDS), len(beside.KINDS) + 3))
+ALL_BITS = (*BITS.values(), SEVERAL, REPEATED)
 # Why a name is left out: a symbolic link, by --exclude, another file system, too long; and why it could not be read.
 LINK, EXCLUDED, OTHER_SYSTEM, LONG, UNREAD = range(5)
 Whom = Tuple[int, int, FrozenSet[int], FrozenSet[int]]  # Owner and group of a file, and whom its lists name.

@@ -19,7 +19,7 @@ from ...program.protocol import ANSWERED, REFUSED
 from ...program.scripts import Unit, read_text
 from ...program.session import lines_of
 from .join import superusers_of
-from .runs import HERE, HOST, NOT_READABLE, SECONDS, Answered, Part, checked_operand, program_option, run_hosts
+from .runs import HERE, HOST, NOT_READABLE, SECONDS, Answered, Part, checked_operand, program_options, run_hosts
 
 LONGEST_LINE = 1 << 20  # Bytes; of a server's answer.
 THIS = b"localhost"  # The name of this machine, which needs no ssh.
@@ -116,13 +116,13 @@ def body(command: Command, words: List[str], given: argparse.Namespace) -> int:
     servers = read_servers([os.fsencode(word) for word in words])
     script = read_text("-")
     with scratch.folder("facl-ask.") as work:
-        outcomes = run_hosts({it.host(): [it.folder] for it in servers}, program_option(given.program), script.text,
+        outcomes = run_hosts({it.host(): [it.folder] for it in servers}, program_options(given), script.text,
                              work, given.timeout or SECONDS)
         failures = {it: found for it in servers for found in [outcomes[it.host()]] if isinstance(found, Failure)}
         parts = {it: found[0] for it in servers for found in [outcomes[it.host()]] if not isinstance(found, Failure)}
         for server, part in parts.items():
-            masks = [overview.warning_of(overview.EMPTY_MASKS, part.head.masks)] if part.head.masks else []
-            say(command, server, [*part.head.unknown, *masks])
+            names = part.head.otherwise
+            say(command, server, [*part.head.unknown, *([overview.warning_of(overview.JUDGED_OTHERWISE, names)] if names else [])])
         printer = Printer(command, parts, given)
         for unit in script.units():
             printer.write_line(unit)

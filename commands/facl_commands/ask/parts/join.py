@@ -26,7 +26,7 @@ from ...program.tools import (
     ALL, CHANGES_OF_PEOPLE, COUNTING, DEEP, EDITS, LOOK, OF_RECORDS, TEST, options_that, path_in, split,
 )
 from . import agreement, counts
-from .runs import HERE, NOT_READABLE, SECONDS, Answered, Part, program_option, run_hosts
+from .runs import HERE, NOT_READABLE, SECONDS, Answered, Part, program_options, run_hosts
 from .runs import hosts_of as hosts_of
 
 SEVERAL = b"its files lie in several snapshots; name those of one in a line of its own"
@@ -173,16 +173,16 @@ def without(script: bytes, units: List[Unit], dropped: Set[int]) -> bytes:
 
 
 def say_notices(command: Command, parts: List[Part]) -> None:
-    """What the snapshots cannot tell, each of it once, and how many lists with an empty mask they have."""
+    """What the snapshots cannot tell, each of it once, and by how many lists Linux grants otherwise."""
     known: Dict[bytes, bytes] = {}
     for part in parts:
         for text in part.head.unknown:
             known.setdefault(text, part.label)
     for text, label in known.items():
         command.say(label + b": " + text)
-    names = sorted({name for part in parts for name in part.head.masks}, key=lambda name: path_order(read_path(name)))
+    names = sorted({name for part in parts for name in part.head.otherwise}, key=lambda name: path_order(read_path(name)))
     if names:
-        command.say(overview.warning_of(overview.EMPTY_MASKS, names))
+        command.say(overview.warning_of(overview.JUDGED_OTHERWISE, names))
 
 
 def recorded_in(parts: List[Part]) -> List[agreement.RecordedPart]:
@@ -218,7 +218,7 @@ def answer_script(command: Command, script: Script, hosts: Dict[bytes, List[byte
     """Answers a script over all snapshots, again where it has lines that count, and for each line that is dropped."""
     units = script.units()
     dropped: Dict[int, Joined] = {}
-    program = program_option(given.program)
+    program = program_options(given)
     is_one = sum(map(len, hosts.values())) == 1
     seconds = given.timeout or SECONDS
     parts = run_parts(hosts, [*[b"--records"] * (not is_one), *program], script.text, work, seconds)

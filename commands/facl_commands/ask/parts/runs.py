@@ -1,6 +1,7 @@
 """Snapshots that answer a script side by side, on this machine and on others, by GNU parallel and ssh."""
 from __future__ import annotations
 
+import argparse
 import os
 import re
 import resource
@@ -15,6 +16,7 @@ from typing import IO, Dict, List, NamedTuple, Optional, Sequence, Union
 from ...base import scratch
 from ...base.environment import HOME, environment_of_called
 from ...base.messages import Failure
+from ...base.programs import program_words
 from ...program.protocol import is_refused
 from ...program.scripts import read_script
 from ...program.session import OutputSlice
@@ -116,8 +118,8 @@ def parallel_words(host: bytes, folders: List[bytes], options: List[bytes]) -> L
     return [os.fsencode(found), *words, b" ".join(quoted) + b" -- {}", b":::", *folders]
 
 
-def program_option(program: Optional[str]) -> List[bytes]:
-    return [] if program is None else [b"--program", os.fsencode(program)]
+def program_options(given: argparse.Namespace) -> List[bytes]:
+    return [*map(os.fsencode, program_words(given))]
 
 
 def start(words: List[bytes], work: str, limits: Optional[Limits]) -> ParallelRun:

@@ -6,7 +6,9 @@ feed. Names in JSON are bytes, a letter for each.
 """
 from __future__ import annotations
 
+import argparse
 import json
+import os
 import re
 from typing import Dict, List, NamedTuple, Optional, Sequence
 
@@ -36,7 +38,7 @@ class Head(NamedTuple):
     users: Dict[str, int]
     groups: Dict[str, int]
     unknown: List[bytes]  # What it cannot tell.
-    masks: List[bytes]  # Files with an empty mask, and something for others.
+    otherwise: List[bytes]  # With --acl5 the files by whose lists Linux grants otherwise.
     size: int  # Of what it records, which comes next.
 
 
@@ -97,8 +99,8 @@ def read_fields(line: bytes, names: Sequence[str]) -> List[object]:
 
 
 def read_head(line: bytes) -> Head:
-    part, users, groups, unknown, masks, size = read_fields(line, Head._fields)
-    return Head(name_in(part), ids_in(users), ids_in(groups), names_in(unknown), names_in(masks), number_in(size))
+    part, users, groups, unknown, otherwise, size = read_fields(line, Head._fields)
+    return Head(name_in(part), ids_in(users), ids_in(groups), names_in(unknown), names_in(otherwise), number_in(size))
 
 
 def read_header(text: bytes) -> Header:
@@ -154,24 +156,23 @@ def answer(command: Command, session: Session, unit: Unit, shared: SharedFiles) 
     command.write(b"\n")
 
 
-def head_of(folder: bytes, size: int) -> Head:
+def head_of(folder: bytes, size: int, is_acl5: bool) -> Head:
     found = overview.read_texts(folder)
     users, groups = ({row[0].decode("latin-1"): int(row[2]) for row in rows_of(rows)} for rows in (found.passwd, found.group))
     unknown = [*overview.unknown(folder, found.dump), *overview.torn(found), *not_judged(folder), *alone(marks_of(folder))]
-    return Head(folder, users, groups, unknown, list(overview.open_empty_masks(found.dump)), size)
+    return Head(folder, users, groups, unknown, list(overview.judged_otherwise(found.dump)) if is_acl5 else [], size)
 
 
-def write_part(command: Command, program: str, folder: bytes, script: Script, has_records: bool,
-               names: List[bytes]) -> int:
+def write_part(command: Command, program: str, folder: bytes, script: Script, given: argparse.Namespace) -> int:
     """Answers a script over one snapshot, between a first and a last line of our own; with the names of files that
     others have too."""
     with Session(program, folder) as session:
         session.ask(b"")
-        listings = sources.list_below(session, sources.find_tops(session, folder)) if has_records else []
+        listings = sources.list_below(session, sources.find_tops(session, folder)) if given.records else []
         files = b"".join(agreement.blocks_of(listings))
-        command.write(line_of(head_of(folder, len(files))) + files)
+        command.write(line_of(head_of(folder, len(files), given.acl5)) + files)
         units = script.units()
-        shared = SharedFiles(session, names, units)
+        shared = SharedFiles(session, list(map(os.fsencode, given.shared)), units)
         for unit in units:
             answer(command, session, unit, shared)
         command.write(b"end\n")

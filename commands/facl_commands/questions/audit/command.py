@@ -8,13 +8,13 @@ from typing import List, Optional, Set
 from ...base.messages import Command, Failure, parser_of
 from ...base.names import at_or_below, is_at_or_below, parent_of, read_path, shell_word, shown, shown_path
 from ...base.new_file import NewFile
+from ...base.programs import find_program
 from ...base.tables import add_output, paged, write_json, write_table
 from ...model import choice, overview, sources, split_tree
 from ...model.entries import NamesOfIds
 from ...model.everybody import World, listing_of, world_of
 from ...model.meta import Meta, meta_of
 from ...model.sources import Source
-from ...program.session import find_program
 from .accepted import Accepted, Unused, read_accepted, sort_out, why_unused
 from .findings import KINDS, WEIGHTS, Findings, FoundFile, edits_of
 from .lists import of_lists
@@ -216,8 +216,8 @@ def body(command: Command, words: List[str]) -> int:
     target = NewFile(os.fsencode(given.page)) if given.page is not None else None
     with sources.opened(given) as source:
         split_tree.check_all(source.folder)
-        overview.say_notices(command, source, has_masks=False)
-        program = find_program(given.program)
+        overview.say_notices(command, source, given.acl5)
+        program = find_program(given)
         report = report_of(given, source, program)
         page = page_of(given, report, source, program)
     for it in report.unused:

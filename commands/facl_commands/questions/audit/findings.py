@@ -26,7 +26,7 @@ KINDS = (
     KindOfFinding("writable-by-teams", MIDDLE, "several groups can remove each other's files: the directory is not sticky"),
     KindOfFinding("writer-outside-groups", MIDDLE, "a user can write where nobody else of the user's groups may"),
     KindOfFinding("mask-cuts-entry", MIDDLE, "an entry of a user or a group says more than the mask lets through"),
-    KindOfFinding("empty-mask", MIDDLE, "Linux gives users and groups with entries what others have, as the mask is empty"),
+    KindOfFinding("empty-mask", MIDDLE, "an entry says more than it does, or less: the mask is empty, so what others have counts"),
     KindOfFinding("owner-without-row", MIDDLE, "whoever gets this id next owns it"),
     KindOfFinding("entry-without-row", MIDDLE, "whoever gets this id next has the entry's rights"),
     KindOfFinding("set-group-id", MIDDLE, "a plain file that is run with the rights of its group"),

@@ -10,7 +10,8 @@ from typing import Callable, Dict, Iterable, Iterator, List, Optional, Tuple
 from ...base import accounts
 from ...base.names import parent_of, shown_path
 from ...model.entries import (
-    GROUP, USER, Entry, Key, NamesOfIds, ReadRecord, cut_letters, digits, flag_digit, named, read_record,
+    GROUP, NOTHING, OTHER, OWNING_GROUP_KEY, USER, Entry, Key, NamesOfIds, ReadRecord, cut_letters, digits, flag_digit, named,
+    read_record,
 )
 from ...model.records import File, Files
 from .findings import FoundFile
@@ -38,7 +39,8 @@ def without_flag(file: File, record: ReadRecord, flag: int) -> OfFile:
 
 def mask_cuts_entry(_file: File, record: ReadRecord, ids: NamesOfIds) -> OfFile:
     """Entries of users and groups of which r or w is cut; the edit says what they grant, and grants nobody more."""
-    cut = [(it, begin) for begin, entries in ((b"", record.access), (b"d:", record.default)) for it in entries
+    access = () if record.has_open_empty_mask() else record.access  # Of which empty_mask says what the entries do.
+    cut = [(it, begin) for begin, entries in ((b"", access), (b"d:", record.default)) for it in entries
            if it.is_named() and cut_letters(it).strip(b"x")]
     if not cut:
         return None
@@ -48,11 +50,16 @@ def mask_cuts_entry(_file: File, record: ReadRecord, ids: NamesOfIds) -> OfFile:
     return text, b"setfacl -n -m " + words
 
 
-def empty_mask(_file: File, record: ReadRecord, _ids: NamesOfIds) -> OfFile:
-    """The edit takes from others what Linux gives the others in their place too."""
-    if not record.has_open_empty_mask():
+def empty_mask(_file: File, record: ReadRecord, ids: NamesOfIds) -> OfFile:
+    """Entries of users and groups in the place of which Linux grants what others have. The edit has them count, with what the mask
+    leaves of them, which is nothing, and grants nobody more."""
+    done = record.permissions(OTHER)
+    if not record.has_open_empty_mask() or all(it.permissions == done for it in record.access if it.is_named()):
         return None
-    return b"others have " + record.permissions(b"other"), b"setfacl -n -m o::---"
+    text = b", ".join(b"%s: %s is %s" % (ids.shown(it.key), it.permissions, done) for it in record.access
+                      if it.is_named() and it.permissions != done)
+    words = [ids.entry(it._replace(permissions=NOTHING)) for it in record.access if it.is_named() or it.key == OWNING_GROUP_KEY]
+    return text, b"setfacl -n -m " + b",".join([*words, b"m::" + done])
 
 
 def owner_without_row(_file: File, record: ReadRecord, ids: NamesOfIds) -> OfFile:

@@ -149,9 +149,9 @@ def writers_outside(audited: Audited, alike: Alike, teams: Teams, writers: Set[b
     """Users who may write by an entry of their own, where nobody else of their groups may."""
     record = read_record(alike.file.body)
     found = []
-    for tag, number in named(record.access):
+    for (tag, number), entry in named(record.access).items():
         name = audited.ids.names.get((tag, number))
-        if tag == USER and name in teams.users and name in writers and number != record.owner:
+        if tag == USER and name in teams.users and name in writers and number != record.owner and entry.grants(WRITE):
             if not teams.fellows(name) & writers:
                 found.append((tag, number))
     if found:

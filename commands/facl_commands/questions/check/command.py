@@ -7,6 +7,7 @@ from typing import Dict, List, Set, Tuple
 
 from ...base.messages import UNUSABLE, Command, Failure, parser_of
 from ...base.names import shown, write_user
+from ...base.programs import find_program
 from ...base.tables import add_output, paged, write_json, write_table
 from ...model import choice, overview, sources, split_tree
 from ...model.everybody import World, listing_of, world_of
@@ -14,7 +15,6 @@ from ...model.meta import meta_of, named
 from ...model.people import rows_of
 from ...model.sources import Source
 from ...model.superuser import ids_in
-from ...program.session import find_program
 from .answers import Rights, RuleOutcome, outcome
 from .proposal import lines_of as lines_of_rules
 from .report import SCHEMA, CheckReport, json_of, lines_of, table_of
@@ -145,8 +145,8 @@ def body(command: Command, words: List[str]) -> int:
         raise Failure(b"--write prints rules: leave out --json and --tsv")
     with sources.opened(given) as source:
         folders = split_tree.check_all(source.folder)
-        overview.say_notices(command, source, has_masks=not given.quiet, is_alone=not given.quiet)
-        program = find_program(given.program)
+        overview.say_notices(command, source, given.acl5 and not given.quiet, is_alone=not given.quiet)
+        program = find_program(given)
         if given.write:
             if folders != [source.folder]:
                 raise Failure(b"--write: takes one part of a snapshot, as " + folders[0])

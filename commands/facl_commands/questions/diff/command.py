@@ -9,13 +9,14 @@ from ...base import tables
 from ...base.messages import Command, Failure, parser_of
 from ...base.names import is_at_or_below, write_user
 from ...base.new_file import NewFile
+from ...base.programs import add_program, find_program
 from ...model import choice, overview, sources
 from ...model.everybody import Everybody
 from ...model.gains import Gain, ask_gains
 from ...model.marks import alone, marks_of
 from ...model.people import rows_of as rows_of_text
 from ...model.records import name_of, path_of, records_in
-from ...program.session import OutputSlice, Session, find_program
+from ...program.session import OutputSlice, Session
 from . import report
 from .edits import CannotLead, Edits, group_text
 from .labels import LabelDifferences, Shapes, records_of_folders
@@ -63,7 +64,7 @@ class Differences(NamedTuple):
 
 def parse(words: List[str]) -> argparse.Namespace:
     parser = parser_of("facl-diff", HELP, STATUS)
-    parser.add_argument("--program", metavar="FILE", help="the program facl; without it $FACL, or facl on the path")
+    add_program(parser)
     parser.add_argument("--any-host", action="store_true", help="also snapshots of two servers")
     parser.add_argument("--page", metavar="FILE",
                         help="also write a page to look at, as facl-report does, to a new file")
@@ -219,14 +220,14 @@ def names_of(state: State) -> List[bytes]:
 
 def compare(command: Command, given: argparse.Namespace) -> Tuple[Compared, Optional[bytes]]:
     """What differs, and the page where one is asked for."""
-    program = find_program(given.program)
+    program = find_program(given)
     old, new = read_state(os.fsencode(given.before)), read_state(os.fsencode(given.after))
     check_hosts(old, new, given)
     for text in report.warnings(old, new):
         command.say(text)
     beside = [list(alone(marks_of(state.folder))) for state in (old, new)]
     for state in (old, new):
-        overview.say_notices(command, sources.Source(state.folder, state.folder, False), has_masks=state is new,
+        overview.say_notices(command, sources.Source(state.folder, state.folder, False), given.acl5 and state is new,
                              is_alone=state is new or beside[0] != beside[1])
     everybody = everybody_of(old, new)
     if old.is_split() or new.is_split():

@@ -10,7 +10,7 @@ from __future__ import annotations
 from typing import Callable, Dict, FrozenSet, Iterable, List, NamedTuple, Tuple
 
 from ...base.names import directories_above, file_name, path_word, read_name, write_user
-from ...model.entries import OTHER_KEY, OWNER_KEY, OWNING_GROUP_KEY, Entry, Key, entries_of, read_record
+from ...model.entries import OTHER_KEY, OWNER_KEY, OWNING_GROUP_KEY, USER, Entry, Key, ReadRecord, entries_of, read_record
 from ...model.gains import Gain
 from ...model.people import People, listed_by_group, user_word
 from ...model.records import body_of, name_of, path_of, records_in
@@ -86,6 +86,14 @@ def decided_by(answer: bytes) -> Decided:
 def and_more(names: List[bytes]) -> bytes:
     rest = len(names) - MOST_NAMES
     return b", ".join(names[:MOST_NAMES]) + (b" and %d more" % rest if rest > 0 else b"")
+
+
+def is_by_mask(labels: Tuple[ReadRecord, ReadRecord], point: Point) -> bool:
+    """Whether the mask is empty before or after alone, and an entry that is there both times decides once."""
+    access = [{it.key for it in label.access} - {OTHER_KEY, OWNING_GROUP_KEY} for label in labels]
+    changed, kept = (point.old.keys() ^ point.new.keys()) - {OWNER_KEY}, access[0] & access[1]
+    is_once = labels[0].has_empty_mask() != labels[1].has_empty_mask()
+    return is_once and bool(changed & kept) and all(key in kept for key in changed if key[0] == USER)
 
 
 def words_of_list(old: Decided, new: Decided, is_of_other_group: bool) -> bytes:
@@ -203,7 +211,10 @@ class ChangeReasons:
         if sum(differs) != 1:
             return b""
         if differs[0]:
-            return words_of_list(point.old, point.new, labels[0].group != labels[1].group)
+            is_of_other_group = labels[0].group != labels[1].group
+            if is_by_mask(labels, point):
+                return b"mask changed" * (not is_of_other_group)
+            return words_of_list(point.old, point.new, is_of_other_group)
         return self.of_groups(point, new - old, old - new, labels[0].group) if differs[1] else b"other user id"
 
     def of_groups(self, point: Point, joined: FrozenSet[int], left: FrozenSet[int], owning: bytes) -> bytes:

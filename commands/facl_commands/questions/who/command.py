@@ -11,11 +11,11 @@ from ...base.accounts import SUPERUSER
 from ...base.beside import NOEXEC
 from ...base.messages import Command, Failure, parser_of
 from ...base.names import json_text, shell_word
+from ...base.programs import find_program
 from ...model import choice, meta, overview, sources
 from ...model.everybody import world_of
 from ...model.snapshot import NEEDED, check_texts, is_hidden
 from ...model.sources import Source
-from ...program.session import find_program
 from . import of_files, of_folder, of_rights, of_user
 from .answers import WhoAnswer, anybody, user_of, user_with_row
 from .asking import Asker, read_rights
@@ -185,8 +185,8 @@ def body(command: Command, words: List[str]) -> int:
         read_rights(given.perms)  # Before anything is loaded.
     with sources.opened(given) as source:
         check_source(source, given)
-        program = find_program(given.program)
-        overview.say_notices(command, source, is_alone=False)
+        program = find_program(given)
+        overview.say_notices(command, source, given.acl5, is_alone=False)
         with world_of(program, source) as world:
             asker = Asker(world, given)
             answer = answer_of(asker)

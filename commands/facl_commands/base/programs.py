@@ -1,0 +1,50 @@
+"""Which program a command asks, and where it is: facl_linux, whose judge is what Linux grants, or facl, whose judge is acl(5)'s
+check."""
+from __future__ import annotations
+
+import argparse
+import os
+import shutil
+from typing import List, NamedTuple, Optional
+
+from .environment import HOME
+from .messages import Failure
+
+
+class KnownProgram(NamedTuple):
+    name: str
+    variable: str  # Of the environment, which names the program where --program does not.
+    instead: bytes  # What can be done where there is none.
+
+    def find(self, given: Optional[str] = None) -> str:
+        """The given one, the one of the variable, the one on the path, or the one that is installed or built beside the
+        commands."""
+        wanted = given or os.environ.get(self.variable, "")
+        installed = os.path.join(HOME, "..", "..", "bin", self.name)
+        built = os.path.join(HOME, "..", "crates", self.name + "_cli", "out", self.name + "_cli")
+        found = next(filter(None, map(shutil.which, [wanted] if wanted else [self.name, installed, built])), None)
+        if found is None:
+            raise Failure(os.fsencode(wanted) + b": no such program" if wanted else
+                          b"the program %s is not on the path: give it by --program FILE" % self.name.encode() + self.instead)
+        return os.path.abspath(found)
+
+
+LINUX = KnownProgram("facl_linux", "FACL_LINUX", b", or ask facl by --acl5")
+ACL5 = KnownProgram("facl", "FACL", b"")
+
+
+def add_program(parser: argparse.ArgumentParser) -> None:
+    """Takes which program is to answer."""
+    parser.add_argument("--program", metavar="FILE", help="the program to ask; without it $FACL_LINUX, or facl_linux on the path; "
+                        "with --acl5 $FACL, or facl on the path")
+    parser.add_argument("--acl5", action="store_true", help="ask facl, which judges by acl(5)'s check, and not by what Linux grants")
+
+
+def program_words(given: argparse.Namespace) -> List[str]:
+    """The words that said which, for another command."""
+    return [*([] if given.program is None else ["--program", given.program]), *["--acl5"] * given.acl5]
+
+
+def find_program(given: argparse.Namespace) -> str:
+    """The program that is to answer."""
+    return (ACL5 if given.acl5 else LINUX).find(given.program)
