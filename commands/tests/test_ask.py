@@ -205,8 +205,7 @@ mask::---
 other::r--
 
 """
-    MASKS = (b"facl-ask: warning: lists with an empty mask whose others have something, which Linux grants to named users and groups too, and "
-             b"facl does not: 1, first: project/notes\n")
+    MASKS = b"facl-ask: warning: lists by which Linux grants otherwise than acl(5), as their mask is empty: 1, first: project/notes\n"
     QUESTIONS = b"may ben 0\ncan mara project/notes\n"
     ANSWERS = b"project\nproject/notes\n-w- r-- rw-\n"
 
@@ -221,10 +220,11 @@ other::r--
         os.mkdir(self.path("temporary"))
 
     def test_a_folder(self) -> None:
-        wanted = b"facl-ask: folder: " + UNKNOWN + self.MASKS
+        wanted = b"facl-ask: folder: " + UNKNOWN
         self.expect(self.run_command("facl-ask", ["folder"], self.QUESTIONS), 0, self.ANSWERS, wanted)
         self.expect(self.run_command("facl-ask", ["folder", "questions"]), 0, self.ANSWERS, wanted)
         self.expect(self.run_command("facl-ask", ["folder", "questions", "questions"]), 0, self.ANSWERS * 2, wanted)
+        self.expect(self.run_command("facl-ask", ["--acl5", "folder"], self.QUESTIONS), 0, self.ANSWERS, wanted + self.MASKS)
         self.write("folder/links", b"")
         self.write("folder/marks", b"")
         self.write("folder/dump", b"# file: /\n# owner: ines\n# group: staff\nuser::rwx\ngroup::r-x\nother::--x\n")
@@ -233,7 +233,7 @@ other::r--
     def test_texts_by_name(self) -> None:
         words = ["--dump", "acls", "--passwd", "before/passwd", "--group", "before/group"]
         environment = {"TMPDIR": self.path("temporary")}
-        wanted = b"facl-ask: acls: " + UNKNOWN + self.MASKS
+        wanted = b"facl-ask: acls: " + UNKNOWN
         cases: List[Tuple[List[str], bytes]] = [([], self.QUESTIONS), (["-"], self.QUESTIONS), (["questions"], b"")]
         for more, text in cases:
             self.expect(self.run_command("facl-ask", [*words, *more], text, environment), 0, self.ANSWERS, wanted)
@@ -247,14 +247,14 @@ other::r--
         os.chmod(self.path("bin/getent"), 0o755)
         environment = {"PATH": self.path("bin") + ":" + os.environ["PATH"], "TMPDIR": self.path("temporary")}
         done = self.run_command("facl-ask", ["--dump", "acls"], self.QUESTIONS, environment)
-        self.expect(done, 0, self.ANSWERS, b"facl-ask: acls: " + UNKNOWN + self.MASKS)
+        self.expect(done, 0, self.ANSWERS, b"facl-ask: acls: " + UNKNOWN)
         self.assertEqual(self.read("asked"), b"passwd\npasswd -- ines\ngroup\ngroup -- staff\n")
 
     def test_names_without_a_row(self) -> None:
         self.write("folder/dump", self.DUMP.replace(b"user:guest", b"user:gone"))
         self.expect(self.run_command("facl-ask", ["folder"], self.QUESTIONS), 2, b"", b"facl-ask: folder: " + UNKNOWN
                     + b"facl-ask: warning: users and groups in the dump without a row, with which the program does not load it: 1, first: line 12\n"
-                    + self.MASKS + b"facl: setup: dump: text line 12: unknown user\n")
+                    + b"facl: setup: dump: text line 12: unknown user\n")
 
     def test_words(self) -> None:
         for words, message in ((["--dump", "absent"], b"absent: No such file or directory"), (["--dump", "acls", "--passwd", "absent"], b"absent: No such"),
@@ -358,11 +358,10 @@ class Overview(Case):
         self.assertEqual(overview.summary(texts, b"name"), b"name: 5 users, 5 groups, 14 files")
         self.assertEqual(list(overview.warnings(texts)), [
             b"warning: names of files that have another name in the snapshot too (see links): 2, first: /srv/share/one",
-            b"warning: lists with an empty mask whose others have something, which Linux grants to named users and groups too, and "
-            b"facl does not: 1, first: /srv/share/one",
             b"warning: ids in the dump without a row in passwd or group: 2, first: user 77",
             b"warning: members of groups without a row in passwd: 1, first: nell\r",
         ])
+        self.assertEqual(list(overview.judged_otherwise(texts.dump)), [b"/srv/share/one"])
         self.assertEqual(list(overview.torn(texts)), [
             b"group: 1 row has a carriage return, which is taken for a part of the last name, first: line 5"])
         self.write("before/passwd", self.read("before/passwd") + b"twin:x:01001:100::/:/bin/sh\n")

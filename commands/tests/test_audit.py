@@ -81,7 +81,7 @@ MADE: Dict[str, Made] = {
     "empty-mask": Made(
         {FILE: with_entries(PLAIN, b"user:1003:---").replace(b"mask::rwx", b"mask::---").replace(b"other::---", b"other::--x"),
          b"/srv/hr/": with_entries(OPEN, b"user:1003:--x")},
-        b"srv/hr/new", b"others have --x", b"setfacl -n -m o::--- /srv/hr/new",
+        b"srv/hr/new", b"user carl: --- is --x", b"setfacl -n -m u:carl:---,g::---,m::--x /srv/hr/new",
         beside="execute-for-everybody entry-without-effect"),
     "owner-without-row": Made(
         {FILE: PLAIN.replace(b"owner: 1001", b"owner: 4711").replace(b"group: 2001", b"group: 4712")}, b"srv/hr/new",

@@ -416,11 +416,17 @@ class Each(Case):
             dump = self.read(name + "/dump").replace(b"# file: /srv/share/\n", b"# file: /srv/share\n")
             self.write(name + "/dump", re.sub(b"(# file: /srv/share/(?:one|two)\n(?:#.*\n)*user::rw-\n)[^#]*", b"\\1group::r--\n" + mask + b"\n", dump))
         os.unlink(self.path("2/links"))
-        done = self.run_command("facl-ask", ["--headings", "--each", "1", "2", "3"], b"may guest w\nwho w srv/share/one\nfrob\nchanges\n")
+        script, unknown = b"may guest w\nwho w srv/share/one\nfrob\nchanges\n", b"facl-ask: 2: hard links are not known\n"
+        done = self.run_command("facl-ask", ["--headings", "--each", "1", "2", "3"], script)
         self.expect(done, 1, b"# standard input, line 1: may guest w\n(nothing)\n\n# standard input, line 2: who w srv/share/one\nines\n\n"
                     b"# standard input, line 4: changes\n(nothing)\n\n",
-                    b"facl-ask: 2: hard links are not known\nfacl-ask: warning: lists with an empty mask whose others have something, which Linux "
-                    b"grants to named users and groups too, and facl does not: 2, first: /srv/share/one\nline 3: facl: unknown tool\n")
+                    unknown + b"line 3: facl: unknown tool\n")
+        self.expect(self.run_command("facl-ask", ["--each", "1", "2", "3"], b"can guest srv/share/one\n"), 0, b"r--\n", unknown)
+        warning = b"facl-ask: warning: lists by which Linux grants otherwise than acl(5), as their mask is empty: 2, first: /srv/share/one\n"
+        done = self.run_command("facl-ask", ["--acl5", "--each", "1", "2", "3"], b"can guest srv/share/one\n")
+        self.expect(done, 0, b"none\n", unknown + warning)
+        done = self.run_command("facl-ask", ["--acl5", "--hosts", "localhost:1"], b"can guest srv/share/one\n")
+        self.expect(done, 0, b"localhost: none\n", b"localhost: " + warning[len(b"facl-ask: ") :])
         done = self.run_command("facl-ask", ["--headings", "--hosts", "localhost:2"], b"may guest w\ncan ines srv\nfrob\n")
         self.assertEqual((done.status, done.out), (1, b"# standard input, line 1: may guest w\nlocalhost: (nothing)\n\n# standard input, line 2: can ines srv\n"
                          b"localhost: --x r-- r-x\n\n"))

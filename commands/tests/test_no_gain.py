@@ -5,11 +5,12 @@ import argparse
 import json
 import os
 import random
+import shutil
 import sys
 import unittest
 from typing import List, Set, Tuple
 
-from common import COMMANDS, Case
+from common import COMMANDS, HERE, Case
 
 sys.path.insert(0, COMMANDS)
 
@@ -58,6 +59,17 @@ class Lines(Case):
                        b"# file: /srv/share/\n# owner: 1001\n# group: 100\nuser::rwx\nuser:1009:rwx\nmask::r--\n")
         done = self.plan(b"setfacl -m u:guest:r srv/share/one\n")
         self.assertIn(b"srv/share grants no search (user:guest:rwx, effective r--); add for facl-plan: setfacl -n -m m::rx /srv/share\n", done.out)
+
+    def test_an_empty_mask(self) -> None:
+        # Others decide by now, and the user's own entry once the mask has search.
+        head, script = b"# file: /srv/share/\n# owner: 1001\n# group: 100\nuser::rwx\n", b"setfacl -m u:guest:r srv/share/one\n"
+        for perms, edit in ((b"r--", b"u:guest:rx,m::x"), (b"rwx", b"m::x")):
+            shutil.copy(os.path.join(HERE, "snapshots", "share", "dump"), self.path("before/dump"))
+            self.dump_with(head, head + b"user:1009:%s\nmask::---\n" % perms)
+            line = b"setfacl -n -m %s /srv/share\n" % edit
+            self.assertIn(b"guest  no gain        2 files   srv/share grants no search (other::---); add for facl-plan: " + line, self.plan(script).out)
+            self.assertIn(b"(user:guest:%s, effective ---); add for facl-plan: %s" % (perms, line), self.plan(script, "--acl5").out)
+            self.assertIn(b"guest  none -> r--    2 files   first: srv/share/one\n", self.plan(script + line).out)
 
     def test_a_group(self) -> None:
         # The entry of the group, for each of its users; ben is of the owning group too, which has search.
@@ -135,7 +147,7 @@ class Random(Case):
 
     def outcome(self, snapshot: Snapshot, script: bytes) -> Tuple[plan.Outcome, Set[Tuple[bytes, ...]], List[bytes]]:
         """With users and files of whom the program says that they gain along paths, and the lines of its index."""
-        given = argparse.Namespace(program=None, file_alone=False, with_root=True)
+        given = argparse.Namespace(program=None, acl5=False, file_alone=False, with_root=True)
         found = plan.answer_scripts(given, snapshot, read_script(b"edits", script + b"changes --reach\nindex\n"))
         self.assertEqual(found.messages, [])
         gains = {tuple(line.split(b" ", 3)[::3]) for line in found.asked[-2].output.splitlines() if b" gains " in line}

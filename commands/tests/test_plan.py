@@ -261,10 +261,10 @@ class RefusedLines(Case):
         done = self.plan(b"setfacl -d -m d:u:guest:r,u:guest:x srv/share/drafts\n")
         self.assertEqual((done.status, done.messages),
                          (0, b"facl-plan: edits, line 1: setfacl: warning: default entries dropped\n"))
-        done = self.plan(b"chmod 604 srv/share/notes\n", "--plan", "other")
+        self.assertEqual(self.plan(b"chmod 604 srv/share/notes\n", "--plan", "other").messages, b"")
+        done = self.plan(b"chmod 604 srv/share/notes\n", "--acl5", "--plan", "third")
         self.assertEqual((done.status, done.messages), (0,
-            b"facl-plan: warning: lists with an empty mask whose others have something, which Linux grants to named users and "
-            b"groups too, and facl does not: 1, first: /srv/share/notes\n"))
+            b"facl-plan: warning: lists by which Linux grants otherwise than acl(5), as their mask is empty: 1, first: /srv/share/notes\n"))
         done = self.plan(b"who r srv/share/notes\r\n")
         self.assertIn(b"facl-plan: warning: edits: has carriage returns, each of which is a part of its word\n", done.messages)
 

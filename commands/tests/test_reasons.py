@@ -80,8 +80,7 @@ class Random(Case):
 
     def page(self, *scripts: str) -> Node:
         done = self.run_command("facl-report", ["--with-root", "before", *scripts])
-        warnings = [line for line in done.messages.splitlines() if b": warning: lists with an empty mask whose others have" not in line]
-        self.assertEqual((done.status, warnings), (0, []))
+        self.assertEqual((done.status, done.messages), (0, b""))
         self.write("page.html", done.out)
         return read_data(done.out)
 

@@ -10,7 +10,7 @@ from __future__ import annotations
 from typing import Callable, Dict, FrozenSet, Iterable, List, NamedTuple, Tuple
 
 from ...base.names import directories_above, file_name, path_word, read_name, write_user
-from ...model.entries import OTHER_KEY, OWNER_KEY, OWNING_GROUP_KEY, USER, Entry, Key, ReadRecord, entries_of, read_record
+from ...model.entries import OTHER_KEY, OWNER_KEY, OWNING_GROUP_KEY, USER, Entry, Key, ReadRecord, entries_of, named, read_record
 from ...model.gains import Gain
 from ...model.people import People, listed_by_group, user_word
 from ...model.records import body_of, name_of, path_of, records_in
@@ -88,11 +88,13 @@ def and_more(names: List[bytes]) -> bytes:
     return b", ".join(names[:MOST_NAMES]) + (b" and %d more" % rest if rest > 0 else b"")
 
 
-def is_by_mask(labels: Tuple[ReadRecord, ReadRecord], point: Point) -> bool:
-    """Whether the mask is empty before or after alone, and an entry that is there both times decides once."""
-    access = [{it.key for it in label.access} - {OTHER_KEY, OWNING_GROUP_KEY} for label in labels]
-    changed, kept = (point.old.keys() ^ point.new.keys()) - {OWNER_KEY}, access[0] & access[1]
-    is_once = labels[0].has_empty_mask() != labels[1].has_empty_mask()
+def is_by_mask(labels: Tuple[ReadRecord, ReadRecord], point: Point, uid: int) -> bool:
+    """Whether the mask is empty before or after alone, and an entry of the user or of a group that is there both times decides
+    once."""
+    keys = point.old.keys() ^ point.new.keys()
+    changed = {(tag, b"%d" % uid if tag == USER else name) for tag, name in keys if name}
+    kept = named(labels[0].access).keys() & named(labels[1].access).keys()
+    is_once = labels[0].has_empty_mask() != labels[1].has_empty_mask() and OWNER_KEY not in keys
     return is_once and bool(changed & kept) and all(key in kept for key in changed if key[0] == USER)
 
 
@@ -212,7 +214,7 @@ class ChangeReasons:
             return b""
         if differs[0]:
             is_of_other_group = labels[0].group != labels[1].group
-            if is_by_mask(labels, point):
+            if is_by_mask(labels, point, self.before.members[name].uid):
                 return b"mask changed" * (not is_of_other_group)
             return words_of_list(point.old, point.new, is_of_other_group)
         return self.of_groups(point, new - old, old - new, labels[0].group) if differs[1] else b"other user id"
