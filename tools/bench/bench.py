@@ -272,7 +272,7 @@ def run_steps(given: Words, folder: str, number: int) -> Dict[str, Spent]:
     found = {}
     for name, words in live_steps(folder, number).items():
         output = f"{folder}/records" if name == SYSTEM_TOOLS[0] else os.devnull
-        found[name] = spent(words, folder, output, PATH=path, FACL=given.program)
+        found[name] = spent(words, folder, output, PATH=path, FACL=given.program, FACL_LINUX=given.program)
         say(f"run {number}: {name}: {found[name].seconds:.2f} s")
     return found
 

@@ -2,6 +2,7 @@
 """Compares what facl-check and facl-audit say of rights with the kernel's, asked as each user.
 
 usage: tools/check/auditors.py PROGRAM [--users N] [--groups N] [--files N] [--rules N] [--seed N] [--record]
+                                                                                               PROGRAM: facl_linux
 
 As root: it makes a tree of N files (5,000) in a folder of its own, with lists, masks and closed directories, of N users
 (20) in N groups (10), who need no account, and facl-snapshot records it. The kernel is asked by faccessat(2) as each
@@ -81,13 +82,13 @@ class World:
         return who + ":" + self.chance.choice(("---", "r--", "rw-", "r-x", "rwx", "--x", "-w-"))
 
     def dress(self, place: str) -> None:
-        """Gives a file an owner, a group, a mode and perhaps entries; no mask is empty, which Linux takes otherwise."""
+        """Gives a file an owner, a group, a mode and perhaps entries, with an empty mask or another one."""
         user, group = self.chance.randrange(len(self.users)), self.chance.randrange(len(self.groups))
         os.chown(place, FIRST_UID + user, FIRST_GID + group)
         is_open = place in self.folders and self.chance.random() < 0.6
         os.chmod(place, 0o775 if is_open else self.chance.choice(MODES))
         if self.chance.random() < 0.4:
-            mask = self.chance.choice(("rwx", "rwx", "r-x", "rw-", "--x"))
+            mask = self.chance.choice(("rwx", "rwx", "r-x", "rw-", "--x", "---", "---"))
             entries = sorted({it.rpartition(":")[0]: it for it in (self.entry(), self.entry())}.values())
             printed(["setfacl", "-n", "-m", ",".join([*entries, "m::" + mask]), place])
 
@@ -108,7 +109,7 @@ class World:
     def command(self, name: str, *words: str) -> str:
         """What a command prints, which finds something or nothing."""
         start = [WITH_PEOPLE, self.work] if name == "facl-snapshot" else []
-        done = subprocess.run([*start, os.path.join(TOP, "commands", name), *words], env={**os.environ, "FACL": self.program},
+        done = subprocess.run([*start, os.path.join(TOP, "commands", name), *words], env={**os.environ, "FACL_LINUX": self.program},
                               capture_output=True, text=True, check=False)
         if done.returncode not in (0, 1) or done.stderr:
             raise Failed(f"{name} ended with status {done.returncode}: {done.stderr[-300:]}")
@@ -222,6 +223,7 @@ def outsiders(world: World, rights: Rights) -> Set[Tuple[str, str]]:
     fellows = {user: {it for its in world.groups.values() if user in its for it in its} - {user} for user in world.users}
     return {(path, user) for path in world.files for user in named_users(world, path)
             if path in writers[user] and f"# owner: {world.uids[user]}\n" not in world.records[path]
+            and "\nmask::---" not in world.records[path]
             and not any(path in writers[it] for it in fellows[user])}
 
 

@@ -131,7 +131,7 @@ def main() -> int:
     options.add_argument("--split", action="store_true")
     options.add_argument("--folder", default="/tmp")
     given = options.parse_args()
-    os.environ["FACL"] = given.program
+    os.environ.update(FACL=given.program, FACL_LINUX=given.program)
     with tempfile.TemporaryDirectory(prefix="facl-each.", dir=given.folder) as work:
         same = (split if given.split else measure)(given, work)
     amount = f"{len(same)} answers over {'a real tree' if given.split else f'{given.files} files'}"

@@ -1,15 +1,15 @@
 #!/usr/bin/env python3
 """Compares the answers of the commands with the kernel's: all users, all files, seven requests, alone and along paths.
 
-usage: tools/check/kernel.py PROGRAM [--users N] [--files N] [--seed N] [--record]
+usage: tools/check/kernel.py PROGRAM [--users N] [--files N] [--seed N] [--answers N] [--record]      PROGRAM: facl_linux
 
 As root: it makes a tree of N files (500) in a folder of its own, with lists, masks and closed directories, of N users
-(20) who need no account. facl-snapshot records it; facl-ask answers `may` and `may --reach`; facl-plan, as it judges by
-default, says who gains what by a script that grants at random. The kernel is asked by faccessat(2) as each user: of a
-file alone by its descriptor, along a path by its name; after facl-apply again. Then some files are immutable, some append-only,
-and a directory is mounted read-only and noexec: the kernel has to grant what facl-ask answers, but for w and x there, and
-facl-who has to count so. Files with an empty mask whose others have something are left out, and what is below them. --record
-writes what was found into docs/CHECKS.md.
+(20) who need no account; the mask of every other list that names somebody is empty. facl-snapshot records it; facl-ask answers
+`may` and `may --reach`; facl-plan, as it judges by default, says who gains what by a script that grants at random. The kernel is
+asked by faccessat(2) as each user: of a file alone by its descriptor, along a path by its name; after facl-apply again. Then some
+files are immutable, some append-only, and a directory is mounted read-only and noexec: the kernel has to grant what facl-ask
+answers, but for w and x there, and facl-who has to count so. With --answers it makes trees, of one seed after another, until so
+many answers are compared: --answers 3000000 takes some ten minutes. --record writes what was found into docs/CHECKS.md.
 
 The exit status is 1 where an answer differs, 2 where the words are others.
 """
@@ -24,7 +24,7 @@ import shutil
 import subprocess
 import sys
 import tempfile
-from typing import Dict, Iterable, Iterator, List, Set, Tuple
+from typing import Dict, Iterable, Iterator, List, NamedTuple, Set, Tuple
 
 sys.dont_write_bytecode = True
 sys.path.insert(0, os.path.join(os.path.dirname(os.path.realpath(__file__)), "..", "lib"))
@@ -37,6 +37,7 @@ LETTERS = {1: "x", 2: "w", 4: "r"}
 FIRST_UID, FIRST_GID = 71000, 72000
 ALL = FIRST_GID + 6  # The group of all users, after six others.
 VIEWS = ("alone", "along")
+EDITS = ("setfacl -m %s", "setfacl -m %s", "setfacl -m %s,m::---", "setfacl -m %s,m::r-x")
 Answer = Tuple[int, str, int]  # The number of a user, a file, and a request that is granted.
 Granted = Set[Answer]
 
@@ -52,8 +53,8 @@ def printed(words: List[str], text: str = "", **variables: str) -> str:
 class World:
     """A tree, and its users and groups, who are in files of its own."""
 
-    def __init__(self, work: str, given: argparse.Namespace) -> None:
-        self.work, self.program, self.users, self.chance = work, given.program, given.users, random.Random(given.seed)
+    def __init__(self, work: str, given: argparse.Namespace, seed: int) -> None:
+        self.work, self.program, self.users, self.chance = work, given.program, given.users, random.Random(seed)
         self.top, self.snapshot = os.path.join(work, "tree"), os.path.join(work, "s")
         self.groups = [[user for user in range(self.users) if self.chance.random() < 0.2] for _ in range(6)]
         os.mkdir(self.top, 0o755)
@@ -79,10 +80,13 @@ class World:
         user, group = self.chance.randrange(self.users), self.chance.randrange(len(self.groups))
         os.chown(place, FIRST_UID + user, FIRST_GID + group)
         os.chmod(place, self.chance.choice((0o755, 0o750, 0o711, 0o700, 0o644, 0o640, 0o664, 0o604, 0o770)))
-        if self.chance.random() < 0.4:
-            printed(["setfacl", "-m", ",".join(sorted({self.entry() for _ in range(2)})), place])
-        if self.chance.random() < 0.2:
-            printed(["setfacl", "-m", "m::" + self.chance.choice(("r--", "r-x", "--x")), place])
+        entries = sorted({self.entry() for _ in range(2)}) if self.chance.random() < 0.4 else []
+        if entries and self.chance.random() < 0.5:
+            entries.append("m::---")
+        elif self.chance.random() < 0.2:
+            entries.append("m::" + self.chance.choice(("r--", "r-x", "--x")))
+        if entries:
+            printed(["setfacl", "-m", ",".join(entries), place])
 
     def write_people(self) -> None:
         members = [",".join(f"k{user}" for user in users) for users in self.groups] + [""]
@@ -94,13 +98,12 @@ class World:
 
     def command(self, name: str, *words: str, text: str = "") -> str:
         start = [WITH_PEOPLE, self.work] if name == "facl-snapshot" else []
-        return printed([*start, os.path.join(TOP, "commands", name), *words], text, FACL=self.program)
+        return printed([*start, os.path.join(TOP, "commands", name), *words], text, FACL_LINUX=self.program)
 
-    def kept(self) -> Set[str]:
-        """The files on which acl(5) and Linux agree, along their paths too: no mask there is empty."""
-        lists = {path: printed(["getfacl", "-n", "-p", "-E", path]) for path in self.files}
-        odd = [path for path, text in lists.items() if "mask::---" in text and "other::---" not in text]
-        return {path for path in self.files if not any(path == it or path.startswith(it + "/") for it in odd)}
+    def empty_masks(self) -> int:
+        """How many lists there are whose mask is empty, and whose others have something."""
+        records = printed(["getfacl", "-R", "-n", "-p", "-E", self.top]).split("\n\n")
+        return sum("\nmask::---" in it and "\nother::---" not in it for it in records)
 
 
 def asked(descriptor: int, name: bytes, request: int) -> bool:
@@ -154,10 +157,10 @@ def compare(world: World, when: str) -> Tuple[int, int]:
     """How many answers there are, and how many differ, which are printed."""
     shutil.rmtree(world.snapshot, ignore_errors=True)
     world.command("facl-snapshot", "--program", world.program, world.snapshot, world.top)
-    kept, one, other = world.kept(), kernel(world), commands(world)
-    count, differ = world.users * len(kept) * 7, 0
+    one, other = kernel(world), commands(world)
+    count, differ = world.users * len(world.files) * 7, 0
     for view in VIEWS:
-        odd = {it for it in one[view] ^ other[view] if it[1] in kept}
+        odd = one[view] ^ other[view]
         print(f"{when}, {view}: {count} answers, {len(one[view])} granted, {len(odd)} differ")
         show_odd((*it, "granted by", "the kernel" if it in one[view] else "facl") for it in odd)
         differ += len(odd)
@@ -167,14 +170,13 @@ def compare(world: World, when: str) -> Tuple[int, int]:
 def compare_plan(world: World) -> Tuple[int, int]:
     """The same of the rights that facl-plan names, beside those that the kernel grants before and after facl-apply."""
     before = kernel(world)["along"]
-    edits = "".join(f"setfacl -m {world.entry()} {world.chance.choice(world.files[1:])}\n" for _ in range(400))
+    edits = "".join(f"{world.chance.choice(EDITS) % world.entry()} {world.chance.choice(world.files[1:])}\n" for _ in range(400))
     rows = world.command("facl-plan", "--full", world.snapshot, "-", text=edits).splitlines()
     world.command("facl-apply", world.snapshot + ".plan")
-    kept = world.kept()
-    changed = {(user, path) for user, path, _ in before ^ kernel(world)["along"] if path in kept}
+    changed = {(user, path) for user, path, _ in before ^ kernel(world)["along"]}
     cells = [row.split("\t") for row in rows if "\t->\t" in row]
     named = {(int(row[0][1:]), "/" + row[4].rstrip("/")) for row in cells}
-    odd = {it for it in changed ^ named if it[1] in kept}
+    odd = changed ^ named
     print(f"facl-plan: {len(changed)} pairs of a user and a file have other rights along paths, {len(odd)} differ")
     show_odd(odd)
     return len(changed), len(odd)
@@ -206,21 +208,21 @@ def counted(world: World, granted: Iterable[Answer]) -> Dict[str, Tuple[str, str
 
 def compare_marks(world: World) -> Tuple[int, int]:
     """What the kernel grants beside what lists grant, where nobody can write or execute some files; and what facl-who counts."""
-    plain = sorted(world.kept() - {world.top})
-    chosen = world.chance.sample(plain, 60)
-    attributes = {"i": chosen[:40], "a": chosen[40:]}
+    plain = world.files[1:]
+    chosen = world.chance.sample(plain, len(plain) // 8)
+    attributes = {"i": chosen[: len(chosen) * 2 // 3], "a": chosen[len(chosen) * 2 // 3 :]}
     place = max((it for it in plain if os.path.isdir(it)), key=lambda it: sum(path.startswith(it + "/") for path in plain))
     mounted = {path for path in world.files if path == place or path.startswith(place + "/")}
     unwritable, noexec = {*attributes["i"], *mounted}, {path for path in mounted if not os.path.isdir(path)}
     with marked(world, attributes, place):
         shutil.rmtree(world.snapshot)
         world.command("facl-snapshot", "--program", world.program, world.snapshot, world.top)
-        kept, one, other = world.kept(), kernel(world), commands(world)
+        one, other = kernel(world), commands(world)
         rows = world.command("facl-who", "--tsv", "write", world.snapshot, world.top).splitlines()[1:]
     differ = 0
     for view in VIEWS:
         granted = {it for it in other[view] if not (it[2] & 2 and it[1] in unwritable or it[2] & 1 and it[1] in noexec)}
-        odd = {it for it in one[view] ^ granted if it[1] in kept}
+        odd = one[view] ^ granted
         print(f"nobody can write {len(unwritable)} files, {view}: {len(odd)} differ")
         show_odd((*it, "granted by", "the kernel" if it in one[view] else "facl") for it in odd)
         differ += len(odd)
@@ -228,22 +230,45 @@ def compare_marks(world: World) -> Tuple[int, int]:
     wanted = counted(world, {it for it in other["along"] if it[1] not in unwritable})
     wrong = {user for user in {*named, *wanted} if named.get(user) != wanted.get(user)}
     show_odd((user, "is", named.get(user), "and not", wanted.get(user)) for user in wrong)
-    return 2 * world.users * len(kept) * 7, differ + len(wrong)
+    return 2 * world.users * len(world.files) * 7, differ + len(wrong)
+
+
+class Compared(NamedTuple):
+    """Of some trees: how many answers, those where nobody can write some files, changed pairs, lists with an empty mask whose
+    others have something, and how much differs."""
+
+    answers: int
+    marked: int
+    pairs: int
+    masks: int
+    differ: int
+
+    def all_answers(self) -> int:
+        return self.answers + self.marked
+
+
+def compare_tree(given: argparse.Namespace, seed: int) -> Compared:
+    with tempfile.TemporaryDirectory(prefix="facl-kernel.") as work:
+        os.chmod(work, 0o755)
+        world = World(work, given, seed)
+        masks = world.empty_masks()
+        before, rows, after = compare(world, "before"), compare_plan(world), compare(world, "after facl-apply")
+        marks = compare_marks(world)
+    return Compared(before[0] + after[0], marks[0], rows[0], masks, before[1] + rows[1] + after[1] + marks[1])
 
 
 def main() -> int:
-    given = options_of(__doc__, files=500, users=20, seed=1).parse_args()
+    given = options_of(__doc__, files=500, users=20, seed=1, answers=1).parse_args()
     if os.geteuid() != 0:
         raise Failed("run it as root")
-    with tempfile.TemporaryDirectory(prefix="facl-kernel.") as work:
-        os.chmod(work, 0o755)
-        world = World(work, given)
-        before, rows, after = compare(world, "before"), compare_plan(world), compare(world, "after facl-apply")
-        marks = compare_marks(world)
-    differ = before[1] + rows[1] + after[1] + marks[1]
-    amount = (f"{before[0] + after[0]:,} answers, {given.users} users, {given.files} files, {rows[0]} changed pairs; "
-              f"{marks[0]:,} where nobody can write some files")
-    return conclude(given, amount, [f"{differ} differ"] if differ else [])
+    found, trees = Compared(0, 0, 0, 0, 0), 0
+    while found.all_answers() < given.answers and not found.differ:
+        found = Compared(*map(sum, zip(found, compare_tree(given, given.seed + trees))))
+        trees += 1
+    amount = (f"{found.answers:,} answers, {trees} trees of {given.users} users and {given.files} files, {found.masks} lists with an "
+              f"empty mask whose others have something, {found.pairs} changed pairs; {found.marked:,} answers where nobody can write "
+              "some files")
+    return conclude(given, amount, [f"{found.differ} differ"] if found.differ else [])
 
 
 if __name__ == "__main__":

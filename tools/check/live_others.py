@@ -435,7 +435,7 @@ class Others(Check):
             before = os.stat(own).st_mtime_ns  # Which a file that is made and removed changes too.
             facl_plan = [PYTHON, b"-I", b"/mnt/commands/facl-plan", b"/mnt/before", b"/mnt/edits"]
             words = [b"unshare", b"-m", b"sh", b"-c", FULL, self.work, place, *facl_plan]
-            done = run(words, variables={"FACL": self.given.program})
+            done = run(words, variables={"FACL_LINUX": self.given.program})
             must(done, status, said=b"no place for files of the command's own: " * (status == 2) + said)
             expect(os.stat(own).st_mtime_ns == before, f"TMPDIR {place!r}: something was made in the current folder")
             is_clean = not os.listdir(room) and os.path.exists(self.plan) == (status == 0)

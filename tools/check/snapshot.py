@@ -202,9 +202,7 @@ class Snapshots(Check):
         expect(b"snapshot" not in self.read("odd/snapshot/dump"), "the snapshot has what the command makes meanwhile")
 
     def check_warnings(self, _seed: int) -> None:
-        """Lists with an empty mask; words in the environment."""
-        self.took(0, "before masks", "empty mask whose others have something, which Linux grants to named users and "
-                  f"groups too, and facl does not: 1, first: {self.text('masks/open')}")
+        """Words in the environment."""
         self.took(0, "before odd", has=["odd/-x"], POSIXLY_CORRECT="1", TMPDIR="/nowhere", CDPATH="/",
                   QUOTING_STYLE="c", BLOCK_SIZE="1", _POSIX2_VERSION="199209")
 

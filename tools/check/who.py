@@ -1,7 +1,7 @@
 #!/usr/bin/env python3
 """Compares each answer of facl-who with what the kernel lets each user do on a real tree.
 
-usage: tools/check/who.py PROGRAM [--users N] [--files N] [--seed N] [--record]
+usage: tools/check/who.py PROGRAM [--users N] [--files N] [--seed N] [--record]      PROGRAM: facl_linux
 
 As root: it makes a tree of N files (300) with lists, default lists, masks, sticky and set-group-ID directories, of N
 users (12), and facl-snapshot records it. For each user a process with the user's ids asks access(2) of each file, along
@@ -9,8 +9,7 @@ its path and by its descriptor alone, renames files and back, as who can remove 
 folders, whose lists getfacl prints. One user more is asked of, whom the snapshot does not have and no list names: everybody
 else. facl-who has to give the same counts, first files, rows of --user, users of --remove and lists of --new-file; owners
 and named entries are compared with those that stat(2) and getfacl print.
-Lists with an empty mask whose others have something are taken away before. --record writes what was found into
-docs/CHECKS.md.
+The mask of every other list that names somebody is empty. --record writes what was found into docs/CHECKS.md.
 
 The exit status is 1 where an answer differs, 2 where the words are others.
 """
@@ -48,7 +47,7 @@ class Rights(NamedTuple):
 
 
 class Tree(World):
-    """A tree whose directories have default lists and flags too, and no mask that Linux reads in another way."""
+    """A tree whose directories have default lists and flags too."""
 
     def dress(self, place: str) -> None:
         super().dress(place)
@@ -57,9 +56,6 @@ class Tree(World):
             os.chmod(place, stat.S_IMODE(os.stat(place).st_mode) | flags)
             if self.chance.random() < 0.4:
                 printed(["setfacl", "-d", "-m", ",".join(sorted({self.entry() for _ in range(2)})), place])
-        text = self.list_of(place)
-        if "\nmask::---" in text and "\nother::---" not in text:
-            printed(["setfacl", "-b", place])
 
     def names(self) -> Dict[int, str]:
         """What answers have for users, in their order; everybody else is a user of the next id, in the group of all alone, of
@@ -251,7 +247,7 @@ def main() -> int:
     compared = Compared()
     with tempfile.TemporaryDirectory(prefix="facl-who.") as work:
         os.chmod(work, 0o755)
-        tree = Tree(work, given)
+        tree = Tree(work, given, given.seed)
         tree.command("facl-snapshot", "--program", tree.program, tree.snapshot, tree.top)
         rights = ask_kernel(tree)
         compare_rights(tree, rights, compared)

@@ -409,7 +409,7 @@ class Check:
             return file.read()
 
     def variables(self) -> Dict[str, str]:
-        return {"PATH": os.fsdecode(self.bin) + ":" + os.environ["PATH"], "FACL": self.given.program}
+        return {"PATH": os.fsdecode(self.bin) + ":" + os.environ["PATH"], **dict.fromkeys(("FACL", "FACL_LINUX"), self.given.program)}
 
     def words(self, name: bytes, *words: bytes) -> List[bytes]:
         """The words that start a command."""
