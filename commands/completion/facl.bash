@@ -14,7 +14,7 @@ _facl_words() {
     --fail-on) printf '%s\n' high middle low none ;;
     --user | --owner | --names) compgen -u ;;
     --readers) compgen -g ;;
-    *) case $2 in -*) _facl_help "$1" '(^|[[ ])--[a-z][a-z-]+' | tr -d '[ ' ;; esac ;;
+    *) case $2 in -*) _facl_help "$1" '(^|[[ ])--[a-z][a-z0-9-]+' | tr -d '[ ' ;; esac ;;
     esac
 }
 

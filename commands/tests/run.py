@@ -1,6 +1,6 @@
 #!/usr/bin/env python3
-"""Runs all tests of the commands, by the program that $FACL names, in as many processes as there are processors, at most
-four; the last line is `N passed, M failed`. Where $ALL_TESTS is set, those that the gate leaves out too.
+"""Runs all tests of the commands, by the programs that $FACL and $FACL_LINUX name, in as many processes as there are processors,
+at most four; the last line is `N passed, M failed`. Where $ALL_TESTS is set, those that the gate leaves out too.
 
 usage: run.py [FAULTS]      FAULTS: what was found before, counted with those that failed
 """

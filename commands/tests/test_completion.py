@@ -95,7 +95,7 @@ class Completion(Case):
         return done.stdout.splitlines()
 
     def test_options(self) -> None:
-        self.assertEqual(self.complete("facl-audit", "--al"), ["--all-users"])
+        self.assertEqual(self.complete("facl-audit", "--a"), ["--accepted", "--acl5", "--all-users"])
         self.assertIn("--mail", self.complete("facl-daily", "--"))
         self.assertEqual(self.complete("facl-check", "--wr"), ["--write"])
 
