@@ -66,7 +66,11 @@ class Finding(unittest.TestCase):
 class EmptyMask(SmallTree):
     def setUp(self) -> None:
         super().setUp()
-        self.take({b"/srv/hr/": OPEN, NOTE: LIST}, passwd=b"".join(row for row in PASSWD.splitlines(True) if b"daemon" not in row))
+        self.take_list(LIST)
+
+    def take_list(self, text: bytes) -> None:
+        """Writes the snapshot with this list of the note, and people alone."""
+        self.take({b"/srv/hr/": OPEN, NOTE: text}, passwd=PASSWD.replace(b"daemon:x:1:1::/:/bin/false\n", b""))
 
     def rows(self, name: str, *words: str, is_acl5: bool = False) -> List[List[bytes]]:
         """The fields of a table, with the one line about such lists where the answer is by acl(5)."""
@@ -106,20 +110,20 @@ class EmptyMask(SmallTree):
             b"carl   r-- -> none    1 file    first: srv/hr/note", b"xaver  r-- -> none    1 file    first: srv/hr/note"])
         self.assertIn(b"; nobody may do anything else than before", self.run_command("facl-plan", ["--acl5", "small", "edits"]).out)
         # An entry that says what others have does what it says; where others have nothing, the mask cuts the others.
-        self.take({b"/srv/hr/": OPEN, NOTE: LIST.replace(b"user:1002:rw-\nuser:1003:rwx\nuser:1009:---", b"user:1003:r--")})
+        self.take_list(LIST.replace(b"user:1002:rw-\nuser:1003:rwx\nuser:1009:---", b"user:1003:r--"))
         self.assertNotIn(b"empty-mask", {row[1] for row in self.rows("facl-audit", "--fail-on", "none", "small")})
-        self.take({b"/srv/hr/": OPEN, NOTE: LIST.replace(b"other::r--", b"other::---")})
+        self.take_list(LIST.replace(b"other::r--", b"other::---"))
         found = {row[1]: row[4] for row in self.rows("facl-audit", "--fail-on", "none", "small")}
         self.assertEqual(found[b"mask-cuts-entry"], b"user bert: rw- is ---, user carl: rwx is ---")
         self.assertNotIn(b"empty-mask", found)
 
     def test_a_writer_by_what_others_have(self) -> None:
-        self.take({b"/srv/hr/": OPEN, NOTE: LIST.replace(b"other::r--", b"other::rw-")})
+        self.take_list(LIST.replace(b"other::r--", b"other::rw-"))
         self.assertNotIn(b"writer-outside-groups", {row[1] for row in self.rows("facl-audit", "--fail-on", "none", "small")})
 
     def test_diff(self) -> None:
         os.rename(self.path("small"), self.path("later"))
-        self.take({b"/srv/hr/": OPEN, NOTE: LIST.replace(b"mask::---", b"mask::rwx")})
+        self.take_list(LIST.replace(b"mask::---", b"mask::rwx"))
         changes: Dict[bool, List[Sequence[bytes]]] = {
             False: [(b"none", b"r--", b"xaver"), (b"rw-", b"none", b"bert"), (b"rwx", b"r--", b"carl")],
             True: [(b"rw-", b"none", b"bert"), (b"rwx", b"none", b"carl")]}
