@@ -5,7 +5,7 @@ import argparse
 import os
 import sys
 import unittest
-from typing import Dict, List, Sequence
+from typing import Dict, List, Optional, Sequence, Tuple
 from unittest import mock
 
 from common import COMMANDS
@@ -41,13 +41,13 @@ EVERYBODY = b"everybody else"
 
 
 class Finding(unittest.TestCase):
-    def given(self, program: "str | None" = None, acl5: bool = False) -> argparse.Namespace:
+    def given(self, program: Optional[str] = None, acl5: bool = False) -> argparse.Namespace:
         return argparse.Namespace(program=program, acl5=acl5)
 
     def test_the_program_of_each_judge(self) -> None:
+        cases: List[Tuple[Optional[str], bool]] = [(None, False), (None, True), ("cat", False), ("cat", True)]
         with mock.patch.dict(os.environ, {"FACL": "true", "FACL_LINUX": "false"}):
-            self.assertEqual([os.path.basename(find_program(self.given(*it))) for it in
-                              ((None, False), (None, True), ("cat", False), ("cat", True))], ["false", "true", "cat", "cat"])
+            self.assertEqual([os.path.basename(find_program(self.given(*it))) for it in cases], ["false", "true", "cat", "cat"])
 
     def test_what_is_not_there(self) -> None:
         with mock.patch.dict(os.environ, {"FACL": "./absent"}):
@@ -158,7 +158,8 @@ class Kept(DailyFolder):
 
 class DailyWords(unittest.TestCase):
     def test_each_command_is_asked_by_the_judge(self) -> None:
-        for words in ([], ["--acl5"]):
+        cases: List[List[str]] = [[], ["--acl5"]]
+        for words in cases:
             asked = Asked()
             given = read_words([*words, "--rules", "rules", "/srv"])
             self.assertTrue(daily.Asking(given, Kept(), asked, Text([])).ask_all())

@@ -28,7 +28,7 @@ from .parts.runs import SECONDS
 from .stops import marked
 
 HELP = """\
-Answers questions and edits over a snapshot, by the program facl.
+Answers questions and edits over a snapshot, by the program facl_linux, or, with --acl5, by facl.
 
 With SCRIPTs it answers their lines; the SCRIPT - is standard input. Without one, at a terminal, it is a prompt:
 `help` lists the tools, tab completes words, each answer comes below its line, and where a line is refused for its
