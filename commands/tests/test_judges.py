@@ -113,9 +113,9 @@ class EmptyMask(SmallTree):
         self.take_list(LIST.replace(b"user:1002:rw-\nuser:1003:rwx\nuser:1009:---", b"user:1003:r--"))
         self.assertNotIn(b"empty-mask", {row[1] for row in self.rows("facl-audit", "--fail-on", "none", "small")})
         self.take_list(LIST.replace(b"other::r--", b"other::---"))
-        found = {row[1]: row[4] for row in self.rows("facl-audit", "--fail-on", "none", "small")}
-        self.assertEqual(found[b"mask-cuts-entry"], b"user bert: rw- is ---, user carl: rwx is ---")
-        self.assertNotIn(b"empty-mask", found)
+        cut = {row[1]: row[4] for row in self.rows("facl-audit", "--fail-on", "none", "small")}
+        self.assertEqual(cut[b"mask-cuts-entry"], b"user bert: rw- is ---, user carl: rwx is ---")
+        self.assertNotIn(b"empty-mask", cut)
 
     def test_a_writer_by_what_others_have(self) -> None:
         self.take_list(LIST.replace(b"other::r--", b"other::rw-"))

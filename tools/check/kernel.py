@@ -263,7 +263,7 @@ def main() -> int:
         raise Failed("run it as root")
     found, trees = Compared(0, 0, 0, 0, 0), 0
     while found.all_answers() < given.answers and not found.differ:
-        found = Compared(*map(sum, zip(found, compare_tree(given, given.seed + trees))))
+        found = Compared(*(one + more for one, more in zip(found, compare_tree(given, given.seed + trees))))
         trees += 1
     amount = (f"{found.answers:,} answers, {trees} trees of {given.users} users and {given.files} files, {found.masks} lists with an "
               f"empty mask whose others have something, {found.pairs} changed pairs; {found.marked:,} answers where nobody can write "
