@@ -121,6 +121,16 @@ class EmptyMask(SmallTree):
         self.take_list(LIST.replace(b"other::r--", b"other::rw-"))
         self.assertNotIn(b"writer-outside-groups", {row[1] for row in self.rows("facl-audit", "--fail-on", "none", "small")})
 
+    def test_a_mask_that_got_empty_for_a_group(self) -> None:
+        # carl is of law, and bert of the file's group.
+        text = LIST.replace(b"user:1002:rw-\nuser:1003:rwx\nuser:1009:---\n", b"").replace(b"group::rw-\n", b"group::rw-\ngroup:2002:rw-\n")
+        self.take_list(text)
+        os.rename(self.path("small"), self.path("later"))
+        self.take_list(text.replace(b"mask::---", b"mask::rw-"))
+        rows = self.rows("facl-diff", "small", "later")
+        self.assertEqual(sorted((*row[:3], row[5]) for row in rows), [
+            (b"rw-", b"none", b"bert", b"mask changed"), (b"rw-", b"r--", b"carl", b"mask changed")])
+
     def test_diff(self) -> None:
         os.rename(self.path("small"), self.path("later"))
         self.take_list(LIST.replace(b"mask::---", b"mask::rwx"))

@@ -125,9 +125,9 @@ def say_messages(command: Command, outcome: Outcome, scripts: List[Script]) -> N
             command.say(b"warning: " + name + b": has carriage returns, each of which is a part of its word")
 
 
-def warn_of_acl5(command: Command, changes: ChangedPaths, outcome: Outcome) -> None:
-    """Of the files that change those by whose lists Linux grants otherwise than acl(5)."""
-    found = [outcome.name_of(path) for path in changes.changed if read_record(outcome.new[path].body).has_open_empty_mask()]
+def warn_of_acl5(command: Command, outcome: Outcome) -> None:
+    """Of the files after the edits by whose lists Linux grants otherwise than acl(5)."""
+    found = [outcome.name_of(path) for path, file in outcome.new.items() if read_record(file.body).has_open_empty_mask()]
     if found:
         command.say(overview.warning_of(overview.JUDGED_OTHERWISE, found))
 
@@ -256,7 +256,7 @@ def plan_over(command: Command, given: argparse.Namespace, source: sources.Sourc
     stuck = obstacles(marks_of(snapshot.folder), changes)
     if is_shown:
         if given.acl5:
-            warn_of_acl5(command, changes, outcome)
+            warn_of_acl5(command, outcome)
         warn_of_stuck(command, stuck, changes, outcome)
     if written is not None:
         check_inodes(snapshot, changes)
