@@ -1,6 +1,7 @@
 """The order in which a file gets its new record, by a stand-in for the calls of the system; and the files that are opened.
 
-At each moment the program is asked who may do what: nobody more than before or after.
+At each moment both programs are asked who may do what: nobody more than before or after, request by request; and by the list
+that two lists have in common nobody more than by each of them.
 """
 from __future__ import annotations
 
@@ -17,10 +18,13 @@ from real import RealCase
 from facl_commands.apply import changing  # noqa: E402
 from facl_commands.base import acl_bytes, live  # noqa: E402
 from facl_commands.base.acl_bytes import Record  # noqa: E402
-from facl_commands.base.programs import LINUX  # noqa: E402
+from facl_commands.base.programs import ACL5, LINUX, KnownProgram  # noqa: E402
 from facl_commands.program.session import Session  # noqa: E402
 
 UIDS, GIDS = range(1, 7), range(11, 16)
+MANY_UIDS, MANY_GIDS = range(1, 22), range(31, 46)  # 36 names: lists of up to 40 entries.
+NOBODY = 22  # Whom no list names.
+PROGRAMS = (ACL5, LINUX)
 NAMES = {1: b"user:", 2: b"user:", 4: b"group:", 8: b"group:", 16: b"mask:", 32: b"other:"}
 
 
@@ -81,6 +85,8 @@ class StandIn(live.OpenFile):
 class Pairs:
     """Random pairs of records."""
 
+    uids, gids, counts = UIDS, GIDS, [0, 0, 1, 2, 3]  # How many entries with names a list may have.
+
     def __init__(self, seed: int) -> None:
         self.chance = random.Random(seed)
 
@@ -89,9 +95,9 @@ class Pairs:
 
     def list(self) -> bytes:
         entries: Dict[Tuple[int, int], int] = {(tag, acl_bytes.NO_ID): self.permissions() for tag in (1, 4, 32)}
-        for _ in range(self.chance.choice((0, 0, 1, 2, 3))):
+        for _ in range(self.chance.choice(self.counts)):
             tag = self.chance.choice((2, 8))
-            entries[tag, self.chance.choice(UIDS if tag == 2 else GIDS)] = self.permissions()
+            entries[tag, self.chance.choice(self.uids if tag == 2 else self.gids)] = self.permissions()
         if len(entries) > 3:
             entries[16, acl_bytes.NO_ID] = self.permissions()
         return acl_bytes.bytes_of(entries)
@@ -99,7 +105,7 @@ class Pairs:
     def record(self, is_directory: bool) -> Record:
         flags = self.chance.choice((0, 0, 0o1000, 0o2000, 0o4000, 0o6000, 0o7000))
         default = self.list() if is_directory and self.chance.random() < 0.5 else b""
-        return Record(self.chance.choice(UIDS), self.chance.choice(GIDS), flags, self.list(), default)
+        return Record(self.chance.choice(self.uids), self.chance.choice(self.gids), flags, self.list(), default)
 
     def pair(self) -> Tuple[bool, Record, Record]:
         """Two records, which have some parts in common."""
@@ -109,25 +115,35 @@ class Pairs:
         return is_directory, old, new._replace(**kept)
 
 
+class ManyPairs(Pairs):
+    """Those whose lists have up to 40 entries: many names, few, or none."""
+
+    uids, gids, counts = MANY_UIDS, MANY_GIDS, [0, 1, 2, 4, 8, 16, 40, 160]
+
+
 class Moments(Case):
     def setUp(self) -> None:
         super().setUp()
+        chance = random.Random(3)
+        users = [*MANY_UIDS, NOBODY]
         os.mkdir(self.path("asked"))
-        self.write("asked/passwd", b"".join(b"u%d:x:%d:%d::/:\n" % (uid, uid, 10 + (uid - 1) % 5 + 1) for uid in [*UIDS, 7]))
-        self.write("asked/group", b"".join(b"g%d:x:%d:u%d\n" % (gid, gid, gid % 6 + 1) for gid in GIDS))
+        self.write("asked/passwd", b"".join(b"u%d:x:%d:%d::/:\n" % (uid, uid, chance.choice(MANY_GIDS)) for uid in users))
+        self.write("asked/group", b"".join(b"g%d:x:%d:%s\n" % (gid, gid, b",".join(b"u%d" % it for it in chance.sample(users, 4)))
+                                           for gid in MANY_GIDS))
 
-    def granted(self, moments: List[Moment]) -> List[List[int]]:
-        """For each moment the requests of each user, as bits."""
+    def granted(self, program: KnownProgram, moments: List[Moment]) -> List[List[int]]:
+        """For each moment the requests of each user, as bits, by one of the programs."""
         self.write("asked/dump", b"".join(record_text(b"%05d" % number, it) for number, it in enumerate(moments)))
-        with Session(LINUX.find(), os.fsencode(self.path("asked"))) as session:
+        with Session(program.find(), os.fsencode(self.path("asked"))) as session:
             rows = [int(line[:2], 16) for line in session.ask_accepted(b"index").lines()]
         users = len(rows) // len(moments)
+        self.assertEqual((users, len(rows)), (22, 22 * len(moments)))
         return [rows[k : k + users] for k in range(0, len(rows), users)]
 
-    def changed(self, number: int) -> List[List[Moment]]:
+    def changed(self, pairs: Pairs, number: int) -> List[List[Moment]]:
         """The moments of random changes, there and back, and from moments of a change that was cut off; the first and the last
         of each are what it is between."""
-        pairs, found = Pairs(number), []
+        found = []
         for _ in range(number):
             is_directory, old, new = pairs.pair()
             file = StandIn(old, is_directory)
@@ -144,19 +160,32 @@ class Moments(Case):
         return found
 
     def test_nobody_is_granted_more_than_before_or_after(self) -> None:
-        changes = self.changed(200)
-        rows = iter(self.granted([moment for moments in changes for moment in moments]))
-        between = 0
-        for moments in changes:
-            granted = [next(rows) for _ in moments]
-            between += len(moments) - 2
-            for row in granted[1:-1]:
-                for old, now, new in zip(granted[0], row, granted[-1]):
-                    self.assertEqual(now & ~(old | new), 0, moments)
-        self.assertGreater(between, 200)
+        changes = self.changed(ManyPairs(200), 1000)
+        longest = max(len(acl_bytes.entries_of(it.record.access)) for moments in changes for it in moments)
+        between = sum(len(moments) - 2 for moments in changes)
+        self.assertEqual((longest, between > 5000), (40, True))
+        for program in PROGRAMS:
+            rows = iter(self.granted(program, [moment for moments in changes for moment in moments]))
+            for moments in changes:
+                granted = [next(rows) for _ in moments]
+                both = [old | new for old, new in zip(granted[0], granted[-1])]
+                for row in granted[1:-1]:
+                    self.assertFalse(any(now & ~it for now, it in zip(row, both)), (program, moments))
+
+    def test_the_list_in_common_grants_nobody_more_than_each(self) -> None:
+        """With the owner and group of the old record, and with those of the new one."""
+        pairs = ManyPairs(300)
+        lists = [pairs.pair() for _ in range(1000)]
+        moments = [Moment(ids._replace(access=access), is_directory) for is_directory, old, new in lists for ids in (old, new)
+                   for access in (old.access, acl_bytes.common(old.access, new.access), new.access)]
+        for program in PROGRAMS:
+            rows = self.granted(program, moments)
+            for place in range(0, len(rows), 3):
+                for old, now, new in zip(*rows[place : place + 3]):
+                    self.assertEqual(now & ~(old & new), 0, (program, moments[place : place + 3]))
 
     def test_a_program_runs_as_nobody_else_and_names_stay_protected(self) -> None:
-        for moments in self.changed(200):
+        for moments in self.changed(Pairs(200), 200):
             old, new = moments[0].record, moments[-1].record
             for moment in moments[1:-1]:
                 record = moment.record
