@@ -453,16 +453,16 @@ class Prompts(unittest.TestCase):
         self.assertEqual(self.ask("below w srv/share/notes", "below x srv/share/notes", "gains", "setfacl -m u:guest:r srv/share/notes", "gains",
                                   "gains --reach", "below q srv", "below r", "below r srv/none"),
                          b"1 ines srv/share/notes\n(nobody)\n(nothing)\n11 55 1 mara srv/share/notes\n01 11 1 guest srv/share/notes\n"
-                         b"(nothing)\nline 7: below: usage\n    below [--reach] PERMS FILE..\n    PERMS are letters of rwx, or "
-                         b"one digit 0 to 7.\nline 8: below: usage\n    below [--reach] PERMS FILE..\n    A word is missing.\n"
+                         b"(nothing)\nline 7: below: usage\n    below [--reach] PERMS FILE..\n"
+                         b"line 8: below: usage\n    below [--reach] PERMS FILE..\n"
                          b"line 9: below: srv/none: no such file\n    Paths start at the root of the file system. A symbolic link, and what is "
                          b"reached by one, is not recorded.\n\n")
 
     def test_what_is_said_once(self) -> None:
         self.noted = []
         self.assertEqual(self.ask("who --reach r srv/share/one", "can ines srv", "getfacl -s srv", "who", "who w srv", "may guest w"),
-                         b"ines\nben\n--x r-- r-x\n~" + ALONE + b"(nothing)\nline 4: who: usage\n    who [--reach] PERMS FILE\n    A word is "
-                         b"missing.\nroot\n(nothing)\n\n")
+                         b"ines\nben\n--x r-- r-x\n~" + ALONE + b"(nothing)\nline 4: who: usage\n    who [--reach] PERMS FILE\n"
+                         b"root\n(nothing)\n\n")
 
     def test_the_superuser(self) -> None:
         self.without = {b"root": 0, b"ines": 1001}
@@ -481,14 +481,14 @@ class Prompts(unittest.TestCase):
         self.assertEqual(answer.count(b"# file: srv\n"), 2)
 
     def test_refused_lines(self) -> None:
-        self.assertEqual(self.ask('who r "srv/share/plan 2 "', "who r share/one", "", "frob", "chmod u+w srv/share/one"), (
-            b"line 1: who: usage\n    who [--reach] PERMS FILE\n    A double quote does not quote. Write the word in single quotes.\n"
+        self.assertEqual(self.ask('who r "srv/share/plan 2 "', "who r share/one", "", "frob", "chmod u+w srv/share/one", "can ines"), (
+            b"line 1: who: usage\n    Neither a double quote nor a backslash quotes. A word with a blank is in single quotes.\n"
+            b"      in the script: who r 'srv/share/plan 2 '\n"
             b"line 2: who: share/one: no such file\n    Paths start at the root of the file system. A symbolic link, and what is reached "
             b"by one, is not recorded.\n    There is srv/share/one\n"
             b"line 4: facl: unknown tool\n    The tools are listed by `help`.\n"
-            b"line 5: chmod: usage\n    chmod [-R] MODE FILE..\n    MODE is one to four octal digits. setfacl puts whole entries, and PERMS are "
-            b"those that getfacl prints, changed as wanted. chmod changes the mask in the place of g, where there is one: "
-            b"setfacl -n -m u::PERMS srv/share/one\n\n"))
+            b"line 5: chmod: usage\n    MODE is one to four octal digits. setfacl puts the entry of a class whole, m is the mask:\n"
+            b"      in the script: setfacl -n -m u::PERMS srv/share/one\nline 6: can: usage\n    can [--reach] USER FILE\n\n"))
 
     def test_texts(self) -> None:
         self.assertEqual(self.ask("setfacl -M - srv/share/one", "u:guest:r", ".", "can guest srv/share/one", "getfacl -"), b"r--\n\n")

@@ -170,7 +170,7 @@ class Moments(Case):
                 granted = [next(rows) for _ in moments]
                 both = [old | new for old, new in zip(granted[0], granted[-1])]
                 for row in granted[1:-1]:
-                    self.assertFalse(any(now & ~it for now, it in zip(row, both)), (program, moments))
+                    self.assertFalse(any(now & ~it for now, it in zip(row, both)), (program.name, moments))
 
     def test_the_list_in_common_grants_nobody_more_than_each(self) -> None:
         """With the owner and group of the old record, and with those of the new one."""
@@ -179,10 +179,10 @@ class Moments(Case):
         moments = [Moment(ids._replace(access=access), is_directory) for is_directory, old, new in lists for ids in (old, new)
                    for access in (old.access, acl_bytes.common(old.access, new.access), new.access)]
         for program in PROGRAMS:
-            rows = self.granted(program, moments)
+            rows = self.granted(program.name, moments)
             for place in range(0, len(rows), 3):
                 for old, now, new in zip(*rows[place : place + 3]):
-                    self.assertEqual(now & ~(old & new), 0, (program, moments[place : place + 3]))
+                    self.assertEqual(now & ~(old & new), 0, (program.name, moments[place : place + 3]))
 
     def test_a_program_runs_as_nobody_else_and_names_stay_protected(self) -> None:
         for moments in self.changed(Pairs(200), 200):

@@ -207,7 +207,7 @@ class Reports(Case):
 
 
 class RefusedLines(Case):
-    CAUSE = b"    No row of the snapshot's passwd has this name. An entry may have an id without a row.\n"
+    CAUSE = b"    No row of the snapshot has this name. An entry may have an id without a row.\n"
     REFUSED = b"facl-plan: edits, line 2: setfacl: entry 1: unknown user\n" + CAUSE
 
     def test_nothing_is_written(self) -> None:
@@ -217,17 +217,17 @@ class RefusedLines(Case):
         self.assertEqual(sorted(os.listdir(self.folder)), ["before", "edits"])
 
     def test_the_line_that_would_do(self) -> None:
-        done = self.plan(b"setfacl -m u:guest:r srv/share/one\nnamei -l srv/share/one\nsu - guest\nchmod 600 srv/share/one\n")
+        done = self.plan(b"setfacl -m u:guest:r srv/share/one\ntouch srv/share/made\nsu - guest\nchmod 600 srv/share/one\n")
         self.assertTrue(done.messages.startswith(
             b"facl-plan: edits, line 2: facl: unknown tool\n"
-            b"    What decides on each directory of a path is asked of a user:\n"
-            b"      in the script: why --reach USER srv/share/one\n"
+            b"    Files are made by creat, directories by creat -d:\n"
+            b"      in the script: creat --user=USER --mode=MODE NEWFILE\n"
             b"facl-plan: edits, line 3: facl: text without end\n"), done.messages)
         self.assertIn(b"\n    line 4 was taken as the text of line 3, since it has a word -\n", done.messages)
         report = json.loads(self.plan(self.read("edits"), "--json").out)
         self.assertEqual(report["refused"][0], {
             "script": "edits", "line": 2, "message": "facl: unknown tool",
-            "cause": ["What decides on each directory of a path is asked of a user:", "  in the script: why --reach USER srv/share/one"],
+            "cause": ["Files are made by creat, directories by creat -d:", "  in the script: creat --user=USER --mode=MODE NEWFILE"],
         })
 
     def test_keep_going(self) -> None:

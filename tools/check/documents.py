@@ -10,7 +10,7 @@ usage: tools/check/documents.py [--write | --files [CRATE]..]
   crates.txt; the line of docs/PROOFS.md that starts with "Trusted" has the kit's crates that crates.txt lists.
 - docs/SPECIFICATION.md, docs/facl.1: a number in thousands, with commas, is a limit, or one from a limit.
 - Each tool and option that the program reads is in docs/facl.1, in the records of commands/facl_commands/program/tools.py, of
-  which completion is made, and in docs/SPECIFICATION.md; each tool in the README's table and the table of causes. The
+  which completion is made, and in docs/SPECIFICATION.md; each tool in the README's table. The
   first two and the README have no others. The words that name a text are those of the options that read one (tool_rows.py).
 - docs/READING.md: each line of its examples is one of the sources or definitions.
 - tools/README.md names each script of tools/, and none that is not there.

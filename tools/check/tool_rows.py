@@ -2,21 +2,17 @@
 documents.py calls it."""
 from __future__ import annotations
 
-import ast
 import importlib.util
 import os
 import re
 from typing import Dict, Iterator, List, Set, Tuple
 
-from memory_faults import found_in, text_of
+from memory_faults import text_of
 from syntaxes import NOTHING, TEXT, VALUE, Switch, Syntax, of_program, of_tools, words_of_texts
 
 PAGE, README, SPECIFICATION = "docs/facl.1", "README.md", "docs/SPECIFICATION.md"
 COMMANDS_PAGE, RECORDS = "docs/facl-commands.1", "commands/facl_commands/program/tools.py"
-CAUSES = "commands/facl_commands/program/hints/cause_rows.py"
 TEXT_WORDS = "crates/facl_tools/specs/TextWords.antt"
-NO_TOOLS = {"UNKNOWN", "UNKNOWN_TOOL"}  # What rows of words that are no tools name.
-ROW_PLACE = 5  # Of the refused line among the words of a cause's row.
 Fault = Tuple[str, int, str]
 
 
@@ -28,7 +24,7 @@ def options_shown(text: str) -> Set[str]:
 
 
 def records_of(path: str) -> Tuple[Dict[str, Syntax], List[str]]:
-    """The tools that the commands know, with their options, of which completion and causes are made; and those of
+    """The tools that the commands know, with their options, of which completion and hints are made; and those of
     facl-plan alone."""
     spec = importlib.util.spec_from_file_location("tools", path)
     assert spec is not None and spec.loader is not None
@@ -40,28 +36,6 @@ def records_of(path: str) -> Tuple[Dict[str, Syntax], List[str]]:
         [word.endswith("..") for word in tool.operands.split()], tool.takes_text, path) for tool in module.ROWS}
     of_plans = [name.decode() for name in module.TOOLS_OF_PLANS]
     return {name: syntax for name, syntax in found.items() if name not in of_plans}, of_plans
-
-
-def calls_of_tools(tree: ast.AST) -> Iterator[ast.AST]:
-    """The parts of a table of causes, but for the rows of first words that are no tools."""
-    for part in ast.iter_child_nodes(tree):
-        names = {name.id for name in ast.walk(part) if isinstance(name, ast.Name)}
-        is_row = isinstance(part, ast.Call) and isinstance(part.func, ast.Name) and part.func.id == "row"
-        if not (is_row and names & NO_TOOLS):
-            yield part
-            yield from calls_of_tools(part)
-
-
-def tools_of_causes(text: str) -> Iterator[str]:
-    """The words by which rows of the table of causes name tools: in their tests, and first in a refused line."""
-    for call in calls_of_tools(ast.parse(text)):
-        if isinstance(call, ast.Call) and isinstance(call.func, ast.Name) and call.args:
-            place = ROW_PLACE if call.func.id == "row" else 0
-            word = call.args[place] if len(call.args) > place else None
-            value = word.value if isinstance(word, ast.Constant) else ""
-            words = (value.decode() if isinstance(value, bytes) else str(value)).split()
-            if call.func.id in ("first", "has_option", "operands", "row"):
-                yield from words[:1] if call.func.id == "row" else words
 
 
 class ToolRows:
@@ -77,7 +51,6 @@ class ToolRows:
         yield from self.of_records()
         yield from self.of_readme()
         yield from self.of_specification()
-        yield from self.of_causes()
         yield from self.of_texts()
 
     def unlike(self, path: str, named: Set[str], tools: Set[str]) -> Iterator[Fault]:
@@ -137,12 +110,6 @@ class ToolRows:
         for name, row in ((name, row) for name, syntax in self.tools.items() for row in syntax.switches):
             if named.isdisjoint(row.names):
                 yield SPECIFICATION, 1, f"{name} has no {' '.join(row.names)} here"
-
-    def of_causes(self) -> Iterator[Fault]:
-        """Each tool has a row in the table of causes; its options come into it by the records."""
-        paths = found_in(self.top, "commands/facl_commands/program/hints/cause_rows*.py")
-        named = {word for path in paths for word in tools_of_causes(text_of(self.top, path))}
-        yield from ((CAUSES, 1, f"the tool {name} is not in it") for name in set(self.tools) - named)
 
     def of_texts(self) -> Iterator[Fault]:
         """The words by which a line takes a text are those of the options that read one, and of the tools that load one."""

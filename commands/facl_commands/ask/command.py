@@ -121,7 +121,7 @@ def units_of_input() -> Dict[int, Unit]:
 def run_explained(command: Command, program: str, source: Source, name: Optional[bytes]) -> int:
     """Runs the program over the standard input, and returns its status. Where that is a script by name, what was probably
     meant comes below each message. A terminal gets messages without what it obeys."""
-    from ..program.hints.causes import explained_by_number
+    from ..program.hints.hint import explained_by_number
 
     units: Optional[Dict[int, Unit]] = None if name is not None else {}
     is_terminal = os.isatty(2)

@@ -8,9 +8,9 @@ from ..base.messages import Failure
 from ..base.names import read_path, shown, write_name
 from ..model.marks import NO_MARKS, Marks
 from ..model.superuser import Superusers
-from ..program.hints import causes
+from ..program.hints.hint import explained
 from ..program.protocol import (
-    IN_LINE, PROGRAM, UNKNOWN_TOOL, USAGE, has_text, is_refused, lacking_file, lacks_file, message_of,
+    IN_LINE, PROGRAM, UNKNOWN_TOOL, is_refused, lacking_file, lacks_file, message_of,
 )
 from ..program.scripts import LINE_LIMIT, Unit, is_empty, read_units, words_of
 from ..program.session import Answer, Session
@@ -133,7 +133,7 @@ class Prompt:
         for message in answer.messages:
             self.out(IN_LINE % unit.number + shown(message) + b"\n")
             for line in self.advice(unit, message):
-                self.out(b"    " + line.encode() + b"\n")
+                self.out(b"    " + line + b"\n")
         if unit.is_of(*REQUESTS) and REACH not in unit.words and not is_refused(answer.messages):
             self.note(ALONE)
         if self.superusers.has_left_out:
@@ -145,24 +145,13 @@ class Prompt:
             self.noted.add(line)
             self.out(self.dim(line))
 
-    def advice(self, unit: Unit, message: bytes) -> List[str]:
-        """The synopses of the tool where its words are wrong, and what was probably meant."""
-        found: List[str] = []
-        tool = unit.words[0].decode("utf-8", "replace") if unit.words else ""
-        if has_text(message, USAGE) and self.page and tool in self.page.tools:
-            found += self.page.tools[tool].synopses
-        text = causes.advice(unit.lines[0], message)
-        if text is not None:
-            found.append(text)
-        if message == message_of(PROGRAM, UNKNOWN_TOOL) and text is None:
-            found.append("The tools are listed by `help`.")
-        return found + self.elsewhere(message)
-
-    def elsewhere(self, message: bytes) -> List[str]:
-        """Recorded files whose paths end in one that is not there."""
+    def advice(self, unit: Unit, message: bytes) -> List[bytes]:
+        """What was probably meant, and recorded files whose paths end in one that is not there."""
+        found = explained(unit, message)
+        if message == message_of(PROGRAM, UNKNOWN_TOOL) and not found:
+            found = [b"The tools are listed by `help`."]
         path = read_path(lacking_file(message)) if lacks_file([message]) else b""
-        return ["There is " + shown(write_name(found)).decode()
-                for found in self.completer.ending(path)] if path else []
+        return found + ([b"There is " + shown(write_name(it)) for it in self.completer.ending(path)] if path else [])
 
     def follow(self, unit: Unit) -> None:
         """Keeps the paths that are completed up to date."""

@@ -39,7 +39,7 @@ class Message(NamedTuple):
         """What is known of the cause of a refused line."""
         if self.is_warning or self.is_final:
             return []
-        from ..program.hints.causes import explained  # Few runs need it.
+        from ..program.hints.hint import explained  # Few runs need it.
 
         return explained(self.unit, self.text)
 

@@ -31,7 +31,7 @@ def write_messages(command: Command, place: bytes, unit: Unit, messages: List[by
         line = place + b": " + message
         command.put(command.messages, (shown(line) if is_terminal else line) + b"\n")
         if begin is not None:
-            from .hints.causes import explained  # Few runs need it.
+            from .hints.hint import explained  # Few runs need it.
 
             command.explain(explained(unit, message), begin)
     command.put(command.messages)

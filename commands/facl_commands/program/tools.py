@@ -56,6 +56,7 @@ class Tool(NamedTuple):
 BY_REACH = (option("--reach"),)
 RECURSIVE = option("-R --recursive", meaning=DEEP)
 SAYING_MORE = "-v -c -f --verbose --changes --silent --quiet"
+OF_OWNERS = SAYING_MORE + " -h -P --no-dereference --preserve-root"  # Symbolic links are not recorded.
 ROWS = (
     Tool(b"can", QUESTION, "USER FILE", BY_REACH, is_request=True),
     Tool(b"who", QUESTION, "PERMS FILE", BY_REACH, "USER", b"(nobody)\n", is_request=True),
@@ -93,7 +94,7 @@ ROWS = (
     Tool(b"chmod", EDIT, "MODE FILE..", (option("-R", "", DEEP),), others="--reference", harmless=SAYING_MORE),
     Tool(b"creat", EDIT, "FILE",
          (option("-d"), option("--user", USER), option("--mode", OTHER), option("--umask", OTHER)), files=MAKES),
-    Tool(b"rm", EDIT, "FILE..", (option("-r", "", DEEP),), files=REMOVES, harmless="-i -I -v"),
+    Tool(b"rm", EDIT, "FILE..", (option("-r", "", DEEP),), files=REMOVES, harmless="-f -i -I -v --force"),
     Tool(b"attr", QUESTION, "FILE", (), FILE_RECORDS),
     Tool(b"setattr", EDIT, "BYTES FILE"),
     Tool(b"gpasswd", PEOPLE, "GROUP", (option("-a", USER), option("-d", USER)), others="-M -A"),
@@ -103,9 +104,9 @@ ROWS = (
     Tool(b"load", LOAD, "TABLE", takes_text=True),
     # In scripts of facl-plan alone.
     Tool(b"chown", OF_PLANS, "USER FILE..", (RECURSIVE,), others="--from --reference",
-         harmless=SAYING_MORE + " --preserve-root"),
+         harmless=OF_OWNERS),
     Tool(b"chgrp", OF_PLANS, "GROUP FILE..", (RECURSIVE,), others="--reference",
-         harmless=SAYING_MORE + " --preserve-root"),
+         harmless=OF_OWNERS),
 )
 ALL = {tool.name: tool for tool in ROWS}
 # Options with values of commands that are no tools.

@@ -254,7 +254,6 @@ FILES: Dict[str, str] = {
                                               'abbrev pub word_asks : Text → Bool\nword_asks word = false\n',
     "commands/facl-ask": "#!/bin/sh\n# Asks\n# all.\nexit\n",
     "commands/facl_commands/program/tools.py": RECORDS,
-    "commands/facl_commands/program/hints/cause_rows.py": '"""Rows."""\nrow("a", USAGE, first("can"), "", "", "chmod")\n',
     "tools/lib/a.py": '#!/usr/bin/env python3\n"""Checks\nall.\n\nMore.\n"""\n',
     "tools/README.md": "lib/a.py, and facl_script.md is no script.\n",
     "docs/PROOFS.md": PROOFS,
@@ -311,7 +310,7 @@ FAULTS: Dict[str, List[Tuple[str, ...]]] = {
 # What the check of tools and options reads.
 OF_TOOLS = ("crates/facl/specs", "crates/facl_tools/specs", "crates/facl_script/specs", "README.md", "commands/facl_commands",
             "docs/SPECIFICATION.md", "docs/facl.1", "docs/facl-commands.1")
-RECORDS_PATH, CAUSES = "commands/facl_commands/program/tools.py", "commands/facl_commands/program/hints/cause_rows.py"
+RECORDS_PATH = "commands/facl_commands/program/tools.py"
 RULES, PAGE_PATH = "docs/SPECIFICATION.md", "docs/facl.1"
 
 
@@ -367,7 +366,7 @@ class Tools(Case):
         self.change("crates/facl/specs/Tools.antt", 'row tools.Can (codes "can") can.syntax',
                     'row tools.Can (codes "can") can.syntax ∷ row tools.Frob (codes "frob") index.syntax')
         self.expect(*((path, "the tool frob is not in it")
-                      for path in (RECORDS_PATH, CAUSES, "README.md", RULES, PAGE_PATH)))
+                      for path in (RECORDS_PATH, "README.md", RULES, PAGE_PATH)))
 
     def test_an_option_that_the_program_gets(self) -> None:
         self.change("crates/facl_tools/specs/Chmod.antt", "options = []", 'options = both (codes "z") (codes "zap") ∷ []')
@@ -387,7 +386,6 @@ class Tools(Case):
         self.change(RECORDS_PATH, 'Tool(b"userdel"', 'Tool(b"deluser"')
         self.change(RECORDS_PATH, '"USER FILE..", BY_REACH', '"USER FILE", BY_REACH')
         self.change(RECORDS_PATH, "takes_text=True", "takes_text=False")
-        self.change("commands/facl_commands/program/hints/cause_rows_of_words.py", '"load dump', '"dump')
         self.change(RULES, "(`--user`, ", "(")
         self.change("docs/facl-commands.1", "chgrp", "group")
         self.expect(
@@ -395,7 +393,7 @@ class Tools(Case):
             (RECORDS_PATH, "-x --remove takes a value"), (RECORDS_PATH, "-X --remove-file takes a text"),
             (RECORDS_PATH, "the tool userdel is not in it"), (RECORDS_PATH, "the program has no tool deluser"),
             (RECORDS_PATH, "why takes other operands"), (RECORDS_PATH, "load takes a text"),
-            (CAUSES, "the tool load is not in it"), (RULES, "creat has no --user here"),
+            (RULES, "creat has no --user here"),
             ("docs/facl-commands.1", "the tool chgrp is not in it"))
 
 

@@ -1,0 +1,118 @@
+"""What is said below the message of a refused line: the hint of the first row that fits, the nearest name, or the synopsis
+of the tool; and the lines that would do."""
+from __future__ import annotations
+
+import re
+from typing import Dict, List, NamedTuple, Optional
+
+from ...base.names import shown
+from ..protocol import PROGRAM, UNKNOWN_TOOL, USAGE, has_text, message_of
+from ..scripts import Unit, words_of
+from ..tools import ALL, HARMLESS, LOADERS, OPTIONS, TEXT, TEXT_WORDS, Option, options_with, split
+from .pasting import harmless, quoted
+from .rows import ROWS, HintRow
+
+MARK = b"  in the script: "  # No command of a shell has the name `in`.
+BLANKS = re.compile(rb"('[^']*')|[ \t]+")
+# Of tools whose options are needed.
+SYNOPSES = {b"creat": b"[-d] --user=USER --mode=MODE [--umask=MASK] FILE", b"gpasswd": b"-a USER GROUP | gpasswd -d USER GROUP",
+            b"setattr": b"NAME=0xHEX FILE", b"usermod": b"-g GROUP USER", b"useradd": b"-u UID -g GROUP NAME"}
+
+
+class Hint(NamedTuple):
+    text: bytes
+    lines: List[bytes]  # That would do. A word in capital letters is for the person to fill in.
+
+
+def spaced(line: bytes) -> bytes:
+    """Returns the line with one blank between its words, and none around them but one after a backslash."""
+    return re.sub(rb"^ |(?<!\\) $", b"", BLANKS.sub(lambda found: found[1] or b" ", line))
+
+
+def row_of(line: bytes, message: bytes) -> Optional[HintRow]:
+    """Returns the first row that fits a refused line and its message, which comes without the number of the line."""
+    text = spaced(line)
+    return next((row for row in ROWS if row.messages.fullmatch(message) and row.typed.search(text)), None)
+
+
+def hint_of(line: bytes, message: bytes) -> Optional[Hint]:
+    row = row_of(line, message)
+    if row is not None:
+        lines = [] if row.instead is None else row.typed.sub(row.instead, spaced(line)).split(b"\n")
+        return Hint(row.hint, lines)
+    words = words_of(line) or line.split()
+    if message == message_of(PROGRAM, UNKNOWN_TOOL):
+        return nearest(line, words[0])
+    return of_usage(words) if has_text(message, USAGE) and words[0] in OPTIONS and words[0] not in LOADERS else None
+
+
+def nearest(line: bytes, word: bytes) -> Optional[Hint]:
+    """Returns the hint of a first word that is nearly the name of a tool."""
+    import difflib  # Few lines need it.
+
+    names = [tool.decode() for tool in sorted(OPTIONS)]
+    found = difflib.get_close_matches(word.decode("utf-8", "replace").lower(), names, 1, 0.75)
+    return Hint(b"There is no tool of this name. Nearly so:", [spaced(line).replace(word, found[0].encode(), 1)]) if found else None
+
+
+def synopsis(tool: bytes) -> bytes:
+    """Returns how lines of a tool are written, by its record."""
+    if tool in SYNOPSES:
+        return tool + b" " + SYNOPSES[tool]
+    rows = ALL[tool].options
+    letters = b"".join(row.names[0][1:] for row in rows if len(row.names[0]) == 2 and not row.value)
+    words = [b"[-%s]" % letters] * bool(letters) + [b"[%s]" % row.names[0] for row in rows if len(row.names[0]) > 2 and not row.value]
+    words += [b"[%s %s]" % (row.names[0], b"-" if row.value == TEXT else row.value.upper().encode()) for row in rows if row.value]
+    return b" ".join([tool, *words, *ALL[tool].operands.encode().split()])
+
+
+def of_usage(words: List[bytes]) -> Hint:
+    """Returns the synopsis, with the options that the tool does not have; and the line without them where they say nothing
+    here."""
+    tool, line = words[0], split(words)
+    unknown = dict.fromkeys(it.name for it in line.given if it.name not in OPTIONS[tool])
+    if not unknown:
+        return Hint(synopsis(tool), [])
+    known = [written(it) for it in line.given if it.name in OPTIONS[tool]]
+    lines = [b" ".join([tool, *known, *map(quoted, line.operands)])] if HARMLESS[tool].issuperset(unknown) else []
+    return Hint(b"%s has no %s here: %s" % (tool, b", ".join(unknown), synopsis(tool)), lines)
+
+
+def written(option: Option) -> bytes:
+    """Returns an option as it is given again."""
+    between = b"=" if len(option.name) > 2 else b" "
+    return option.name + between + quoted(option.value) if option.value else option.name
+
+
+def explained(unit: Unit, message: bytes) -> List[bytes]:
+    """What is said below the message of a refused line: the hint, the lines of a script that would do, each with a mark, and
+    which lines were taken as its text. A script may be anybody's, and a person may paste what is printed of it, so only lines
+    of tools are shown, and these do nothing in a shell."""
+    hint = hint_of(unit.lines[0], message)
+    if hint is None:
+        return [shown(it) for it in swallowed(unit)]
+    instead = [MARK + it for it in map(harmless, hint.lines) if it is not None and it != unit.lines[0]]
+    text = hint.text if instead or hint.text[-1:] != b":" else hint.text[:-1] + b"."
+    return [shown(it) for it in [text, *instead, *swallowed(unit)]]
+
+
+def explained_by_number(units: Dict[int, Unit], message: bytes) -> List[bytes]:
+    """The same of a message as the program prints it, with the number of its line; units by the numbers of their
+    lines."""
+    found = re.match(rb"line ([0-9]+): (.*)\Z", message, re.DOTALL)
+    unit = units.get(int(found[1])) if found else None
+    return [] if found is None or unit is None else explained(unit, found[2])
+
+
+def swallowed(unit: Unit) -> List[bytes]:
+    """Says of lines that a refused line took, where nobody meant them as its text."""
+    taken = len(unit.lines) - 1
+    names = options_with(unit.tool(), TEXT)
+    is_option = any(it.name in names and it.value == b"-" for it in split(unit.words).given)
+    if taken == 0 or unit.is_ended and (is_option or unit.is_of(*LOADERS)):
+        return []
+    word = next((word for word in unit.words[1:] if word in TEXT_WORDS), None)
+    which = b"line %d was" % (unit.number + 1) if taken == 1 else b"lines %d to %d were" % (unit.number + 1,
+                                                                                            unit.number + taken)
+    why = b"" if word is None else b", since it has a word " + word
+    return [which + b" taken as the text of line %d" % unit.number + why]
