@@ -8,6 +8,7 @@ from ..base.names import directories_above, read_path
 from ..model.entries import entries_of
 from ..model.marks import NO_MARKS, Marks
 from ..model.records import name_of, path_of
+from ..model.rules_of_lists import grants_search
 from ..program.scripts import Unit
 from ..program.tools import OF_RECORDS, OPTIONS, REACH, split
 
@@ -30,7 +31,7 @@ def marked(unit: Unit, lines: Iterable[bytes], marks: Marks = NO_MARKS) -> Itera
         block.append(line)
         if not line:
             path = path_of(name_of(block[0]))
-            if not any(it.grants(b"x") for it in entries_of(b"\n".join(block))):
+            if not grants_search(entries_of(b"\n".join(block))):
                 # The files below that nothing above has stopped.
                 stopped = [file for file in files if path in directories_above(file)]
                 block[0] += MARK * any(closed.isdisjoint(directories_above(file)) for file in stopped)

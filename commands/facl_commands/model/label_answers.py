@@ -9,17 +9,20 @@ import re
 import struct
 from typing import Dict, Iterable, List, NamedTuple
 
+from ..base.messages import Failure
 from ..base.names import read_name
 from ..program.protocol import DEFAULT_ENTRY, ENTRIES_OF, FILE_HEAD, INDEX, LIST_NAMES
 from ..program.session import OutputSlice, Session, parts_of, session_over
 from .people import rows_of, user_word, users_in
 from .records import body_of
 from .rights import users_of
+from .rules_of_lists import Vector
 
 SCRIPT_ROOM = 32 << 20  # Bytes of the lines that one session is asked, which may have twice as many.
 WORD = b"%07d"
 WORD_SIZE = 8  # With its blank.
 FILES_ROOM = 50_000  # Files of one session, so that its answers have room in memory.
+READ_AT_ONCE = 1 << 20  # Bytes of `index`.
 
 
 class PeopleTexts(NamedTuple):
@@ -34,7 +37,7 @@ class LabelAnswers(NamedTuple):
     """What the program answers of each label, by its number."""
 
     users: List[bytes]
-    vectors: List[bytes]  # Two hex digits for each of the users.
+    vectors: List[Vector]
     lists: List[bytes]  # The lines of its record, with names.
     reasons: List[List[bytes]]  # The lines of entries, for each user.
 
@@ -71,45 +74,40 @@ def ask_reasons(session: Session, passwd: bytes, users: List[bytes], count: int)
     return found
 
 
-def vectors_of(table: OutputSlice, count: int, users: List[bytes]) -> List[bytes]:
-    """Two digits of each user for each file. The lines of a file follow each other, and those of a user have one
-    length."""
-    places, size = [], 0
-    for user in users:
-        places.append(size)
-        size += len(b"00 " + user + b" " + WORD % 0 + b"\n")
-    text = table.read()
-    assert len(text) == count * size
-    return [b"".join([text[place + k * size : place + k * size + 2] for place in places]) for k in range(count)]
+def vectors_of(table: OutputSlice, users: List[bytes], count: int) -> List[Vector]:
+    """What an index has of each of so many files. The lines of a file follow each other, and those of a user have one length."""
+    form = struct.Struct("".join("2s%dx" % len(b" " + user + b" " + WORD % 0 + b"\n") for user in users))
+    if table.end - table.start != form.size * count:
+        raise Failure(b"the program does not list the users and files of `index` in their order")
+    found: List[Vector] = [] if users else [b""] * count
+    step = form.size * max(1, READ_AT_ONCE // max(1, form.size))
+    for start in range(table.start, table.end, step):
+        text = table._replace(start=start, end=min(start + step, table.end)).read()
+        found += [bytes.fromhex(b"".join(it).decode()) for it in form.iter_unpack(text)]
+    return found
 
 
 class Vectors(NamedTuple):
-    """What the program answers of each record, by its lines after the first: a byte of `index` for each user."""
+    """What the program answers of each record, by its lines after the first."""
 
     users: List[bytes]
-    of_body: Dict[bytes, bytes]
+    of_body: Dict[bytes, Vector]
 
 
-def bytes_of(table: OutputSlice, bodies: List[bytes]) -> Vectors:
-    """What an index of bodies has."""
+def vectors_by_body(session: Session, bodies: List[bytes]) -> Vectors:
+    """What an index has of the files of a dump of these bodies."""
+    table = session.ask_accepted(INDEX)
     users = users_of(table)
-    form = struct.Struct("".join("2s%dx" % len(b" " + user + b" " + WORD % 0 + b"\n") for user in users))
-    assert table.end - table.start == len(bodies) * form.size
-    found: Dict[bytes, bytes] = {}
-    for number, body in enumerate(bodies):
-        start = table.start + number * form.size
-        text = table._replace(start=start, end=start + form.size).read()
-        found[body] = bytes.fromhex(b"".join(form.unpack(text)).decode())
-    return Vectors(users, found)
+    return Vectors(users, dict(zip(bodies, vectors_of(table, users, len(bodies)))))
 
 
 def ask_vectors(program: str, people: PeopleTexts, bodies: List[bytes]) -> List[Vectors]:
     """Asks what all users may do with files that have these bodies, before the lines of people and after them."""
     with session_over(program, people.passwd, people.group, dump_of(bodies)) as session:
-        found = [bytes_of(session.ask_accepted(INDEX), bodies)]
+        found = [vectors_by_body(session, bodies)]
         if people.lines:
             session.ask_accepted(people.lines.rstrip(b"\n"))
-            found.append(bytes_of(session.ask_accepted(INDEX), bodies))
+            found.append(vectors_by_body(session, bodies))
         return [found[0], found[-1]]
 
 
@@ -120,7 +118,7 @@ def ask_some(program: str, people: PeopleTexts, bodies: List[bytes]) -> LabelAns
             session.ask_accepted(people.lines.rstrip(b"\n"))
         table = session.ask_accepted(INDEX)
         users = users_of(table)
-        vectors = vectors_of(table, len(bodies), users)
+        vectors = vectors_of(table, users, len(bodies))
         reasons = ask_reasons(session, people.passwd, users, len(bodies))
         lists = ask_records(session, [LIST_NAMES + b" " + part for part in operands_of(len(bodies))])
         return LabelAnswers(users, vectors, lists, reasons)

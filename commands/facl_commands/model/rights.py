@@ -16,15 +16,11 @@ from ..base.names import sorting_key
 from ..program.protocol import INDEX
 from ..program.session import OutputSlice, Session
 from .records import Listing
+from .rules_of_lists import Vector, along_path, inside, lanes
 
 ABSENT, NONE = "absent", "none"  # Of a file or a user that is not there; where nothing is granted.
 REQUESTS = ["---", "--x", "-w-", "-wx", "r--", "r-x", "rw-", "rwx"]
-NOTHING = 1  # The byte of `index` that grants no more than the request for nothing.
-SEARCH = 1 << 1  # Its bit of the request for search.
-HAS_SEARCH = bytes([byte >> 1 & 1 for byte in range(256)])  # Of a byte of `index`.
-ALL_OR_NOTHING = bytes([NOTHING]) + bytes([255]) * 255
 NOT_ZERO = re.compile(rb"[^\0]")
-Vector = bytes  # A byte of `index` for each user, on one file.
 
 
 class FileAnswers(NamedTuple):
@@ -68,15 +64,6 @@ def granted(byte: int) -> str:
 
 
 GRANTED = [granted(byte) for byte in range(256)]
-
-
-def lanes(numbers: bytes) -> int:
-    """Bytes as one number, to reckon with all of them at once."""
-    return int.from_bytes(numbers, "little")
-
-
-def both(one: bytes, other: bytes) -> bytes:
-    return (lanes(one) & lanes(other)).to_bytes(len(one), "little")
 
 
 def places_in(numbers: bytes) -> Iterator[int]:
@@ -134,7 +121,7 @@ def reached_of(paths: Iterable[bytes], vectors: Dict[bytes, Vector], users: int)
                 found[directory] = above
                 continue
             if (above, vector) not in known:
-                known[above, vector] = both(above, vector.translate(HAS_SEARCH))
+                known[above, vector] = inside(above, vector)
             found[directory] = known[above, vector]
     return found
 
@@ -169,7 +156,7 @@ def along_paths_of(alone: Dict[bytes, Vector], reached: Dict[bytes, bytes]) -> D
     for path, vector in alone.items():
         pair = vector, reached[directory_of(path)]
         if pair not in known:
-            known[pair] = both(vector, pair[1].translate(ALL_OR_NOTHING))
+            known[pair] = along_path(*pair)
         found[path] = known[pair]
     return found
 

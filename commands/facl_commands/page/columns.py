@@ -16,10 +16,10 @@ from ..base.names import shown as shown_bytes
 from ..base.numbered import Numbered
 from ..model.label_answers import LabelAnswers
 from ..model.marks import TEXTS, alone
+from ..model.rules_of_lists import inside
 from .tree import ABOVE, GONE, PageListing, PageTree
 
-ABSENT = b"00"  # In the place of a byte of `index`, which always grants the request for nothing.
-NEW_NAME = 0  # In the column of names: the next name. Another number is how many names before that one it is.
+ABSENT = 0  # In the place of a byte of `index`, which always grants the request for nothing.
 Row = Tuple[int, Dict[int, int]]  # What most have, and by places what others have.
 
 
@@ -104,13 +104,12 @@ class Tables:
         return most, {place: number for place, number in numbers.items() if number != most}
 
     def inside(self, reach: int, row: int) -> int:
-        """Who can get to what is in a directory: those who can get to it, and are granted search there."""
+        """Who can get to what is in a directory, by who can get to it and its row."""
         if (reach, row) not in self.known_insides:
             digits, found = self.rows.values[row], reach
             if digits:
-                above = enumerate(self.reaches.values[reach])
-                found = self.reaches.number("".join(
-                    "1" if it == "1" and int(digits[2 * k : 2 * k + 2], 16) & 2 else "0" for k, it in above))
+                above = bytes(map(int, self.reaches.values[reach]))
+                found = self.reaches.number("".join(map(str, inside(above, bytes.fromhex(digits)))))
             self.known_insides[reach, row] = found
         return self.known_insides[reach, row]
 
@@ -146,8 +145,8 @@ class View:
 
 
 def digits_of(vector: bytes, places: List[int]) -> str:
-    """The digits of the shown users, from those of all users."""
-    return b"".join([ABSENT if place < 0 else vector[2 * place : 2 * place + 2] for place in places]).decode()
+    """The digits of the shown users, from what `index` has of all users."""
+    return bytes([ABSENT if place < 0 else vector[place] for place in places]).hex()
 
 
 class Builder:

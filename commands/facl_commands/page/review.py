@@ -11,7 +11,7 @@ import os
 from collections import Counter
 from functools import lru_cache
 from typing import Counter as Counts
-from typing import Dict, Iterator, List, NamedTuple, Optional, Set, Tuple
+from typing import Dict, List, NamedTuple, Optional, Set, Tuple
 
 from ..base.accounts import PEOPLE
 from ..base.messages import Command
@@ -23,6 +23,8 @@ from ..model import choice, meta, overview, sources
 from ..model.entries import GROUP, MASK, NOTHING, OTHER, USER, Entry, NamesOfIds, entries_of, read_record
 from ..model.everybody import SHOWN, Everybody, everybody_in
 from ..model.label_answers import LabelAnswers, PeopleTexts, ask_labels
+from ..model.rights import places_in
+from ..model.rules_of_lists import Vector, along_path, inside
 from ..model.snapshot import check_texts
 from ..model.sources import Source
 from ..program.protocol import LIST_CUT, LIST_EFFECTIVE
@@ -54,11 +56,9 @@ class Views(NamedTuple):
     answers: LabelAnswers
     people: List[Person]
 
-    def granted(self, label: int, request: int) -> int:
-        """The people to whom a list grants a request: a bit for each."""
-        vector = self.answers.vectors[label]
-        return sum(1 << k for k, (_, place) in enumerate(self.people)
-                   if int(vector[2 * place : 2 * place + 2], 16) >> request & 1)
+    def granted(self, label: int) -> Vector:
+        """What a list grants the people."""
+        return bytes([self.answers.vectors[label][person.place] for person in self.people])
 
 
 def read_reviewed(session: Session, word: bytes) -> Reviewed:
@@ -75,20 +75,12 @@ def read_reviewed(session: Session, word: bytes) -> Reviewed:
 
 
 class RightsByList(NamedTuple):
-    """On how many files the people have rights, by list; a bit of a number is a person."""
+    """On how many files the people have rights, by the number of the person."""
 
     reads: Counts[int]
     changes: Counts[int]
     enters: Counts[int]
-    using: Dict[int, int]  # By list: those who get to one of its files at least.
-
-
-def bits(number: int) -> Iterator[int]:
-    """The places of its bits."""
-    while number:
-        last = number & -number
-        yield last.bit_length() - 1
-        number ^= last
+    using: Dict[int, Set[int]]  # By list: those who get to one of its files at least.
 
 
 class Walk:
@@ -96,27 +88,24 @@ class Walk:
 
     def __init__(self, views: Views, is_alone: bool) -> None:
         self.views, self.is_alone = views, is_alone
-        self.everybody = (1 << len(views.people)) - 1
-        self.inside: Dict[bytes, int] = {}
-        self.search: Dict[int, int] = {}
+        self.everybody = b"\1" * len(views.people)
+        self.inside: Dict[bytes, bytes] = {}
 
-    def reach(self, path: bytes) -> int:
+    def reach(self, path: bytes) -> bytes:
         """Who gets to a file: those who get into the nearest recorded directory above it."""
         above = () if self.is_alone else directories_above(path)
         return next((self.inside[it] for it in above if it in self.inside), self.everybody)
 
     def enter(self, path: bytes, label: int) -> None:
         """Takes a directory, before what is in it."""
-        if label not in self.search:
-            self.search[label] = self.views.granted(label, SEARCH)
-        self.inside[path] = self.reach(path) & self.search[label]
+        self.inside[path] = inside(self.reach(path), self.views.granted(label))
 
 
 def rights_of(reviewed: Reviewed, labels: Labels, views: Views, is_alone: bool) -> RightsByList:
     walk = Walk(views, is_alone)
     for record in reviewed.above:
         walk.enter(record.path, labels.number(record.body))
-    classes: Counts[Tuple[int, bool, int]] = Counter()
+    classes: Counts[Tuple[int, bool, bytes]] = Counter()
     for record in reviewed.records:
         label = labels.number(record.body)
         classes[label, record.is_directory, walk.reach(record.path)] += 1
@@ -125,16 +114,15 @@ def rights_of(reviewed: Reviewed, labels: Labels, views: Views, is_alone: bool) 
     return counted_by(classes, views)
 
 
-def counted_by(classes: Counts[Tuple[int, bool, int]], views: Views) -> RightsByList:
+def counted_by(classes: Counts[Tuple[int, bool, bytes]], views: Views) -> RightsByList:
     """The rights of each person, from files of one list to which the same people get."""
     found = RightsByList(Counter(), Counter(), Counter(), {})
     for (label, is_directory, reach), files in classes.items():
+        vector = along_path(views.granted(label), reach)
         for request, counts in ((READ, found.reads), (WRITE, found.changes), (SEARCH, found.enters)):
-            if request == SEARCH and not is_directory:
-                continue
-            for place in bits(reach & views.granted(label, request)):
-                counts[place] += files
-        found.using[label] = found.using.get(label, 0) | reach
+            if request != SEARCH or is_directory:
+                counts.update({place: files for place, byte in enumerate(vector) if byte >> request & 1})
+        found.using.setdefault(label, set()).update(places_in(reach))
     return found
 
 
@@ -199,7 +187,7 @@ class Lists:
     def people(self, label: int) -> Dict[bytes, List[int]]:
         """By the entries of a list: the people who get to a file of it, and to whom the entry grants something."""
         found: Dict[bytes, List[int]] = {}
-        for person in bits(self.rights.using[label]):
+        for person in sorted(self.rights.using[label]):
             for line in granting(self.views.answers.reasons[label][self.views.people[person].place]):
                 found.setdefault(line, []).append(person)
         return found

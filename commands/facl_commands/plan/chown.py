@@ -8,9 +8,10 @@ from typing import Dict, Iterable, List, NamedTuple, Optional, Tuple, Union
 
 from ..base.messages import counted
 from ..base.names import SAFE, live_name, live_path, number_of, read_name, shell_word, shown, sorting_key, write_user
-from ..model.entries import USER, ReadRecord, head_lines, lists_of, named, read_record
+from ..model.entries import USER, head_lines, lists_of, named, read_record
 from ..model.people import People
 from ..model.records import File, Files, asks_as_directory, read_listing, write_records
+from ..model.rules_of_lists import flags_after_chown
 from ..program.protocol import LIST_ALL, LIST_NUMBERS, NO_GROUP, NO_USER, PROGRAM, RESTORE, TOO_MANY_FILES, USAGE, message_of
 from ..program.scripts import WORD, Unit, takes_text
 from ..program.session import Session, parts_of
@@ -164,14 +165,7 @@ def changed_files(session: Session, line: ChownLine, files: Files, ids: NewIds) 
 def new_body(body: bytes, keeps_flags: bool, ids: NewIds) -> bytes:
     record = read_record(body)
     owner, group = (now if new is None else b"%d" % new for now, new in zip(record[:2], ids))
-    return head_lines(owner, group, record.flags if keeps_flags else cleared(record)) + lists_of(body)
-
-
-def cleared(record: ReadRecord) -> bytes:
-    """The flags of a plain file after chown(2): set-group-ID stays where the group class may not execute, as it marks
-    mandatory locking then."""
-    flags = record.flags
-    return b"-" + (b"-" if record.group_class().endswith(b"x") else flags[1:2]) + flags[2:]
+    return head_lines(owner, group, record.flags if keeps_flags else flags_after_chown(record.flags, record.group_class())) + lists_of(body)
 
 
 # --- what a user who is removed leaves

@@ -11,7 +11,8 @@ from ..model.entries import GROUP, USER, Entries, Entry, read_record
 from ..model.entries import named as named_in
 from ..model.people import Group, People, groups_by_user
 from ..model.records import Files
-from ..model.rights import NOTHING, SEARCH, FileAnswers, directories_to_find, directory_of, lanes, places_in
+from ..model.rights import FileAnswers, directories_to_find, directory_of, places_in
+from ..model.rules_of_lists import HAS_SEARCH, NOTHING, lanes
 from ..program.session import LINE_ROOM, Session
 from .opening import ask_entries, opening
 
@@ -75,7 +76,7 @@ class Closed:
 
     def is_closed(self, path: bytes) -> bool:
         vector = self.alone.get(path)
-        return vector is not None and not vector[self.place] & SEARCH
+        return vector is not None and not HAS_SEARCH[vector[self.place]]
 
     def add(self, directory: bytes) -> Optional[bytes]:
         """Adds the directories above a file, and returns the highest that is closed."""

@@ -14,7 +14,7 @@ ANSWERED, REFUSED = 0, 1  # 1: some line was refused.
 IN_LINE = b"line %d: "  # The beginning of each.
 PROGRAM = b"facl"  # In the place of TOOL, where the fault is found before the tool reads its words.
 # Texts of the line as such, by the program.
-LINE_TOO_LONG, NOT_UTF8, OPEN_QUOTE = b"line too long", b"not UTF-8", b"open quote"
+NOT_UTF8, OPEN_QUOTE = b"not UTF-8", b"open quote"
 UNKNOWN_TOOL, TEXT_WITHOUT_END = b"unknown tool", b"text without end"
 # By any tool.
 USAGE, BAD_PATH = b"usage", b"bad path"
@@ -23,14 +23,9 @@ TOO_MANY_FILES = b"too many files"
 # By setfacl and chacl, of entries and lists.
 BAD_TAG, BAD_PERMISSIONS, NO_PERMISSIONS = b"bad tag", b"bad permissions", b"permissions missing"
 UNKNOWN_USER, UNKNOWN_GROUP = b"unknown user", b"unknown group"
-UNWANTED_PERMISSIONS, BASE_ENTRY = b"permissions not wanted", b"base entry cannot be removed"
-BOTH = b"both removed and modified"
-REPEATED, NEEDS_MASK, BASE_MISSING = b"is repeated", b"needs a mask", b"(user|group|other):: missing"
+UNWANTED_PERMISSIONS, BASE_MISSING = b"permissions not wanted", b"(user|group|other):: missing"
 ONLY_DIRECTORIES = b"only directories have default lists"
-# By load, creat, rm, gpasswd and useradd.
-ALREADY_LOADED, EXISTS = b"already loaded", b"exists"
-NOT_DIRECTORY, IS_DIRECTORY = b"not a directory", b"is a directory"
-NOT_MEMBER, USER_EXISTS, ID_IN_USE = b"not a member", b"user exists", b"user id in use"
+IS_DIRECTORY = b"is a directory"  # By rm.
 # By setfacl -d: the one message of a line that is accepted.
 WARNING = b"setfacl: warning: default entries dropped"
 # By the program, which ends then (run_fault.rt): a text that it does not load, or a dump that is too large.

@@ -6,7 +6,7 @@ definitions.
 from __future__ import annotations
 
 import re
-from typing import Dict, FrozenSet, Iterable, List, NamedTuple, Optional, Tuple
+from typing import FrozenSet, Iterable, List, NamedTuple, Optional, Tuple
 
 # What a line of a tool does.
 QUESTION, EDIT, PEOPLE, LOAD, OF_PLANS = "question", "edit", "people", "load", "of plans"
@@ -17,9 +17,7 @@ KINDS = {"FILE": FILE, "USER": USER, "GROUP": GROUP, "LIST": ENTRIES}
 # What an option means for its line.
 DEEP = "deep"  # It goes to all files below.
 LOOK = "look"  # It prints what it would do, or what is there, and changes nothing.
-PART = "part"  # It changes a part of the lists,
-WHOLE = "whole"  # or gives them anew,
-RECORDS = "records"  # or gives the records of files.
+RECORDS = "records"  # It gives the records of files.
 FILE_RECORDS = "# file: PATH"  # The form of answers that have a record of some lines for each file.
 MAKES, REMOVES = "makes", "removes"  # What a tool does with its FILEs.
 REACH = b"--reach"  # Search on the directories above counts too.
@@ -48,7 +46,6 @@ class Tool(NamedTuple):
     is_request: bool = False  # Whether it asks what is granted; a person is told then what --reach would do.
     files: str = ""  # Whether it makes or removes its FILEs.
     other_operands: Tuple[Tuple[str, str], ...] = ()  # Those of lines with one of some options; the first pair counts.
-    excluded: Tuple[str, ...] = ()  # Long names of which a line has one.
     others: str = ""  # Options of the system's tool that have values, and are none here.
     harmless: str = ""  # Options of the system's tool without which a line does the same here.
 
@@ -70,19 +67,18 @@ ROWS = (
         b"getfacl", QUESTION, "FILE..",
         (option("-a --access"), option("-c --omit-header"), option("-e --all-effective"), option("-E --no-effective"),
          option("-s --skip-base"), RECURSIVE, option("-n --numeric")),
-        FILE_RECORDS, b"(nothing)\n", excluded=("--all-effective --no-effective",),
+        FILE_RECORDS, b"(nothing)\n",
         harmless="-p -t -L -P --absolute-names --tabular --logical --physical",
     ),
     Tool(
         b"setfacl", EDIT, "FILE..",
-        (option("-b --remove-all", "", PART), option("-k --remove-default", "", PART),
-         option("-x --remove", ENTRIES, PART), option("-X --remove-file", TEXT, PART),
-         option("-m --modify", ENTRIES, PART), option("-M --modify-file", TEXT, PART),
+        (option("-b --remove-all"), option("-k --remove-default"),
+         option("-x --remove", ENTRIES), option("-X --remove-file", TEXT),
+         option("-m --modify", ENTRIES), option("-M --modify-file", TEXT),
          option("-n --no-mask"), option("--mask"), option("-d --default"), RECURSIVE,
-         option("--set", ENTRIES, WHOLE), option("--set-file", TEXT, WHOLE), option("--restore", TEXT, RECORDS),
+         option("--set", ENTRIES), option("--set-file", TEXT), option("--restore", TEXT, RECORDS),
          option("--test", "", LOOK)),
         "PATH: LISTS",
-        excluded=("--modify --modify-file", "--remove --remove-file", "--no-mask --mask"),
         harmless="-L -P --logical --physical",
     ),
     Tool(
@@ -109,13 +105,6 @@ ROWS = (
          harmless=OF_OWNERS),
 )
 ALL = {tool.name: tool for tool in ROWS}
-# Options with values of commands that are no tools.
-VALUES_OF_COMMANDS = {
-    b"groupmems": "-g -a -d", b"sudo": "-u -g", b"doas": "-u", b"su": "-c -s", b"runuser": "-c -s -u",
-    b"install": "-m -o -g", b"mkdir": "-m", b"adduser": "--ingroup --uid --gid --home --shell --gecos",
-    b"setfattr": "-n -v -x", b"getfattr": "-n -e",
-}
-BEFORE_OTHERS = (b"sudo", b"doas")  # The options after the first operand are those of another command.
 
 
 # --- tables made of the records
@@ -151,7 +140,6 @@ QUESTIONS, TOOLS_OF_PLANS = of_kind(QUESTION), of_kind(OF_PLANS)
 TOOLS = tuple(name for name in ALL if name not in TOOLS_OF_PLANS)
 # They look at files that their words name.
 WITH_FILES = tuple(name for name in TOOLS if "FILE" in ALL[name].operands)
-WITH_ENTRIES = tuple(name for name in TOOLS if "LIST" in ALL[name].operands or options_with(name, ENTRIES))
 ABOUT_USERS = tuple(name for name in TOOLS if "USER" in ALL[name].prints.split())  # The names of users are in answers.
 COUNTING = tuple(name for name in TOOLS if "COUNT" in ALL[name].prints.split())  # Their answers count files.
 OF_RECORDS = tuple(name for name in TOOLS if ALL[name].prints == FILE_RECORDS)
@@ -162,12 +150,8 @@ EMPTY_ANSWERS = {tool.name: tool.empty for tool in ROWS if tool.empty}
 OPTIONS = {tool.name: frozenset(it for row in tool.options for it in row.names) for tool in ROWS}
 LONG_NAMES = {tool.name: {row.names[0]: row.names[1] for row in tool.options if len(row.names) > 1} for tool in ROWS}
 VALUES = {tool.name: {it: row.value for row in tool.options if row.value for it in row.names} for tool in ROWS}
-VALUES_OF_OTHERS: Dict[bytes, FrozenSet[bytes]] = {
-    **{tool.name: names_in(tool.others) for tool in ROWS},
-    **{name: names_in(names) for name, names in VALUES_OF_COMMANDS.items()},
-}
+VALUES_OF_OTHERS = {tool.name: names_in(tool.others) for tool in ROWS}
 HARMLESS = {tool.name: names_in(tool.harmless) for tool in ROWS}
-EXCLUDED = {tool.name: [names_in(names) for names in tool.excluded] for tool in ROWS}
 # How words by which a line gives the records of files begin.
 RESTORING = tuple(sorted(name for tool in ALL for name in options_that(tool, RECORDS)))
 # Words by which a line takes a text.
@@ -241,8 +225,6 @@ def split(words: List[bytes]) -> Split:
             break
         if word[:1] != b"-" or word == b"-":
             found.operands.append(word)
-            if tool in BEFORE_OTHERS:
-                break
             continue
         *letters, (name, value) = options_of(word, values)
         takes_next = value is None and name in values and rest

@@ -381,8 +381,8 @@ class Tools(Case):
 
     def test_what_others_lose(self) -> None:
         self.change("README.md", "`getfacl`, ", "`getfatcl`, ")
-        self.change(RECORDS_PATH, 'option("-x --remove", ENTRIES, PART), ', 'option("-x --remove", "", PART), ')
-        self.change(RECORDS_PATH, 'option("-X --remove-file", TEXT, PART)', 'option("-X --remove-file", OTHER, PART)')
+        self.change(RECORDS_PATH, 'option("-x --remove", ENTRIES), ', 'option("-x --remove"), ')
+        self.change(RECORDS_PATH, 'option("-X --remove-file", TEXT)', 'option("-X --remove-file", OTHER)')
         self.change(RECORDS_PATH, 'Tool(b"userdel"', 'Tool(b"deluser"')
         self.change(RECORDS_PATH, '"USER FILE..", BY_REACH', '"USER FILE", BY_REACH')
         self.change(RECORDS_PATH, "takes_text=True", "takes_text=False")

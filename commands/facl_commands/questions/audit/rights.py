@@ -13,14 +13,13 @@ from ...model.entries import GROUP, OTHER, USER, Key, NamesOfIds, digits, flag_d
 from ...model.everybody import World
 from ...model.people import People, users_by_group
 from ...model.records import Files
+from ...model.rules_of_lists import IN_DIRECTORY, is_sticky, writing
 from ...program.protocol import FILE_HEAD
 from ...program.session import LINES_ROOM, parts_of, session_over
 from ...program.tools import path_in
 from .findings import FoundFile
 
 READ, WRITE, EXECUTE = b"r", b"w", b"x"
-IN_DIRECTORY = b"wx"  # Nothing can be made or removed in a directory without search.
-STICKY = b"t"
 
 
 class Audited(NamedTuple):
@@ -66,8 +65,8 @@ def less_for_others(audited: Audited, path: bytes, letter: bytes) -> bytes:
 
 def open_to_everybody(audited: Audited, paths: Iterable[bytes], letter: bytes) -> Iterator[FoundFile]:
     for path in paths:
-        is_sticky = audited.is_directory(path) and read_record(audited.files[path].body).flags.endswith(STICKY)
-        yield FoundFile(path, b"sticky" * (is_sticky and letter == WRITE), less_for_others(audited, path, letter))
+        is_kept = audited.is_directory(path) and is_sticky(read_record(audited.files[path].body).flags)
+        yield FoundFile(path, b"sticky" * (is_kept and letter == WRITE), less_for_others(audited, path, letter))
 
 
 def behind_closed(audited: Audited, everybody: FilesOfEverybody, letter: bytes,
@@ -115,8 +114,7 @@ class Teams:
 
 def writers_of(audited: Audited, alike: Alike) -> Set[bytes]:
     """The users who may write files that are judged alike."""
-    request = IN_DIRECTORY if alike.file.is_directory else WRITE
-    line = b"who %s-- %s %s" % (audited.world.reach(audited.given.file_alone), request, path_word(alike.first()))
+    line = b"who %s-- %s %s" % (audited.world.reach(audited.given.file_alone), writing(alike.file.is_directory), path_word(alike.first()))
     return {read_name(name) for name in audited.world.session.ask_accepted(line).lines()}
 
 
@@ -133,7 +131,7 @@ def writing_teams(alike: Alike, teams: Teams, writers: Set[bytes]) -> List[bytes
 
 def writable_by_teams(audited: Audited, alike: Alike, teams: Teams, writers: Set[bytes]) -> Iterator[FoundFile]:
     record = read_record(alike.file.body)
-    if alike.file.is_directory and not record.flags.endswith(STICKY):
+    if alike.file.is_directory and not is_sticky(record.flags):
         found = writing_teams(alike, teams, writers)
         if len(found) > 1:
             text = b", ".join(audited.ids.shown((GROUP, it)) for it in found)

@@ -9,11 +9,11 @@ from ...model.choice import is_recorded
 from ...model.entries import Entries, entries_of
 from ...model.everybody import World
 from ...model.records import Files, name_of, path_of, records_in
+from ...model.rules_of_lists import grants_search, writing
 from ...model.sources import find_tops
 from .rules import ALWAYS, ENTER, NEVER, ONLY, READ, WRITE, Rule
 
 REQUESTS = {READ: b"r", WRITE: b"w", ENTER: b"x"}
-IN_DIRECTORY = b"wx"  # Nothing can be made or removed in a directory without search.
 
 
 class Block(NamedTuple):
@@ -21,9 +21,6 @@ class Block(NamedTuple):
 
     path: bytes
     entries: Entries
-
-    def grants(self, letter: bytes) -> bool:
-        return any(it.grants(letter) for it in self.entries)
 
 
 class Violation(NamedTuple):
@@ -88,13 +85,13 @@ class Rights:
         key = user, right, top
         if key not in self.known:
             may = self.world.may(user, REQUESTS[right], self.is_alone)
-            inside = self.world.may(user, IN_DIRECTORY, self.is_alone) if right == WRITE and may else may
+            inside = self.world.may(user, writing(is_directory=True), self.is_alone) if right == WRITE and may else may
             self.known[key] = [path for path in self.asked(right, top) if path in may
                                and (path in inside or not self.files[path].is_directory)]
         return self.known[key]
 
     def request_on(self, path: bytes, right: bytes) -> bytes:
-        return IN_DIRECTORY if right == WRITE and self.files[path].is_directory else REQUESTS[right]
+        return writing(self.files[path].is_directory) if right == WRITE else REQUESTS[right]
 
     def who(self, right: bytes, path: bytes) -> List[bytes]:
         """Those of the chosen users, and everybody else, who have a right on a file."""
@@ -120,7 +117,7 @@ def deciding(blocks: List[Block], is_missing: bool) -> List[Block]:
     """Those that a person needs to see: where a right is missing, the first that is in the way alone."""
     if not is_missing:
         return blocks
-    closed = [block for block in blocks[:-1] if not block.grants(b"x")]
+    closed = [block for block in blocks[:-1] if not grants_search(block.entries)]
     return closed[:1] or blocks[-1:]
 
 

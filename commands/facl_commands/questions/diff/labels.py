@@ -7,7 +7,6 @@ id and groups in both snapshots are asked about only where records differ.
 """
 from __future__ import annotations
 
-import struct
 from operator import itemgetter
 from typing import Dict, Iterable, Iterator, List, NamedTuple, Sequence, Set, Tuple
 
@@ -15,9 +14,10 @@ from ...base.messages import Failure
 from ...base.names import is_at_or_below, is_below, shown_path, write_user
 from ...base.numbered import Numbered
 from ...model.gains import Gain
-from ...model.label_answers import WORD, dump_of
+from ...model.label_answers import dump_of, vectors_of
 from ...model.people import rows_of
-from ...model.rights import ABSENT, ALL_OR_NOTHING, GRANTED, HAS_SEARCH, both, is_change, lanes, places_in, users_of
+from ...model.rights import ABSENT, GRANTED, is_change, places_in, users_of
+from ...model.rules_of_lists import along_path, inside, lanes
 from ...program.protocol import FILE_HEAD, INDEX
 from ...program.session import session_over
 from .states import ListedFile, Member, Pair, State, members_of
@@ -27,7 +27,6 @@ OPEN = 0  # The number of no directories above.
 CELLS_AT_ONCE = 4_000_000  # Bytes of `index` that one session is asked for,
 MOST_CELLS = 200_000_000  # and all of them: some minutes.
 Key = Tuple[int, int]
-Texts = List[str]
 TEXTS = [ABSENT, *GRANTED[1:]]  # By a byte of `index`; 0 is where the user or the file is not there.
 
 
@@ -130,11 +129,7 @@ def ask_part(program: str, passwd: bytes, group: bytes, bodies: List[bytes]) -> 
     with session_over(program, passwd, group, dump_of(bodies)) as session:
         table = session.ask_accepted(INDEX)
         users = users_of(table)
-        form = struct.Struct("".join("2s%dx" % len(b" " + user + b" " + WORD % 0 + b"\n") for user in users))
-        text = table.read()
-    if len(text) != form.size * len(bodies):
-        raise Failure(b"the program does not list the users and files of `index` in their order")
-    return users, [bytes.fromhex(b"".join(fields).decode()) for fields in form.iter_unpack(text)]
+        return users, vectors_of(table, users, len(bodies))
 
 
 def ask_vectors(program: str, state: State, names: Set[bytes], users: List[bytes],
@@ -177,7 +172,7 @@ class SideRights:
             way = self.shapes.ways.values[way][0]
         for number in reversed(coming):
             above, body = self.shapes.ways.values[number]
-            self.reached[number] = both(self.reached[above], self.vectors[body].translate(HAS_SEARCH))
+            self.reached[number] = inside(self.reached[above], self.vectors[body])
         return self.reached[coming[0] if coming else way]
 
     def granted(self, body: int, way: int) -> bytes:
@@ -185,7 +180,7 @@ class SideRights:
         if body == GONE:
             return self.nobody
         vector = self.vectors[body]
-        return vector if self.is_alone else both(vector, self.reach(way).translate(ALL_OR_NOTHING))
+        return vector if self.is_alone else along_path(vector, self.reach(way))
 
 
 class ChangeTally:

@@ -14,6 +14,7 @@ from ...model.entries import OTHER_KEY, OWNER_KEY, OWNING_GROUP_KEY, USER, Entry
 from ...model.gains import Gain
 from ...model.people import People, listed_by_group, user_word
 from ...model.records import body_of, name_of, path_of, records_in
+from ...model.rules_of_lists import grants_search
 from ...program.protocol import ENTRIES_ALONG_PATH, ENTRIES_OF, LIST_NUMBERS
 from ...program.session import Session, parts_of, session_over
 from .edits import word_of_user
@@ -32,11 +33,6 @@ class Point(NamedTuple):
     path: bytes
     old: Decided
     new: Decided
-
-
-def grants_search(entries: Decided) -> bool:
-    """Whether one of the entries that decide has x, as the mask leaves it."""
-    return any(it.grants(b"x") for it in entries.values())
 
 
 def numbered_groups(people: People) -> bytes:
@@ -174,7 +170,7 @@ class ChangeReasons:
         old, new = (time.decided[name, path] for time in (self.before, self.after))
         if old.keys() != new.keys():
             return b""
-        closed = [[it for it in decided if it != path and not grants_search(decided[it])] for decided in (old, new)]
+        closed = [[it for it in decided if it != path and not grants_search(decided[it].values())] for decided in (old, new)]
         points = [Point(it, old[it], new[it]) for it in closed[0] or closed[1]]
         words = [self.of_directories(name, points)] if points else []
         if not points or old[path] != new[path]:
@@ -186,7 +182,7 @@ class ChangeReasons:
         if not all(self.is_by_list(name, point) for point in points):
             words = {self.of_point(name, point) for point in points}
             return words.pop() if len(words) == 1 else b""
-        verb = b" opened" if grants_search(points[0].new) else b" closed"
+        verb = b" opened" if grants_search(points[0].new.values()) else b" closed"
         rest = b" and %d more" % (len(points) - 1) if len(points) > 1 else b""
         return self.name_of(points[0].path) + rest + verb
 

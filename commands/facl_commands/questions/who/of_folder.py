@@ -10,12 +10,13 @@ from ...base.tables import Column, Table
 from ...model import choice
 from ...model.entries import NOTHING, ReadRecord, head_lines, read_record
 from ...model.records import asks_as_directory
+from ...model.rules_of_lists import is_sticky, remover, writing
 from ...model.superuser import ids_in
 from ...program.protocol import CAN, LIST_BELOW, LIST_NAMED, LIST_NUMBERS, MAKE_DIRECTORY, MAKE_FILE, WHO
 from .answers import NamedUser, WhoAnswer
-from .asking import Asker, Reasons, Right, plain_entry
+from .asking import Asker, Reasons, plain_entry, read_right
 
-CHANGE = Right("-wx", 3)  # Of the folder above, to make or remove a file.
+CHANGE = read_right(writing(is_directory=True).decode())  # Of the folder above, to make or remove a file.
 KINDS = {"file": (MAKE_FILE, b"0666"), "folder": (MAKE_DIRECTORY, b"0777")}
 
 
@@ -30,22 +31,13 @@ class Removed(NamedTuple):
     is_sticky: bool
     is_full: bool  # Whether something is recorded below the file.
 
-    def role(self, uid: int) -> Optional[bytes]:
-        """As whom a user who may change the folder may remove the file: anybody, or one of the owners. None where the
-        sticky bit keeps the user from it."""
-        if not self.is_sticky:
-            return b""
-        if uid == self.owner:
-            return b"owner of the file"
-        return b"owner of the folder" if uid == self.folder_owner else None
-
 
 def ask_removed(asker: Asker, path: bytes) -> Removed:
     lines = [LIST_NUMBERS + b" " + path_word(it) for it in (path, parent_of(path))]
     file, folder = map(read_record, asker.records(lines))
     below = asker.session.ask_accepted(LIST_BELOW + b" " + path_word(path)).records()
     is_full = sum(1 for _, _ in zip(below, range(2))) > 1
-    return Removed(int(file.owner), int(folder.owner), folder.flags.endswith(b"t"), is_full)
+    return Removed(int(file.owner), int(folder.owner), is_sticky(folder.flags), is_full)
 
 
 def removed_path(asker: Asker, word: str) -> bytes:
@@ -65,7 +57,7 @@ def answer_remove(asker: Asker, path: bytes) -> WhoAnswer:
     why = asker.judged_by.keeps_name(path)
     may = asker.lines_of(WHO, CHANGE.letters(), path_word(folder)) if why is None else ()
     users = choice.in_order(may, asker.passwd)
-    roles = {user: removed.role(ids[read_name(user)]) for user in users}
+    roles = {user: remover(ids[read_name(user)], removed.owner, removed.folder_owner, removed.is_sticky) for user in users}
     users = [user for user in users if roles[user] is not None]
     kept = choice.kept(users, asker.given, asker.passwd)
     reasons = Reasons(asker, [(user, folder) for user in kept])
@@ -148,7 +140,7 @@ def answer_new_file(asker: Asker, folder: bytes, user: NamedUser) -> WhoAnswer:
     granted = b"".join(asker.lines_of(CAN, word, path_word(folder))).split(b" ")
     kept_out = asker.judged_by.keeps_out(folder)
     why = None if kept_out is None else b"it is " + kept_out
-    is_allowed = b"-wx" in granted and why is None
+    is_allowed = CHANGE.word.encode() in granted and why is None
     made = [make(asker, folder, word, kind) for kind in KINDS] if is_allowed else []
     umask = asker.given.umask.encode()
     origin = (b"by the default list of " + name if has_default_list(asker, folder)
