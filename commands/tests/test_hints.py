@@ -16,6 +16,7 @@ from common import COMMANDS, HERE
 sys.path.insert(0, COMMANDS)
 
 from facl_commands.ask import manual  # noqa: E402
+from facl_commands.base.programs import LINUX  # noqa: E402
 from facl_commands.model.people import People  # noqa: E402
 from facl_commands.model.snapshot import read_snapshot  # noqa: E402
 from facl_commands.plan import chown  # noqa: E402
@@ -23,7 +24,7 @@ from facl_commands.program import tools  # noqa: E402
 from facl_commands.program.hints import hint, pasting  # noqa: E402
 from facl_commands.program.hints.rows import ROWS, HintRow  # noqa: E402
 from facl_commands.program.scripts import Unit, read_script, words_of  # noqa: E402
-from facl_commands.program.session import Session, find_program  # noqa: E402
+from facl_commands.program.session import Session  # noqa: E402
 
 SHARE = os.fsencode(os.path.join(HERE, "snapshots", "share"))
 FILLED: Dict[bytes, bytes] = {b"USER": b"ines", b"GROUP": b"audit", b"FILE": b"srv/share/one", b"PERMS": b"rw", b"UID": b"1010",
@@ -58,7 +59,7 @@ class Asked(unittest.TestCase):
     def setUp(self) -> None:
         snapshot = read_snapshot(SHARE)
         self.people = People(snapshot.passwd, snapshot.group)
-        self.session = Session(find_program(None), SHARE)
+        self.session = Session(LINUX.find(), SHARE)
         self.addCleanup(self.session.__exit__, None, None, None)
 
     def messages(self, unit: Unit, is_plan: bool) -> List[bytes]:
@@ -102,7 +103,7 @@ class Rows(Asked):
 
     def test_each_line_instead_is_accepted(self) -> None:
         for row in ROWS:
-            with self.subTest(row.wrong), Session(find_program(None), SHARE) as self.session:
+            with self.subTest(row.wrong), Session(LINUX.find(), SHARE) as self.session:
                 for unit in units_of(row.right):
                     self.assertEqual(self.messages(unit, True), [])
 
@@ -219,7 +220,7 @@ class Spoiled(Asked):
 
     def test_the_right_lines_are_accepted(self) -> None:
         for line in RIGHT:
-            with self.subTest(line), Session(find_program(None), SHARE) as self.session:
+            with self.subTest(line), Session(LINUX.find(), SHARE) as self.session:
                 self.assertEqual(self.messages(units_of(line)[0], True), [])
 
     def test_shells(self) -> None:

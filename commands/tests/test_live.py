@@ -179,7 +179,7 @@ class Moments(Case):
         moments = [Moment(ids._replace(access=access), is_directory) for is_directory, old, new in lists for ids in (old, new)
                    for access in (old.access, acl_bytes.common(old.access, new.access), new.access)]
         for program in PROGRAMS:
-            rows = self.granted(program.name, moments)
+            rows = self.granted(program, moments)
             for place in range(0, len(rows), 3):
                 for old, now, new in zip(*rows[place : place + 3]):
                     self.assertEqual(now & ~(old & new), 0, (program.name, moments[place : place + 3]))

@@ -14,14 +14,15 @@ from common import COMMANDS, Case
 sys.path.insert(0, COMMANDS)
 
 from facl_commands.base.names import parent_of  # noqa: E402
+from facl_commands.base.programs import ACL5, LINUX  # noqa: E402
 from facl_commands.model import rules_of_lists as rules  # noqa: E402
 from facl_commands.model.entries import entries_of  # noqa: E402
 from facl_commands.model.records import path_of  # noqa: E402
-from facl_commands.program.session import Session, find_program  # noqa: E402
+from facl_commands.program.session import Session  # noqa: E402
 
 USERS, GROUPS = range(1, 9), range(11, 16)
 LETTERS = [b"---", b"--x", b"-w-", b"-wx", b"r--", b"r-x", b"rw-", b"rwx"]
-PROGRAMS = ("FACL", "FACL_LINUX")
+PROGRAMS = (ACL5, LINUX)
 Vectors = Dict[bytes, bytes]  # By path, in path order.
 
 
@@ -61,7 +62,7 @@ class ByTheProgram(Case):
         """A session of each program over a dump."""
         self.write("asked/dump", dump)
         for program in PROGRAMS:
-            with Session(find_program(os.environ.get(program)), os.fsencode(self.path("asked"))) as session:
+            with Session(program.find(), os.fsencode(self.path("asked"))) as session:
                 yield session
 
     def vectors(self, session: Session) -> Vectors:
