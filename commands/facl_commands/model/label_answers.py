@@ -80,7 +80,7 @@ def vectors_of(table: OutputSlice, users: List[bytes], count: int) -> List[Vecto
     if table.end - table.start != form.size * count:
         raise Failure(b"the program does not list the users and files of `index` in their order")
     found: List[Vector] = [] if users else [b""] * count
-    step = form.size * max(1, READ_AT_ONCE // max(1, form.size))
+    step = form.size * max(1, READ_AT_ONCE // max(1, form.size)) or 1  # Without users there are no lines.
     for start in range(table.start, table.end, step):
         text = table._replace(start=start, end=min(start + step, table.end)).read()
         found += [bytes.fromhex(b"".join(it).decode()) for it in form.iter_unpack(text)]
