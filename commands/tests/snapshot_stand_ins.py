@@ -85,14 +85,25 @@ walking.live = types.SimpleNamespace(**{**vars(live), "attribute": attribute})
 """
 
 
+def add_to_snapshot(code: str, place: str) -> None:
+    """Adds code at the end of facl-snapshot's in a copy of the commands."""
+    with open(os.path.join(place, "facl_commands", "snapshot", "command.py"), "a", encoding="utf-8") as file:
+        file.write(code)
+
+
 def command_with(code: str, place: str) -> str:
-    """Makes a copy of the commands at a place, with this code, and returns its facl-snapshot."""
+    """Makes a copy of the modules at a place, with this code, and returns its facl-snapshot."""
     shutil.rmtree(place, ignore_errors=True)
     shutil.copytree(os.path.join(COMMANDS, "facl_commands"), os.path.join(place, "facl_commands"),
                     ignore=shutil.ignore_patterns("__pycache__"))
-    with open(os.path.join(place, "facl_commands", "snapshot", "command.py"), "a", encoding="utf-8") as file:
-        file.write(code)
+    add_to_snapshot(code, place)
     return str(shutil.copy(SNAPSHOT, place))
+
+
+def all_commands_with(code: str, place: str) -> None:
+    """Makes a copy of all commands at a place, with this code."""
+    shutil.copytree(COMMANDS, place, ignore=shutil.ignore_patterns("__pycache__", "tests"))
+    add_to_snapshot(code, place)
 
 
 def names_of(dump: bytes) -> List[bytes]:

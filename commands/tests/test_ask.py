@@ -119,7 +119,7 @@ class AsTheProgram(Case):
     def test_several_scripts(self) -> None:
         self.write("first", b"# one\nfrob\nsetfacl -m u:guest:r srv/share/one\nsetfacl -M - srv/share/two\nu:guest:r")
         self.write("second", b"who r srv/share/one\nwho r\n")
-        missing = b"second, line 2: who: usage\n    A word is missing.\n      in the script: who r FILE\n"
+        missing = b"second, line 2: who: usage\n    who [--reach] PERMS FILE\n"
         self.expect(self.run_command("facl-ask", ["before", "first", "second"]), 1, b"ines\nben\nguest\n",
                     b"first, line 2: facl: unknown tool\nfirst, line 4: facl: text without end\n"
                     b"    The lines after it are its text, up to a line with a dot alone, which is not there. A file of the name - is "

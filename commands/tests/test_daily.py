@@ -13,16 +13,21 @@ import unittest
 from typing import List, Optional
 
 from common import COMMANDS, Case, Done, restore_signals
+from snapshot_stand_ins import all_commands_with
 
-NEEDED = ("getfacl", "setfacl", "getent")
+NEEDED = ("getfacl", "setfacl")
 LOCK = "lock.of-facl-daily"
-USERS = "root:x:0:0::/:/bin/sh\nanna:x:71001:71001::/:/bin/sh\n"
-GROUPS = "root:x:0:\nanna:x:71001:\n"
+# What the system lists, at the end of command.py of facl-snapshot.
+PEOPLE = """
+import pwd
+from . import asking
+users = ("root", "x", 0, 0, "", "/", "/bin/sh"), ("anna", "x", 71001, 71001, "", "/", "/bin/sh")
+groups = ("root", "x", 0, []), ("anna", "x", 71001, [])
+asking.all_users = lambda: [asking.user_of(pwd.struct_passwd(it)) for it in users]
+asking.all_groups = lambda: [asking.group_of(grp.struct_group(it)) for it in groups]
+"""
 STUBS = {
-    "getent": "#!/bin/sh\n[ $# -gt 1 ] || exec cat \"$STUBS/$1\"\nexit 2\n",
     "sendmail": "#!/bin/sh\n[ ! -e \"$STUBS/broken\" ] || exit 75\ncat >\"$STUBS/mail\"\n",
-    "passwd": USERS,
-    "group": GROUPS,
 }
 # In the place of facl-diff, where that is not in the commands.
 DIFF = "#!/bin/sh\ncmp -s \"$1/dump\" \"$2/dump\" || { echo differs; exit 1; }\n"
@@ -88,6 +93,8 @@ class Daily(Case):
         for name, text in [*STUBS.items(), *([] if os.path.exists(os.path.join(COMMANDS, "facl-diff")) else [("facl-diff", DIFF)])]:
             self.write("stubs/" + name, text.encode())
             os.chmod(self.path("stubs/" + name), 0o755)
+        all_commands_with(PEOPLE, self.path("commands"))
+        self.command = self.path("commands/facl-daily")
         self.write("rules", b"never others write " + os.fsencode(self.tree) + b"/\n")
         os.chmod(self.path("rules"), 0o600)
 
@@ -101,7 +108,7 @@ class Daily(Case):
 
     def daily(self, *words: str, folders: Optional[List[str]] = None) -> Done:
         words = ("--folder", self.path("kept"), "--rules", "rules", *words, *([self.tree] if folders is None else folders))
-        done = subprocess.run([os.path.join(COMMANDS, "facl-daily"), *words], cwd=self.folder, env=self.environment(),
+        done = subprocess.run([self.command, *words], cwd=self.folder, env=self.environment(),
                               stdin=subprocess.DEVNULL, capture_output=True, check=False)
         return Done(done.returncode, done.stdout, done.stderr)
 
@@ -181,7 +188,7 @@ class Week(Daily):
         reader, writer = os.pipe()
         os.close(reader)
         for output in (os.open("/dev/full", os.O_WRONLY), writer):
-            done = subprocess.run([os.path.join(COMMANDS, "facl-daily"), *words], env=self.environment(), stdin=subprocess.DEVNULL,
+            done = subprocess.run([self.command, *words], env=self.environment(), stdin=subprocess.DEVNULL,
                                   stdout=output, stderr=subprocess.PIPE, check=False)
             os.close(output)
             self.assertEqual((done.returncode, done.stderr), (2, b"facl-daily: standard output cannot be written\n"))
@@ -284,7 +291,7 @@ class Faults(Daily):
         self.assertIn(b"sendmail: status 75; this was to be sent:\nTo: root\n", done.messages)
 
     def test_an_interrupted_run_leaves_nothing(self) -> None:
-        words = [os.path.join(COMMANDS, "facl-daily"), "--folder", self.path("kept"), self.tree]
+        words = [self.command, "--folder", self.path("kept"), self.tree]
         for number in (signal.SIGHUP, signal.SIGINT, signal.SIGTERM):
             for wait in (0, 0.25, 0.55, 0.95):
                 with tempfile.TemporaryDirectory() as folder:

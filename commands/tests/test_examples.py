@@ -90,7 +90,7 @@ class Reader(Case):
         shell = Shell(self.folder, {"PATH": os.environ["PATH"]})
         self.addCleanup(shell.close)
         faults = [fault for example in found for fault in difference(example, shell.run(example.command))]
-        wanted = ":21: $ cat kept\n -1,2 +1,2 \n # owner: ines\n-one\n+two\n"
+        wanted = ":21: $ cat kept\n@@ -1,2 +1,2 @@\n # owner: ines\n-one\n+two\n"
         self.assertEqual(faults, [self.path("sample.md") + wanted])
 
     def test_a_shell_that_ends(self) -> None:

@@ -30,8 +30,8 @@ FOUND = %r
 of_system, path_of = linux.statx, lambda descriptor: os.readlink(b"/proc/self/fd/%%d" %% descriptor)
 def mount_of(path: bytes) -> bytes:
     return max((it for it in FOUND if it[:1] == b"/" and (path + b"/").find(it + b"/") >= 0), key=len, default=b"")
-def statx(descriptor: int, name: bytes = b"") -> object:
-    known, _, *others, place = of_system(descriptor, name)
+def statx(descriptor: int, *words: object) -> object:
+    known, _, *others, place = of_system(descriptor, *words)
     path = path_of(descriptor)
     has = FOUND.get(path.rpartition(b"/")[2], 0)
     others[3] = 0 if has == linux.UNKNOWN else linux.ATTRIBUTES

@@ -119,6 +119,8 @@ ROWS: List[HintRow] = [
         "file, may all files:", rb"can\1 \2 \3", "may ines r FILE", "can ines FILE"),
     row(USE, rb" (?:(r)ead|(w)rite|e(x)ec(?:ute)?)(?= |$)", "PERMS are letters of rwx, or one digit 0 to 7:", rb" \1\2\3",
         "who read FILE", "who r FILE"),
+    row(USE, rb"^(?:who|below)(?: --?[a-z]+)* (?!PERMS )[^ -]\S* .", "PERMS are letters of rwx, or one digit 0 to 7.", None,
+        "who z FILE", "who r FILE"),
     row(USE, rb"(-[mx]) (WORD) \1 (WORD)", "An option may be given once; its entries are joined by commas:", rb"\1 \2,\3",
         "setfacl -m u:ines:r -m g:audit:r FILE", "setfacl -m u:ines:r,g:audit:r FILE"),
     row(USE, rb"^(setfacl (?:-[Rnd]+ )*)(?=[^ ]*:)(WORD) ", "No option says what to do. Entries are added or changed by -m, and "
