@@ -320,7 +320,7 @@ class Deep(Case):
         output = listing_of(names, (BODY % (name == last) for name in names))
         listing = tree.add(page_tree.records_of(output), labels)
         output.file.close()
-        vectors, lists = [b"ffff", b"ff01"], [b"other::r-x", b"other::---"]
+        vectors, lists = [b"\xff\xff", b"\xff\x01"], [b"other::r-x", b"other::---"]
         answers = LabelAnswers([b"ines", b"ben"], vectors, lists, [[b"other::r-x"] * 2, [b"user::rwx", b"other::---"]])
         tables, whos = page_columns.Tables(), [page_columns.Who("user", name, name) for name in answers.users]
         view = page_columns.View(page_columns.PageState(listing, answers), labels.bodies(), whos, tables)
