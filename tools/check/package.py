@@ -28,8 +28,8 @@ from script import TOP, Failed  # noqa: E402
 
 # Installs packages into an overlay; after each step a line with its name, and what is there then and was not before.
 LIFE = r"""
+mount -t tmpfs tmpfs "$1"
 cd "$1"; shift
-mount -t tmpfs tmpfs .
 mkdir up work root
 mount -t overlay overlay -o lowerdir=/,upperdir=up,workdir=work root
 mount -t tmpfs tmpfs root/tmp; mount -t tmpfs tmpfs root/run; mount --rbind /dev root/dev; mount -t proc proc root/proc
