@@ -97,8 +97,8 @@ class ManyLines(StandIns):
 class FalsePrograms(StandIns):
     """Each fault ends the session with a message, and the program with it."""
 
-    def expect_failure(self, body: bytes, text: bytes, lines: bytes = b"frob x\n" * 100_000) -> None:
-        with within(60), self.assertRaises(Failure) as raised, mock.patch.object(exchange, "SILENCE", 0.2):
+    def expect_failure(self, body: bytes, text: bytes, lines: bytes = b"frob x\n" * 100_000, silence: float = 0.2) -> None:
+        with within(60), self.assertRaises(Failure) as raised, mock.patch.object(exchange, "SILENCE", silence):
             with self.session(body) as session:
                 session.ask(lines)
         self.assertEqual(raised.exception.text, text)
@@ -114,7 +114,7 @@ class FalsePrograms(StandIns):
     def test_closes_a_stream_and_goes_on(self) -> None:
         went_on = b"the program ended early: it closed its standard input or error, and went on"
         self.expect_failure(b"os.close(2)\ntime.sleep(1000)\n", went_on)
-        self.expect_failure(b"os.close(2)\nsys.exit(4)\n", b"the program ended early: status 4")
+        self.expect_failure(b"os.close(2)\nsys.exit(4)\n", b"the program ended early: status 4", silence=30)
         self.expect_failure(b"os.read(0, 10)\nos.close(0)\ntime.sleep(1000)\n", went_on)
 
     def test_a_child_keeps_standard_error(self) -> None:
