@@ -130,7 +130,7 @@ joe gains -w- new\n\
 ann loses --x,-w-,-wx,r--,r-x,rw-,rwx pub/\n\
 lisa loses -w-,rw- f\n\
 # file: f\n\
-other::---\n\
+user::r--\n\
 \n",
     },
 ];
