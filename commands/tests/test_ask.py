@@ -453,7 +453,7 @@ class Prompts(unittest.TestCase):
         self.assertEqual(self.ask("below w srv/share/notes", "below x srv/share/notes", "gains", "setfacl -m u:guest:r srv/share/notes", "gains",
                                   "gains --reach", "below q srv", "below r", "below r srv/none"),
                          b"1 ines srv/share/notes\n(nobody)\n(nothing)\n11 55 1 mara srv/share/notes\n01 11 1 guest srv/share/notes\n"
-                         b"(nothing)\nline 7: below: usage\n    below [--reach] PERMS FILE..\n"
+                         b"(nothing)\nline 7: below: usage\n    PERMS are letters of rwx, or one digit 0 to 7.\n"
                          b"line 8: below: usage\n    below [--reach] PERMS FILE..\n"
                          b"line 9: below: srv/none: no such file\n    Paths start at the root of the file system. A symbolic link, and what is "
                          b"reached by one, is not recorded.\n\n")
