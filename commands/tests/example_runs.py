@@ -16,7 +16,7 @@ from typing import Dict, List, Tuple
 from common import COMMANDS
 from examples import Example, difference
 
-SECONDS = 20  # that a command may take
+SECONDS = 120  # that a command may take, however busy the machine is
 HOME = "/root"  # Where the examples of documents are run.
 # Commands that are not run here, by their first word.
 COMMANDS_APART: Dict[str, str] = {
