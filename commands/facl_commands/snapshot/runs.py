@@ -6,7 +6,7 @@ from typing import Dict, FrozenSet, List, NamedTuple, Set, Tuple
 
 from ..base import beside
 
-MOST_IDS = 262_144  # Of users, and of groups, that are asked for: the program takes a quarter of them.
+MOST_IDS = 262_144  # Of users, and of groups, whose names are read: the program takes a quarter of them.
 # What is counted of recorded files: bits, of which those of KINDS are the first ones.
 BITS = {kind: 1 << place for place, kind in enumerate(beside.KINDS)}
 SEVERAL, REPEATED, IS_FOLDER = (1 << place for place in range(len(beside.KINDS), len(beside.KINDS) + 3))
