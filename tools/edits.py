@@ -12,10 +12,11 @@ The second form keeps which edits were refused, where `rt ci` keeps what passed:
 of the edit and of these scripts. It tries an edit again where one of them changed. The first form tries all.
 
 For each crate the functions of its edits are checked unchanged first, the control, over an empty folder of kept work. Then
-each edit is made in a copy of the crate and its function is checked over that folder. At most one check of a crate runs at a
-time. An edit fails where it does not apply, where the control does not prove its function or does not find it, where the
-edited function is proved, and where a check has no verdict: killed, out of memory, or not readable. A check that was killed
-by signal 9, as where memory runs out, is started once more.
+edits of different functions are made in one copy of the crate, and all these functions are checked over that folder. At most
+one check of a crate runs at a time. An edit fails where it does not apply, where the control does not prove its function or
+does not find it, where the edited function is proved, and where a check has no verdict: killed, out of memory, or not readable.
+An edit is tried once more, alone, where several had no verdict, and where its function is refused only since it calls that of
+another edit. A check that was killed by signal 9, as where memory runs out, is started once more.
 
 Prints a line for each edit; the last one is `N passed, M failed`. What each check printed is in out/logs/. The exit status is
 0 where none failed, 1 where one did, 2 where the words are others, and 128 and the signal's number where it is interrupted.
@@ -36,15 +37,17 @@ from typing import Callable, Dict, Iterator, List, Optional, Set, Tuple, Union
 
 sys.dont_write_bytecode = True
 sys.path.insert(0, os.path.join(os.path.dirname(os.path.realpath(__file__)), "lib"))
+import batches  # noqa: E402
 import lanes  # noqa: E402
 import script  # noqa: E402
 import wrong_bodies  # noqa: E402
+from batches import Batch  # noqa: E402
 from kit import Kit, proved  # noqa: E402
 from processes import is_running, programs_below  # noqa: E402
 from prove import KEPT, Kept, sums_of  # noqa: E402
 from side_by_side import LOGS, Run, folder_of, log_of  # noqa: E402
 from ways import Crates  # noqa: E402
-from wrong_bodies import Fault, WrongBody  # noqa: E402
+from wrong_bodies import CallsRefused, Fault, WrongBody  # noqa: E402
 
 NICE = 10
 PAUSE = 1.0  # Seconds between two looks at what ended; each reads /proc.
@@ -114,7 +117,7 @@ class Refusals:
 
     def sums(self, bodies: List[WrongBody]) -> Dict[str, WrongBody]:
         """The edits by their sums as all files are now."""
-        scripts = [file_sum(module) for module in (__file__, wrong_bodies.__file__)]
+        scripts = [file_sum(module) for module in (__file__, batches.__file__, wrong_bodies.__file__)]
         of_crates = sums_of(self.crates, self.kit, {body.crate for body in bodies})
         found = {}
         for body in bodies:
@@ -147,18 +150,19 @@ class Refusals:
 
 
 class Check(Run):
-    """A check of some functions of a crate, with the texts of an edit in place of its own."""
+    """A check of some functions of a crate, with the texts of edits in place of its own: the control, where there are none."""
 
-    def __init__(self, trial: Trial, functions: List[str], body: Optional[WrongBody]) -> None:
-        self.body, self.functions = body, functions
+    def __init__(self, trial: Trial, batch: Batch) -> None:
+        self.batch = batch
+        functions = [body.function for body in batch.bodies] or trial.functions
         self.room = tempfile.mkdtemp(prefix=trial.crate + ".", dir=trial.work)
         for part in wrong_bodies.PARTS:
             if os.path.isdir(folder_of(trial.crate, part)):
                 shutil.copytree(folder_of(trial.crate, part), os.path.join(self.room, part))
-        for path, text in (body.texts if body else {}).items():
+        for path, text in batch.texts.items():
             Path(self.room, path).write_text(text, encoding="utf-8")
         only = [word for function in functions for word in ("--only", function)]
-        self.label = f"{trial.crate}.{body.name if body else 'control'}"
+        self.label = f"{trial.crate}.{batch.name}"
         super().__init__(self.label, NICE, [*trial.words, *only], self.room)
 
     def result(self) -> Tuple[int, str]:
@@ -185,7 +189,7 @@ class Trial:
     def hold(self, bodies: List[WrongBody]) -> None:
         """These edits are all that are to be tried."""
         self.bodies, self.functions = bodies, sorted({body.function for body in bodies})
-        self.todo: List[Optional[WrongBody]] = [None, *bodies] if bodies else []
+        self.todo = [batches.CONTROL, *batches.batches(bodies, folder_of(self.crate))] if bodies else []
 
     def prepare(self, work: str, words: List[str]) -> None:
         kept = os.path.join(work, "kept", self.crate)
@@ -193,33 +197,44 @@ class Trial:
         self.work, self.words = work, [*words, "--jobs", "1", "--incremental", kept]
 
     def start(self) -> None:
-        body = self.todo[0]
-        self.check = Check(self, [body.function] if body else self.functions, body)
+        self.check = Check(self, self.todo[0])
 
     def take(self) -> Iterator[Tuple[WrongBody, bool, str]]:
         """Each edit that is decided by the check that ended, whether it was refused, and what to say."""
         assert self.check
-        (status, said), body = self.check.result(), self.check.body
+        (status, said), batch = self.check.result(), self.check.batch
         self.check = None
         if status == -signal.SIGKILL and not self.again:
             self.again = True
             return
         self.again = False
         self.todo.pop(0)
-        try:
-            if body:
+        if not batch.bodies:
+            yield from self.take_control(status, said)
+        elif len(batch.bodies) > 1 and not wrong_bodies.has_verdict(status, said):
+            self.todo[:0] = map(batches.alone, batch.bodies)
+        else:
+            yield from self.take_edits(batch, status, said)
+
+    def take_edits(self, batch: Batch, status: int, said: str) -> Iterator[Tuple[WrongBody, bool, str]]:
+        for body in batch.bodies:
+            try:
                 yield body, True, wrong_bodies.refusal(body, status, said)
-            else:
-                wrong_bodies.hold_control(self.crate, self.functions, status, said)
+            except Fault as fault:
+                if isinstance(fault, CallsRefused) and len(batch.bodies) > 1:
+                    self.todo.append(batches.alone(body))
+                else:
+                    yield body, False, str(fault)
+
+    def take_control(self, status: int, said: str) -> Iterator[Tuple[WrongBody, bool, str]]:
+        try:
+            wrong_bodies.hold_control(self.crate, self.functions, status, said)
         except Fault as fault:
-            if body:
-                yield body, False, str(fault)
-            else:
-                yield from self.fail(f"control: {fault}")
+            yield from self.fail(f"control: {fault}")
 
     def fail(self, why: str) -> Iterator[Tuple[WrongBody, bool, str]]:
-        for body in filter(None, self.todo):
-            yield body, False, why
+        for batch in self.todo:
+            yield from ((body, False, why) for body in batch.bodies)
         self.todo = []
 
 

@@ -9,7 +9,7 @@ from __future__ import annotations
 import glob
 import os
 import re
-from typing import Dict, List, NamedTuple, Tuple
+from typing import Dict, List, NamedTuple, Optional, Tuple
 
 import script
 from script import TOP
@@ -18,7 +18,8 @@ PARTS = ("src", "specs", "proofs")
 TYPES = re.compile(r"\b(?:struct|enum) (\w+)")
 ONLY = re.compile(r"only=(\d+) proved=(\d+)")
 # Lines that say where something is refused; and those of a proof that names what the edit took away.
-TOLD = re.compile(r"(note: )?\S+:\d+:\d+:")
+TOLD = re.compile(r"\S+:\d+:\d+: error|note: \S+:\d+:\d+: .*(not proved|found no proof)")
+CALLS, UNPROVED = "it calls `", "did not prove"  # What an answer has of the functions that it calls, and of its own goals.
 NAMES = re.compile(r"(\./)?proofs/.*(has no field|is not in scope|has no `|was not admitted)")
 
 
@@ -26,15 +27,26 @@ class Fault(Exception):
     """Why an edit cannot be tried, or what a check says but that it refuses it."""
 
 
+class CallsRefused(Fault):
+    """The function is refused, but all that is said against it is that it calls one that is."""
+
+
 class WrongBody(NamedTuple):
+    """An edit: its crate and name, the function that must be refused, its lines, and the texts that it makes of files."""
+
     crate: str
     name: str
     function: str
+    lines: List[Tuple[str, str]]
     texts: Dict[str, str]
 
     @property
     def label(self) -> str:
         return f"{self.crate}/{self.name}"
+
+    @property
+    def last_name(self) -> str:
+        return self.function.split("::")[-1]
 
 
 def read_text(path: str) -> str:
@@ -45,16 +57,17 @@ def read_text(path: str) -> str:
         raise Fault(f"{os.path.basename(path)} cannot be read: {fault}") from fault
 
 
-def edited(lines: List[Tuple[str, str]], folder: str) -> Dict[str, str]:
-    """The texts of the files of the crate in this folder that the lines of an edit change, by their paths in it."""
-    texts: Dict[str, str] = {}
+def edited(lines: List[Tuple[str, str]], folder: str, others: Optional[Dict[str, str]] = None) -> Dict[str, str]:
+    """The texts of the files of the crate in this folder that the lines of an edit change, by their paths in it, with those of
+    other edits, which are made before it."""
+    texts: Dict[str, str] = dict(others or {})
     path = old = ""
     for word, text in lines:
         if word == "file":
             path = text
             if os.path.normpath(path) != path or path.split("/")[0] not in PARTS:
                 raise Fault(f"{path} is no file of {', '.join(PARTS)}")
-            texts.setdefault(path, read_text(os.path.join(folder, path)))
+            texts[path] = texts.get(path) or read_text(os.path.join(folder, path))
         elif word == "old":
             old = text
         elif word == "new":
@@ -109,15 +122,20 @@ def read(path: str) -> WrongBody:
         raise Fault("it names no function, or several: one line `function: NAME` says which must be refused")
     hold_function(functions[0], folder)
     name = os.path.basename(path)[:-len(".edit")]
-    return WrongBody(os.path.basename(folder), name, functions[0], edited(lines, folder))
+    return WrongBody(os.path.basename(folder), name, functions[0], lines, edited(lines, folder))
+
+
+def has_verdict(status: int, said: str) -> bool:
+    """Whether antt reached a verdict on all functions of a check that ended."""
+    return status in (0, 1) and ONLY.fullmatch(said.rstrip("\n").split("\n")[-1]) is not None
 
 
 def answers_of(crate: str, functions: List[str], status: int, said: str) -> List[str]:
-    """What a check that ended says of each of these functions, where antt reached a verdict on all that it was asked for."""
+    """What a check that ended with a verdict says of each of these functions."""
     lines = said.rstrip("\n").split("\n")
     if status < 0:
         raise Fault(f"the check was ended by signal {-status}, and says nothing")
-    if status not in (0, 1) or not ONLY.fullmatch(lines[-1]):
+    if not has_verdict(status, said):
         raise Fault(f"the check has no verdict, status {status}: {' | '.join(lines[-3:])[:300]}")
     answers = dict(line[len("fn "):].partition(": ")[::2] for line in lines if line.startswith("fn "))
     missing = [function for function in functions if f"{crate}::{function}" not in answers]
@@ -134,16 +152,28 @@ def hold_control(crate: str, functions: List[str], status: int, said: str) -> No
         raise Fault(f"unchanged, not all is proved: {found[0] if found else ''} {dict(zip(functions, answers))}")
 
 
+def told_of(crate: str, function: str, said: str) -> List[str]:
+    """The lines that say where a function is refused: in its proof, or just before what the check says of it."""
+    lines = said.split("\n")
+    at = next(at for at, line in enumerate(lines) if line.startswith(f"fn {crate}::{function}: "))
+    before = next((other for other in range(at - 1, -1, -1) if lines[other].startswith("fn ")), -1)
+    in_proof = f"./proofs/{function.replace('::', '/')}/"
+    return [line for place, line in enumerate(lines)
+            if TOLD.match(line) and (line.startswith(in_proof) or before < place < at and not line.startswith("./proofs/"))]
+
+
 def refusal(body: WrongBody, status: int, said: str) -> str:
-    """What refuses the edit. Fails unless the check refuses the function that the edit names."""
+    """What refuses the edit. Fails unless the check refuses the function that the edit names, for itself."""
     answer = answers_of(body.crate, [body.function], status, said)[0]
     if not status or not answer.startswith(("not proved", "no proof")):
         raise Fault(f"NOT REFUSED: {body.function} is {answer} with this edit")
-    told = [line for line in said.split("\n") if TOLD.match(line) and (": error" in line or line.startswith("note: "))]
+    told = told_of(body.crate, body.function, said)
+    if CALLS in answer and not told and UNPROVED not in answer:
+        raise CallsRefused(f"NOT REFUSED for itself: {body.function} is {answer}")
     first = next((line for line in told if not NAMES.match(line)), "")
     if told and not first:
         return f"refused, only since a proof names what the edit took away: {told[0][:160]}"
-    return f"refused: {(first if answer == 'not proved' else answer)[:160]}"
+    return f"refused: {(first if answer.startswith('not proved') else answer)[:160]}"
 
 
 def in_folder(crate: str, top: str = TOP) -> List[str]:

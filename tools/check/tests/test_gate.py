@@ -181,18 +181,24 @@ class Memory(unittest.TestCase):
                 program.wait()
 
 
-# A prover: a function is proved unless its line `fn NAME is right` in src/lib.rt has another word than `right`.
+# A prover: a function is proved unless its line `fn NAME is right` in src/lib.rt has another word than `right`, or it calls one
+# that is not.
 RATTLE = f"#!{sys.executable}\n" + r'''
 import os, signal, sys
 words = sys.argv[1:]
 crate = words[words.index("--crate-name") + 1]
-bodies = dict(line[len("fn "):].split(" is ") for line in open("src/lib.rt").read().splitlines())
+lines = [line[len("fn "):].split() for line in open("src/lib.rt").read().splitlines()]
+bodies, calls = {line[0]: line[2] for line in lines}, {line[0]: line[4:] for line in lines}
 asked = [word for before, word in zip(words, words[1:]) if before == "--only"]
 for function in asked:
     if function not in bodies:
         print(f"error: no function {function}")
         sys.exit(2)
 answers = {"right": "proved", "same": "proved", "bad": "not proved", "open": "no proof: x"}
+of_called = {function: [called for called in calls[function] if bodies[called] == "bad"] for function in asked}
+for function in asked:
+    if bodies[function] == "bad":
+        print(f"./proofs/{function}/Proof.antt:1:2: error: expected a number")
 for function in asked:
     if bodies[function] == "killed":
         os.kill(os.getpid(), signal.SIGKILL)
@@ -204,16 +210,18 @@ for function in asked:
         sys.exit(1)
     if bodies[function] == "other":
         print(f"fn {crate}::helper: not proved")
-    print(f"fn {crate}::{function}: {answers.get(bodies[function], 'proved')}")
-proved = sum(bodies[function] in ("right", "same") for function in asked)
-print("./proofs/a/Proof.antt:1:2: error: expected a number")
+    answer = answers.get(bodies[function], "proved")
+    for called in of_called[function]:
+        answer = f"no proof: it calls `{crate}::{called}`, which is not proved" if answer == "proved" else answer
+    print(f"fn {crate}::{function}: {answer}")
+proved = sum(bodies[function] in ("right", "same") and not of_called[function] for function in asked)
 print(f"only={len(asked)} proved={proved}")
 sys.exit(0 if proved == len(asked) else 1)
 '''
 RT = "#!/bin/sh\necho kit\n"
 EDIT = "function: {0}\nfile: src/lib.rt\nold: {0} is right\nnew: {0} is {1}\n"
 OF_EDITS = ("tools/edits.py", "tools/prove.py", "tools/ways.py",
-            *(f"tools/lib/{name}.py" for name in ("kit", "lanes", "processes", "script", "side_by_side", "wrong_bodies")))
+            *(f"tools/lib/{name}.py" for name in ("batches", "kit", "lanes", "processes", "script", "side_by_side", "wrong_bodies")))
 
 
 class Edits(Case):
@@ -247,9 +255,39 @@ class Edits(Case):
     def test_refused(self) -> None:
         self.edits(a=EDIT.format("one", "bad"), b=EDIT.format("two", "open"))
         self.assertEqual(self.run_edits(), (0, [
-            "wrong body low/a: refused: ./proofs/a/Proof.antt:1:2: error: expected a number",
+            "wrong body low/a: refused: ./proofs/one/Proof.antt:1:2: error: expected a number",
             "wrong body low/b: refused: no proof: x", "2 passed, 0 failed"]))
         self.assertEqual(os.listdir(os.path.join(self.top, "crates", "low", "out")), ["rlib"])
+
+    def checks(self) -> List[str]:
+        """The names of the checks of low, in order."""
+        return sorted(name[len("low."):-len(".log")] for name in os.listdir(os.path.join(self.top, "out", "logs")))
+
+    def test_together(self) -> None:
+        """Edits of different functions are tried by one check, and each is told by its own proof."""
+        self.edits(a=EDIT.format("one", "bad"), b=EDIT.format("two", "bad"), c=EDIT.format("two", "open"))
+        self.assertEqual(self.run_edits(), (0, [
+            *(f"wrong body low/{edit}: refused: ./proofs/{function}/Proof.antt:1:2: error: expected a number"
+              for edit, function in (("a", "one"), ("b", "two"))), "wrong body low/c: refused: no proof: x", "3 passed, 0 failed"]))
+        self.assertEqual(self.checks(), ["a+1", "c", "control"])
+
+    def test_a_function_that_calls_another(self) -> None:
+        """An edit whose function is refused since it calls that of another one is tried once more, alone."""
+        self.write({"crates/low/src/lib.rt": "fn one is right and two\nfn two is right\n"})
+        self.edits(a=EDIT.format("one", "same"), b=EDIT.format("two", "bad"))
+        status, lines = self.run_edits()
+        self.assertEqual((status, lines[1:]), (1, ["wrong body low/a: NOT REFUSED: one is proved with this edit", "1 passed, 1 failed"]))
+        self.assertEqual(self.checks(), ["a", "a+1", "control"])
+        self.edits(a=EDIT.format("one", "bad"), b=EDIT.format("two", "bad"))
+        self.assertEqual(self.run_edits()[0], 0)
+
+    def test_alone_without_a_verdict(self) -> None:
+        """Edits without a verdict are tried once more, each alone."""
+        self.edits(a=EDIT.format("one", "vague"), b=EDIT.format("two", "bad"))
+        status, lines = self.run_edits()
+        self.assertEqual((status, lines[-1]), (1, "1 passed, 1 failed"))
+        self.assertIn("low/a: the check has no verdict, status 3", lines[0])
+        self.assertEqual(self.checks(), ["a", "a+1", "b", "control"])
 
     def test_proved(self) -> None:
         self.faulty(EDIT.format("one", "same"), "NOT REFUSED: one is proved with this edit")
