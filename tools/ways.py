@@ -47,6 +47,10 @@ class Crates:
                     self.rows[name], self.listed[name] = row, set(tail.split())
         self.uses = {crate: sorted(used & set(self.listed)) for crate, used in self.listed.items()}
 
+    def above(self, crate: str) -> int:
+        """How many crates depend on it."""
+        return sum(crate in self.needed(other) for other in self.uses if other != crate)
+
     def needed(self, crate: str) -> Set[str]:
         """The crate and all that it depends on."""
         found: Set[str] = set()

@@ -2,7 +2,8 @@
 
 `rt ci` with RT_JOBS does not look at memory, and the checks of the largest crates take more than their lane. So a check is
 stopped while what is free does not hold what those that run may still take, and goes on once it does, or once no other runs.
-A check that is stopped keeps what it holds, so the one that holds least is stopped.
+That check is stopped for which fewest crates wait: none for tests and edits. Of two the one that holds less is stopped, since a
+check that is stopped keeps what it holds.
 """
 from __future__ import annotations
 
@@ -13,6 +14,7 @@ from pathlib import Path
 from typing import Dict, List, NamedTuple, Optional, Set, Tuple
 
 from processes import Process
+from ways import Crates
 
 # The most that a check takes, in bytes: what the gate saw on 2026-11-29 on two processors with 8 GB, rounded up.
 MOST = 3_400_000_000
@@ -21,22 +23,33 @@ SPARE = 300_000_000  # What rt and its scripts take.
 
 
 class Check(NamedTuple):
-    """A check: its process and crate, the bytes that it holds, how many more it may take, and whether it is stopped."""
+    """A check: its process and crate, how many crates wait for it, the bytes that it holds, how many more it may take, and whether
+    it is stopped."""
 
     number: int
     crate: str
+    waiting: int
     held: int
     more: int
     is_stopped: bool
 
 
-def check_of(process: Process) -> Check:
-    """The check of a process of the prover, by the crate that its words name."""
-    words: List[bytes] = []
+def check_of(process: Process, crates: Crates) -> Check:
+    """The check of a process of the prover, by the crate that its words name. It is the crate's proof where it works in the
+    crate's folder."""
+    words, folder = [b""], ""
     with contextlib.suppress(OSError):
         words = Path(f"/proc/{process.number}/cmdline").read_bytes().split(b"\0")
+        folder = os.path.basename(os.readlink(f"/proc/{process.number}/cwd"))
     crate = next((word for option, word in zip(words, words[1:]) if option == b"--crate-name"), b"").decode()
-    return Check(process.number, crate, process.held, max(MOST_OF.get(crate, MOST) - process.held, 0), process.is_stopped)
+    waiting = crates.above(crate) if folder == crate and b"--test" not in words else 0
+    more = max(MOST_OF.get(crate, MOST) - process.held, 0)
+    return Check(process.number, crate, waiting, process.held, more, process.is_stopped)
+
+
+def rank(check: Check) -> Tuple[int, int]:
+    """The check of the least rank is stopped first, and that of the greatest goes on first."""
+    return check.waiting, check.held
 
 
 def wanted_signal(checks: List[Check], free: int) -> Optional[Tuple[Check, int]]:
@@ -45,11 +58,11 @@ def wanted_signal(checks: List[Check], free: int) -> Optional[Tuple[Check, int]]
     stopped = [check for check in checks if check.is_stopped]
     left = free - SPARE - sum(check.more for check in running)
     if len(running) > 1 and left < 0:
-        return min(running, key=lambda check: check.held), signal.SIGSTOP
+        return min(running, key=rank), signal.SIGSTOP
     if stopped:
-        largest = max(stopped, key=lambda check: check.held)
-        if not running or left >= largest.more:
-            return largest, signal.SIGCONT
+        first = max(stopped, key=rank)
+        if not running or left >= first.more:
+            return first, signal.SIGCONT
     return None
 
 
@@ -60,10 +73,11 @@ class MemoryWatch:
         self.stopped: Set[int] = set()
         self.stops = 0
         self.most: Dict[str, int] = {}
+        self.crates = Crates()
 
     def update(self, processes: List[Process], free: int) -> None:
         """Stops or continues at most one of the checks that run now. `free` is the free memory, in bytes."""
-        checks = [check_of(process) for process in processes]
+        checks = [check_of(process, self.crates) for process in processes]
         for check in checks:
             self.most[check.crate] = max(self.most.get(check.crate, 0), check.held)
         found = wanted_signal(checks, free)
@@ -81,8 +95,8 @@ class MemoryWatch:
             self.stopped.discard(check)
 
     def report(self) -> str:
-        """How often a check waited, and the most that checks held, the largest five."""
-        largest = sorted(self.most.items(), key=lambda each: -each[1])[:5]
+        """How often a check waited, and the most that checks held, the largest first."""
+        largest = sorted(self.most.items(), key=lambda each: -each[1])
         held = ", ".join(f"{crate} {most / 1e9:.1f} GB" for crate, most in largest)
         return f"checks waited for memory {self.stops} times; the most that checks of a crate held: {held or 'nothing'}"
 

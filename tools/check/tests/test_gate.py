@@ -22,6 +22,7 @@ import processes  # noqa: E402
 from lanes import Room  # noqa: E402
 from memory_watch import Check  # noqa: E402
 from processes import Process  # noqa: E402
+from ways import Crates  # noqa: E402
 
 LIMITED = 8_000_000_000
 V2 = {
@@ -107,8 +108,8 @@ class Lanes(Case):
 class Memory(unittest.TestCase):
     """Which check waits where memory is short."""
 
-    def check(self, number: int, held: float, more: float, is_stopped: bool = False) -> Check:
-        return Check(number, "it", int(held * 1e9), int(more * 1e9), is_stopped)
+    def check(self, number: int, held: float, more: float, is_stopped: bool = False, waiting: int = 0) -> Check:
+        return Check(number, "it", waiting, int(held * 1e9), int(more * 1e9), is_stopped)
 
     def wanted(self, free: float, *checks: Check) -> Optional[Tuple[int, int]]:
         """The check to stop or continue, where this is free beside what is spared."""
@@ -119,6 +120,14 @@ class Memory(unittest.TestCase):
         checks = self.check(1, 4.0, 2.2), self.check(2, 1.5, 1.7), self.check(3, 2.0, 1.2)
         self.assertIsNone(self.wanted(5.2, *checks))
         self.assertEqual(self.wanted(5.0, *checks), (2, signal.SIGSTOP))
+
+    def test_the_one_that_fewest_crates_wait_for(self) -> None:
+        """It is stopped though it holds more, and goes on after others."""
+        checks = self.check(1, 2.0, 1.2), self.check(2, 0.5, 2.7, waiting=3), self.check(3, 0.1, 3.1, waiting=2)
+        self.assertEqual(self.wanted(5.0, *checks), (1, signal.SIGSTOP))
+        self.assertEqual(self.wanted(2.0, *checks[1:]), (3, signal.SIGSTOP))
+        stopped = self.check(1, 2.0, 1.2, is_stopped=True), self.check(3, 0.1, 3.1, is_stopped=True, waiting=2)
+        self.assertEqual(self.wanted(9.0, checks[1], *stopped), (3, signal.SIGCONT))
 
     def test_the_last_that_runs_does_not_wait(self) -> None:
         self.assertIsNone(self.wanted(0.1, self.check(1, 4.0, 2.2), self.check(2, 1.5, 1.7, is_stopped=True)))
@@ -132,17 +141,38 @@ class Memory(unittest.TestCase):
         self.assertEqual(self.wanted(0.1, *checks[1:]), (3, signal.SIGCONT))
 
     def test_what_a_crate_may_take(self) -> None:
-        held = 100_000_000
+        held, crates = 100_000_000, Crates(os.path.join(TOP, "crates.txt"))
         for crate, most in (*memory_watch.MOST_OF.items(), ("path_map", memory_watch.MOST), ("", memory_watch.MOST)):
             words = ["sh", "-c", "echo runs; read line", "prover", "--crate-name", crate]
             program = subprocess.Popen(words, stdin=subprocess.PIPE, stdout=subprocess.PIPE)
             try:
                 assert program.stdout
                 program.stdout.readline()  # Until it runs, the kernel may give no words.
-                found = memory_watch.check_of(Process(program.pid, "rattle", 1, 1, held, False))
-                self.assertEqual(found, (program.pid, crate, held, most - held, False))
+                found = memory_watch.check_of(Process(program.pid, "rattle", 1, 1, held, False), crates)
+                self.assertEqual(found, (program.pid, crate, 0, held, most - held, False))
             finally:
                 program.communicate()
+
+    def waiting(self, crates: Crates, folder: str, *words: str) -> int:
+        """How many crates wait for a check of path_map in a folder."""
+        with tempfile.TemporaryDirectory() as top:
+            os.mkdir(os.path.join(top, folder))
+            program = subprocess.Popen(["sh", "-c", "echo runs; read line", "prover", "--crate-name", "path_map", *words],
+                                       cwd=os.path.join(top, folder), stdin=subprocess.PIPE, stdout=subprocess.PIPE)
+            try:
+                assert program.stdout
+                program.stdout.readline()
+                return memory_watch.check_of(Process(program.pid, "rattle", 1, 1, 0, False), crates).waiting
+            finally:
+                program.communicate()
+
+    def test_which_crates_wait(self) -> None:
+        """None for tests, and for an edit, which is tried in another folder."""
+        crates = Crates(os.path.join(TOP, "crates.txt"))
+        self.assertEqual(self.waiting(crates, "path_map"), crates.above("path_map"))
+        self.assertEqual(self.waiting(crates, "path_map", "--test"), 0)
+        self.assertEqual(self.waiting(crates, "path_map.1"), 0)
+        self.assertGreater(crates.above("path_map"), crates.above("acl_rights"))
 
     def test_the_most_is_kept(self) -> None:
         watch = memory_watch.MemoryWatch()
@@ -150,7 +180,7 @@ class Memory(unittest.TestCase):
             watch.update([Process(os.getpid(), "rattle", 1, 1, held, False)], 9_000_000_000)
         self.assertEqual(watch.most, {"": 5_940_000_000})
         watch.most = {crate: number * 1_000_000_000 for number, crate in enumerate("abcdef")}
-        self.assertEqual(watch.report().partition("held: ")[2], "f 5.0 GB, e 4.0 GB, d 3.0 GB, c 2.0 GB, b 1.0 GB")
+        self.assertEqual(watch.report().partition("held: ")[2], "f 5.0 GB, e 4.0 GB, d 3.0 GB, c 2.0 GB, b 1.0 GB, a 0.0 GB")
 
     def test_processes_stop_and_continue(self) -> None:
         programs = [subprocess.Popen(["sleep", "600"]) for _ in range(2)]
