@@ -74,11 +74,16 @@ def unpacked(data: Node) -> Node:
             "reaches": ["".join(map(str, spread(data, it))) for it in data["reaches"]]}
 
 
-def read_data(page: bytes) -> Node:
+def data_in(page: bytes) -> Node:
+    """The data as the page has it, also that of a folder."""
     found = re.search(rb'<script type="application/json" id="data">(.*?)</script>', page, re.DOTALL)
     assert found is not None
     data: Node = json.loads(found[1])
-    return unpacked(data)
+    return data
+
+
+def read_data(page: bytes) -> Node:
+    return unpacked(data_in(page))
 
 
 def nodes_of(data: Node) -> Dict[str, Node]:

@@ -205,7 +205,7 @@ mask::---
 other::r--
 
 """
-    MASKS = b"facl-ask: warning: lists by which Linux grants otherwise than acl(5), as their mask is empty: 1, first: project/notes\n"
+    MASKS = b"facl-ask: judged by the check of acl(5) (--acl5); lists by which Linux grants otherwise, as their mask is empty: 1, first: project/notes\n"
     QUESTIONS = b"may ben 0\ncan mara project/notes\n"
     ANSWERS = b"project\nproject/notes\n-w- r-- rw-\n"
 

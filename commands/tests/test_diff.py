@@ -469,7 +469,7 @@ facl-diff: warning: left out of before alone as another file system, so what is 
         self.write("before/meta", META % (b"srva", 26, b"/srv/share"))
         self.edit("after/group", (b"staff:x:100:", b"staff:x:100:guest"))
         self.assertEqual(self.report(), {
-            "schema": "facl-diff/1", "version": "0",
+            "schema": "facl-diff/1", "version": "0", "judge": "linux",
             "before": {"snapshot": "before", "host": "srva", "date": "2026-11-26T03:10:00Z", "users_asked_for": None},
             "after": {"snapshot": "after", "host": None, "date": None, "users_asked_for": None},
             "folders": [], "along_paths": True, "answered_by": "gains",

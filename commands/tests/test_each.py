@@ -27,6 +27,13 @@ from facl_commands.model import sources  # noqa: E402
 from facl_commands.program.scripts import read_script  # noqa: E402
 from facl_commands.program.session import LINE_ROOM, OutputSlice, Session  # noqa: E402
 
+
+
+def without_else(answers: bytes) -> bytes:
+    """Answers without the lines about everybody else."""
+    return b"".join(line for line in answers.splitlines(True) if b"everybody else" not in line)
+
+
 class Split(Case):
     """The names that facl-snapshot --split puts in each snapshot, without a file system that has lists."""
 
@@ -257,8 +264,7 @@ class Servers(Case):
         self.expect(done, 1, b"".join(name + b": " + user + b"\n" for name in (b"srva", b"localhost", b"srvb") for user in (b"ines", b"ben"))
                     + b"".join(name + b": " + user + b"\n" for name in (b"srva", b"localhost", b"srvb") for user in (b"ines", b"ben")),
                     b"srva: line 2: facl: unknown tool\nlocalhost: line 2: facl: unknown tool\nsrvb: line 2: facl: unknown tool\n"
-                    b"srvb: line 3: gpasswd: not a member\nsrvb:     The row of the group does not have this user. A primary group is "
-                    b"changed by usermod -g GROUP USER\n")
+                    b"srvb: line 3: gpasswd: not a member\n")
         done = self.run_command("facl-ask", ["--hosts", "down:x", "srva:" + self.path("before"), "localhost:absent"], b"who w srv/share/one\n",
                                 environment)
         self.expect(done, 2, b"srva: ines\n", b"down: no route\nlocalhost: absent: no such folder: make a snapshot by facl-snapshot\n")
@@ -341,10 +347,36 @@ class Each(Case):
         return self.run_command("facl-ask", ["--each", "--with-root", *(parts or ("1", "2", "3"))], script)
 
     def expect_as_one(self, script: bytes) -> None:
-        """Causes below messages apart, which one session has not, as it is the program itself."""
+        """Everybody else apart, and causes below messages: neither has one session, as it is the program itself."""
         done = self.each(script)
         messages = b"".join(line for line in done.messages.splitlines(True) if not line.startswith(b"    "))
-        self.assertEqual(done._replace(messages=messages), self.run_command("facl-ask", ["before"], script))
+        self.assertEqual((done.status, without_else(done.out), messages), tuple(self.run_command("facl-ask", ["before"], script)))
+
+    def test_everybody_else(self) -> None:
+        """First, with the answers to a user whom nothing names."""
+        script = (b"who --reach r srv\nbelow --reach r .\nindex\nchmod 751 srv/share\ngains --reach\ngains\nchanges\ncan NEMO srv\n"
+                  b"may --reach NEMO x\nwhy NEMO srv/share srv\n")
+        shutil.copytree(self.path("before"), self.path("more"))
+        self.write("more/passwd", self.read("before/passwd") + b"nemo:x:4200000000:4200000000::/:/bin/sh\n")
+        wanted = self.run_command("facl-ask", ["more"], script.replace(b"NEMO", b"nemo"))
+        done = self.each(script.replace(b"NEMO", b"'everybody else'"))
+        self.assertEqual((done.status, done.messages), (0, b""))
+        lines = re.sub(b"\\bnemo\\b", b"everybody else", wanted.out).splitlines()
+        self.assertEqual(sorted(done.out.splitlines()), sorted(lines))
+        self.assertEqual(done.out.splitlines()[:2], [b"everybody else", b"root"])
+        done = self.run_command("facl-ask", ["--hosts", "localhost:before"], b"who --reach r srv\ncan 'everybody else' srv/share\n")
+        self.expect(done, 0, b"".join(b"localhost: %s\n" % it for it in (b"everybody else", b"ines", b"ben", b"mara", b"guest", b"none")),
+                    b"facl-ask: left out of who, below, changes, gains and index: root, to whom the kernel grants nearly everything; --with-root for "
+                    b"all\n")
+
+    def test_the_number_of_a_directory_service(self) -> None:
+        for name in ("1", "2", "3"):
+            self.write(name + "/meta", b"host srva\ndate 2026-11-26T03:10:00Z\nfolder /srv\nusers-asked-for 13\n")
+        beside = b"everybody else: users whom the snapshot does not have; it has 13 of a directory service\n"
+        self.assertEqual(self.each(b"who r srv\n").messages, b"facl-ask: " + beside)
+        self.assertEqual(self.each(b"who r srv/share\n").messages, b"")
+        done = self.run_command("facl-ask", ["--hosts", "--with-root", "localhost:1"], b"who r srv\n")
+        self.assertEqual(done.messages, b"localhost: " + beside)
 
     def test_questions(self) -> None:
         self.expect_as_one(b"index\nmay ines r\nmay --reach guest 0\nwho r srv/share/notes\nwho --reach x srv\ncan ben srv/share/one\n"
@@ -422,10 +454,11 @@ class Each(Case):
                     b"# standard input, line 4: changes\n(nothing)\n\n",
                     unknown + b"line 3: facl: unknown tool\n")
         self.expect(self.run_command("facl-ask", ["--each", "1", "2", "3"], b"can guest srv/share/one\n"), 0, b"r--\n", unknown)
-        warning = b"facl-ask: warning: lists by which Linux grants otherwise than acl(5), as their mask is empty: 2, first: /srv/share/one\n"
+        warning = (b"facl-ask: judged by the check of acl(5) (--acl5); lists by which Linux grants otherwise, as their mask is empty: 2, first: "
+                   b"/srv/share/one\n")
         done = self.run_command("facl-ask", ["--acl5", "--each", "1", "2", "3"], b"can guest srv/share/one\n")
         self.expect(done, 0, b"none\n", unknown + warning)
-        done = self.run_command("facl-ask", ["--acl5", "--hosts", "localhost:1"], b"can guest srv/share/one\n")
+        done = self.run_command("facl-ask", ["--acl5", "--hosts", "localhost:3"], b"can guest srv/share/one\n")
         self.expect(done, 0, b"localhost: none\n", b"localhost: " + warning[len(b"facl-ask: ") :])
         done = self.run_command("facl-ask", ["--headings", "--hosts", "localhost:2"], b"may guest w\ncan ines srv\nfrob\n")
         self.assertEqual((done.status, done.out), (1, b"# standard input, line 1: may guest w\nlocalhost: (nothing)\n\n# standard input, line 2: can ines srv\n"
@@ -458,11 +491,12 @@ class Each(Case):
         environment = {"PATH": self.path("bin") + ":" + os.environ["PATH"], "PARALLEL_SSH": self.path("bin/ssh")}
         words = ["--each", "--with-root", "1", "machine:" + self.path("2"), "3"]
         done = self.run_command("facl-ask", words, b"index\n", environment)
-        self.assertEqual(done, self.run_command("facl-ask", ["before"], b"index\n"))
+        self.assertEqual(done._replace(out=without_else(done.out)), self.run_command("facl-ask", ["before"], b"index\n"))
         self.assertIn(b"machine\n", self.read("called"))
 
     def test_signals_leave_nothing(self) -> None:
-        self.write("slow", b"#!/bin/sh\necho $$ >writing\nmv writing at_work\nexec sleep 100\n")
+        # Beside the dump of the snapshot, to which there is a link.
+        self.write("slow", b"#!/bin/sh\ncd \"$(dirname \"$(readlink dump)\")\"\necho $$ >writing\nmv writing at_work\nexec sleep 100\n")
         os.chmod(self.path("slow"), 0o755)
         os.mkdir(self.path("temporary"))
         for number, status in ((signal.SIGTERM, 143), (signal.SIGINT, 130), (signal.SIGQUIT, 131)):

@@ -7,6 +7,7 @@ import os
 import re
 import shutil
 import sys
+import time
 import unittest
 from typing import Any, Callable, Dict, Optional, Tuple
 from unittest import mock
@@ -69,7 +70,7 @@ ANSWERS: Dict[str, Callable[[bytes], bytes]] = {
     "people_as_list": of_head("users", ["ines"]), "ids_as_text": of_head("users", {"ines": "7"}), "negative_id": of_head("groups", {"x": -1}),
     "other_letters": of_head("users", {"\u20ac": 0}), "lone_half": of_head("unknown", ["\ud800"]),
     "part_as_number": of_head("part", 7), "notices_as_text": of_head("unknown", "x"), "files_as_numbers": of_head("otherwise", [1]),
-    "messages_as_text": of_header("messages", "refused"), "message_as_list": of_header("messages", [["x"]]),
+    "asked_as_text": of_head("asked", "7"), "negative_asked": of_head("asked", -1), "messages_as_text": of_header("messages", "refused"), "message_as_list": of_header("messages", [["x"]]),
     "message_of_two_lines": of_header("messages", ["who: usage\ngood: line 3: forged"]),
     "files_as_object": of_header("lacks", {"a": 1}), "another_line": of_header("line", 99), "line_as_list": of_header("line", [1]),
     "no_object": lambda _: b"[]\n", "only_a_number": lambda _: b"7\n", "no_fields": lambda _: b"{}\n", "no_json": lambda _: b"frob\n" * 1000,
@@ -169,7 +170,10 @@ class WrongServers(Case):
         done = self.run_command("facl-ask", ["--hosts", "--timeout", "2", "silent:DIR", "good:DIR"], SCRIPT, self.environment())
         self.assertEqual((done.status, done.out), (2, good.out))
         self.assertEqual(done.messages.splitlines()[-1], b"silent: did not answer in 2 seconds (--timeout)")
-        self.assertFalse(os.path.exists("/proc/" + self.read("machines/silent.id").decode().strip()))
+        last = time.monotonic() + 60  # GNU parallel ends its jobs, and does not wait for them.
+        while os.path.exists("/proc/" + self.read("machines/silent.id").decode().strip()):
+            self.assertLess(time.monotonic(), last)
+            time.sleep(0.02)
         self.assertEqual(os.listdir(self.path("temporary")), [])
         done = self.run_command("facl-ask", ["--each", "--timeout", "2", "silent:DIR"], SCRIPT, self.environment())
         self.expect(done, 2, b"", b"facl-ask: silent: did not answer in 2 seconds (--timeout)\n")

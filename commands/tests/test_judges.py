@@ -2,13 +2,16 @@
 from __future__ import annotations
 
 import argparse
+import json
 import os
+import shutil
 import sys
 import unittest
 from typing import Dict, List, Optional, Sequence, Tuple
 from unittest import mock
 
 from common import COMMANDS
+from page_data import data_in
 from small_tree import PASSWD, SmallTree
 
 sys.path.insert(0, COMMANDS)
@@ -36,7 +39,7 @@ mask::---
 other::r--
 """
 OPEN = b"# owner: 0\n# group: 2001\nuser::rwx\ngroup::rwx\nother::r-x\n"
-WARNING = b"%s: warning: lists by which Linux grants otherwise than acl(5), as their mask is empty: 1, first: /srv/hr/note\n"
+WARNING = b"%s: judged by the check of acl(5) (--acl5); lists by which Linux grants otherwise, as their mask is empty: 1, first: /srv/hr/note\n"
 EVERYBODY = b"everybody else"
 
 
@@ -143,6 +146,39 @@ class EmptyMask(SmallTree):
             self.assertEqual({row[5] for row in rows}, {b"mask changed"})
 
 
+    def test_each_json_has_the_judge(self) -> None:
+        shutil.copytree(self.path("small"), self.path("later"))
+        self.write("edits", b"chmod 600 /srv/hr/note\n")
+        self.write("rules", b"never xaver read srv/hr/note\n")
+        os.chmod(self.path("rules"), 0o600)
+        cases: List[Tuple[str, List[str]]] = [("facl-who", ["read", "small"]), ("facl-diff", ["small", "later"]), ("facl-audit", ["small"]),
+                                              ("facl-check", ["small", "rules"]), ("facl-plan", ["small", "edits"])]
+        judges: List[Tuple[List[str], str]] = [([], "linux"), (["--acl5"], "acl5")]
+        for name, words in cases:
+            for option, judge in judges:
+                found = json.loads(self.run_command(name, ["--json", *option, *words]).out)
+                self.assertEqual((found["judge"], list(found).index("judge")), (judge, 0 if name == "facl-plan" else 2), name)
+
+    def test_each_page_has_the_judge(self) -> None:
+        shutil.copytree(self.path("small"), self.path("later"))
+        cases: List[Tuple[str, List[str]]] = [
+            ("facl-report", ["--output", "PAGE", "small"]), ("facl-report", ["--for-review", "--folder", "/srv/hr", "--output", "PAGE", "small"]),
+            ("facl-diff", ["--page", "PAGE", "small", "later"]), ("facl-audit", ["--page", "PAGE", "small"])]
+        judges: List[Tuple[List[str], str]] = [([], "what Linux grants"),
+                                               (["--acl5"], "the check of acl(5), by which Linux does not go where a mask is empty")]
+        for number, (name, words) in enumerate(cases):
+            for option, judge in judges:
+                page = "page%d%d.html" % (number, bool(option))
+                self.run_command(name, [*option, *(page if it == "PAGE" else it for it in words)])
+                data = data_in(self.read(page))
+                self.assertEqual(dict(data["facts"])["judge"] if "facts" in data else data["judge"], judge, (name, words))
+
+    def test_lists_that_both_take_alike(self) -> None:
+        self.take_list(LIST.replace(b"mask::---", b"mask::r--"))
+        self.assertEqual(self.run_command("facl-who", ["--acl5", "read", "small"]).messages, (WARNING % b"facl-who").replace(
+            b": 1, first: /srv/hr/note", b": 0"))
+
+
 class Asked(Children):
     """Commands that are not run."""
 
@@ -167,6 +203,11 @@ class Kept(DailyFolder):
 
 
 class DailyWords(unittest.TestCase):
+    def test_the_head_of_a_mail(self) -> None:
+        plain, by_acl5 = (Text(["/srv"], is_acl5).body() for is_acl5 in (False, True))
+        self.assertTrue(plain.endswith(b": /srv\n"), plain)
+        self.assertEqual(by_acl5, plain + b"judged by the check of acl(5) (--acl5)\n")
+
     def test_each_command_is_asked_by_the_judge(self) -> None:
         cases: List[List[str]] = [[], ["--acl5"]]
         for words in cases:

@@ -12,7 +12,7 @@ import unittest
 from typing import Any, Dict, List
 
 from common import COMMANDS, HERE, Case, Done
-from page_data import read_data
+from page_data import data_in, read_data
 from real import RealCase
 from test_snapshot import SnapshotCase
 
@@ -331,7 +331,7 @@ class OnPages(MarkedCase):
         return {data["files"]["names"][int(place)]: texts for place, texts in data[key].items()}
 
     def test_data(self) -> None:
-        self.assertEqual([self.page()[key] for key in ("marks", "mounts", "beside")], [{}, {}, []])
+        self.assertEqual([self.page()[key] for key in ("marks", "mounts", "beside", "unknown")], [{}, {}, [], []])
         self.mark_some()
         self.write("edits", b"creat --user=mara --mode=0600 srv/project/drafts/about\n")
         for script in ("", "edits"):  # A new file has another place.
@@ -342,6 +342,21 @@ class OnPages(MarkedCase):
             self.assertEqual(self.named(data, "mounts"), {"old": ["read-only file system: nobody can write it"]})
             self.assertEqual(data["beside"], ["2 immutable files, 1 append-only file, 1 read-only file system: judged by lists alone, which grant "
                                               "there what nobody can do"])
+
+    def test_other_pages(self) -> None:
+        """That of two snapshots has the marks of the later one, and that of a folder says how many there are."""
+        self.mark_some()
+        shutil.copytree(self.path("project"), self.path("later"))
+        self.write("later/meta", self.read("later/meta") + b"nfs4-list 3\n")
+        self.mark(f"immutable {SRV}/drafts/")
+        self.run_command("facl-diff", ["--page", "two.html", "project", "later"])
+        data = read_data(self.read("two.html"))
+        self.assertEqual(sorted(self.named(data, "marks")), ["README", "logo.svg", "project"])
+        beside = ("2 immutable files, 1 append-only file, 1 read-only file system: judged by lists alone, which grant there what nobody can do",
+                  "files with lists that facl does not judge: NFSv4: 3")
+        self.assertEqual((*data["beside"], *data["unknown"]), beside)
+        data = data_in(self.run_command("facl-report", ["--for-review", "--folder", SRV, "later"]).out)
+        self.assertEqual(dict(data["facts"])["beside lists"], "; ".join(beside))
 
     @unittest.skipUnless(shutil.which("node"), "without node, which is not installed")
     def test_what_is_shown(self) -> None:
@@ -360,7 +375,7 @@ class Planned(MarkedCase):
         self.mark_some()
         self.write("edits", b"setfacl -m u:guest:r srv/project/README srv/project/notes.txt\nrm 'srv/project/drafts/old/logo 1.svg'\n")
         done = self.run_command("facl-plan", ["--plan", "plan", "project", "edits"])
-        self.assertEqual((done.status, done.messages), (0, (
+        self.assertEqual((done.status, done.messages), (0, b"facl-plan: " + ByListsAlone.SAID + (
             b"facl-plan: warning: files that nobody can change, so facl-apply will change none: 1, first: /srv/project/README, since it is "
             b"immutable\nfacl-plan: warning: files that nobody can make or remove, so by_hand will not: 1, first: /srv/project/drafts/old/logo "
             b"1.svg, since the folder above is on a read-only file system\n")))
@@ -371,6 +386,9 @@ class Planned(MarkedCase):
             {"file": SRV + "/drafts/old/logo 1.svg", "why": "the folder above is on a read-only file system"}])
         self.mark()
         self.assertEqual(self.run_command("facl-plan", ["--plan", "third", "project", "edits"]).messages, b"")
+        self.write("project/meta", self.read("project/meta") + b"nfs4-list 3\n")
+        self.assertEqual(self.run_command("facl-plan", ["--plan", "fourth", "project", "edits"]).messages,
+                         b"facl-plan: project: files with lists that facl does not judge: NFSv4: 3\n")
 
 
 # Code that is added to live.py: one name is that of a file with an attribute.

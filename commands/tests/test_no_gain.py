@@ -40,16 +40,17 @@ class Lines(Case):
     def test_lines_of_a_user_are_together(self) -> None:
         done = self.plan(b"setfacl -n -m u:ben:r,u:guest:r,u:mara:r srv/share/drafts/logo.svg\nchmod 750 srv\nsetfacl -m u:mara:x srv\n")
         self.expect(done, 0,
-                    b"ines   r-x -> none    1 file    first: srv\n"
-                    b"ines   rw- -> none    9 files   first: srv/share/-x\n"
-                    b"ines   rwx -> none    1 file    first: srv/share\n"
-                    b"ben    r-- -> none    9 files   first: srv/share/-x\n"
-                    b"ben    r-x -> none    2 files   first: srv\n"
-                    b"ben    no gain        1 file    srv and 1 directory below it grant no search (other::---); "
+                    b"everybody else  r-x -> none    1 file    first: srv\n"
+                    b"ines            r-x -> none    1 file    first: srv\n"
+                    b"ines            rw- -> none    9 files   first: srv/share/-x\n"
+                    b"ines            rwx -> none    1 file    first: srv/share\n"
+                    b"ben             r-- -> none    9 files   first: srv/share/-x\n"
+                    b"ben             r-x -> none    2 files   first: srv\n"
+                    b"ben             no gain        1 file    srv and 1 directory below it grant no search (other::---); "
                     b"add for facl-plan: setfacl -n -m u:ben:x /srv /srv/share/drafts\n"
-                    b"mara   r-x -> --x     1 file    first: srv\n"
-                    b"guest  r-x -> none    1 file    first: srv\n"
-                    b"guest  no gain        1 file    srv and 2 directories below it grant no search (other::---); "
+                    b"mara            r-x -> --x     1 file    first: srv\n"
+                    b"guest           r-x -> none    1 file    first: srv\n"
+                    b"guest           no gain        1 file    srv and 2 directories below it grant no search (other::---); "
                     b"add for facl-plan: setfacl -n -m u:guest:x /srv /srv/share /srv/share/drafts\n"
                     b"2 files change owner, group, flags or lists\n" + WRITTEN)
 

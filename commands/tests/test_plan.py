@@ -4,6 +4,7 @@ from __future__ import annotations
 import json
 import os
 import re
+import shutil
 import signal
 import subprocess
 import sys
@@ -57,12 +58,12 @@ class Reports(Case):
         script = b"chmod 644 srv/share/it\\047s srv/share/-x\nchmod 666 '/srv/share/plan 2 '\n"
         done = self.plan(script, "--file-alone", "--with-root")
         out = b"".join(
-            b"%-5s  none -> %s    %s  first: srv/share/%s\n" % row
-            for user in (b"root", b"mara", b"guest")
+            b"%-14s  none -> %s    %s  first: srv/share/%s\n" % row
+            for user in (b"everybody else", b"root", b"mara", b"guest")
             for row in ((user, b"r--", b"2 files ", b"-x"), (user, b"rw-", b"1 file  ", b"plan 2 "))
         )
         # ben is of the group.
-        ben = b"ben    r-- -> rw-     1 file    first: srv/share/plan 2 \n"
+        ben = b"%-14s  r-- -> rw-     1 file    first: srv/share/plan 2 \n" % b"ben"
         at = out.index(b"mara")
         self.expect(done, 0, out[:at] + ben + out[at:] + b"3 files change owner, group, flags or lists\n" + WRITTEN)
 
@@ -118,19 +119,24 @@ class Reports(Case):
     def test_superusers(self) -> None:
         self.write("before/passwd", self.read("before/passwd") + b"toor:x:0:0::/:/bin/sh\n")
         script = b"chmod 604 srv/share/one\nchmod 751 srv/share\n"
-        others = [b"guest  none -> --x    1 file    first: srv/share\n", b"guest  none -> r--    2 files   first: srv/share/one\n"]
+        others = [b"%-14s  none -> %s\n" % (user, what) for user in (b"everybody else", b"guest")
+                  for what in (b"--x    1 file    first: srv/share", b"r--    2 files   first: srv/share/one")]
         done = self.plan(script)
-        self.assertEqual([line for line in done.out.splitlines(True) if line[:5] in (b"root ", b"toor ", b"guest")], others)
+        self.assertEqual([line for line in done.out.splitlines(True) if line[:5] in (b"root ", b"toor ", b"guest", b"every")], others)
         self.assertIn(b"3 files change owner, group, flags or lists; root and toor are left out, whom the kernel grants nearly everything "
                       b"(--with-root)\n", done.out)
         self.assertEqual(json.loads(self.plan(script, "--json").out)["left_out"], ["root", "toor"])
         done = self.plan(script, "--with-root")
-        self.assertIn(b"root   none -> r--    2 files   first: srv/share/one\n", done.out)
+        self.assertIn(b"%-14s  none -> r--    2 files   first: srv/share/one\n" % b"root", done.out)
         self.assertNotIn(b"left out", done.out)
         # Where nothing changes for root there is no word on it.
         self.assertNotIn(b"left out", self.plan(b"setfacl -m u:guest:r srv/share/notes\n").out)
 
     def test_full_is_what_changes_prints(self) -> None:
+        """Of everybody else what it prints of a user whom nothing names."""
+        shutil.copytree(self.path("before"), self.path("more"))
+        self.write("more/passwd", self.read("before/passwd") + b"nemo:x:4200000000:4200000000::/:/bin/sh\n")
+        numbers = []
         for script in (b"setfacl -m u:guest:r srv/share/notes\nsetfacl -m u:guest:x srv/share\n",
                        b"chmod -R 755 srv/share\ngpasswd -a guest design\nuserdel ben\nrm srv/share/-x\n",
                        b"useradd -u 2000 -g design nell\ncreat --user=mara --mode=0664 srv/share/drafts/new\nusermod -g staff guest\n"
@@ -138,15 +144,20 @@ class Reports(Case):
             for option in ("", "--reach"):
                 done = self.plan(script, "--full", "--with-root", option or "--file-alone")
                 rows = [line.split(b"\t") for line in done.out.splitlines() if b"\t->\t" in line]
-                with Session(LINUX.find(), os.fsencode(self.path("before"))) as session:
+                with Session(LINUX.find(), os.fsencode(self.path("more"))) as session:
                     session.ask(script)
-                    printed = list(session.ask_accepted(b"changes " + option.encode()).lines())
+                    lines = session.ask_accepted(b"changes " + option.encode()).lines()
+                    printed = [re.sub(b"^nemo ", b"everybody else ", line) for line in lines]
                 found = [b" ".join([user, word, b",".join(it for it in REQUESTS if it in more - less), file])
                          for user, old, _, new, file in rows
                          for word, more, less in ((b"gains", requests_of(new), requests_of(old)), (b"loses", requests_of(old), requests_of(new)))
                          if more - less]
                 self.assertEqual(sorted(found), sorted(printed))
                 self.assertGreater(len(found), 1)
+                of_else = [place for place, row in enumerate(rows) if row[0] == b"everybody else"]
+                self.assertTrue(all(place == 0 or rows[place - 1][4] != rows[place][4] for place in of_else), rows)
+                numbers.append(len(of_else))
+        self.assertEqual([number > 0 for number in numbers], [False, False, True, True, False, False])
 
     def test_two_requests_that_are_not_granted_together(self) -> None:
         done = self.plan(b"chmod 660 srv/share/one\nsetfacl -m g::r,g:audit:w srv/share/one\n", "--full")
@@ -204,6 +215,73 @@ class Reports(Case):
         self.expect(self.plan(b"chmod 640 srv/share/one\ngpasswd -a ben audit\n"), 3, b"", message)
         self.expect(self.plan(b""), 3, b"", message)
         self.assertFalse(os.path.exists(self.path("before.plan")))
+
+
+class EverybodyElse(Case):
+    """Whom no entry names, and who is in none of the groups: by a folder that others may search, and files that they may read."""
+
+    SCRIPT = b"chmod 604 srv/share/one\nchmod 751 srv/share\n"
+    # ben is of the group, which loses r; mara is the owner of drafts and its file, and named in the list of notes.
+    CHANGES = (("everybody else", "none", "--x", 1, "srv/share"), ("everybody else", "none", "r--", 2, "srv/share/one"),
+               ("ben", "r--", "none", 2, "srv/share/one"), ("mara", "none", "--x", 1, "srv/share"), ("mara", "none", "r--", 3, "srv/share/notes"),
+               ("mara", "none", "rw-", 1, "srv/share/drafts/logo.svg"), ("mara", "none", "rwx", 1, "srv/share/drafts"),
+               ("guest", "none", "--x", 1, "srv/share"), ("guest", "none", "r--", 2, "srv/share/one"))
+    SUMMARY = b"3 files change owner, group, flags or lists; root is left out, whom the kernel grants nearly everything (--with-root)\n"
+
+    def test_the_report(self) -> None:
+        self.expect(self.plan(self.SCRIPT), 0, b"""\
+everybody else  none -> --x    1 file    first: srv/share
+everybody else  none -> r--    2 files   first: srv/share/one
+ben             r-- -> none    2 files   first: srv/share/one
+mara            none -> --x    1 file    first: srv/share
+mara            none -> r--    3 files   first: srv/share/notes
+mara            none -> rw-    1 file    first: srv/share/drafts/logo.svg
+mara            none -> rwx    1 file    first: srv/share/drafts
+guest           none -> --x    1 file    first: srv/share
+guest           none -> r--    2 files   first: srv/share/one
+""" + self.SUMMARY + WRITTEN)
+        for name in os.listdir(self.path("before.plan")):
+            self.assertNotIn(b"facl-everybody", self.read("before.plan/" + name), name)
+
+    def test_json(self) -> None:
+        report = json.loads(self.plan(self.SCRIPT, "--json").out)
+        self.assertEqual([tuple(it.values()) for it in report["changes"]], [(*row[:4], "/" + row[4]) for row in self.CHANGES])
+        self.assertEqual((list(report)[0], report["judge"], report["left_out"]), ("judge", "linux", ["root"]))
+        self.assertEqual(json.loads(self.plan(self.SCRIPT, "--acl5", "--json").out)["judge"], "acl5")
+
+    def test_each_file(self) -> None:
+        of_one = b"".join(row + b"\tsrv/share/%s\n" for row in (
+            b"everybody else\tnone\t->\tr--", b"ben\tr--\t->\tnone", b"mara\tnone\t->\tr--", b"guest\tnone\t->\tr--"))
+        self.expect(self.plan(self.SCRIPT, "--full"), 0, (
+            b"everybody else\tnone\t->\t--x\tsrv/share\nmara\tnone\t->\t--x\tsrv/share\nguest\tnone\t->\t--x\tsrv/share\n"
+            b"mara\tnone\t->\trwx\tsrv/share/drafts\nmara\tnone\t->\trw-\tsrv/share/drafts/logo.svg\n"
+            b"mara\tnone\t->\tr--\tsrv/share/notes\n") + of_one.replace(b"%s", b"one") + of_one.replace(b"%s", b"two") + self.SUMMARY + WRITTEN)
+
+    def test_losses(self) -> None:
+        done = self.plan(b"chmod 750 srv/share srv\n")
+        self.assertTrue(done.out.startswith(b"everybody else  r-x -> none    1 file    first: srv\nines            r-x -> none"), done.out)
+
+    def test_questions(self) -> None:
+        script = b"who r srv\nchmod 751 srv/share\ncan --reach 'everybody else' srv/share\ngains\nwhy 'everybody else' srv/share\n"
+        answers = (b"# edits, line 1: who r srv\neverybody else\nroot\nines\nben\nmara\nguest\n\n"
+                   b"# edits, line 3: can --reach 'everybody else' srv/share\n--x\n\n"
+                   b"# edits, line 4: gains\n01 03 1 everybody else srv/share\n01 03 1 root srv/share\n01 03 1 mara srv/share\n"
+                   b"01 03 1 guest srv/share\n\n# edits, line 5: why 'everybody else' srv/share\n# file: srv/share\nother::--x\n\n")
+        self.assertTrue(self.plan(script).out.startswith(answers + b"everybody else  none -> --x"))
+        self.assertEqual(json.loads(self.plan(script, "--json").out)["answers"][2]["answer"].splitlines()[0], "01 03 1 everybody else srv/share")
+
+    def test_a_user_of_that_name(self) -> None:
+        self.write("before/passwd", self.read("before/passwd") + b"everybody else:x:2001:100::/:\n")
+        done = self.plan(b"can 'everybody else' srv/share/one\n" + self.SCRIPT)
+        self.assertTrue(done.out.startswith(b"# edits, line 1: can 'everybody else' srv/share/one\nr--\n\neverybody else     none -> --x    1 file "))
+        self.assertIn(b"everybody\\040else  r-- -> none    2 files   first: srv/share/one\n", done.out)
+
+    def test_the_number_of_a_directory_service(self) -> None:
+        beside = b"everybody else: users whom the snapshot does not have; it has 13 of a directory service\n"
+        self.write("before/meta", b"host srva\ndate 2026-11-26T03:10:00Z\nfolder /srv\nusers-asked-for 13\n")
+        self.assertIn(beside + self.SUMMARY, self.plan(self.SCRIPT).out)
+        self.assertNotIn(beside, self.plan(b"chmod 600 srv/share/one\n").out)
+        self.assertEqual(json.loads(self.plan(self.SCRIPT, "--json").out)["snapshot"]["users_asked_for"], 13)
 
 
 class RefusedLines(Case):
@@ -264,7 +342,10 @@ class RefusedLines(Case):
         self.assertEqual(self.plan(b"chmod 604 srv/share/notes\n", "--plan", "other").messages, b"")
         done = self.plan(b"chmod 604 srv/share/notes\n", "--acl5", "--plan", "third")
         self.assertEqual((done.status, done.messages), (0,
-            b"facl-plan: warning: lists by which Linux grants otherwise than acl(5), as their mask is empty: 1, first: /srv/share/notes\n"))
+            b"facl-plan: judged by the check of acl(5) (--acl5); lists by which Linux grants otherwise, as their mask is empty: 1, first: "
+            b"/srv/share/notes\n"))
+        self.assertEqual(self.plan(b"chmod 600 srv/share/notes\n", "--acl5", "--plan", "fourth").messages,
+            b"facl-plan: judged by the check of acl(5) (--acl5); lists by which Linux grants otherwise, as their mask is empty: 0\n")
         done = self.plan(b"who r srv/share/notes\r\n")
         self.assertIn(b"facl-plan: warning: edits: has carriage returns, each of which is a part of its word\n", done.messages)
 
@@ -338,7 +419,9 @@ class ManyHardLinks(Case):
         records += b"".join(write_record(it, File(False, body)) for it in names)
         self.write("before/dump", self.read("before/dump") + records)
         self.write("before/links", b"\n".join(b"".join(b"/%s\n" % it for it in names) for names in self.sets))
-        self.write("keeps", b'#!/bin/sh\ntee ../sent | "%s" "$@"\n' % os.fsencode(LINUX.find()))
+        # Of the session over the snapshot, whose dump is a link.
+        self.write("keeps", b'#!/bin/sh\n[ -h dump ] || exec "%s" "$@"\ntee "%s" | "%s" "$@"\n' % (
+            os.fsencode(LINUX.find()), os.fsencode(self.path("sent")), os.fsencode(LINUX.find())))
         os.chmod(self.path("keeps"), 0o755)
 
     def planned(self, script: bytes) -> bytes:
@@ -715,7 +798,7 @@ class BadInput(Case):
         self.assertEqual(sorted(os.listdir(self.folder)), ["before", "before.plan", "before.plan.1", "before.plan.2", "edits"])
 
     def test_the_program_has_a_small_environment(self) -> None:
-        self.write("shows", b'#!/bin/sh\nenv >../variables\nexec "%s" "$@"\n' % os.fsencode(LINUX.find()))
+        self.write("shows", b'#!/bin/sh\nenv >"%s"\nexec "%s" "$@"\n' % (os.fsencode(self.path("variables")), os.fsencode(LINUX.find())))
         os.chmod(self.path("shows"), 0o755)
         self.write("edits", b"chmod 600 srv/share/one\n")
         done = self.run_command("facl-plan", ["--program", "./shows", "before", "edits"],
@@ -729,7 +812,7 @@ class BadInput(Case):
 class Interruptions(Case):
     def test_signals_leave_nothing(self) -> None:
         self.write("edits", b"chmod 600 srv/share/one\n")
-        self.write("slow", b"#!/bin/sh\n: >at_work\nexec sleep 100\n")
+        self.write("slow", b'#!/bin/sh\n: >"%s"\nexec sleep 100\n' % os.fsencode(self.path("before/at_work")))
         os.chmod(self.path("slow"), 0o755)
         for number, status in ((signal.SIGINT, 130), (signal.SIGTERM, 143), (signal.SIGHUP, 129)):
             words = [os.path.join(COMMANDS, "facl-plan"), "--program", "./slow", "before", "edits"]

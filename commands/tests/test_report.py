@@ -177,7 +177,11 @@ class Report(Case):
         self.write("before/dump", self.read("before/dump").replace(b"user::rw-\ngroup::r--\nother::---\n",
                                                                    b"user::rw-\nuser:1009:r--\ngroup::r--\nmask::---\nother::r--\n", 1))
         self.assertEqual(self.run_command("facl-report", ["before"]).messages, b"")
-        self.assertIn(b"facl-report: warning: lists by which Linux grants otherwise", self.run_command("facl-report", ["--acl5", "before"]).messages)
+        done = self.run_command("facl-report", ["--acl5", "before"])
+        self.assertEqual(done.messages, b"facl-report: judged by the check of acl(5) (--acl5); lists by which Linux grants otherwise, as their mask is "
+                         b"empty: 1, first: /srv/share/-x\n")
+        self.assertEqual(read_data(done.out)["judge"], "the check of acl(5), by which Linux does not go where a mask is empty")
+        self.assertEqual(read_data(self.run_command("facl-report", ["before"]).out)["judge"], "what Linux grants")
 
     def test_how_it_opens(self) -> None:
         cases: List[Tuple[List[str], bool]] = [([], False), (["--reach"], False), (["--file-alone"], True)]

@@ -62,7 +62,7 @@ class Review(FirmCase):
     def test_lists(self) -> None:
         data = self.page()
         self.assertEqual(dict(data["facts"]), {"host": "srva", "date": "2026-11-27T03:10:00Z", "folder": "/srv/finance", "version": "0.20261127",
-                                               "files": "12", "folders": "2"})
+                                               "files": "12", "folders": "2", "judge": "what Linux grants"})
         counts = [data["files"]["lists"].count(number) for number in range(len(data["lists"]))]
         self.assertEqual(sorted(counts), [1, 1, 1, 1, 10])
         first = data["lists"][0]

@@ -31,9 +31,10 @@ def answer(lines):
 def refuse():
     answer(sys.stdin.buffer)
 def play_for(seconds):
-    with open("at_work", "w") as file:
+    place = os.path.dirname(sys.argv[0])
+    with open(place + "/at_work", "w") as file:
         file.write(str(os.getpid()))
-    os.rename("at_work", "process")
+    os.rename(place + "/at_work", place + "/process")
     time.sleep(seconds)
     os._exit(0)
 """
@@ -145,15 +146,15 @@ class Signals(StandIns):
                 words = [sys.executable, "-I", os.path.join(COMMANDS, "facl-ask"), "--headings", "--program", program, "before", "script"]
                 with subprocess.Popen(words, cwd=self.folder, stdout=subprocess.PIPE, stderr=subprocess.PIPE, preexec_fn=restore_signals) as run:
                     last = time.monotonic() + 30
-                    while not os.path.exists(self.path("before/process")):
+                    while not os.path.exists(self.path("process")):
                         self.assertLess(time.monotonic(), last)
                         time.sleep(0.02)
                     time.sleep(0.2)  # It writes now, and cannot go on.
                     run.send_signal(number)
                     out, messages = run.communicate(timeout=30)
                 self.assertEqual((run.returncode, out, messages), (status, b"", b""))
-                self.expect_gone(int(self.read("before/process")))
-                os.unlink(self.path("before/process"))
+                self.expect_gone(int(self.read("process")))
+                os.unlink(self.path("process"))
 
 
 if __name__ == "__main__":

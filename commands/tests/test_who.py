@@ -20,7 +20,7 @@ from facl_commands.base.names import read_name, write_name  # noqa: E402
 # A schema: a type, a list of one kind, an object by its fields, or a choice.
 Schema = Union[type, None, List[Any], Dict[str, Any], Tuple[Any, ...]]
 SNAPSHOT = {"host": (str, None), "date": (str, None), "users_asked_for": (int, None)}
-HEAD = {"schema": str, "version": str, "snapshot": SNAPSHOT, "question": str, "along_paths": bool, "left_out": [str],
+HEAD = {"schema": str, "version": str, "judge": str, "snapshot": SNAPSHOT, "question": str, "along_paths": bool, "left_out": [str],
         "marked": [{"file": str, "marks": [str]}], "unwritable": {}}  # Here nothing is unwritable.
 MADE = {"kind": str, "owner": str, "group": str, "flags": (str, None), "entries": [str], "readers": [str], "writers": [str]}
 SCHEMAS: Dict[str, Dict[str, Any]] = {

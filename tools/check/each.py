@@ -35,6 +35,7 @@ QUESTIONS = (b"may u3 w\n", b"may --reach u5 r\n", b"who r d00001/f001\n", b"can
              b"getfacl -R d00002\n", b"why --reach u1 d00000/f000\n", b"gpasswd -a u9 g0\nmay u9 r\nchanges --reach\n",
              b"setfacl -m u:u7:rwx d00003/f001\nwho w d00003/f001\nchanges\n", b"below r .\n",
              b"below --reach w d00000 d00001/f001 d00002\n", b"chmod -R 750 d00001\ngains\ngains --reach\n")
+ELSE = b"everybody else"  # No file or user is named so.
 OF_REAL_TREE = b"""index\ngetfacl -R .\nmay --reach nobody r\nmay --reach nobody 0\nwho x .\nbelow --reach r .
 getfacl -R -n -s .\ngpasswd -a nobody root\nindex\n"""
 
@@ -68,6 +69,13 @@ def command(words: List[str], script: bytes = b"", out: str = os.devnull) -> flo
     return time.monotonic() - start
 
 
+def leave_else_out(name: str) -> None:
+    """Takes the lines about everybody else, whom the program alone does not have, out of answers."""
+    with open(name, "rb") as file, open(name + ".users", "wb") as kept:
+        kept.writelines(line for line in file if ELSE not in line)
+    os.replace(name + ".users", name)
+
+
 def measure(given: argparse.Namespace, work: str) -> List[bool]:
     """Asks over snapshots of a made tree; returns for each answer whether it is that of one session."""
     whole, joined, one = (os.path.join(work, name) for name in ("whole", "joined", "one"))
@@ -81,6 +89,7 @@ def measure(given: argparse.Namespace, work: str) -> List[bool]:
         text = f"{script.decode()!r:55} {seconds:7.1f} s, {os.path.getsize(joined)} bytes"
         if given.files <= 1_048_576:
             alone = command(["facl-ask", whole], script, one)
+            leave_else_out(joined)
             same.append(filecmp.cmp(joined, one, shallow=False))
             text += f", {'' if same[-1] else 'NOT '}equal to one session's, which took {alone:.1f} s"
         print(text, flush=True)
@@ -116,6 +125,7 @@ def split(_: argparse.Namespace, work: str) -> List[bool]:
         command(["facl-snapshot", "--split", str(count), parts, tree])
         folders = sorted(entry.path for entry in os.scandir(parts))
         command(["facl-ask", "--with-root", "--each", *folders], OF_REAL_TREE, joined)
+        leave_else_out(joined)
         same.append(filecmp.cmp(joined, whole, shallow=False))
         for folder in folders:
             with open(os.path.join(folder, "dump"), "rb") as dump:

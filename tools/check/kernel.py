@@ -5,11 +5,12 @@ usage: tools/check/kernel.py PROGRAM [--users N] [--files N] [--seed N] [--answe
 
 As root: it makes a tree of N files (500) in a folder of its own, with lists, masks and closed directories, of N users
 (20) who need no account; the mask of every other list that names somebody is empty. facl-snapshot records it; facl-ask answers
-`may` and `may --reach`; facl-plan, as it judges by default, says who gains what by a script that grants at random. The kernel is
-asked by faccessat(2) as each user: of a file alone by its descriptor, along a path by its name; after facl-apply again. Then some
-files are immutable, some append-only, and a directory is mounted read-only and noexec: the kernel has to grant what facl-ask
-answers, but for w and x there, and facl-who has to count so. With --answers it makes trees, of one seed after another, until so
-many answers are compared: --answers 3000000 takes some ten minutes. --record writes what was found into docs/CHECKS.md.
+`may` and `may --reach`; facl-plan, as it judges by default, says who gains what by a script that grants at random, also of
+everybody else, as whom the kernel is asked with ids that nothing has. The kernel is asked by faccessat(2) as each user: of a file
+alone by its descriptor, along a path by its name; after facl-apply again. Then some files are immutable, some append-only, and a
+directory is mounted read-only and noexec: the kernel has to grant what facl-ask answers, but for w and x there, and facl-who has to
+count so. With --answers it makes trees, of one seed after another, until so many answers are compared: --answers 3000000 takes
+some ten minutes. --record writes what was found into docs/CHECKS.md.
 
 The exit status is 1 where an answer differs, 2 where the words are others.
 """
@@ -36,6 +37,9 @@ AT_FDCWD, AT_EMPTY_PATH, AT_EACCESS = -100, 0x1000, 0x200
 LETTERS = {1: "x", 2: "w", 4: "r"}
 FIRST_UID, FIRST_GID = 71000, 72000
 ALL = FIRST_GID + 6  # The group of all users, after six others.
+NOBODYS = 73000  # An id of no user and no group.
+ELSE = "everybody else"
+PERMS = ("---", "r--", "rw-", "r-x", "rwx", "--x")
 VIEWS = ("alone", "along")
 EDITS = ("setfacl -m %s", "setfacl -m %s", "setfacl -m %s,m::---", "setfacl -m %s,m::r-x")
 Answer = Tuple[int, str, int]  # The number of a user, a file, and a request that is granted.
@@ -74,7 +78,7 @@ class World:
     def entry(self) -> str:
         user, group = self.chance.randrange(self.users), self.chance.randrange(len(self.groups))
         who = f"u:{FIRST_UID + user}" if self.chance.random() < 0.6 else f"g:{FIRST_GID + group}"
-        return who + ":" + self.chance.choice(("---", "r--", "rw-", "r-x", "rwx", "--x"))
+        return who + ":" + self.chance.choice(PERMS)
 
     def dress(self, place: str) -> None:
         user, group = self.chance.randrange(self.users), self.chance.randrange(len(self.groups))
@@ -111,14 +115,15 @@ def asked(descriptor: int, name: bytes, request: int) -> bool:
     return bool(LIBRARY.faccessat(descriptor, name, request, AT_EACCESS | (AT_EMPTY_PATH if not name else 0)) == 0)
 
 
-def kernel(world: World) -> Dict[str, Granted]:
-    """What the kernel grants all users: this process asks with the ids of each, as which it is not the superuser."""
+def kernel(world: World, has_else: bool = False) -> Dict[str, Granted]:
+    """What the kernel grants all users, and after them everybody else: this process asks with the ids of each, as which it is not
+    the superuser."""
     found: Dict[str, Granted] = {view: set() for view in VIEWS}
     descriptors, groups = [os.open(path, os.O_PATH) for path in world.files], os.getgroups()
-    for user in range(world.users):
+    for user in range(world.users + has_else):
         os.setgroups([FIRST_GID + number for number, members in enumerate(world.groups) if user in members])
-        os.setegid(ALL)
-        os.seteuid(FIRST_UID + user)
+        os.setegid(ALL if user < world.users else NOBODYS)
+        os.seteuid(FIRST_UID + user if user < world.users else NOBODYS)
         try:
             for path, descriptor in zip(world.files, descriptors):
                 found["alone"] |= {(user, path, it) for it in range(1, 8) if asked(descriptor, b"", it)}
@@ -169,13 +174,14 @@ def compare(world: World, when: str) -> Tuple[int, int]:
 
 def compare_plan(world: World) -> Tuple[int, int]:
     """The same of the rights that facl-plan names, beside those that the kernel grants before and after facl-apply."""
-    before = kernel(world)["along"]
+    before = kernel(world, has_else=True)["along"]
     edits = "".join(f"{world.chance.choice(EDITS) % world.entry()} {world.chance.choice(world.files[1:])}\n" for _ in range(400))
+    edits += "".join(f"setfacl -n -m o::{world.chance.choice(PERMS)} {world.chance.choice(world.files[1:])}\n" for _ in range(40))
     rows = world.command("facl-plan", "--full", world.snapshot, "-", text=edits).splitlines()
     world.command("facl-apply", world.snapshot + ".plan")
-    changed = {(user, path) for user, path, _ in before ^ kernel(world)["along"]}
+    changed = {(user, path) for user, path, _ in before ^ kernel(world, has_else=True)["along"]}
     cells = [row.split("\t") for row in rows if "\t->\t" in row]
-    named = {(int(row[0][1:]), "/" + row[4].rstrip("/")) for row in cells}
+    named = {(world.users if row[0] == ELSE else int(row[0][1:]), "/" + row[4].rstrip("/")) for row in cells}
     odd = changed ^ named
     print(f"facl-plan: {len(changed)} pairs of a user and a file have other rights along paths, {len(odd)} differ")
     show_odd(odd)
@@ -198,12 +204,13 @@ def marked(world: World, attributes: Dict[str, List[str]], place: str) -> Iterat
 
 
 def counted(world: World, granted: Iterable[Answer]) -> Dict[str, Tuple[str, str]]:
-    """How many files each user may write along paths, and the first of them in path order."""
+    """How many files each user and everybody else may write along paths, and the first of them in path order."""
     files: Dict[int, List[str]] = {}
     for user, path, request in granted:
         if request == 2:
             files.setdefault(user, []).append(path)
-    return {f"k{user}": (str(len(its)), min(its, key=lambda path: path.split("/"))) for user, its in files.items()}
+    return {f"k{user}" if user < world.users else ELSE: (str(len(its)), min(its, key=lambda path: path.split("/")))
+            for user, its in files.items()}
 
 
 def compare_marks(world: World) -> Tuple[int, int]:
@@ -217,17 +224,18 @@ def compare_marks(world: World) -> Tuple[int, int]:
     with marked(world, attributes, place):
         shutil.rmtree(world.snapshot)
         world.command("facl-snapshot", "--program", world.program, world.snapshot, world.top)
-        one, other = kernel(world), commands(world)
+        one, other = kernel(world, has_else=True), commands(world)
         rows = world.command("facl-who", "--tsv", "write", world.snapshot, world.top).splitlines()[1:]
     differ = 0
     for view in VIEWS:
         granted = {it for it in other[view] if not (it[2] & 2 and it[1] in unwritable or it[2] & 1 and it[1] in noexec)}
-        odd = one[view] ^ granted
+        odd = {it for it in one[view] if it[0] < world.users} ^ granted
         print(f"nobody can write {len(unwritable)} files, {view}: {len(odd)} differ")
         show_odd((*it, "granted by", "the kernel" if it in one[view] else "facl") for it in odd)
         differ += len(odd)
     named = {row.split("\t")[0]: tuple(row.split("\t")[1:3]) for row in rows}
-    wanted = counted(world, {it for it in other["along"] if it[1] not in unwritable})
+    others = {it for it in one["along"] if it[0] == world.users}
+    wanted = counted(world, others | {it for it in other["along"] if it[1] not in unwritable})
     wrong = {user for user in {*named, *wanted} if named.get(user) != wanted.get(user)}
     show_odd((user, "is", named.get(user), "and not", wanted.get(user)) for user in wrong)
     return 2 * world.users * len(world.files) * 7, differ + len(wrong)

@@ -16,7 +16,8 @@ from ..base.messages import SIGNALS, Command, Failure, parser_of, reason
 from ..base.names import shown
 from ..base.programs import find_program
 from ..base.trusted import MOST_WRITTEN, too_large
-from ..model import overview, sources
+from ..model import meta, overview, sources
+from ..model.everybody import ElseAnswers, SnapshotTexts, answers_over, beside, people_in, session_in, session_with, texts_with
 from ..model.marks import NO_MARKS, marks_of
 from ..model.snapshot import check_texts
 from ..model.sources import Source
@@ -36,7 +37,8 @@ words, the synopsis and the likely cause. Else it answers standard input.
 
 Where it has one SCRIPT, or standard input that is no terminal, it is the program itself: it prints the same, and ends
 with the same status; below a message about a SCRIPT comes its likely cause. With several SCRIPTs a message names the
-SCRIPT, and its line there. With --headings each question comes above its answer.
+SCRIPT, and its line there. With --headings each question comes above its answer. There, at the prompt, with --each and
+with --hosts answers about people have `everybody else`, a user whom no list names.
 
 SNAPSHOT may be a folder with passwd, group and dump alone. A dump can be given by --dump FILE too, in place of
 SNAPSHOT. What such a dump cannot tell is said on standard error.
@@ -69,6 +71,7 @@ def parse(words: List[str]) -> argparse.Namespace:
     # With --part: a file that other snapshots have too.
     parser.add_argument("--shared", action="append", default=[], help=argparse.SUPPRESS)
     parser.add_argument("--part", action="store_true", help=argparse.SUPPRESS)  # What --each runs for each of them.
+    parser.add_argument("--everybody", metavar="NAME:ID", help=argparse.SUPPRESS)  # With --part: that user is in answers, too.
     sources.add_source(parser, words)
     parser.add_argument("scripts", metavar="SCRIPT", nargs="*", default=[])
     return parser.parse_args(words)
@@ -159,31 +162,42 @@ def become_program(program: str, folder: bytes) -> NoReturn:
 
 
 def answer_units(
-    command: Command, program: str, folder: bytes, units: Iterable[Unit], has_headings: bool = False,
-    is_explained: bool = True,
+    command: Command, session: Session, units: Iterable[Unit], answers: Optional[ElseAnswers] = None, is_explained: bool = True,
     place_of: Callable[[Unit], bytes] = lambda unit: unit.place(),
 ) -> int:
-    """Answers lines one after another; at a terminal `why` has marks."""
+    """Answers lines one after another; those of a session with everybody else each below its question. At a terminal `why` has
+    marks."""
     status, is_terminal = ANSWERED, os.isatty(1)
-    marks = marks_of(folder) if is_terminal else NO_MARKS
-    with Session(program, folder) as session:
-        for unit in units:
-            output, messages = answer_unit(session, unit)
-            lines = marked(unit, output.lines(), marks) if is_terminal else output.lines()
-            pieces = (shown(line) + b"\n" for line in lines) if is_terminal else output.pieces()
-            for piece in below_heading(unit, lines, messages) if has_headings else pieces:
-                command.write(piece)
-            write_messages(command, place_of(unit), unit, messages, b"" if is_explained else None)
-            status = REFUSED if is_refused(messages) else status
+    marks = marks_of(session.folder) if is_terminal else NO_MARKS
+    for unit in units:
+        output, messages = answer_unit(session, unit if answers is None else answers.asked(unit))
+        lines = marked(unit, output.lines(), marks) if is_terminal else output.lines()
+        pieces: Iterator[bytes] = (shown(line) + b"\n" for line in lines) if is_terminal else output.pieces()
+        if answers is not None:
+            pieces = below_heading(unit, answers.first(unit.tool(), lines), messages)
+        for piece in pieces:
+            command.write(piece)
+        write_messages(command, place_of(unit), unit, messages, b"" if is_explained else None)
+        status = REFUSED if is_refused(messages) else status
+    return status
+
+
+def answer_with_headings(command: Command, program: str, folder: bytes, units: List[Unit]) -> int:
+    """Answers lines as a person reads them, each below its question, and with everybody else."""
+    texts = people_in(folder)
+    answers = answers_over(folder, texts.passwd, units)
+    with session_with(program, folder, *answers.everybody.with_both(texts)) as session:
+        status = answer_units(command, session, units, answers)
+    for line in beside(meta.meta_of(folder)) if answers.was_shown else ():
+        command.say(line)
     return status
 
 
 def answer_input(command: Command, program: str, folder: bytes, name: Optional[bytes]) -> int:
     """Answers the lines of standard input, which can be a script by name, each when it is read."""
-    with open(0, "rb", closefd=False) as file:
+    with open(0, "rb", closefd=False) as file, Session(program, folder) as session:
         units = read_units(b"", lines_of_file(file, b"standard input" if name is None else name))
-        return answer_units(command, program, folder, units, False, name is not None,
-                            lambda unit: b"line %d" % unit.number)
+        return answer_units(command, session, units, None, name is not None, lambda unit: b"line %d" % unit.number)
 
 
 def leave(number: int, _frame: Optional[FrameType]) -> None:
@@ -218,13 +232,12 @@ def dim(line: bytes) -> bytes:
 
 def run_prompt(command: Command, program: str, source: Source, given: argparse.Namespace) -> int:
     """Answers a person's lines. Only a prompt needs these parts of the package."""
-    from ..model import meta
     from ..model.superuser import Superusers, ids_in
     from . import manual, terminal
     from .completion import Completer
     from .prompt import WORDS_OF_PROMPT, Prompt, refuse_early_end
 
-    found = overview.read_texts(source.folder)
+    found, about = overview.read_texts(source.folder), meta.meta_of(source.folder)
     completer = Completer(manual.find_page(), found.passwd, found.group, lambda: found.dump, WORDS_OF_PROMPT)
 
     def out(text: bytes) -> None:
@@ -233,18 +246,19 @@ def run_prompt(command: Command, program: str, source: Source, given: argparse.N
 
     take_signals()
     superusers = Superusers({} if given.with_root else ids_in(found.passwd))
-    prompt = Prompt(lambda: Session(program, source.folder), completer.page, completer, out, dim, superusers,
-                    marks_of(source.folder))
-    with kept_terminal(), contextlib.closing(prompt):
-        refuse_early_end(prompt.session)
-        name = meta.named(source.shown, meta.meta_of(source.folder))
-        out(shown(overview.summary(found, name)) + b"; `help` lists the tools, control-D ends\n")
-        overview.say_notices(command, source, given.acl5)
-        for warning in overview.warnings(found):
-            command.say(warning)
-        if terminal.find_toolkit() is None:
-            command.say(b"without python3-prompt-toolkit, which is not installed: no completion")
-        prompt.run(terminal.reader(completer))
+    answers = answers_over(source.folder, found.passwd, [])
+    with texts_with(source.folder, *answers.everybody.with_both(SnapshotTexts(found.passwd, found.group))) as texts:
+        prompt = Prompt(lambda: session_in(texts, program, source.folder), completer.page, completer, out, dim, superusers,
+                        marks_of(source.folder), answers, beside(about))
+        with kept_terminal(), contextlib.closing(prompt):
+            refuse_early_end(prompt.session)
+            out(shown(overview.summary(found, meta.named(source.shown, about))) + b"; `help` lists the tools, control-D ends\n")
+            overview.say_notices(command, source, given.acl5)
+            for warning in overview.warnings(found):
+                command.say(warning)
+            if terminal.find_toolkit() is None:
+                command.say(b"without python3-prompt-toolkit, which is not installed: no completion")
+            prompt.run(terminal.reader(completer))
     return ANSWERED
 
 
@@ -261,7 +275,10 @@ def answer_one(command: Command, given: argparse.Namespace, source: Source) -> i
     if len(given.scripts) > 1 or given.headings:
         overview.say_notices(command, source, given.acl5)
         units = [unit for name in given.scripts or ["-"] for unit in read_text(name).units()]
-        return answer_units(command, program, source.folder, units, given.headings)
+        if given.headings:
+            return answer_with_headings(command, program, source.folder, units)
+        with Session(program, source.folder) as session:
+            return answer_units(command, session, units)
     name = None if given.scripts in ([], ["-"]) else os.fsencode(given.scripts[0])
     if name is not None:
         take_script(given.scripts[0])

@@ -2,10 +2,11 @@
 from __future__ import annotations
 
 import gc
-from typing import Callable, Iterator, List, Optional, Set
+from typing import Callable, Iterator, List, Optional, Sequence, Set
 
 from ..base.messages import Failure
 from ..base.names import read_path, shown, write_name
+from ..model.everybody import ElseAnswers
 from ..model.marks import NO_MARKS, Marks
 from ..model.superuser import Superusers
 from ..program.hints.hint import explained
@@ -35,9 +36,11 @@ class Prompt:
     def __init__(
         self, start: Callable[[], Session], page: Optional[Page], completer: Completer, out: Callable[[bytes], None],
         dim: Callable[[bytes], bytes] = bytes, superusers: Optional[Superusers] = None, marks: Marks = NO_MARKS,
+        answers: Optional[ElseAnswers] = None, beside: Sequence[bytes] = (),
     ) -> None:
         self.start, self.marks = start, marks
         self.superusers = superusers or Superusers({})
+        self.answers, self.beside = answers, beside  # Of a session with everybody else; and what is said beside that user.
         self.dim = dim  # How a line is written that is beside the answers.
         self.noted: Set[bytes] = set()  # What was said once.
         self.session = start()
@@ -101,7 +104,7 @@ class Prompt:
     def answer(self, unit: Unit) -> None:
         """Answers a line with its text."""
         try:
-            answer = self.session.ask(unit.text())
+            answer = self.session.ask((unit if self.answers is None else self.answers.asked(unit)).text())
         except KeyboardInterrupt:
             self.start_again(IN_LINE % unit.number + b"given up, and changed nothing\n")
             return
@@ -124,8 +127,8 @@ class Prompt:
 
     def show(self, unit: Unit, answer: Answer) -> None:
         """An answer below its line."""
-        count = 0
-        for printed in self.superusers.rest(unit, marked(unit, answer.output.lines(), self.marks)):
+        count, lines = 0, self.superusers.rest(unit, marked(unit, answer.output.lines(), self.marks))
+        for printed in lines if self.answers is None else self.answers.first(unit.tool(), lines):
             self.out(shown(printed) + b"\n")
             count += 1
         if not count and not is_refused(answer.messages) and unit.words:
@@ -136,6 +139,9 @@ class Prompt:
                 self.out(b"    " + line + b"\n")
         if unit.is_of(*REQUESTS) and REACH not in unit.words and not is_refused(answer.messages):
             self.note(ALONE)
+        if self.answers is not None and self.answers.was_shown:
+            for text in self.beside:
+                self.note(b"(" + text + b")\n")
         if self.superusers.has_left_out:
             self.note(b"(" + self.superusers.note() + b")\n")
 

@@ -40,6 +40,16 @@ def add_program(parser: argparse.ArgumentParser) -> None:
     parser.add_argument("--acl5", action="store_true", help="ask facl, which judges by acl(5)'s check, and not by what Linux grants")
 
 
+def judge_word(given: argparse.Namespace) -> str:
+    """The judge of answers, for JSON."""
+    return "acl5" if given.acl5 else "linux"
+
+
+def judge_text(given: argparse.Namespace) -> str:
+    """The same for a page."""
+    return "the check of acl(5), by which Linux does not go where a mask is empty" if given.acl5 else "what Linux grants"
+
+
 def program_words(given: argparse.Namespace) -> List[str]:
     """The words that said which, for another command."""
     return [*([] if given.program is None else ["--program", given.program]), *["--acl5"] * given.acl5]

@@ -18,6 +18,7 @@ from .. import VERSION
 from .environment import environment_of_called
 from .messages import Command, Failure
 from .names import shown
+from .programs import judge_word
 
 GAP = "  "  # Between two columns.
 MIDDLE = ".."  # In the place of what is cut out.
@@ -192,9 +193,9 @@ def write_table(command: Command, given: argparse.Namespace, table: Table) -> No
         write_rows(command, table)
 
 
-def write_json(command: Command, schema: str, fields: Mapping[str, object]) -> None:
-    """Prints one object, which names its schema first; names in it are texts by json_text."""
-    report: Dict[str, object] = {"schema": schema, "version": VERSION, **fields}
+def write_json(command: Command, given: argparse.Namespace, schema: str, fields: Mapping[str, object]) -> None:
+    """Prints one object, which names its schema first, and then which judge answered; names in it are texts by json_text."""
+    report: Dict[str, object] = {"schema": schema, "version": VERSION, "judge": judge_word(given), **fields}
     command.write(json.dumps(report, indent=2).encode() + b"\n")
 
 

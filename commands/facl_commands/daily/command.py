@@ -74,7 +74,7 @@ class DailyRun:
 
     def work(self, given: Words) -> int:
         """Does the run, and returns its status."""
-        self.text = Text(given.folders)
+        self.text = Text(given.folders, bool(given.judge))
         if self.address:
             find_sendmail()
         folder = self.folder = DailyFolder(os.fsencode(given.folder))

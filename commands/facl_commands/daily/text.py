@@ -13,6 +13,7 @@ from .children import Children, environment
 
 SUBJECT_LIMIT = 150  # Bytes.
 SOMETHING = b"something to look at"
+JUDGED = b"judged by the check of acl(5) (--acl5)\n"
 NO_SENDMAIL = b"--mail: there is no sendmail: install a mailer, or leave --mail out, so that cron sends what is printed"
 
 
@@ -33,7 +34,8 @@ def in_subject(text: bytes) -> bytes:
 class Text:
     """The text of a run: its parts, and the reasons that the subject of a mail has."""
 
-    def __init__(self, folders: List[str]) -> None:
+    def __init__(self, folders: List[str], is_acl5: bool = False) -> None:
+        self.judge = JUDGED * is_acl5
         self.host = os.fsencode(os.uname().nodename)
         self.day = datetime.date.today().isoformat().encode()
         self.folders = b" ".join(map(os.fsencode, folders))
@@ -60,7 +62,7 @@ class Text:
 
     def body(self) -> bytes:
         head = b"facl on %s, %s" % (self.host, self.day) + (b": " + self.folders if self.folders else b"")
-        return shown(head) + b"\n" + b"".join(self.parts)
+        return shown(head) + b"\n" + self.judge + b"".join(self.parts)
 
     def mail(self, address: str) -> bytes:
         subject = b"facl on %s: %s" % (self.host, b"; ".join(self.reasons) or SOMETHING)

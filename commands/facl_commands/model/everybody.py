@@ -8,18 +8,22 @@ a person reads has this row, and nobody counts it. Questions of the commands hav
 from __future__ import annotations
 
 import contextlib
+import itertools
 import os
 import re
 import secrets
-from typing import Callable, Iterable, Iterator, List, NamedTuple, Set
+from typing import Callable, Iterable, Iterator, List, NamedTuple, Optional, Set
 
 from ..base import scratch
 from ..base.accounts import LAST_ID
-from ..base.names import read_path, write_user
+from ..base.messages import Failure
+from ..base.names import read_path, script_word, write_user
 from ..base.trusted import read_trusted
 from ..base.user_tools import User
 from ..program.protocol import FREE_FILE_LINE, LIST, LIST_EFFECTIVE
+from ..program.scripts import Unit
 from ..program.session import OutputSlice, Session
+from ..program.tools import ABOUT_ONE, ABOUT_USERS, BY_FILES, path_in, split, user_in
 from .meta import Meta, users_asked_for
 from .people import needed_word, plain_id, rows_of, users_in
 from .records import Listing, list_files, path_of
@@ -28,8 +32,16 @@ from .sources import DUMP, Source, find_tops, operands_of
 
 SHOWN = b"everybody else"  # The program prints no name of a user with a blank.
 START = b"facl-everybody-else-"  # Of the name in questions.
+WORD = re.compile(b"(" + START + b"[0-9a-f]{8}):([0-9]{10})\\Z")
 IDS = 1_000_000_000, LAST_ID  # Between which the id is.
 FILE_NAME = re.compile(b"^" + FREE_FILE_LINE + b"/$", re.MULTILINE)
+
+
+class SnapshotTexts(NamedTuple):
+    """The users and groups of a snapshot."""
+
+    passwd: bytes
+    group: bytes
 
 
 class Everybody(NamedTuple):
@@ -48,12 +60,19 @@ class Everybody(NamedTuple):
     def with_group(self, group: bytes) -> bytes:
         return with_row(group, b"%s:x:%d:\n" % (self.name, self.number))
 
+    def with_both(self, texts: SnapshotTexts) -> SnapshotTexts:
+        return SnapshotTexts(self.with_user(texts.passwd), self.with_group(texts.group))
+
     def shown(self, user: bytes) -> bytes:
         """What answers have for a user, by the name that the program prints."""
         return SHOWN if user == self.name else user
 
     def is_in(self, text: bytes) -> bool:
         return self.name in text or b"%d" % self.number in text
+
+    def word(self) -> bytes:
+        """What another command is given, and read_everybody reads."""
+        return b"%s:%d" % self
 
 
 def with_row(text: bytes, row: bytes) -> bytes:
@@ -70,6 +89,17 @@ def everybody_in(texts: Callable[[], Iterable[bytes]]) -> Everybody:
             return found
 
 
+def read_everybody(word: bytes, folder: bytes) -> Everybody:
+    """The one of another command, which does not know the texts of a snapshot."""
+    match = WORD.match(word)
+    if match is None:
+        raise Failure(word + b": is no name and id of everybody else")
+    found = Everybody(match[1], int(match[2]))
+    if any(map(found.is_in, texts_in([folder]))):
+        raise Failure(folder + b": has the name or the id that was made for everybody else: ask again")
+    return found
+
+
 def texts_in(folders: Iterable[bytes]) -> Iterator[bytes]:
     """The texts of snapshots, one after another."""
     return (read_trusted(os.path.join(folder, name)) for folder in folders for name in NEEDED)
@@ -77,7 +107,10 @@ def texts_in(folders: Iterable[bytes]) -> Iterator[bytes]:
 
 def beside(about: Meta) -> List[bytes]:
     """The line that stands beside everybody else, where the snapshot has users of a directory service and knows how many."""
-    number = users_asked_for(about)
+    return beside_of(users_asked_for(about))
+
+
+def beside_of(number: Optional[int]) -> List[bytes]:
     return [SHOWN + b": users whom the snapshot does not have; it has %d of a directory service" % number] if number else []
 
 
@@ -87,14 +120,51 @@ def free_ids(rows: bytes, used: Set[bytes]) -> Iterator[int]:
     return (it for it in range(LAST_ID, 0, -1) if b"%d" % it not in known)
 
 
+# --- questions and answers of a session with everybody else
+
+
+class ElseAnswers:
+    """Questions about one user, and answers about users, as a person writes and reads them."""
+
+    def __init__(self, everybody: Everybody, passwd: bytes = b"") -> None:
+        self.everybody = everybody
+        self.is_word = b"\n" + SHOWN + b":" not in b"\n" + passwd  # Whether SHOWN is no user of the snapshot.
+        self.was_shown = False  # Whether an answer had everybody else.
+
+    def asked(self, unit: Unit) -> Unit:
+        """A line for the program, which knows everybody else by another name."""
+        if not self.is_word or not unit.is_of(*ABOUT_ONE) or split(unit.words).operands[:1] != [SHOWN]:
+            return unit
+        at = unit.words.index(SHOWN)
+        words = [*unit.words[:at], self.everybody.name, *unit.words[at + 1 :]]
+        return unit._replace(words=words, lines=[b" ".join(map(script_word, words))])
+
+    def first(self, tool: bytes, lines: Iterable[bytes]) -> Iterator[bytes]:
+        """The lines of an answer; those of everybody else before those of users, of each file where they go by files."""
+        if tool not in ABOUT_USERS:
+            yield from lines
+            return
+        for _, its in itertools.groupby(lines, lambda line: path_in(tool, line) if tool in BY_FILES else b""):
+            known: List[bytes] = []
+            for line in its:
+                if user_in(tool, line) == self.everybody.name:
+                    self.was_shown = True
+                    yield line.replace(self.everybody.name, SHOWN, 1)
+                else:
+                    known.append(line)
+            yield from known
+
+    def text(self, tool: bytes, output: bytes) -> bytes:
+        """The same of a whole answer."""
+        return b"".join(line + b"\n" for line in self.first(tool, output.split(b"\n")[:-1])) if tool in ABOUT_USERS else output
+
+
+def answers_over(folder: bytes, passwd: bytes, units: List[Unit]) -> ElseAnswers:
+    """Those of a snapshot with these users, of which lines of scripts are asked."""
+    return ElseAnswers(everybody_in(lambda: itertools.chain(texts_in([folder]), (unit.text() for unit in units))), passwd)
+
+
 # --- a session with everybody else
-
-
-class SnapshotTexts(NamedTuple):
-    """The users and groups of a snapshot."""
-
-    passwd: bytes
-    group: bytes
 
 
 class World(NamedTuple):
@@ -124,25 +194,40 @@ def paths_in(output: OutputSlice) -> Iterator[bytes]:
 
 
 @contextlib.contextmanager
-def session_with(program: str, folder: bytes, passwd: bytes, group: bytes) -> Iterator[Session]:
-    """A session over the dump of a snapshot, with other users and groups; the folder of these goes with it."""
+def texts_with(folder: bytes, passwd: bytes, group: bytes) -> Iterator[bytes]:
+    """A folder that has the dump of a snapshot, and other users and groups; it goes at the end."""
     with scratch.folder("facl-texts.") as work:
         texts = os.fsencode(work)
         os.symlink(os.path.join(os.getcwdb(), folder, DUMP), os.path.join(texts, DUMP))
         for name, text in ((b"passwd", passwd), (b"group", group)):
             with open(os.path.join(texts, name), "wb") as file:
                 file.write(text)
-        with Session(program, texts) as session:
-            session.folder = folder  # Which messages name.
-            yield session
+        yield texts
+
+
+def session_in(texts: bytes, program: str, folder: bytes) -> Session:
+    """A session over the texts of such a folder; messages name the snapshot."""
+    session = Session(program, texts)
+    session.folder = folder
+    return session
+
+
+@contextlib.contextmanager
+def session_with(program: str, folder: bytes, passwd: bytes, group: bytes) -> Iterator[Session]:
+    """A session over the dump of a snapshot, with other users and groups."""
+    with texts_with(folder, passwd, group) as texts, session_in(texts, program, folder) as session:
+        yield session
+
+
+def people_in(folder: bytes) -> SnapshotTexts:
+    return SnapshotTexts(*(read_trusted(os.path.join(folder, name)) for name in NEEDED[:2]))
 
 
 @contextlib.contextmanager
 def world_of(program: str, source: Source) -> Iterator[World]:
-    texts = SnapshotTexts(*(read_trusted(os.path.join(source.folder, name)) for name in NEEDED[:2]))
+    texts = people_in(source.folder)
     everybody = everybody_in(lambda: texts_in([source.folder]))
-    passwd, group = everybody.with_user(texts.passwd), everybody.with_group(texts.group)
-    with session_with(program, source.folder, passwd, group) as session:
+    with session_with(program, source.folder, *everybody.with_both(texts)) as session:
         session.ask(LIST + b" .\n")  # Where the program does not load the texts, it says so before they are looked at.
         yield World(session, texts, everybody, users_in(texts.passwd))
 

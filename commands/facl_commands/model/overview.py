@@ -27,7 +27,7 @@ USER_IDS = re.compile(USER_ID_LINE, re.MULTILINE)
 EMPTY_MASKS_OF_LISTS = re.compile(EMPTY_MASK_LINE, re.MULTILINE)
 OTHERS_WITH_SOMETHING = re.compile(OPEN_OTHERS_LINE, re.MULTILINE)
 NAMED_ENTRY = re.compile(NAMED_LINE, re.MULTILINE)
-JUDGED_OTHERWISE = b"lists by which Linux grants otherwise than acl(5), as their mask is empty"
+BY_ACL5 = b"judged by the check of acl(5) (--acl5); lists by which Linux grants otherwise, as their mask is empty: %d"
 
 
 class LoadedTexts(NamedTuple):
@@ -103,6 +103,11 @@ def warning_of(text: bytes, names: List[bytes]) -> bytes:
     return counted_warning(text, len(names), names[0])
 
 
+def by_acl5(names: List[bytes]) -> bytes:
+    """What is said where acl(5)'s check judges, with the files by whose lists Linux grants otherwise."""
+    return BY_ACL5 % len(names) + b"".join(b", first: " + name for name in names[:1])
+
+
 def warnings(texts: LoadedTexts) -> Iterator[bytes]:
     """Each with a number and the first name."""
     found = [
@@ -168,8 +173,8 @@ def torn_warnings(texts: LoadedTexts, source: Source) -> Iterator[bytes]:
 
 
 def say_notices(command: Command, source: Source, is_acl5: bool, is_alone: bool = True) -> None:
-    """What answers over this snapshot cannot tell; where they are by acl(5), on how many lists those of Linux are others. Answers
-    by lists alone do not tell what Linux looks at beside them."""
+    """What answers over this snapshot cannot tell; where they are by acl(5), that they are, and on how many lists those of Linux
+    are others. Answers by lists alone do not tell what Linux looks at beside them."""
     names: Dict[bytes, None] = {}  # A directory can be in several parts of a snapshot.
     for folder in split_tree.snapshots_in(source.folder):
         part = source if folder == source.folder else Source(folder, folder, False)
@@ -179,7 +184,7 @@ def say_notices(command: Command, source: Source, is_acl5: bool, is_alone: bool 
         for text in (*torn_warnings(found, part), *(part.shown + b": " + it for it in marks.not_judged(folder))):
             command.say(text)
         names.update(dict.fromkeys(judged_otherwise(found.dump) if is_acl5 else ()))
-    if names:
-        command.say(warning_of(JUDGED_OTHERWISE, [*names]))
+    if is_acl5:
+        command.say(by_acl5([*names]))
     for text in marks.alone(marks.marks_of(source.folder)) if is_alone else ():
         command.say(source.shown + b": " + text)

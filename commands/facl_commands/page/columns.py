@@ -234,5 +234,5 @@ class Builder:
         return {
             "title": title, "script": has_script, "alone": is_alone, "without": sorted(map(shown, left_out)),
             "whos": [[who.kind, shown(who.name)] for who in self.whos], "start": self.start, "files": files,
-            **self.tables.data(), "decisions": decisions, "before": before, "heads": [], **self.marks(),
+            **self.tables.data(), "decisions": decisions, "before": before, "heads": [], "judge": "", "unknown": [], **self.marks(),
         }

@@ -8,10 +8,12 @@ from typing import Dict, Iterator, List, Set, Tuple
 
 from ..base.accounts import is_of_system
 from ..base.names import read_name
+from ..base.programs import judge_text
 from ..model import meta, sources
 from ..model.entries import read_record
 from ..model.everybody import everybody_in, free_ids
 from ..model.label_answers import PeopleTexts, ask_labels
+from ..model.marks import not_judged
 from ..model.people import plain_id, rows_of
 from ..model.snapshot import Snapshot
 from ..model.superuser import Superusers, ids_in
@@ -75,7 +77,13 @@ def data_of(program: str, snapshot: Snapshot, tree: PageTree, listings: List[Tup
     title = shown(meta.named(snapshot.folder, meta.meta_of(snapshot.folder)))
     data = Builder(tree, whos, views[0], views[-1], tables).data(title, len(listings) > 1, given.file_alone,
                                                                  superusers.names)
-    return {**data, "heads": [head_of(snapshot.folder, snapshot.folder)]}
+    return {**data, "judge": judge_text(given), "unknown": unknown_of(snapshot.folder),
+            "heads": [head_of(snapshot.folder, snapshot.folder)]}
+
+
+def unknown_of(folder: bytes) -> List[str]:
+    """What the page says of a snapshot that nobody knows by it."""
+    return list(map(shown, not_judged(folder)))
 
 
 def head_of(folder: bytes, name: bytes) -> Dict[str, object]:

@@ -161,7 +161,8 @@ function factsBox() {
   const counts = counted(files, "file") + ", " + counted(users, "user") + (data.without.length ? " (without " + data.without.join(", ") + ")" : "")
     + (data.script ? ", " + counted(Object.keys(data.files.changed).length, "file") + " changed" : "");
   return element("dl", {id: "facts"}, ...fact("host", all.map(it => it.host)), ...fact("date", all.map(it => it.date)), ...fact("folders", all.map(it => it.folders.join(", "))),
-    ...fact("snapshot", all.map(it => it.name)), ...fact("facl", all.map(it => it.version)), ...fact("here", [counts]), ...fact("beside lists", [data.beside.join("")]));
+    ...fact("snapshot", all.map(it => it.name)), ...fact("facl", all.map(it => it.version)), ...fact("here", [counts]), ...fact("judge", [data.judge]),
+    ...fact("beside lists", [[...data.beside, ...data.unknown].join("; ")]));
 }
 
 function fillWhos() {

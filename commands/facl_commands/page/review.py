@@ -17,12 +17,13 @@ from ..base.accounts import PEOPLE
 from ..base.messages import Command
 from ..base.names import directories_above, parent_of, path_word, shell_word, shown, write_name
 from ..base.numbered import Numbered
-from ..base.programs import find_program
+from ..base.programs import find_program, judge_text
 from ..base.trusted import read_trusted
 from ..model import choice, meta, overview, sources
 from ..model.entries import GROUP, MASK, NOTHING, OTHER, USER, Entry, NamesOfIds, entries_of, read_record
 from ..model.everybody import SHOWN, Everybody, everybody_in
 from ..model.label_answers import LabelAnswers, PeopleTexts, ask_labels
+from ..model.marks import alone, marks_of, not_judged
 from ..model.rights import places_in
 from ..model.rules_of_lists import Vector, along_path, inside
 from ..model.snapshot import check_texts
@@ -196,13 +197,15 @@ class Lists:
 # --- the page
 
 
-def facts_of(reviewed: Reviewed, source: Source, name: str) -> List[List[str]]:
+def facts_of(reviewed: Reviewed, source: Source, name: str, judge: str) -> List[List[str]]:
     """What the page is of: names with their texts."""
     about = meta.meta_of(source.folder)
+    beside = b"; ".join([*alone(marks_of(source.folder)), *not_judged(source.folder)])
     folders = sum(record.is_directory for record in reviewed.records)
     facts = [["host", text_of(about.host)], ["date", text_of(about.date)], ["folder", name],
              ["version", text_of(about.version)], ["files", str(len(reviewed.records) - folders)],
-             ["folders", str(folders)], ["users of a directory service", str(meta.users_asked_for(about) or "")]]
+             ["folders", str(folders)], ["users of a directory service", str(meta.users_asked_for(about) or "")],
+             ["judge", judge], ["beside lists", text_of(beside)]]
     return [[title, text] for title, text in facts if text]
 
 
@@ -240,7 +243,7 @@ def data_of(program: str, reviewed: Reviewed, source: Source, given: argparse.Na
                "by": sorted(lists.by.get(k, ()))} for k, (name, _) in enumerate(views.people)]
     prefix = "/" if is_whole else ""
     return {
-        "facts": facts_of(reviewed, source, prefix + text_of(write_name(reviewed.path))), "alone": given.file_alone,
+        "facts": facts_of(reviewed, source, prefix + text_of(write_name(reviewed.path)), judge_text(given)), "alone": given.file_alone,
         "prefix": prefix, "snapshot": "SNAPSHOT" if source.is_made else text_of(shell_word(source.shown)),
         "people": people, "files": files, "lists": fields, "sets": lists.sets.values,
     }

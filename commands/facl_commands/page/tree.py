@@ -49,7 +49,7 @@ class PageListing(NamedTuple):
 
 
 class PageTree:
-    """The files by number: their names, and what they are in; and the paths of those of the first listing that have marks."""
+    """The files by number: their names, and what they are in; and the paths of those that have marks."""
 
     def __init__(self, marks: Marks = NO_MARKS) -> None:
         self.marks = marks
@@ -58,6 +58,9 @@ class PageTree:
         self.parents: List[int] = []
         self.numbers: Dict[Tuple[int, bytes], int] = {}  # Only where there is more than one listing.
         self.in_order = 0  # So many, the first ones, are in path order.
+
+    def marked_paths(self) -> Set[bytes]:
+        return {*self.marks.own, *self.marks.mounts}
 
     def number(self, parent: int, name: bytes) -> int:
         """The number of a file, which gets one where it has none."""
@@ -73,11 +76,13 @@ class PageTree:
             return self.add_first(records, labels)
         self.numbers = {key: number for number, key in enumerate(zip(self.parents, self.names))}
         found = PageListing([GONE] * len(self.names), set())
-        above = Above()
+        above, paths = Above(), self.marked_paths()
         for record in records:
             parent, name = above.place_of(record.path)
             number = self.number(parent, name)
             above.add(number)
+            if record.path in paths:
+                self.marked[number] = record.path
             found.labels.extend([GONE] * (len(self.names) - len(found.labels)))
             found.labels[number] = labels.number(record.body)
             found.directories.update([parent] * (parent != ABOVE) + [number] * record.is_directory)
@@ -86,7 +91,7 @@ class PageTree:
     def add_first(self, records: Iterable[ListedRecord], labels: Labels) -> PageListing:
         """The same of the first one, whose files are all new."""
         found = PageListing([], set())
-        above, paths = Above(), self.marks.own.keys() | self.marks.mounts.keys()
+        above, paths = Above(), self.marked_paths()
         for number, (path, is_directory, body) in enumerate(records):
             parent, name = above.place_of(path)
             above.add(number)

@@ -12,8 +12,9 @@ from ..base.names import live_path, number_of, write_user
 from ..base.programs import find_program
 from ..model import label_answers, meta, overview, people, rights, sources
 from ..model.entries import read_record
+from ..model.everybody import SHOWN, Everybody, SnapshotTexts, answers_over, session_with
 from ..model.gains import ask_gains
-from ..model.marks import marks_of, obstacles
+from ..model.marks import alone, marks_of, not_judged, obstacles
 from ..model.records import ChangedPaths, Listing, compare, write_records
 from ..model.snapshot import Snapshot, read_snapshot
 from ..model.superuser import superusers_among
@@ -32,10 +33,10 @@ SOMETHING, REFUSED, NOTHING = 0, 1, 3
 RELATIVE_NAME = re.compile(rb"^[ \t]*#[ \t]*file:(?! ?/)", re.MULTILINE)
 HELP = """\
 Answers the lines of each SCRIPT over a snapshot, as facl does, and prints what would change in who may do what: one
-line for each user and kind of change, with the number of files and the first of them. A right counts where the user
-can get to the file: with search on each directory above. A user who is named by an edit and gains nothing, since a
-directory above is closed, has a line with the edit that opens it. It reads the snapshot alone, and changes nothing on
-the live system. The SCRIPT - is standard input.
+line for each user and kind of change, with the number of files and the first of them; first those of `everybody
+else`, a user whom no list names. A right counts where the user can get to the file: with search on each directory
+above. A user who is named by an edit and gains nothing, since a directory above is closed, has a line with the edit
+that opens it. It reads the snapshot alone, and changes nothing on the live system. The SCRIPT - is standard input.
 
 What facl-apply needs is written to a folder, SNAPSHOT.plan:
 
@@ -90,24 +91,36 @@ def find_no_gain(session: Session, program: str, snapshot: Snapshot, old: Listin
     return no_gain.find(session, sides[0], sides[1], left_out, is_whole)
 
 
+def with_else_first(changes: rights.RightsChanges, everybody: Everybody) -> rights.RightsChanges:
+    """The changes of each file, with those of everybody else before those of users."""
+    for group in changes.groups:
+        its = sorted(group.differences, key=lambda it: it.user != everybody.name)
+        group.differences = [it._replace(user=everybody.shown(it.user)) for it in its]
+    return changes
+
+
 def answer_scripts(given: argparse.Namespace, snapshot: Snapshot, units: List[Unit], is_whole: bool = True,
                    is_full: bool = False) -> Outcome:
+    """Answers the lines over the snapshot, with everybody else as one more user."""
     program, along_paths = find_program(given), not given.file_alone
     changes = rights.RightsChanges([], [])
-    with Session(program, snapshot.folder) as session:
+    answers = answers_over(snapshot.folder, snapshot.passwd, units)
+    everybody = answers.everybody
+    with session_with(program, snapshot.folder, *everybody.with_both(SnapshotTexts(snapshot.passwd, snapshot.group))) as session:
         tops = sources.find_tops(session, snapshot.folder)
         old = list_below(session, tops)
         before = rights.ask_rights(session, old) if is_full else None
-        run = Replay(session, snapshot, old.files)
+        run = Replay(session, snapshot, old.files, answers)
         people_before = people.People(snapshot.passwd, snapshot.group)
         run.answer_all(units)
         new = list_below(session, tops)
         left_out = set() if given.with_root else superusers_of(people_before, run.people)
         names = [write_user(user.name) for side in (people_before, run.people) for user in side.users]
-        users = list(dict.fromkeys(names))
-        kinds = kinds_of(ask_gains(session, not along_paths), users, left_out)
+        users = list(dict.fromkeys([SHOWN, *names]))
+        gains = [it._replace(user=everybody.shown(it.user)) for it in ask_gains(session, not along_paths)]
+        kinds = kinds_of(gains, users, left_out)
         if before is not None:
-            changes = rights.changes(before, rights.ask_rights(session, new), along_paths, left_out)
+            changes = with_else_first(rights.changes(before, rights.ask_rights(session, new), along_paths, left_out), everybody)
         closed = find_no_gain(session, program, snapshot, old, new, people_before, run, left_out,
                               is_whole) if along_paths else []
     left = chown.left_behind(people_before, run.people, new.files)
@@ -125,11 +138,9 @@ def say_messages(command: Command, outcome: Outcome, scripts: List[Script]) -> N
             command.say(b"warning: " + name + b": has carriage returns, each of which is a part of its word")
 
 
-def warn_of_acl5(command: Command, outcome: Outcome) -> None:
-    """Of the files after the edits by whose lists Linux grants otherwise than acl(5)."""
-    found = [outcome.name_of(path) for path, file in outcome.new.items() if read_record(file.body).has_open_empty_mask()]
-    if found:
-        command.say(overview.warning_of(overview.JUDGED_OTHERWISE, found))
+def judged_otherwise(outcome: Outcome) -> List[bytes]:
+    """The files after the edits by whose lists Linux grants otherwise than acl(5)."""
+    return [outcome.name_of(path) for path, file in outcome.new.items() if read_record(file.body).has_open_empty_mask()]
 
 
 def warn_of_stuck(command: Command, stuck: Dict[bytes, bytes], changes: ChangedPaths, outcome: Outcome) -> None:
@@ -172,11 +183,13 @@ def beside(folder: bytes) -> bytes:
 
 
 def say_unknown(command: Command, source: sources.Source) -> bool:
-    """Says what a snapshot that facl-snapshot did not make cannot tell; whether there can be a plan, which has names
-    from the root of the file system."""
+    """Says what a snapshot cannot tell, and what lists alone do not; whether there can be a plan, which has names from the root
+    of the file system."""
     read = overview.read_texts(source.folder)
     for warning in overview.torn_warnings(read, source):
         command.say(warning)
+    for text in (*not_judged(source.folder), *alone(marks_of(source.folder))):
+        command.say(source.shown + b": " + text)
     found = sources.notice(source.folder, read.dump)
     is_whole = found is None or RELATIVE_NAME.search(read.dump) is None
     if found is not None:
@@ -254,9 +267,9 @@ def plan_over(command: Command, given: argparse.Namespace, source: sources.Sourc
     is_shown = not say_refused(command, outcome, given.keep_going) and has_work
     written = name if is_shown and is_whole else None
     stuck = obstacles(marks_of(snapshot.folder), changes)
+    if given.acl5:
+        command.say(overview.by_acl5(judged_otherwise(outcome)))
     if is_shown:
-        if given.acl5:
-            warn_of_acl5(command, outcome)
         warn_of_stuck(command, stuck, changes, outcome)
     if written is not None:
         check_inodes(snapshot, changes)
@@ -265,7 +278,7 @@ def plan_over(command: Command, given: argparse.Namespace, source: sources.Sourc
         if kept is not None:
             command.say(b"the plan that was there is " + kept + b" now")
     if given.json:
-        for part in json_report(outcome, given.full, changes, commands, written, stuck):
+        for part in json_report(given, outcome, changes, commands, written, stuck):
             command.write(part)
     elif is_shown:
         if outcome.about is not meta.UNKNOWN:

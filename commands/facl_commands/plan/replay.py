@@ -2,11 +2,12 @@
 and for users."""
 from __future__ import annotations
 
-from typing import List, NamedTuple, Union
+from typing import List, NamedTuple, Optional, Union
 
 from ..base.names import live_path
 from ..base.user_tools import PeopleChange
 from ..model import people, sources
+from ..model.everybody import ElseAnswers
 from ..model.records import Files, Listing, list_files
 from ..model.snapshot import Snapshot
 from ..program.answering import answer_unit
@@ -45,10 +46,10 @@ class Message(NamedTuple):
 
 
 class Replay:
-    """The scripts, answered line by line."""
+    """The scripts, answered line by line; where the session has everybody else, with what answers have of that user."""
 
-    def __init__(self, session: Session, snapshot: Snapshot, old: Files) -> None:
-        self.session = session
+    def __init__(self, session: Session, snapshot: Snapshot, old: Files, answers: Optional[ElseAnswers] = None) -> None:
+        self.session, self.answers = session, answers
         self.links = Links(snapshot.links, old)
         self.people = people.People(snapshot.passwd, snapshot.group)
         self.asked: List[Asked] = []
@@ -72,9 +73,10 @@ class Replay:
         if isinstance(done, bytes):
             self.messages.append(Message(unit, done))
             return
-        answer = answer_unit(self.session, done)
+        answer = answer_unit(self.session, done if self.answers is None else self.answers.asked(done))
         self.messages += [Message(unit, message, message == WARNING) for message in answer.messages]
         output, is_taken = answer.output.read(), not is_refused(answer.messages)
+        output = output if self.answers is None else self.answers.text(unit.tool(), output)
         if output or unit.is_of(*QUESTIONS_WITH_EMPTY_ANSWERS) and is_taken:
             self.asked.append(Asked(unit, output))
         if is_taken:

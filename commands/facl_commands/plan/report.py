@@ -10,8 +10,10 @@ from typing import Dict, Iterable, Iterator, List, NamedTuple, Optional, Set
 
 from ..base.messages import counted
 from ..base.names import file_name, json_text, shell_word, shown
+from ..base.programs import judge_word
 from ..base.user_tools import PeopleChange
 from ..model import meta, rights
+from ..model.everybody import SHOWN, beside
 from ..model.gains import Gain
 from ..model.records import ChangedPaths, Files
 from ..program.answering import below_heading
@@ -130,6 +132,8 @@ def text_report(given: argparse.Namespace, outcome: Outcome, changes: ChangedPat
     if given.full:
         yield from full_lines(outcome)
     yield from short_lines(outcome, [] if given.full else outcome.kinds.kinds)
+    if any(it.user == SHOWN for it in outcome.kinds.kinds):
+        yield from (line + b"\n" for line in beside(outcome.about))
     yield summary(changes, commands, outcome)
     if target is not None:
         yield shown(target + b": is written; next: " + next_step(target, changes)) + b"\n"
@@ -171,13 +175,14 @@ def message_json(it: Message) -> Dict[str, object]:
     return found if it.is_warning else {**found, "cause": texts(it.cause())}
 
 
-def json_report(outcome: Outcome, is_full: bool, changes: ChangedPaths, commands: List[bytes], plan: Optional[bytes],
+def json_report(given: argparse.Namespace, outcome: Outcome, changes: ChangedPaths, commands: List[bytes], plan: Optional[bytes],
                 stuck: Dict[bytes, bytes]) -> Iterator[bytes]:
     names = [texts(map(outcome.name_of, paths)) for paths in (changes.changed, changes.made, changes.removed)]
     report = {
+        "judge": judge_word(given),
         "snapshot": meta.fields_of(outcome.about),
         "plan": None if plan is None else json_text(plan),
-        "changes": rights_json(outcome, is_full),
+        "changes": rights_json(outcome, given.full),
         "no_gain": [no_gain_json(outcome, it) for it in outcome.no_gain],
         "left_out": texts(sorted(outcome.kinds.left_out)),
         **dict(zip(("records", "made", "removed"), names)),

@@ -142,6 +142,10 @@ TOOLS = tuple(name for name in ALL if name not in TOOLS_OF_PLANS)
 WITH_FILES = tuple(name for name in TOOLS if "FILE" in ALL[name].operands)
 ABOUT_USERS = tuple(name for name in TOOLS if "USER" in ALL[name].prints.split())  # The names of users are in answers.
 COUNTING = tuple(name for name in TOOLS if "COUNT" in ALL[name].prints.split())  # Their answers count files.
+# Their answers go by files, and of each file by users.
+BY_FILES = tuple(name for name in ABOUT_USERS if "PATH" in ALL[name].prints.split() and name not in COUNTING)
+# They are about one user, who is their first operand.
+ABOUT_ONE = tuple(name for name in QUESTIONS if ALL[name].operands.startswith("USER "))
 OF_RECORDS = tuple(name for name in TOOLS if ALL[name].prints == FILE_RECORDS)
 REQUESTS = tuple(name for name in TOOLS if ALL[name].is_request)
 MAKERS, REMOVERS = (tuple(name for name in TOOLS if ALL[name].files == how) for how in (MAKES, REMOVES))

@@ -13,13 +13,14 @@ from ...base import scratch
 from ...base.messages import UNUSABLE, Command, Failure
 from ...base.names import shown
 from ...model import overview
+from ...model.everybody import ElseAnswers, Everybody, beside_of, everybody_in
 from ...model.superuser import Superusers
 from ...program.answering import heading, lines_for_terminal, lines_to_show, write_messages
 from ...program.protocol import ANSWERED, REFUSED
 from ...program.scripts import Unit, read_text
 from ...program.session import lines_of
-from .join import superusers_of
-from .runs import HERE, HOST, NOT_READABLE, SECONDS, Answered, Part, checked_operand, program_options, run_hosts
+from .join import PeopleShown, superusers_of
+from .runs import HERE, HOST, NOT_READABLE, SECONDS, Answered, Part, checked_operand, part_options, run_hosts
 
 LONGEST_LINE = 1 << 20  # Bytes; of a server's answer.
 THIS = b"localhost"  # The name of this machine, which needs no ssh.
@@ -55,10 +56,9 @@ def say(command: Command, server: Server, texts: List[bytes]) -> None:
     command.put(command.messages)
 
 
-def answer_lines(unit: Unit, server: Server, answered: Answered, superusers: Superusers,
-                 has_headings: bool) -> Iterator[bytes]:
+def answer_lines(unit: Unit, server: Server, answered: Answered, people: PeopleShown, has_headings: bool) -> Iterator[bytes]:
     """The lines of a server's answer, each of which begins with its name."""
-    lines = superusers.rest(unit, lines_of(answered.output.pieces(), longest=LONGEST_LINE))
+    lines = people.lines(unit, lines_of(answered.output.pieces(), longest=LONGEST_LINE))
     for line in lines_to_show(unit, lines, answered.header.messages) if has_headings else lines_for_terminal(lines):
         yield server.name + b": " + line + b"\n"
 
@@ -69,9 +69,10 @@ class Printer:
     Of a server whose answer is none of facl-ask's, what comes after its fault is left out.
     """
 
-    def __init__(self, command: Command, parts: Dict[Server, Part], given: argparse.Namespace) -> None:
+    def __init__(self, command: Command, parts: Dict[Server, Part], given: argparse.Namespace, everybody: Everybody) -> None:
         self.command, self.parts, self.has_headings = command, parts, given.headings
-        self.superusers = {server: superusers_of([part], given.with_root) for server, part in parts.items()}
+        self.people = {server: PeopleShown(superusers_of([part], given.with_root), ElseAnswers(everybody))
+                       for server, part in parts.items()}
         self.failures: Dict[Server, Failure] = {}
         self.is_headed = False  # Whether the line that is answered has its heading, or needs none.
         self.status = ANSWERED
@@ -88,8 +89,8 @@ class Printer:
         self.command.write(b"\n" if self.has_headings and self.is_headed else b"")
 
     def write_answer(self, unit: Unit, server: Server) -> None:
-        answered, superusers = self.parts[server].answers[unit.number], self.superusers[server]
-        for line in answer_lines(unit, server, answered, superusers, self.has_headings):
+        answered, people = self.parts[server].answers[unit.number], self.people[server]
+        for line in answer_lines(unit, server, answered, people, self.has_headings):
             self.command.write(line if self.is_headed else heading(unit) + line)
             self.is_headed = True
         place = server.name + b": line %d" % unit.number
@@ -97,7 +98,7 @@ class Printer:
         if answered.is_refused():
             self.status = REFUSED
         else:
-            superusers.follow(unit)
+            people.superusers.follow(unit)
 
 
 def notes_on(superusers: Dict[Server, Superusers]) -> List[bytes]:
@@ -115,20 +116,22 @@ def body(command: Command, words: List[str], given: argparse.Namespace) -> int:
     are."""
     servers = read_servers([os.fsencode(word) for word in words])
     script = read_text("-")
+    everybody = everybody_in(lambda: [script.text])
     with scratch.folder("facl-ask.") as work:
-        outcomes = run_hosts({it.host(): [it.folder] for it in servers}, program_options(given), script.text,
+        outcomes = run_hosts({it.host(): [it.folder] for it in servers}, part_options(given, everybody), script.text,
                              work, given.timeout or SECONDS)
         failures = {it: found for it in servers for found in [outcomes[it.host()]] if isinstance(found, Failure)}
         parts = {it: found[0] for it in servers for found in [outcomes[it.host()]] if not isinstance(found, Failure)}
         for server, part in parts.items():
-            names = part.head.otherwise
-            say(command, server, [*part.head.unknown, *([overview.warning_of(overview.JUDGED_OTHERWISE, names)] if names else [])])
-        printer = Printer(command, parts, given)
+            say(command, server, [*part.head.unknown, *([overview.by_acl5(part.head.otherwise)] if given.acl5 else [])])
+        printer = Printer(command, parts, given, everybody)
         for unit in script.units():
             printer.write_line(unit)
         failures.update(printer.failures)
-        for text in notes_on(printer.superusers):
+        for text in notes_on({server: its.superusers for server, its in printer.people.items()}):
             command.say(text)
+        for server, its in printer.people.items():
+            say(command, server, beside_of(parts[server].head.asked) if its.answers.was_shown else [])
     command.flush()
     for server, failure in failures.items():
         say(command, server, [failure.text])

@@ -10,12 +10,13 @@ from __future__ import annotations
 import argparse
 import heapq
 import os
-from typing import Dict, Iterator, List, NamedTuple, Optional, Set, Tuple
+from typing import Dict, Iterable, Iterator, List, NamedTuple, Optional, Set, Tuple
 
 from ...base import scratch
 from ...base.messages import Command, Failure
 from ...base.names import path_order, read_path, sorting_key, write_name
 from ...model import overview
+from ...model.everybody import ElseAnswers, beside_of, everybody_in
 from ...model.records import name_of, path_of
 from ...model.superuser import Superusers
 from ...program.answering import below_heading, lines_for_terminal, write_messages
@@ -26,7 +27,7 @@ from ...program.tools import (
     ALL, CHANGES_OF_PEOPLE, COUNTING, DEEP, EDITS, LOOK, OF_RECORDS, TEST, options_that, path_in, split,
 )
 from . import agreement, counts
-from .runs import HERE, NOT_READABLE, SECONDS, Answered, Part, program_options, run_hosts
+from .runs import HERE, NOT_READABLE, SECONDS, Answered, Part, part_options, run_hosts
 from .runs import hosts_of as hosts_of
 
 SEVERAL = b"its files lie in several snapshots; name those of one in a line of its own"
@@ -172,17 +173,17 @@ def without(script: bytes, units: List[Unit], dropped: Set[int]) -> bytes:
     return b"\n".join(lines)
 
 
-def say_notices(command: Command, parts: List[Part]) -> None:
-    """What the snapshots cannot tell, each of it once, and by how many lists Linux grants otherwise."""
+def say_notices(command: Command, parts: List[Part], is_acl5: bool) -> None:
+    """What the snapshots cannot tell, each of it once, and where acl(5)'s check judges by how many lists Linux grants otherwise."""
     known: Dict[bytes, bytes] = {}
     for part in parts:
         for text in part.head.unknown:
             known.setdefault(text, part.label)
     for text, label in known.items():
         command.say(label + b": " + text)
-    names = sorted({name for part in parts for name in part.head.otherwise}, key=lambda name: path_order(read_path(name)))
-    if names:
-        command.say(overview.warning_of(overview.JUDGED_OTHERWISE, names))
+    if is_acl5:
+        names = {name for part in parts for name in part.head.otherwise}
+        command.say(overview.by_acl5(sorted(names, key=lambda name: path_order(read_path(name)))))
 
 
 def recorded_in(parts: List[Part]) -> List[agreement.RecordedPart]:
@@ -218,12 +219,13 @@ def answer_script(command: Command, script: Script, hosts: Dict[bytes, List[byte
     """Answers a script over all snapshots, again where it has lines that count, and for each line that is dropped."""
     units = script.units()
     dropped: Dict[int, Joined] = {}
-    program = program_options(given)
+    answers = ElseAnswers(everybody_in(lambda: [script.text]))
+    program = part_options(given, answers.everybody)
     is_one = sum(map(len, hosts.values())) == 1
     seconds = given.timeout or SECONDS
     parts = run_parts(hosts, [*[b"--records"] * (not is_one), *program], script.text, work, seconds)
     check_agreement(parts)
-    say_notices(command, parts)
+    say_notices(command, parts, given.acl5)
     is_counting = any(unit.is_of(*COUNTING) for unit in units)
     shared = agreement.files_of_several(recorded_in(parts)) if is_counting else []
     options = counts.shared_options(shared)
@@ -235,7 +237,10 @@ def answer_script(command: Command, script: Script, hosts: Dict[bytes, List[byte
         joined = join_all(units, parts, dropped, fault)
         new = next((number for number, it in joined.items() if it.is_dropped and number not in dropped), None)
         if new is None:
-            return write(command, units, joined, superusers_of(parts, given.with_root), given.headings)
+            status = write(command, units, joined, PeopleShown(superusers_of(parts, given.with_root), answers), given.headings)
+            for line in beside_of(max(part.head.asked for part in parts)) if answers.was_shown else ():
+                command.say(line)
+            return status
         dropped[new], is_answered = joined[new], False
 
 
@@ -250,21 +255,31 @@ def body(command: Command, folders: List[str], given: argparse.Namespace) -> int
             raise Failure(NOT_READABLE) from error
 
 
-def pieces_of(unit: Unit, answer: Joined, superusers: Superusers, has_headings: bool) -> Iterator[bytes]:
+class PeopleShown(NamedTuple):
+    """Who is left out of answers about people, and who is in them beside users."""
+
+    superusers: Superusers
+    answers: ElseAnswers
+
+    def lines(self, unit: Unit, lines: Iterable[bytes]) -> Iterator[bytes]:
+        """The lines of an answer."""
+        return self.answers.first(unit.tool(), self.superusers.rest(unit, lines))
+
+
+def pieces_of(unit: Unit, answer: Joined, people: PeopleShown, has_headings: bool) -> Iterator[bytes]:
     """What is printed of an answer."""
     if has_headings:
-        return below_heading(unit, superusers.rest(unit, lines_of(answer.output)), answer.messages)
-    if superusers.is_about_people(unit) or os.isatty(1):
-        return (line + b"\n" for line in lines_for_terminal(superusers.rest(unit, lines_of(answer.output))))
+        return below_heading(unit, people.lines(unit, lines_of(answer.output)), answer.messages)
+    if people.superusers.is_about_people(unit) or os.isatty(1):
+        return (line + b"\n" for line in lines_for_terminal(people.lines(unit, lines_of(answer.output))))
     return answer.output
 
 
-def write(command: Command, units: List[Unit], joined: Dict[int, Joined], superusers: Superusers,
-          has_headings: bool) -> int:
-    status = ANSWERED
+def write(command: Command, units: List[Unit], joined: Dict[int, Joined], people: PeopleShown, has_headings: bool) -> int:
+    status, superusers = ANSWERED, people.superusers
     for unit in units:
         answer = joined[unit.number]
-        for text in pieces_of(unit, answer, superusers, has_headings):
+        for text in pieces_of(unit, answer, people, has_headings):
             command.write(text)
         write_messages(command, b"line %d" % unit.number, unit, answer.messages)
         if is_refused(answer.messages):

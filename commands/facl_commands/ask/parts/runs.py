@@ -17,6 +17,7 @@ from ...base import scratch
 from ...base.environment import HOME, environment_of_called
 from ...base.messages import Failure
 from ...base.programs import program_words
+from ...model.everybody import Everybody
 from ...program.protocol import is_refused
 from ...program.scripts import read_script
 from ...program.session import OutputSlice
@@ -118,8 +119,9 @@ def parallel_words(host: bytes, folders: List[bytes], options: List[bytes]) -> L
     return [os.fsencode(found), *words, b" ".join(quoted) + b" -- {}", b":::", *folders]
 
 
-def program_options(given: argparse.Namespace) -> List[bytes]:
-    return [*map(os.fsencode, program_words(given))]
+def part_options(given: argparse.Namespace, everybody: Everybody) -> List[bytes]:
+    """Which program a snapshot is to ask, and by which name everybody else."""
+    return [*map(os.fsencode, program_words(given)), b"--everybody=" + everybody.word()]
 
 
 def start(words: List[bytes], work: str, limits: Optional[Limits]) -> ParallelRun:

@@ -7,14 +7,16 @@ feed. Names in JSON are bytes, a letter for each.
 from __future__ import annotations
 
 import argparse
+import contextlib
 import json
 import os
 import re
-from typing import Dict, List, NamedTuple, Optional, Sequence
+from typing import Dict, Iterator, List, NamedTuple, Optional, Sequence, Tuple
 
 from ...base.messages import Command
 from ...base.names import read_name, script_word
-from ...model import overview, sources
+from ...model import meta, overview, sources
+from ...model.everybody import ElseAnswers, people_in, read_everybody, session_with
 from ...model.marks import alone, marks_of, not_judged
 from ...model.people import rows_of
 from ...program.answering import answer_unit
@@ -39,6 +41,7 @@ class Head(NamedTuple):
     groups: Dict[str, int]
     unknown: List[bytes]  # What it cannot tell.
     otherwise: List[bytes]  # With --acl5 the files by whose lists Linux grants otherwise.
+    asked: int  # How many users of a directory service it has, where that is known.
     size: int  # Of what it records, which comes next.
 
 
@@ -99,8 +102,8 @@ def read_fields(line: bytes, names: Sequence[str]) -> List[object]:
 
 
 def read_head(line: bytes) -> Head:
-    part, users, groups, unknown, otherwise, size = read_fields(line, Head._fields)
-    return Head(name_in(part), ids_in(users), ids_in(groups), names_in(unknown), names_in(otherwise), number_in(size))
+    part, users, groups, unknown, otherwise, asked, size = read_fields(line, Head._fields)
+    return Head(name_in(part), ids_in(users), ids_in(groups), names_in(unknown), names_in(otherwise), number_in(asked), number_in(size))
 
 
 def read_header(text: bytes) -> Header:
@@ -160,13 +163,26 @@ def head_of(folder: bytes, size: int, is_acl5: bool) -> Head:
     found = overview.read_texts(folder)
     users, groups = ({row[0].decode("latin-1"): int(row[2]) for row in rows_of(rows)} for rows in (found.passwd, found.group))
     unknown = [*overview.unknown(folder, found.dump), *overview.torn(found), *not_judged(folder), *alone(marks_of(folder))]
-    return Head(folder, users, groups, unknown, list(overview.judged_otherwise(found.dump)) if is_acl5 else [], size)
+    asked = meta.users_asked_for(meta.meta_of(folder)) or 0
+    return Head(folder, users, groups, unknown, list(overview.judged_otherwise(found.dump)) if is_acl5 else [], asked, size)
+
+
+@contextlib.contextmanager
+def session_of(program: str, folder: bytes, word: Optional[str]) -> Iterator[Tuple[Session, Optional[ElseAnswers]]]:
+    """A session over the snapshot, with everybody else where the command that joins answers has given a name and an id."""
+    if word is None:
+        with Session(program, folder) as session:
+            yield session, None
+        return
+    texts, everybody = people_in(folder), read_everybody(os.fsencode(word), folder)
+    with session_with(program, folder, *everybody.with_both(texts)) as session:
+        yield session, ElseAnswers(everybody, texts.passwd)
 
 
 def write_part(command: Command, program: str, folder: bytes, script: Script, given: argparse.Namespace) -> int:
     """Answers a script over one snapshot, between a first and a last line of our own; with the names of files that
     others have too."""
-    with Session(program, folder) as session:
+    with session_of(program, folder, given.everybody) as (session, answers):
         session.ask(b"")
         listings = sources.list_below(session, sources.find_tops(session, folder)) if given.records else []
         files = b"".join(agreement.blocks_of(listings))
@@ -174,6 +190,6 @@ def write_part(command: Command, program: str, folder: bytes, script: Script, gi
         units = script.units()
         shared = SharedFiles(session, list(map(os.fsencode, given.shared)), units)
         for unit in units:
-            answer(command, session, unit, shared)
+            answer(command, session, unit if answers is None else answers.asked(unit), shared)
         command.write(b"end\n")
     return 0

@@ -193,7 +193,7 @@ def page_of(given: argparse.Namespace, report: AuditReport, source: Source, prog
 def write(command: Command, given: argparse.Namespace, report: AuditReport) -> None:
     only: Optional[str] = given.list or given.edits
     if given.json:
-        write_json(command, SCHEMA, json_of(report, only))
+        write_json(command, given, SCHEMA, json_of(report, only))
     elif given.edits:
         for line in edits_of(report.findings[given.edits], report.is_whole):
             command.write(line + b"\n")

@@ -129,7 +129,7 @@ def report_of(given: argparse.Namespace, source: Source, program: str) -> Tuple[
 
 def write(command: Command, given: argparse.Namespace, report: CheckReport) -> None:
     if given.json:
-        write_json(command, SCHEMA, json_of(report))
+        write_json(command, given, SCHEMA, json_of(report))
     elif given.tsv:
         write_table(command, given, table_of(report))
     elif report.broken() or not given.quiet:

@@ -245,7 +245,7 @@ def compare(command: Command, given: argparse.Namespace) -> Tuple[Compared, Opti
 
 def write(command: Command, given: argparse.Namespace, compared: Compared) -> None:
     if given.json:
-        tables.write_json(command, report.SCHEMA, report.object_of(compared))
+        tables.write_json(command, given, report.SCHEMA, report.object_of(compared))
         return
     if given.tsv:
         tables.write_table(command, given, report.fields_table(compared))

@@ -5,6 +5,7 @@ from __future__ import annotations
 import argparse
 from typing import List
 
+from ...model.marks import marks_of
 from ...model.snapshot import Snapshot
 from ...page import data as page_data
 from ...page.columns import shown
@@ -19,8 +20,9 @@ EDITS = b"edits"
 
 def page_of(program: str, old: State, new: State, group: bytes, people: List[bytes], listings: List[List[OutputSlice]],
             given: argparse.Namespace) -> bytes:
-    """The page; the lines of people are those of the edits, and the groups those of their session."""
-    tree = PageTree()
+    """The page; the lines of people are those of the edits, the groups those of their session, and the marks those of the later
+    snapshot."""
+    tree = PageTree(marks_of(new.folder))
     found = []
     for outputs in listings:
         labels = Labels()
@@ -29,5 +31,6 @@ def page_of(program: str, old: State, new: State, group: bytes, people: List[byt
     snapshot = Snapshot(old.folder, old.passwd, group, [], "-", {})
     data = page_data.data_of(program, snapshot, tree, found, units, given)
     data["title"] = shown(old.named() + b" -> " + new.named())
+    data["unknown"] = page_data.unknown_of(new.folder)
     data["heads"] = [page_data.head_of(state.folder, state.folder) for state in (old, new)]
     return html_of(data)

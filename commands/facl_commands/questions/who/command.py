@@ -145,7 +145,7 @@ def write_answer(command: Command, asker: Asker, answer: WhoAnswer) -> None:
     given = asker.given
     if given.json:
         about = meta.fields_of(meta.meta_of(asker.session.folder))
-        tables.write_json(command, SCHEMA, {
+        tables.write_json(command, given, SCHEMA, {
             "snapshot": about, "question": answer.question, "along_paths": not given.file_alone, **answer.fields,
             "left_out": list(map(json_text, answer.left_out)), **beside_lists(asker)})
     elif given.tsv or answer.table.rows:
