@@ -114,8 +114,9 @@ def take_picture(page: Page, program: str, work: str, file: str) -> int:
     folder = write_texts(os.path.join(work, "before"), "anna ben dora emil felix ines", "finance hr sales", COMPANY, META)
     page.size(WIDTH, 700, SCALE)
     page.open(write_page(program, folder, "setfacl -m u:ines:r /srv/finance/budget.ods\n")[0], "u=ben&f=srv/finance/budget.ods").settle()
-    box = page.evaluate("[...document.querySelectorAll('#tree .row, #side .answer')].map(it => it.getBoundingClientRect().bottom)")
-    height = int(max(box)) + 10
+    ends = page.evaluate("[...document.querySelectorAll('#tree .row')].map(it => it.getBoundingClientRect().bottom)")
+    ends.append(page.evaluate("(side => side.getBoundingClientRect().top + side.scrollHeight)(document.querySelector('#side'))"))
+    height = int(max(ends)) + 10
     page.size(WIDTH, height, SCALE).settle()
     expect(page.evaluate("document.querySelector('#side').scrollHeight <= document.querySelector('#side').clientHeight"), "the answer is cut off")
     page.evaluate("document.activeElement.blur()")
