@@ -176,8 +176,12 @@ class Memory(unittest.TestCase):
 
     def test_the_most_is_kept(self) -> None:
         watch = memory_watch.MemoryWatch()
+        check = Process(os.getpid(), "rattle", 1, 1, 5_940_000_000, False)
+        watch.update([check], 9_000_000_000)
+        self.assertEqual(watch.most, {}, "a check of no crate of this repository")
+        watch.crates.uses[""] = []
         for held in (2_000_000_000, 5_940_000_000, 3_000_000_000):
-            watch.update([Process(os.getpid(), "rattle", 1, 1, held, False)], 9_000_000_000)
+            watch.update([check._replace(held=held)], 9_000_000_000)
         self.assertEqual(watch.most, {"": 5_940_000_000})
         watch.most = {crate: number * 1_000_000_000 for number, crate in enumerate("abcdef")}
         self.assertEqual(watch.report().partition("held: ")[2], "f 5.0 GB, e 4.0 GB, d 3.0 GB, c 2.0 GB, b 1.0 GB, a 0.0 GB")
