@@ -495,8 +495,7 @@ class Each(Case):
         self.assertIn(b"machine\n", self.read("called"))
 
     def test_signals_leave_nothing(self) -> None:
-        # Beside the dump of the snapshot, to which there is a link.
-        self.write("slow", b"#!/bin/sh\ncd \"$(dirname \"$(readlink dump)\")\"\necho $$ >writing\nmv writing at_work\nexec sleep 100\n")
+        self.write("slow", b"#!/bin/sh\ncd \"$(dirname \"$(readlink \"$6\")\")\" || exit\necho $$ >writing\nmv writing at_work\nexec sleep 100\n")
         os.chmod(self.path("slow"), 0o755)
         os.mkdir(self.path("temporary"))
         for number, status in ((signal.SIGTERM, 143), (signal.SIGINT, 130), (signal.SIGQUIT, 131)):

@@ -419,9 +419,9 @@ class ManyHardLinks(Case):
         records += b"".join(write_record(it, File(False, body)) for it in names)
         self.write("before/dump", self.read("before/dump") + records)
         self.write("before/links", b"\n".join(b"".join(b"/%s\n" % it for it in names) for names in self.sets))
-        # Of the session over the snapshot, whose dump is a link.
-        self.write("keeps", b'#!/bin/sh\n[ -h dump ] || exec "%s" "$@"\ntee "%s" | "%s" "$@"\n' % (
-            os.fsencode(LINUX.find()), os.fsencode(self.path("sent")), os.fsencode(LINUX.find())))
+        program = os.fsencode(LINUX.find())  # Which gets other texts where records are asked of.
+        self.write("keeps", b'#!/bin/sh\n[ "$(readlink "$6")" = "$(realpath before/dump)" ] || exec "%s" "$@"\ntee sent | "%s" "$@"\n'
+                   % (program, program))
         os.chmod(self.path("keeps"), 0o755)
 
     def planned(self, script: bytes) -> bytes:
@@ -798,7 +798,7 @@ class BadInput(Case):
         self.assertEqual(sorted(os.listdir(self.folder)), ["before", "before.plan", "before.plan.1", "before.plan.2", "edits"])
 
     def test_the_program_has_a_small_environment(self) -> None:
-        self.write("shows", b'#!/bin/sh\nenv >"%s"\nexec "%s" "$@"\n' % (os.fsencode(self.path("variables")), os.fsencode(LINUX.find())))
+        self.write("shows", b'#!/bin/sh\nenv >variables\nexec "%s" "$@"\n' % os.fsencode(LINUX.find()))
         os.chmod(self.path("shows"), 0o755)
         self.write("edits", b"chmod 600 srv/share/one\n")
         done = self.run_command("facl-plan", ["--program", "./shows", "before", "edits"],
@@ -812,17 +812,17 @@ class BadInput(Case):
 class Interruptions(Case):
     def test_signals_leave_nothing(self) -> None:
         self.write("edits", b"chmod 600 srv/share/one\n")
-        self.write("slow", b'#!/bin/sh\n: >"%s"\nexec sleep 100\n' % os.fsencode(self.path("before/at_work")))
+        self.write("slow", b"#!/bin/sh\n: >at_work\nexec sleep 100\n")
         os.chmod(self.path("slow"), 0o755)
         for number, status in ((signal.SIGINT, 130), (signal.SIGTERM, 143), (signal.SIGHUP, 129)):
             words = [os.path.join(COMMANDS, "facl-plan"), "--program", "./slow", "before", "edits"]
             with subprocess.Popen(words, cwd=self.folder, stdout=subprocess.PIPE, stderr=subprocess.PIPE, preexec_fn=restore_signals) as run:
-                while not os.path.exists(self.path("before/at_work")):
+                while not os.path.exists(self.path("at_work")):
                     time.sleep(0.01)
                 run.send_signal(number)
                 out, messages = run.communicate()
             self.assertEqual((run.returncode, out, messages), (status, b"", b""))
-            os.unlink(self.path("before/at_work"))
+            os.unlink(self.path("at_work"))
             self.assertEqual(sorted(os.listdir(self.folder)), ["before", "edits", "slow"])
 
     def test_a_reader_that_ends(self) -> None:

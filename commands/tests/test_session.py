@@ -64,7 +64,7 @@ class StandIns(Case):
         return self.path("program")
 
     def session(self, body: bytes) -> Session:
-        return Session(self.stand_in(body), os.fsencode(self.folder))
+        return Session(self.stand_in(body), os.fsencode(self.path("before")))
 
     def expect_gone(self, process: int) -> None:
         last = time.monotonic() + 30

@@ -19,22 +19,19 @@ STAND_IN = """\
 import os, re, subprocess, sys, tempfile
 bodies = answers = listings = lambda text: text
 %(changes)s
-program = %(program)r
-with open("dump", "rb") as file:
+words = [%(program)r, *sys.argv[1:]]
+with open(words[-1], "rb") as file:
     dump = file.read()
-if not dump.startswith(b"# file: 0/\\n"):
-    other = tempfile.mkdtemp(dir=%(folder)r)
-    for name in ("passwd", "group", "dump"):
-        with open(name, "rb") as file, open(os.path.join(other, name), "wb") as copy:
-            copy.write(listings(file.read()) if name == "dump" else file.read())
-    os.chdir(other)
-    os.execv(program, [program, *sys.argv[1:]])
-with open("dump", "wb") as file:
-    file.write(bodies(dump))
+is_asked_for_bytes = dump.startswith(b"# file: 0/\\n")
+with tempfile.NamedTemporaryFile(dir=%(folder)r, delete=False) as file:
+    file.write(bodies(dump) if is_asked_for_bytes else listings(dump))
+words[-1] = file.name
+if not is_asked_for_bytes:
+    os.execv(words[0], words)
 lines = b""
 while not lines.endswith(b"\\n") or not lines.splitlines()[-1].startswith(b"getfacl "):
     lines += sys.stdin.buffer.readline()
-done = subprocess.run([program, *sys.argv[1:]], input=lines, capture_output=True)
+done = subprocess.run(words, input=lines, capture_output=True, close_fds=False)
 os.write(1, answers(done.stdout))
 os.write(2, done.stderr)
 sys.stdin.buffer.read()

@@ -539,14 +539,14 @@ class Signals(WhoCase):
         os.chmod(self.path("program"), 0o755)
         os.mkdir(self.path("tmp"))
         names = ["--dump", "project/dump", "--passwd", "project/passwd", "--group", "project/group"]
-        for number in (signal.SIGINT, signal.SIGTERM, signal.SIGHUP):
+        for number, status in ((signal.SIGINT, 130), (signal.SIGTERM, 143), (signal.SIGHUP, 129), (signal.SIGKILL, -signal.SIGKILL)):
             words = [sys.executable, "-I", os.path.join(COMMANDS, "facl-who"), "read", "--program", self.path("program"), *names]
             run = subprocess.Popen(words, cwd=self.folder, env={**os.environ, "TMPDIR": self.path("tmp")}, stdout=subprocess.PIPE,
                                    stderr=subprocess.PIPE, preexec_fn=restore_signals)
             self.wait_for(lambda: os.path.exists(self.path("pid")) and self.read("pid").endswith(b"\n"))
             run.send_signal(number)
             out, messages = run.communicate(timeout=60)
-            self.assertEqual((run.returncode, out), (128 + number, b""), messages)
+            self.assertEqual((run.returncode, out), (status, b""), messages)
             self.assertEqual(os.listdir(self.path("tmp")), [])
             process = int(self.read("pid"))
             self.wait_for(lambda: not os.path.exists("/proc/%d" % process))

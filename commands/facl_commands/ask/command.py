@@ -12,12 +12,13 @@ from types import FrameType
 from typing import Callable, Dict, Iterable, Iterator, List, NoReturn, Optional
 
 from ..base.environment import environment_of_called
+from ..base.folders import folder_of
 from ..base.messages import SIGNALS, Command, Failure, parser_of, reason
 from ..base.names import shown
 from ..base.programs import find_program
 from ..base.trusted import MOST_WRITTEN, too_large
 from ..model import meta, overview, sources
-from ..model.everybody import ElseAnswers, SnapshotTexts, answers_over, beside, people_in, session_in, session_with, texts_with
+from ..model.everybody import ElseAnswers, SnapshotTexts, answers_over, beside, people_in, session_with, texts_with
 from ..model.marks import NO_MARKS, marks_of
 from ..model.snapshot import check_texts
 from ..model.sources import Source
@@ -85,20 +86,6 @@ def seconds_of(word: str) -> int:
     return found
 
 
-def program_words(program: str, folder: bytes) -> List[bytes]:
-    """The program's command line; it takes no words that are not UTF-8, so the command changes to a folder of such a
-    name."""
-    try:
-        folder.decode("utf-8")
-    except UnicodeDecodeError:
-        os.chdir(folder)
-        folder = b""
-    words = [os.fsencode(program)]
-    for name in (b"passwd", b"group", b"dump"):
-        words += [b"--" + name, os.path.join(folder, name)]
-    return words
-
-
 def take_script(script: str) -> None:
     """Makes a script by name the standard input."""
     try:
@@ -128,8 +115,9 @@ def run_explained(command: Command, program: str, source: Source, name: Optional
 
     units: Optional[Dict[int, Unit]] = None if name is not None else {}
     is_terminal = os.isatty(2)
-    with subprocess.Popen(program_words(program, source.folder), stderr=subprocess.PIPE,
-                          env=environment_of_called()) as run, ended(run):
+    texts = folder_of(source.folder)
+    words, files = texts.command(program)
+    with subprocess.Popen(words, stderr=subprocess.PIPE, pass_fds=files, env=environment_of_called()) as run, ended(run):
         assert run.stderr is not None
         for line in run.stderr:
             units = units_of_input() if units is None else units
@@ -151,9 +139,10 @@ def ended(run: "subprocess.Popen[bytes]") -> Iterator[None]:
 
 def become_program(program: str, folder: bytes) -> NoReturn:
     """Goes on as the program."""
-    words = program_words(program, folder)
+    texts = folder_of(folder)
+    words, files = texts.command(program)
     signal.signal(signal.SIGPIPE, signal.SIG_DFL)  # Which Python ignores, and the program need not.
-    for number in range(3):
+    for number in (*range(3), *files):
         os.set_inheritable(number, True)  # Also one that was closed: the program is not to find it closed.
     try:
         os.execve(program, words, environment_of_called())
@@ -247,24 +236,24 @@ def run_prompt(command: Command, program: str, source: Source, given: argparse.N
     take_signals()
     superusers = Superusers({} if given.with_root else ids_in(found.passwd))
     answers = answers_over(source.folder, found.passwd, [])
-    with texts_with(source.folder, *answers.everybody.with_both(SnapshotTexts(found.passwd, found.group))) as texts:
-        prompt = Prompt(lambda: session_in(texts, program, source.folder), completer.page, completer, out, dim, superusers,
-                        marks_of(source.folder), answers, beside(about))
-        with kept_terminal(), contextlib.closing(prompt):
-            refuse_early_end(prompt.session)
-            out(shown(overview.summary(found, meta.named(source.shown, about))) + b"; `help` lists the tools, control-D ends\n")
-            overview.say_notices(command, source, given.acl5)
-            for warning in overview.warnings(found):
-                command.say(warning)
-            if terminal.find_toolkit() is None:
-                command.say(b"without python3-prompt-toolkit, which is not installed: no completion")
-            prompt.run(terminal.reader(completer))
+    texts = texts_with(source.folder, *answers.everybody.with_both(SnapshotTexts(found.passwd, found.group)))
+    prompt = Prompt(lambda: Session(program, source.folder, texts), completer.page, completer, out, dim, superusers,
+                    marks_of(source.folder), answers, beside(about))
+    with kept_terminal(), contextlib.closing(prompt):
+        refuse_early_end(prompt.session)
+        out(shown(overview.summary(found, meta.named(source.shown, about))) + b"; `help` lists the tools, control-D ends\n")
+        overview.say_notices(command, source, given.acl5)
+        for warning in overview.warnings(found):
+            command.say(warning)
+        if terminal.find_toolkit() is None:
+            command.say(b"without python3-prompt-toolkit, which is not installed: no completion")
+        prompt.run(terminal.reader(completer))
     return ANSWERED
 
 
 def answer_one(command: Command, given: argparse.Namespace, source: Source) -> int:
     """Answers over one snapshot."""
-    os.close(check_texts(source.folder))
+    check_texts(source.folder)
     program = find_program(given)
     if given.part:
         from .parts import worker
@@ -287,10 +276,6 @@ def answer_one(command: Command, given: argparse.Namespace, source: Source) -> i
         return answer_input(command, program, source.folder, name)
     if name is not None or os.isatty(2):
         return run_explained(command, program, source, name)
-    if source.is_made:  # The folder is removed after it.
-        words = program_words(program, source.folder)
-        status = subprocess.run(words, env=environment_of_called(), check=False).returncode
-        return status if status >= 0 else 128 - status
     become_program(program, source.folder)
 
 

@@ -5,12 +5,14 @@ other user can write there; a sticky directory may be written by all, since what
 """
 from __future__ import annotations
 
+import contextlib
 import errno
 import grp
 import os
 import pwd
 import re
 import stat
+from copy import copy
 from typing import IO, List, Optional
 
 from . import acl_bytes
@@ -141,21 +143,55 @@ class Way:
         while self.open:
             os.close(self.open.pop())
 
+    def opened(self, flags: int) -> int:
+        """Opens the last component."""
+        return os.open(b"/proc/self/fd/%d" % self.open[-1], flags | os.O_CLOEXEC | os.O_NONBLOCK)
+
+    def copied(self) -> Way:
+        """The same way, which can go on to something else."""
+        other = copy(self)
+        other.open, other.shown = [*map(os.dup, self.open)], [*self.shown]
+        return other
+
+    def gone_in(self, name: bytes, whole: bytes) -> Way:
+        """Goes on by a name in the last component, which messages name as a whole; closes the way where that fails."""
+        self.name = whole
+        try:
+            self.go(name)
+        except BaseException:
+            self.close()
+            raise
+        return self
+
+
+def way_to(name: bytes) -> Way:
+    """The way to a file by its name; fails where somebody else can have written a component."""
+    start = b"" if name.startswith(b"/") else os.getcwdb()
+    return Way(name).gone_in(start, name).gone_in(name, name)
+
 
 def open_trusted(name: bytes, flags: int) -> int:
     """Opens a file or a folder by a name; fails where somebody else can have written it or the way to it."""
-    way = None
     try:
-        way = Way(name)
-        if not name.startswith(b"/"):
-            way.go(os.getcwdb())
-        way.go(name)
-        return os.open(b"/proc/self/fd/%d" % way.open[-1], flags | os.O_CLOEXEC | os.O_NONBLOCK)
+        with contextlib.closing(way_to(name)) as way:
+            return way.opened(flags)
     except OSError as error:
         raise Failure(name + b": " + reason(error)) from error
+
+
+def open_beside(way: Way, name: bytes, whole: bytes) -> int:
+    """Opens a file in the folder to which a way leads, which may be a link; FileNotFoundError where there is none. `whole` is its
+    name in messages."""
+    other = way.copied()
+    try:
+        descriptor = other.gone_in(name, whole).opened(os.O_RDONLY)
+    except FileNotFoundError:
+        raise
+    except OSError as error:
+        raise Failure(whole + b": " + reason(error)) from error
     finally:
-        if way is not None:
-            way.close()
+        other.close()
+    return plain_file(descriptor, whole)
 
 
 def open_folder(name: bytes) -> int:
@@ -164,7 +200,11 @@ def open_folder(name: bytes) -> int:
 
 def open_file(name: bytes) -> int:
     """Opens a file that nobody else can have written, which is no pipe or device; a folder cannot be read."""
-    descriptor = open_trusted(name, os.O_RDONLY)
+    return plain_file(open_trusted(name, os.O_RDONLY), name)
+
+
+def plain_file(descriptor: int, name: bytes) -> int:
+    """An open file, which has to be a plain one, or a folder."""
     mode = os.fstat(descriptor).st_mode
     if stat.S_ISREG(mode) or stat.S_ISDIR(mode):
         return descriptor

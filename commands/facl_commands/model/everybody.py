@@ -2,23 +2,21 @@
 or entries name. So is whoever a snapshot does not have, as an account that is made tomorrow, or somebody of a directory
 service, unless the service has the user in such a group.
 
-The program judges everybody else as any other user, by a row after those of the snapshot, in a folder of its own: no text that
+The program judges everybody else as any other user, by a row after those of the snapshot, in texts of its own: no text that
 a person reads has this row, and nobody counts it. Questions of the commands have the name in it, and answers SHOWN.
 """
 from __future__ import annotations
 
 import contextlib
 import itertools
-import os
 import re
 import secrets
 from typing import Callable, Iterable, Iterator, List, NamedTuple, Optional, Set
 
-from ..base import scratch
 from ..base.accounts import LAST_ID
+from ..base.folders import Folder, folder_of
 from ..base.messages import Failure
 from ..base.names import read_path, script_word, write_user
-from ..base.trusted import read_trusted
 from ..base.user_tools import User
 from ..program.protocol import FREE_FILE_LINE, LIST, LIST_EFFECTIVE
 from ..program.scripts import Unit
@@ -102,7 +100,7 @@ def read_everybody(word: bytes, folder: bytes) -> Everybody:
 
 def texts_in(folders: Iterable[bytes]) -> Iterator[bytes]:
     """The texts of snapshots, one after another."""
-    return (read_trusted(os.path.join(folder, name)) for folder in folders for name in NEEDED)
+    return (folder_of(folder).read(name) for folder in folders for name in NEEDED)
 
 
 def beside(about: Meta) -> List[bytes]:
@@ -193,34 +191,22 @@ def paths_in(output: OutputSlice) -> Iterator[bytes]:
     return map(path_of, output.lines())
 
 
-@contextlib.contextmanager
-def texts_with(folder: bytes, passwd: bytes, group: bytes) -> Iterator[bytes]:
-    """A folder that has the dump of a snapshot, and other users and groups; it goes at the end."""
-    with scratch.folder("facl-texts.") as work:
-        texts = os.fsencode(work)
-        os.symlink(os.path.join(os.getcwdb(), folder, DUMP), os.path.join(texts, DUMP))
-        for name, text in ((b"passwd", passwd), (b"group", group)):
-            with open(os.path.join(texts, name), "wb") as file:
-                file.write(text)
-        yield texts
+def texts_with(folder: bytes, passwd: bytes, group: bytes) -> Folder:
+    """The dump of a snapshot, and other users and groups; messages name the snapshot."""
+    texts = Folder(folder)
+    for name, text in zip(NEEDED, (passwd, group)):
+        texts.put(name, text)
+    texts.share(DUMP, folder_of(folder))
+    return texts
 
 
-def session_in(texts: bytes, program: str, folder: bytes) -> Session:
-    """A session over the texts of such a folder; messages name the snapshot."""
-    session = Session(program, texts)
-    session.folder = folder
-    return session
-
-
-@contextlib.contextmanager
-def session_with(program: str, folder: bytes, passwd: bytes, group: bytes) -> Iterator[Session]:
+def session_with(program: str, folder: bytes, passwd: bytes, group: bytes) -> Session:
     """A session over the dump of a snapshot, with other users and groups."""
-    with texts_with(folder, passwd, group) as texts, session_in(texts, program, folder) as session:
-        yield session
+    return Session(program, folder, texts_with(folder, passwd, group))
 
 
 def people_in(folder: bytes) -> SnapshotTexts:
-    return SnapshotTexts(*(read_trusted(os.path.join(folder, name)) for name in NEEDED[:2]))
+    return SnapshotTexts(*map(folder_of(folder).read, NEEDED[:2]))
 
 
 @contextlib.contextmanager
@@ -238,7 +224,7 @@ def listing_of(world: World) -> Listing:
     text = b"".join(world.session.ask_accepted(LIST_EFFECTIVE + b" " + b" ".join(words)).read()
                     for words in operands_of(find_tops(world.session, folder)))
     listing = list_files(text)
-    for match in FILE_NAME.finditer(read_trusted(os.path.join(folder, DUMP))):
+    for match in FILE_NAME.finditer(folder_of(folder).read(DUMP)):
         path = read_path(match[1])
         if path in listing.files:
             listing.files[path] = listing.files[path]._replace(is_directory=True)

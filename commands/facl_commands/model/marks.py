@@ -1,13 +1,12 @@
 """The marks of a snapshot: what Linux looks at beside the lists of a file, as facl-snapshot keeps it (base/beside.py)."""
 from __future__ import annotations
 
-import os
 from typing import Dict, Iterable, Iterator, List, Optional
 
 from ..base import beside
+from ..base.folders import folder_of
 from ..base.messages import counted
 from ..base.names import at_or_below, directories_above, parent_of, read_path
-from ..base.trusted import read_trusted
 from . import meta, split_tree
 from .records import ChangedPaths
 
@@ -89,8 +88,7 @@ def about(kind: bytes) -> bytes:
 
 def text_of(folder: bytes) -> bytes:
     """The file of a snapshot; empty where it has none."""
-    name = os.path.join(folder, beside.NAME)
-    return read_trusted(name) if os.path.exists(name) else b""
+    return folder_of(folder).optional(beside.NAME)
 
 
 def marks_of(folder: bytes) -> Marks:

@@ -5,8 +5,8 @@ import os
 from typing import Dict, List, NamedTuple, Optional
 
 from ..base import beside
+from ..base.folders import folder_of, is_folder
 from ..base.names import json_text, number_of
-from ..base.trusted import read_trusted
 
 NAME = b"meta"
 FILES, USERS, GROUPS, LINKED = b"files", b"users", b"groups", b"linked-names"  # How many are recorded.
@@ -48,9 +48,8 @@ def read_meta(text: bytes) -> Meta:
 
 
 def text_of(folder: bytes) -> bytes:
-    """The file of a snapshot or plan; empty where it has none."""
-    name = os.path.join(folder, NAME)
-    return read_trusted(name) if os.path.exists(name) else b""
+    """The file of a snapshot; empty where it has none."""
+    return folder_of(folder).optional(NAME) if is_folder(folder) else b""
 
 
 def meta_of(folder: bytes) -> Meta:

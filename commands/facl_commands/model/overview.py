@@ -9,9 +9,9 @@ import re
 from typing import Dict, Iterator, List, NamedTuple, Set
 
 from ..base import beside
+from ..base.folders import folder_of
 from ..base.messages import Command, counted
 from ..base.names import live_name
-from ..base.trusted import read_trusted
 from ..program.protocol import (
     EMPTY_MASK, EMPTY_MASK_LINE, FILE_HEAD, FREE_FILE_LINE, GROUP_ID_LINE, NAMED_LINE, OPEN_OTHERS_LINE, USER_ID_LINE,
 )
@@ -41,9 +41,9 @@ class LoadedTexts(NamedTuple):
 
 
 def read_texts(folder: bytes) -> LoadedTexts:
-    passwd, group, dump = (read_trusted(os.path.join(folder, name)) for name in NEEDED)
-    links = os.path.join(folder, b"links")
-    return LoadedTexts(folder, passwd, group, dump, read_trusted(links) if os.path.exists(links) else b"")
+    found = folder_of(folder)
+    passwd, group, dump = map(found.read, NEEDED)
+    return LoadedTexts(folder, passwd, group, dump, found.optional(b"links"))
 
 
 def summary(texts: LoadedTexts, name: bytes) -> bytes:
@@ -132,7 +132,7 @@ def unknown(folder: bytes, dump: bytes) -> Iterator[bytes]:
 
 def names_without_row(folder: bytes, dump: bytes) -> Iterator[bytes]:
     """A warning where a dump has such names, with which the program does not load it."""
-    passwd, group = (read_trusted(os.path.join(folder, name)) for name in (b"passwd", b"group"))
+    passwd, group = map(folder_of(folder).read, NEEDED[:2])
     found = source_texts.names_without_row(passwd, group, dump)
     if found.names:
         yield counted_warning(b"users and groups in the dump without a row, with which the program does not load it",
@@ -144,7 +144,7 @@ def torn(texts: LoadedTexts) -> Iterator[bytes]:
     or carriage returns; and of meta where that is cut. It starts with the name in the folder."""
     about = meta.meta_of(texts.folder)
     recorded = about.numbers
-    if os.path.exists(os.path.join(texts.folder, b"inodes")) and (about is meta.UNKNOWN or meta.FILES not in recorded):
+    if folder_of(texts.folder).has(b"inodes") and (about is meta.UNKNOWN or meta.FILES not in recorded):
         yield b"meta: is not as facl-snapshot wrote it, so numbers, hosts and FOLDERs are not compared"
     for name, key, number, noun in (
         (b"dump", meta.FILES, sum(1 for _ in FILE_NAME.finditer(texts.dump)), "file"),

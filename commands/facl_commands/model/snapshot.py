@@ -1,16 +1,15 @@
 """A snapshot: the folder that facl-snapshot makes."""
 from __future__ import annotations
 
-import os
 from typing import Dict, List, NamedTuple
 
-from ..base import trusted
+from ..base.folders import TEXTS, Folder, folder_of, is_folder
 from ..base.linux import Identity
 from ..base.messages import Failure
 from ..base.names import number_of, read_path
 from . import meta
 
-NEEDED = (b"passwd", b"group", b"dump")
+NEEDED = TEXTS
 
 
 class Snapshot(NamedTuple):
@@ -61,57 +60,32 @@ def nanoseconds(text: bytes) -> int:
     return int(seconds) * 1_000_000_000 + int(rest.ljust(9, b"0")) if seconds.isdigit() else 0
 
 
-def check_texts(folder: bytes) -> int:
+def check_texts(folder: bytes) -> Folder:
     """Opens the folder; fails where the program would not find its texts, or somebody else can have written them."""
-    if not os.path.isdir(folder) and not is_hidden(folder):
+    if not is_folder(folder):
         raise Failure(folder + b": no such folder: make a snapshot by facl-snapshot")
-    descriptor = trusted.open_folder(folder)
+    found = folder_of(folder)
     for name in NEEDED:
-        if not has(descriptor, name):
+        if not found.has(name):
             raise Failure(folder + b": is no snapshot: " + name + b" is not in it")
-        os.close(trusted.open_file(os.path.join(folder, name)))
-    return descriptor
-
-
-def is_hidden(folder: bytes) -> bool:
-    """Whether it cannot be seen what is there."""
-    try:
-        os.stat(folder)
-    except PermissionError:
-        return True
-    except OSError:
-        pass
-    return False
-
-
-def has(folder: int, name: bytes) -> bool:
-    try:
-        os.stat(name, dir_fd=folder)
-    except FileNotFoundError:
-        return False
-    return True
-
-
-def read_optional(folder: int, shown: bytes, name: bytes) -> bytes:
-    return trusted.read_trusted(os.path.join(shown, name)) if has(folder, name) else b""
+        found.open_text(name)  # Which fails where it is not trusted.
+    return found
 
 
 def read_snapshot(folder: bytes, needs_links: bool = True) -> Snapshot:
     """A snapshot; one without links, which facl-snapshot did not make, only where these are not needed."""
-    descriptor = check_texts(folder)
-    if needs_links and not has(descriptor, b"links"):
+    found = check_texts(folder)
+    if needs_links and not found.has(b"links"):
         raise Failure(folder + b": is no snapshot: links is not in it: make one by facl-snapshot")
-    passwd, group = (trusted.read_trusted(os.path.join(folder, name)) for name in (b"passwd", b"group"))
-    links = read_links(read_optional(descriptor, folder, b"links"))
-    has_inodes = has(descriptor, b"inodes")
-    text = read_optional(descriptor, folder, b"inodes")
-    os.close(descriptor)
+    passwd, group = map(found.read, NEEDED[:2])
+    links = read_links(found.optional(b"links"))
+    text = found.optional(b"inodes")
     boot = text.partition(b"\0")[0].partition(b" ")[2].decode("ascii", "replace") or "-"  # In the first record.
     try:
         inodes = read_inodes(text)
     except ValueError as error:
         raise Failure(folder + b"/inodes: is not as facl-snapshot wrote it: make the snapshot again") from error
-    if has_inodes:
+    if found.has(b"inodes"):
         check_inodes(folder, text, inodes)
         check_links(folder, links, inodes)
     return Snapshot(folder, passwd, group, links, boot, inodes)

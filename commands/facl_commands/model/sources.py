@@ -13,12 +13,13 @@ import re
 import subprocess
 from typing import Iterator, List, NamedTuple, Optional, Set
 
-from ..base import beside, scratch
+from ..base import beside, folders
 from ..base.environment import environment_of_called
+from ..base.folders import Folder, folder_of
 from ..base.messages import Failure, reason
 from ..base.names import highest, path_word, read_name, read_path
 from ..base.programs import add_program, program_words
-from ..base.trusted import open_file, read_trusted
+from ..base.trusted import open_file
 from ..program.protocol import FILE_HEAD, FREE_FILE_LINE, LIST, LIST_ALL, lacks_file
 from ..program.session import OutputSlice, Session, parts_of
 from .people import rows_of
@@ -39,7 +40,7 @@ class Source(NamedTuple):
 
     folder: bytes  # Which has passwd, group and dump.
     shown: bytes  # What a person gave.
-    is_made: bool  # Whether the folder is made here, and goes with the command.
+    is_made: bool  # Whether there is no such folder, but given files.
 
 
 def add_source(parser: argparse.ArgumentParser, words: List[str]) -> None:
@@ -65,25 +66,16 @@ def source_words(given: argparse.Namespace) -> List[str]:
 
 @contextlib.contextmanager
 def opened(given: argparse.Namespace) -> Iterator[Source]:
-    """A folder with the texts that are given; where they are files, one with links to them, which is removed at the
-    end."""
+    """A folder with the texts that are given, opened once; where they are files, one that has these, of a name that no folder has."""
     if given.dump is None:
         if given.passwd is not None or given.group_file is not None:
             raise Failure(b"--passwd and --group go with --dump: a SNAPSHOT has its own")
-        yield Source(os.fsencode(given.snapshot), os.fsencode(given.snapshot), False)
+        with folders.kept():
+            yield Source(os.fsencode(given.snapshot), os.fsencode(given.snapshot), False)
         return
-    with scratch.folder("facl.") as work:
-        dump = read_dump(os.fsencode(given.dump))
-        for name, file in (("dump", given.dump), ("passwd", given.passwd), ("group", given.group_file)):
-            target = os.path.join(work, name)
-            if file is not None:
-                os.close(open_file(os.fsencode(file)))
-                os.symlink(os.path.join(os.getcwdb(), os.fsencode(file)), os.fsencode(target))
-            else:
-                with open(target, "wb") as made:
-                    made.write(rows_of_system(name, dump))
-        del dump  # Which is large.
-        source = Source(os.fsencode(work), os.fsencode(given.dump), True)
+    with folders.kept():
+        source = Source(b"/" + os.fsencode(given.dump) + b"/", os.fsencode(given.dump), True)
+        folders.keep(folder_of_files(given, source.folder))
         try:
             yield source
         except Failure as failure:
@@ -93,12 +85,19 @@ def opened(given: argparse.Namespace) -> Iterator[Source]:
             raise Failure(source.shown + b": " + failure.text[len(start) :], failure.status) from failure
 
 
-def read_dump(name: bytes) -> bytes:
-    """What is in a dump. Another file is refused at once, since names in a dump become words of getent, which all users can
-    see."""
-    found = read_trusted(name)
-    if found and HAS_FILE.search(found) is None:
-        raise Failure(name + b": is no dump: it has no line `# file: NAME`")
+def folder_of_files(given: argparse.Namespace, name: bytes) -> Folder:
+    """A folder that has the files that are given, with rows of the system in the place of others. A FILE that is no dump is
+    refused at once, since names in a dump become words of getent, which all users can see."""
+    found, file = Folder(name), os.fsencode(given.dump)
+    found.add(DUMP, open_file(file), file)
+    dump = found.read(DUMP)
+    if dump and HAS_FILE.search(dump) is None:
+        raise Failure(file + b": is no dump: it has no line `# file: NAME`")
+    for database, rows in zip(DATABASES, (given.passwd, given.group_file)):
+        if rows is not None:
+            found.add(database.encode(), open_file(os.fsencode(rows)), os.fsencode(rows))
+        else:
+            found.put(database.encode(), rows_of_system(database, dump))
     return found
 
 
@@ -181,8 +180,8 @@ def notice(folder: bytes, dump: bytes) -> Optional[bytes]:
     found: List[bytes] = []
     if not dump.startswith(LIVE_ROOT) and b"\n" + LIVE_ROOT not in dump:
         found.append(b"the directories above are not recorded, so they are taken as open")
-    unknown = [b"hard links"] if not os.path.exists(os.path.join(folder, b"links")) else []
-    if not os.path.exists(os.path.join(folder, beside.NAME)):
+    unknown = [b"hard links"] if not folder_of(folder).has(b"links") else []
+    if not folder_of(folder).has(beside.NAME):
         unknown += [b"immutable files", b"read-only file systems"]
     if unknown:
         found.append(b" and ".join(filter(None, [b", ".join(unknown[:-1]), unknown[-1]])) + b" are not known")
@@ -204,7 +203,7 @@ def find_tops(session: Session, folder: bytes) -> List[bytes]:
     """The tops of the files that a session starts with."""
     if not session.ask(LIST + b" .\n").messages:
         return [b""]
-    return tops_of(read_trusted(os.path.join(folder, DUMP)))
+    return tops_of(folder_of(folder).read(DUMP))
 
 
 def operands_of(paths: List[bytes]) -> List[List[bytes]]:

@@ -8,23 +8,19 @@ from __future__ import annotations
 import os
 from typing import Dict, Iterable, Iterator, List, Optional, Set, Tuple
 
-from ..base import trusted
+from ..base.folders import folder_of, is_folder
 from ..base.messages import Failure
 from ..base.names import sorting_key, write_name
 from ..program.protocol import FILE_HEAD
 from . import meta
 from .snapshot import NEEDED, check_texts, read_links
 
-FIRST = b"001"  # The folder of the first part.
 DEVICE = 1 << 64  # An inode is less.
 
 
 def parts_in(folder: bytes) -> List[bytes]:
     """The folders of the parts, in path order; none where the folder is a snapshot itself. Fails where a part is missing."""
-    if os.path.exists(os.path.join(folder, NEEDED[0])) or not os.path.isdir(os.path.join(folder, FIRST)):
-        return []
-    os.close(trusted.open_folder(folder))
-    names = sorted((name for name in os.listdir(folder) if name.isdigit()), key=int)
+    names = folder_of(folder).parts if is_folder(folder) else []
     for number, name in enumerate(names, 1):
         about = meta.meta_of(os.path.join(folder, name))
         if int(name) != number or about.numbers.get(meta.PART) != b"%s of %03d" % (name, len(names)):
@@ -41,15 +37,15 @@ def check_all(folder: bytes) -> List[bytes]:
     """The same, each of which has its texts; fails as check_texts does."""
     found = snapshots_in(folder)
     for it in found:
-        os.close(check_texts(it))
+        check_texts(it)
     return found
 
 
-def meta_of_all(folders: List[bytes]) -> meta.Meta:
+def meta_of_all(parts: List[bytes]) -> meta.Meta:
     """What some parts are of, with the numbers that are those of all."""
-    found = meta.meta_of(folders[0])
+    found = meta.meta_of(parts[0])
     numbers = {key: found.numbers[key] for key in (meta.EXCLUDED, meta.ASKED) if key in found.numbers}
-    unread = [meta.meta_of(it).numbers.get(meta.UNREAD, b"0") for it in folders]
+    unread = [meta.meta_of(it).numbers.get(meta.UNREAD, b"0") for it in parts]
     numbers[meta.UNREAD] = b"%d" % sum(int(it) for it in unread if it.isdigit())
     return found._replace(numbers=numbers)
 
@@ -72,11 +68,11 @@ class Once:
         return [path for path in paths if self.is_new(path)]
 
 
-def recorded_in(folders: Iterable[bytes], paths: Iterable[bytes]) -> Set[bytes]:
+def recorded_in(parts: Iterable[bytes], paths: Iterable[bytes]) -> Set[bytes]:
     """Those of some paths that snapshots by facl-snapshot record."""
     wanted, found = set(paths), {b""}
-    for folder in folders:
-        dump = b"\n" + trusted.read_trusted(os.path.join(folder, NEEDED[2]))
+    for folder in parts:
+        dump = b"\n" + folder_of(folder).read(NEEDED[2])
         for path in wanted - found:
             start = b"\n" + FILE_HEAD + b"/" + write_name(path)
             if start + b"\n" in dump or start + b"/\n" in dump:
@@ -89,25 +85,22 @@ def recorded_in(folders: Iterable[bytes], paths: Iterable[bytes]) -> Set[bytes]:
 
 def files_in(folder: bytes) -> Iterator[Tuple[int, bytes]]:
     """The names of a snapshot by the file `inodes`, each with a number that is its file's."""
-    name = os.path.join(folder, b"inodes")
-    text = trusted.read_trusted(name) if os.path.exists(name) else b""
-    for record in text.split(b"\0")[1:-1]:
+    for record in folder_of(folder).optional(b"inodes").split(b"\0")[1:-1]:
         device, inode, _, path = record.split(b" ", 3)
         yield int(device) * DEVICE + int(inode), path
 
 
-def links_in(folders: List[bytes]) -> List[List[bytes]]:
+def links_in(parts: List[bytes]) -> List[List[bytes]]:
     """The sets of paths that are one file, in parts also those of several parts."""
-    if len(folders) == 1:
-        name = os.path.join(folders[0], b"links")
-        return read_links(trusted.read_trusted(name)) if os.path.exists(name) else []
+    if len(parts) == 1:
+        return read_links(folder_of(parts[0]).optional(b"links"))
     known: Set[int] = set()
     several: Set[int] = set()
-    for folder in folders:
+    for folder in parts:
         for file, _ in files_in(folder):
             (several if file in known else known).add(file)
     names: Dict[int, Set[bytes]] = {file: set() for file in sorted(several)}
-    for folder in folders:
+    for folder in parts:
         for file, name in files_in(folder):
             if file in names:
                 names[file].add(name)  # A directory above the first file of a part is in several parts by one name.

@@ -14,11 +14,11 @@ from typing import Counter as Counts
 from typing import Dict, List, NamedTuple, Optional, Set, Tuple
 
 from ..base.accounts import PEOPLE
+from ..base.folders import folder_of
 from ..base.messages import Command
 from ..base.names import directories_above, parent_of, path_word, shell_word, shown, write_name
 from ..base.numbered import Numbered
 from ..base.programs import find_program, judge_text
-from ..base.trusted import read_trusted
 from ..model import choice, meta, overview, sources
 from ..model.entries import GROUP, MASK, NOTHING, OTHER, USER, Entry, NamesOfIds, entries_of, read_record
 from ..model.everybody import SHOWN, Everybody, everybody_in
@@ -26,7 +26,7 @@ from ..model.label_answers import LabelAnswers, PeopleTexts, ask_labels
 from ..model.marks import alone, marks_of, not_judged
 from ..model.rights import places_in
 from ..model.rules_of_lists import Vector, along_path, inside
-from ..model.snapshot import check_texts
+from ..model.snapshot import NEEDED, check_texts
 from ..model.sources import Source
 from ..program.protocol import LIST_CUT, LIST_EFFECTIVE
 from ..program.session import Session
@@ -227,7 +227,7 @@ def people_of(users: List[bytes], everybody: Everybody, kept: List[bytes]) -> Li
 
 def data_of(program: str, reviewed: Reviewed, source: Source, given: argparse.Namespace,
             is_whole: bool) -> Dict[str, object]:
-    passwd, group = (read_trusted(os.path.join(source.folder, name)) for name in (b"passwd", b"group"))
+    passwd, group = map(folder_of(source.folder).read, NEEDED[:2])
     labels = Labels()
     for record in [*reviewed.above, *reviewed.records]:
         labels.number(record.body)
@@ -270,7 +270,7 @@ def check_options(parser: argparse.ArgumentParser, given: argparse.Namespace) ->
 
 
 def page_over(command: Command, given: argparse.Namespace, source: Source) -> Optional[bytes]:
-    os.close(check_texts(source.folder))
+    check_texts(source.folder)
     program = find_program(given)
     overview.say_notices(command, source, given.acl5)
     with Session(program, source.folder) as session:

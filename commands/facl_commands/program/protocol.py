@@ -28,8 +28,7 @@ ONLY_DIRECTORIES = b"only directories have default lists"
 IS_DIRECTORY = b"is a directory"  # By rm.
 # By setfacl -d: the one message of a line that is accepted.
 WARNING = b"setfacl: warning: default entries dropped"
-# By the program, which ends then (run_fault.rt): a text that it does not load, or a dump that is too large.
-SETUP, DUMP_NOT_READ = b"facl: setup: ", b"facl: dump: cannot read"
+SETUP = b"facl: setup: "  # By the program, which ends then (run_fault.rt): a text that it does not load.
 
 # --- patterns of messages, without `line N: `
 

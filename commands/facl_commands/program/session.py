@@ -9,14 +9,14 @@ from types import TracebackType
 from typing import IO, Callable, Iterable, Iterator, List, NamedTuple, Optional, Type
 
 from ..base import scratch
+from ..base.folders import TEXTS, Folder, folder_of
 from ..base.messages import Failure
 from .exchange import end_program, exchange, how_it_ended, pipes_of
-from .protocol import DUMP_NOT_READ, IN_LINE, PROBE, PROBE_REFUSED, SETUP, UNKNOWN_TOOL, has_text
+from .protocol import IN_LINE, PROBE, PROBE_REFUSED, SETUP, UNKNOWN_TOOL, has_text
 
 OLDER = b": it is older than this command, so install both anew"
 LINE_ROOM = 60_000  # Bytes of words in a line that a command asks; a line may have 65,536, with those before them.
 LINES_ROOM = 1 << 20  # Bytes of lines that are asked at once.
-FILE_LIMIT = 268_435_456  # Bytes of a text that the program loads.
 LONGEST_CAUSE = 1_000  # Bytes of the last message that are quoted.
 NUMBER = re.compile(rb"\Aline [0-9]+: ")  # The beginning of a message.
 
@@ -66,19 +66,21 @@ class Answer(NamedTuple):
 
 
 class Session:
-    """A run of the program over the texts of a snapshot's folder.
+    """A run of the program over the texts of a snapshot's folder, which it gets as open files: it reads what the command has read.
 
     What it prints goes to a file, so that it never waits for a reader. A line that it has to refuse, with a word that
     nobody can guess, comes after each of ours: when its message is read, all before it is answered.
     """
 
-    def __init__(self, program: str, folder: bytes) -> None:
-        words = [program, "--passwd", "passwd", "--group", "group", "--dump", "dump"]
+    def __init__(self, program: str, folder: bytes, texts: Optional[Folder] = None) -> None:
+        """Runs the program; `texts` are in the place of those of the folder."""
+        texts = texts or folder_of(folder)  # Which is open until the program has its files.
+        words, files = texts.command(program)
         self.folder = folder
         self.number = 0
         self.output = scratch.new_file("facl-session.")
         self.pipes = pipes_of(subprocess.Popen(
-            words, bufsize=0, cwd=folder, env={"LC_ALL": "C", "PATH": os.environ.get("PATH", os.defpath)},
+            words, bufsize=0, pass_fds=files, env={"LC_ALL": "C", "PATH": os.environ.get("PATH", os.defpath)},
             stdin=subprocess.PIPE, stdout=self.output, stderr=subprocess.PIPE, start_new_session=True,
         ))
 
@@ -117,22 +119,17 @@ class Session:
         last = (messages.rstrip(b"\n").rpartition(b"\n")[2] or how_it_ended(self.pipes))[:LONGEST_CAUSE]
         if last.startswith(SETUP):
             return Failure(b"%s: the program does not load it: %s" % (self.folder, last))
-        if last == DUMP_NOT_READ and os.path.getsize(os.path.join(self.folder, b"dump")) > FILE_LIMIT:
-            return Failure(self.folder + b": its dump has more than 268,435,456 bytes, the most that the program "
-                                         b"reads: take several "
-                           b"snapshots by facl-snapshot --split")
         return Failure(b"the program ended early: %s" % last)
 
 
 @contextlib.contextmanager
 def session_over(program: str, passwd: bytes, group: bytes, dump: bytes) -> Iterator[Session]:
-    """A session over texts, which are in a folder of their own as long as it goes on."""
-    with scratch.folder("facl-texts.") as folder:
-        for name, text in (("passwd", passwd), ("group", group), ("dump", dump)):
-            with open(os.path.join(folder, name), "wb") as file:
-                file.write(text)
-        with Session(program, os.fsencode(folder)) as session:
-            yield session
+    """A session over texts."""
+    texts = Folder(b"texts")
+    for name, text in zip(TEXTS, (passwd, group, dump)):
+        texts.put(name, text)
+    with Session(program, texts.name, texts) as session:
+        yield session
 
 
 def parts_of(items: Iterable[bytes], room: int = LINE_ROOM, word_of: Callable[[bytes], bytes] = bytes) -> Iterator[List[bytes]]:

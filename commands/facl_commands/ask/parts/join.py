@@ -13,6 +13,7 @@ import os
 from typing import Dict, Iterable, Iterator, List, NamedTuple, Optional, Set, Tuple
 
 from ...base import scratch
+from ...base.folders import EXCHANGED
 from ...base.messages import Command, Failure
 from ...base.names import path_order, read_path, sorting_key, write_name
 from ...model import overview
@@ -197,6 +198,13 @@ def check_agreement(parts: List[Part]) -> None:
         raise Failure(fault + b", so they are no parts of one tree: ask servers by --hosts NAME:DIR..")
 
 
+def check_same(known: List[Part], parts: List[Part]) -> None:
+    """Fails where a snapshot that answers again is another one."""
+    for before, part in zip(known, parts):
+        if part.head.state != before.head.state:
+            raise Failure(part.label + EXCHANGED)
+
+
 def superusers_of(parts: List[Part], with_root: bool) -> Superusers:
     """Who is left out of answers about people."""
     ids = {name.encode("latin-1"): number for part in parts for name, number in part.head.users.items()}
@@ -233,7 +241,8 @@ def answer_script(command: Command, script: Script, hosts: Dict[bytes, List[byte
     is_answered = not options  # Else they answer again, and say what they count of the files that several have.
     while True:
         if not is_answered:
-            parts = run_parts(hosts, [*(options or []), *program], without(script.text, units, set(dropped)), work, seconds)
+            known, parts = parts, run_parts(hosts, [*(options or []), *program], without(script.text, units, set(dropped)), work, seconds)
+            check_same(known, parts)
         joined = join_all(units, parts, dropped, fault)
         new = next((number for number, it in joined.items() if it.is_dropped and number not in dropped), None)
         if new is None:

@@ -13,6 +13,7 @@ import os
 import re
 from typing import Dict, Iterator, List, NamedTuple, Optional, Sequence, Tuple
 
+from ...base.folders import folder_of
 from ...base.messages import Command
 from ...base.names import read_name, script_word
 from ...model import meta, overview, sources
@@ -42,6 +43,7 @@ class Head(NamedTuple):
     unknown: List[bytes]  # What it cannot tell.
     otherwise: List[bytes]  # With --acl5 the files by whose lists Linux grants otherwise.
     asked: int  # How many users of a directory service it has, where that is known.
+    state: List[bytes]  # Which folder it is, and since when.
     size: int  # Of what it records, which comes next.
 
 
@@ -102,8 +104,9 @@ def read_fields(line: bytes, names: Sequence[str]) -> List[object]:
 
 
 def read_head(line: bytes) -> Head:
-    part, users, groups, unknown, otherwise, asked, size = read_fields(line, Head._fields)
-    return Head(name_in(part), ids_in(users), ids_in(groups), names_in(unknown), names_in(otherwise), number_in(asked), number_in(size))
+    part, users, groups, unknown, otherwise, asked, state, size = read_fields(line, Head._fields)
+    return Head(name_in(part), ids_in(users), ids_in(groups), names_in(unknown), names_in(otherwise), number_in(asked), names_in(state),
+                number_in(size))
 
 
 def read_header(text: bytes) -> Header:
@@ -163,8 +166,9 @@ def head_of(folder: bytes, size: int, is_acl5: bool) -> Head:
     found = overview.read_texts(folder)
     users, groups = ({row[0].decode("latin-1"): int(row[2]) for row in rows_of(rows)} for rows in (found.passwd, found.group))
     unknown = [*overview.unknown(folder, found.dump), *overview.torn(found), *not_judged(folder), *alone(marks_of(folder))]
+    otherwise = list(overview.judged_otherwise(found.dump)) if is_acl5 else []
     asked = meta.users_asked_for(meta.meta_of(folder)) or 0
-    return Head(folder, users, groups, unknown, list(overview.judged_otherwise(found.dump)) if is_acl5 else [], asked, size)
+    return Head(folder, users, groups, unknown, otherwise, asked, [b"%d" % it for it in folder_of(folder).state], size)
 
 
 @contextlib.contextmanager

@@ -5,7 +5,7 @@ import argparse
 import os
 from typing import Dict, Iterable, List, NamedTuple, Optional, Set, Tuple
 
-from ...base import tables
+from ...base import folders, tables
 from ...base.messages import Command, Failure, parser_of
 from ...base.names import is_at_or_below, write_user
 from ...base.new_file import NewFile
@@ -262,8 +262,9 @@ def write(command: Command, given: argparse.Namespace, compared: Compared) -> No
 def body(command: Command, words: List[str]) -> int:
     given = parse(words)
     target = NewFile(os.fsencode(given.page)) if given.page is not None else None
-    compared, page = compare(command, given)
-    write(command, given, compared)
+    with folders.kept():
+        compared, page = compare(command, given)
+        write(command, given, compared)
     if target is not None and page is not None:
         target.write(page)
         command.say(target.name + b": is written")

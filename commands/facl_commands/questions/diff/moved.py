@@ -1,12 +1,11 @@
 """Files that have another path than before: by device, inode and time of birth, as the snapshots have them."""
 from __future__ import annotations
 
-import os
 from typing import Dict, Iterable, List, NamedTuple, Set, Tuple
 
+from ...base.folders import folder_of
 from ...base.linux import Identity
 from ...base.names import sorting_key
-from ...base.trusted import read_trusted
 from ...model import split_tree
 from ...model.snapshot import nanoseconds
 from .states import Pair, State
@@ -28,8 +27,7 @@ class Inodes(NamedTuple):
 
 def read_some(folder: bytes, paths: Set[bytes]) -> Inodes:
     """What is known of some paths; nothing where the snapshot has no inodes."""
-    name = os.path.join(folder, b"inodes")
-    records = (read_trusted(name) if os.path.exists(name) else b"").split(b"\0")
+    records = folder_of(folder).optional(b"inodes").split(b"\0")
     found: Dict[bytes, Identity] = {}
     for record in records[1:-1]:
         fields = record.split(b" ", 3)

@@ -2,13 +2,12 @@
 from __future__ import annotations
 
 import itertools
-import os
 from typing import ContextManager, Dict, FrozenSet, Iterable, Iterator, List, NamedTuple, Optional, Tuple
 
 from ...base import scratch
+from ...base.folders import folder_of
 from ...base.messages import Failure
 from ...base.names import highest, sorting_key
-from ...base.trusted import read_trusted
 from ...model import meta, sources, split_tree
 from ...model.everybody import Everybody, everybody_in, session_with, texts_in
 from ...model.people import People, groups_by_user
@@ -84,7 +83,7 @@ Members = Dict[bytes, Member]  # By name.
 
 def read_state(folder: bytes) -> State:
     folders = split_tree.check_all(folder)
-    passwd, group = (read_trusted(os.path.join(folders[0], name)) for name in NEEDED[:2])
+    passwd, group = map(folder_of(folders[0]).read, NEEDED[:2])
     about = split_tree.meta_of_all(folders) if folders != [folder] else meta.meta_of(folder)
     return State(folder, passwd, group, about, folders)
 

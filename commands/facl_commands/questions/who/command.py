@@ -9,12 +9,13 @@ from typing import Dict, Iterator, List
 from ...base import tables
 from ...base.accounts import SUPERUSER
 from ...base.beside import NOEXEC
+from ...base.folders import folder_of, is_folder
 from ...base.messages import Command, Failure, parser_of
 from ...base.names import json_text, shell_word
 from ...base.programs import find_program
 from ...model import choice, meta, overview, sources
 from ...model.everybody import world_of
-from ...model.snapshot import NEEDED, check_texts, is_hidden
+from ...model.snapshot import NEEDED, check_texts
 from ...model.sources import Source
 from . import of_files, of_folder, of_rights, of_user
 from .answers import WhoAnswer, anybody, user_of, user_with_row
@@ -116,10 +117,9 @@ def check_source(source: Source, given: argparse.Namespace) -> None:
     if os.path.isfile(source.folder):
         raise Failure(source.shown + b": is a file, and no snapshot; a file of getfacl -R comes by --dump "
                       + shell_word(source.shown) + words)
-    names = [os.path.join(source.folder, name) for name in NEEDED]
-    if not all(os.path.exists(name) or is_hidden(name) for name in names):
+    if not is_folder(source.folder) or not all(map(folder_of(source.folder).has, NEEDED)):
         raise Failure(source.shown + b": is no snapshot, which is made as root by facl-snapshot DIR FOLDER" + words)
-    os.close(check_texts(source.folder))
+    check_texts(source.folder)
 
 
 def answer_of(asker: Asker) -> WhoAnswer:

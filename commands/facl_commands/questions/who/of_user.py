@@ -1,14 +1,13 @@
 """facl-who --user: what one user may do with the files of some folders, by folder to a depth."""
 from __future__ import annotations
 
-import os
 import re
 from collections import Counter
 from typing import Dict, Iterator, List, NamedTuple, Set
 
+from ...base.folders import folder_of
 from ...base.names import highest, json_text, path_order, path_word, read_path, sorting_key
 from ...base.tables import Column, Table
-from ...base.trusted import read_trusted
 from ...model import sources
 from ...model.records import list_files
 from ...model.rights import GRANTED, REQUESTS
@@ -94,7 +93,7 @@ def with_default_entries(asker: Asker, dump: bytes) -> Set[bytes]:
 
 
 def answer(asker: Asker, user: NamedUser, folders: List[bytes]) -> WhoAnswer:
-    dump = read_trusted(os.path.join(asker.session.folder, sources.DUMP))
+    dump = folder_of(asker.session.folder).read(sources.DUMP)
     found = Folders(highest(folders), asker.given.depth, dump, with_default_entries(asker, dump))
     word = asker.word_of(user.shown)
     with asker.without_unwritable(b"w", folders):
