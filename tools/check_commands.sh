@@ -9,7 +9,7 @@
 # Each of these counts as a failed test where it finds something: shellcheck, mypy and pyflakes3 where they are installed,
 # tools/check/documents.py, tools/check/memory_faults.py, tools/check/line_lengths.py, tools/check/edits_apply.py. They come first; with --lint they
 # are all that is done, which takes no program and half a minute, and with --no-lint they are left out.
-# tools/check/growth.py --quick is a test too, which needs the kit. Pages are tested in Chromium where it is installed. What needs a real
+# tools/check/growth.py --quick is a test too, which needs the kit; so is tools/check/wrong_commands.py, as root. Pages are tested in Chromium where it is installed. What needs a real
 # file system and root is in tools/check/live.py, tools/check/snapshot.py and tools/check/daily.py.
 set -eu
 top=$(cd "$(dirname "$0")/.." && pwd)
@@ -66,4 +66,5 @@ if [ "$option" = --lint ]; then
     exit $((lint_faults > 0))
 fi
 tools/check/growth.py --quick "$FACL" >&2 || lint_faults=$((lint_faults + 1))
+[ "$(id -u)" -ne 0 ] || tools/check/wrong_commands.py >&2 || lint_faults=$((lint_faults + 1))
 exec python3 commands/tests/run.py "$lint_faults"

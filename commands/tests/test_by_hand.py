@@ -383,6 +383,13 @@ class Files(Scripts):
             done = subprocess.run(["sh"], stdin=script, cwd=self.folder, env=variables, capture_output=True, check=False)
         self.assertEqual((done.returncode, done.stderr), (1, b"by_hand: run it by its name: sh PLAN/by_hand\n"))
 
+    def test_a_link_in_the_place_of_a_file_that_is_known_by_its_name(self) -> None:
+        self.write_scripts(["d/gone"], with_identities=False)
+        os.unlink(self.tree + "/d/gone")
+        os.symlink("../secret/gone", self.tree + "/d/gone")
+        self.expect_run("by_hand", 1, self.tree + "/d/gone: is another file than in the snapshot")
+        self.assertEqual((self.names("d"), self.names("secret")), (["gone", "stays"], ["gone"]))
+
     def test_a_folder_that_is_a_link_now(self) -> None:
         for shell in SHELLS:
             for identities in (True, False):

@@ -369,6 +369,7 @@ class Words(DiffCase):
                                  b"# file: /srv/share/\n# owner: 1001\n# group: 100\nuser::rwx\ngroup::r--\n"))
         self.assertEqual(self.rows(), [("r--", "none", "ben", "9", "/srv/share/-x", "/srv/share closed"),
                                        ("r-x", "r--", "ben", "1", "/srv/share", "group entry changed")])
+        self.assertEqual(self.run_command("facl-diff", ["--tsv", *PAIR, "/"]), self.diff("--tsv"))  # By records, and not by edits.
 
     def test_entries(self) -> None:
         old = decided_by(b"# file: f\ngroup::rwx\t\t\t#effective:r--\ngroup:7:r--")

@@ -1,10 +1,11 @@
 #!/usr/bin/env python3
-"""Checks that each edit of must-fail/ and wrong/ applies, and that a function which one names is there.
+"""Checks that each edit of must-fail/ and wrong/ applies, those of the commands too, and that a function which one names is
+there.
 
 usage: tools/check/edits_apply.py
 
-It tries no edit: `rt ci` does, and tools/edits.py. It prints `FILE: FAULT` for each edit with a fault. The exit status is 1 where
-there is one.
+It tries no edit: `rt ci` does, tools/edits.py and tools/check/wrong_commands.py. It prints `FILE: FAULT` for each edit with a fault. The exit
+status is 1 where there is one.
 """
 from __future__ import annotations
 
@@ -15,6 +16,7 @@ from typing import Callable, Dict, Iterator
 
 sys.dont_write_bytecode = True
 sys.path.insert(0, os.path.join(os.path.dirname(os.path.dirname(os.path.realpath(__file__))), "lib"))
+import command_edits  # noqa: E402
 import script  # noqa: E402
 import wrong_bodies  # noqa: E402
 
@@ -24,12 +26,13 @@ def read_without_function(path: str) -> Dict[str, str]:
     return wrong_bodies.edited(wrong_bodies.lines_of(path), wrong_bodies.crate_of(path))
 
 
-READERS: Dict[str, Callable[[str], object]] = {"must-fail": read_without_function, "wrong": wrong_bodies.read}
+READERS: Dict[str, Callable[[str], object]] = {"crates/*/must-fail": read_without_function, "crates/*/wrong": wrong_bodies.read,
+                                               "commands/tests/wrong": command_edits.read}
 
 
 def faults(top: str) -> Iterator[str]:
     for folder, read in READERS.items():
-        for path in sorted(glob.glob(os.path.join(top, "crates", "*", folder, "*.edit"))):
+        for path in sorted(glob.glob(os.path.join(top, folder, "*.edit"))):
             try:
                 read(path)
             except wrong_bodies.Fault as fault:

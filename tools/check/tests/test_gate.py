@@ -255,7 +255,7 @@ sys.exit(0 if proved == len(asked) else 1)
 RT = "#!/bin/sh\necho kit\n"
 EDIT = "function: {0}\nfile: src/lib.rt\nold: {0} is right\nnew: {0} is {1}\n"
 OF_EDITS = ("tools/edits.py", "tools/prove.py", "tools/ways.py",
-            *(f"tools/lib/{name}.py" for name in ("batches", "kit", "lanes", "processes", "script", "side_by_side", "wrong_bodies")))
+            *(f"tools/lib/{name}.py" for name in ("batches", "command_edits", "kit", "lanes", "processes", "script", "side_by_side", "wrong_bodies")))
 
 
 class Edits(Case):
@@ -357,6 +357,12 @@ class Edits(Case):
         self.edits(it=EDIT.format("one", "bad"))
         self.assertEqual(self.run_script(sys.executable, "tools/check/edits_apply.py")[:2], (1, [
             "crates/low/must-fail/two.edit: it does not apply: src/lib.rt has `gone` 0 times, and not once"]))
+        os.remove(os.path.join(self.top, "crates/low/must-fail/two.edit"))
+        self.write({"commands/facl_commands/a.py": "x = 1\n", "commands/tests/wrong/one.edit": "test: a.A.x\nfile: facl_commands/a.py\nold: y\nnew: z\n",
+                    "commands/tests/wrong/two.edit": "file: facl_commands/a.py\nold: x\nnew: z\n"})
+        self.assertEqual(self.run_script(sys.executable, "tools/check/edits_apply.py")[:2], (1, [
+            "commands/tests/wrong/one.edit: it does not apply: facl_commands/a.py has `y` 0 times, and not once",
+            "commands/tests/wrong/two.edit: its lines are not test, file, old, new, one each"]))
 
     def test_control(self) -> None:
         self.edits(it=EDIT.format("one", "bad").replace("function: one", "function: gone"))
