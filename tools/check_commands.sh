@@ -7,10 +7,10 @@
 #
 # With --all it also tests facl-ask at a terminal, and several snapshots by GNU parallel, which takes a minute more.
 # Each of these counts as a failed test where it finds something: shellcheck, mypy and pyflakes3 where they are installed,
-# tools/check/documents.py, tools/check/memory_faults.py, tools/check/line_lengths.py, tools/check/edits_apply.py. They come first; with --lint they
+# tools/check.py documents, memory_faults, line_lengths, edits_apply. They come first; with --lint they
 # are all that is done, which takes no program and half a minute, and with --no-lint they are left out.
-# tools/check/growth.py --quick is a test too, which needs the kit; so is tools/check/wrong_commands.py, as root. Pages are tested in Chromium where it is installed. What needs a real
-# file system and root is in tools/check/live.py, tools/check/snapshot.py and tools/check/daily.py.
+# tools/check.py growth --quick is a test too, which needs the kit; so is tools/check.py wrong_commands, as root. Pages are tested in Chromium where it is installed. What needs a real
+# file system and root is in tools/check.py live, snapshot and daily.
 set -eu
 top=$(cd "$(dirname "$0")/.." && pwd)
 case ${1:-} in
@@ -55,8 +55,8 @@ run_linters() {
     lint shellcheck -x .ci/run commands/completion/facl.bash debian/*.sh debian/*.postrm tools/*.sh tools/*/*.sh
     lint mypy
     lint pyflakes3 commands tools
-    for check in tools/check/documents.py tools/check/memory_faults.py tools/check/line_lengths.py tools/check/edits_apply.py; do
-        "$check" >&2 || lint_faults=$((lint_faults + 1))
+    for check in documents memory_faults line_lengths edits_apply; do
+        tools/check.py "$check" >&2 || lint_faults=$((lint_faults + 1))
     done
 }
 
@@ -65,6 +65,6 @@ if [ "$option" = --lint ]; then
     [ "$lint_faults" -eq 0 ] || echo "tools/check_commands.sh: $lint_faults of the linters found something" >&2
     exit $((lint_faults > 0))
 fi
-tools/check/growth.py --quick "$FACL" >&2 || lint_faults=$((lint_faults + 1))
-[ "$(id -u)" -ne 0 ] || tools/check/wrong_commands.py >&2 || lint_faults=$((lint_faults + 1))
+tools/check.py growth --quick "$FACL" >&2 || lint_faults=$((lint_faults + 1))
+[ "$(id -u)" -ne 0 ] || tools/check.py wrong_commands >&2 || lint_faults=$((lint_faults + 1))
 exec python3 commands/tests/run.py "$lint_faults"

@@ -1,4 +1,4 @@
-#!/usr/bin/env python3
+#!/usr/bin/env -S python3 -B
 """Has the prover refuse the edits of crates/NAME/wrong/, each by a check of the function that it names alone.
 
 usage: tools/edits.py [--jobs N] [CRATE | CRATE/EDIT]..
@@ -29,25 +29,19 @@ import os
 import shutil
 import signal
 import stat
-import sys
 import tempfile
 import time
 from pathlib import Path
 from typing import Callable, Dict, Iterator, List, Optional, Set, Tuple, Union
 
-sys.dont_write_bytecode = True
-sys.path.insert(0, os.path.join(os.path.dirname(os.path.realpath(__file__)), "lib"))
-import batches  # noqa: E402
-import lanes  # noqa: E402
-import script  # noqa: E402
-import wrong_bodies  # noqa: E402
-from batches import Batch  # noqa: E402
-from kit import Kit, proved  # noqa: E402
-from processes import is_running, programs_below  # noqa: E402
-from prove import KEPT, Kept, sums_of  # noqa: E402
-from side_by_side import LOGS, Run, folder_of, log_of  # noqa: E402
-from ways import Crates  # noqa: E402
-from wrong_bodies import CallsRefused, Fault, WrongBody  # noqa: E402
+from lib import batches, lanes, script, wrong_bodies
+from lib.batches import Batch
+from lib.kit import Kit, proved
+from lib.processes import is_running, programs_below
+from lib.side_by_side import LOGS, Run, folder_of, log_of
+from lib.wrong_bodies import CallsRefused, Fault, WrongBody
+from prove import KEPT, Kept, sums_of
+from ways import Crates
 
 NICE = 10
 PAUSE = 1.0  # Seconds between two looks at what ended; each reads /proc.

@@ -1,4 +1,4 @@
-#!/usr/bin/env python3
+#!/usr/bin/env -S python3 -B
 """The merge gate: linters and documents, then `rt ci`, and beside it wrong bodies and the commands' tests.
 
 usage: tools/gate.py
@@ -25,15 +25,12 @@ import time
 from pathlib import Path
 from typing import Dict, List, Optional, Tuple
 
-sys.dont_write_bytecode = True
-sys.path.insert(0, os.path.join(os.path.dirname(os.path.realpath(__file__)), "lib"))
-import lanes  # noqa: E402
-import script  # noqa: E402
-from kit import proved  # noqa: E402
-from memory_watch import MemoryWatch  # noqa: E402
-from processes import programs_below  # noqa: E402
-from script import TOP  # noqa: E402
-from ways import PROGRAM, PROGRAMS  # noqa: E402
+from lib import lanes, script
+from lib.kit import proved
+from lib.memory_watch import MemoryWatch
+from lib.processes import programs_below
+from lib.script import TOP
+from ways import PROGRAM, PROGRAMS
 
 BUILT = os.path.join("crates", PROGRAM, "out", PROGRAM)
 PAUSE = 0.5  # Seconds between two looks at what ended, and at memory.

@@ -1,4 +1,4 @@
-#!/usr/bin/env python3
+#!/usr/bin/env -S python3 -B
 """Proves the two programs of this repository, with every crate below them, and builds them; or the libraries for rt check.
 
 usage: tools/prove.py [--jobs N]
@@ -31,18 +31,14 @@ import hashlib
 import os
 import shutil
 import subprocess
-import sys
 import tempfile
 from typing import Dict, Iterable, List, Set
 
-sys.dont_write_bytecode = True
-sys.path.insert(0, os.path.join(os.path.dirname(os.path.realpath(__file__)), "lib"))
-import lanes  # noqa: E402
-import script  # noqa: E402
-from kit import Kit, rt  # noqa: E402
-from script import TOP  # noqa: E402
-from side_by_side import OUT, Run, SideBySide, files_of, folder_of, lock  # noqa: E402
-from ways import PROGRAM, PROGRAMS, Crates  # noqa: E402
+from lib import lanes, script
+from lib.kit import Kit, rt
+from lib.script import TOP
+from lib.side_by_side import OUT, Run, SideBySide, files_of, folder_of, lock
+from ways import PROGRAM, PROGRAMS, Crates
 
 TARGET = "x86_64-unknown-linux-gnu"
 KEPT = os.path.join(OUT, "proved")

@@ -1,4 +1,4 @@
-#!/usr/bin/env python3
+#!/usr/bin/env -S python3 -B
 """Has a program as it is, before its proof, answer the rows of commands/tests/rows: it is compiled with run-time checks.
 
 usage: tools/try_rows.py [--linux] [--seconds N]      --linux: facl_linux in place of facl; N: that a row may take, 60
@@ -18,14 +18,11 @@ import tempfile
 from pathlib import Path
 from typing import Dict, List, NamedTuple, Tuple
 
-sys.dont_write_bytecode = True
-TOOLS = os.path.dirname(os.path.realpath(__file__))
-sys.path[:0] = [os.path.join(TOOLS, "lib"), os.path.join(TOOLS, "..", "commands", "tests")]
-import row_files  # noqa: E402
-import script  # noqa: E402
-from kit import rt  # noqa: E402
-from row_files import Row  # noqa: E402
-from script import TOP  # noqa: E402
+from lib import script
+from lib.kit import rt
+from lib.script import TOP
+import row_files
+from row_files import Row
 
 # Ends the work of rt's interpreter at once: it cannot run a program that reads files.
 STEPS = "1"

@@ -1,4 +1,4 @@
-#!/usr/bin/env python3
+#!/usr/bin/env -S python3 -B
 """Counts the ways through crates.txt, which each command of rt pays for, and fails where they are too many.
 
 usage: tools/ways.py [CRATES.TXT]
@@ -18,12 +18,9 @@ from __future__ import annotations
 import argparse
 import functools
 import os
-import sys
 from typing import Dict, Set, Tuple
 
-sys.dont_write_bytecode = True
-sys.path.insert(0, os.path.join(os.path.dirname(os.path.realpath(__file__)), "lib"))
-import script  # noqa: E402
+from lib import script
 
 PROGRAM = "facl_cli"
 PROGRAMS = (PROGRAM, "facl_linux_cli")

@@ -20,7 +20,7 @@ sys.dont_write_bytecode = True
 HERE = os.path.dirname(os.path.realpath(__file__))
 sys.path.insert(0, HERE)
 # those of the checks of sources and documents run with them
-CHECKS = os.path.join(HERE, "..", "..", "tools", "check", "tests")
+CHECKS = os.path.join(HERE, "..", "..", "tools", "checks", "tests")
 MOST_PROCESSES = 4
 INTERRUPTED = 130
 CLASSES: List[unittest.TestSuite] = []  # each with the tests of a class; processes have it from the one that loaded them

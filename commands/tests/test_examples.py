@@ -28,7 +28,7 @@ DOCUMENTS = {
 # Blocks that are not run here, by their first line: why, and what runs them.
 BLOCKS: Dict[str, str] = {
     "[d:] [u:]USER [:PERMS]      a named user, or the owner: u::PERMS": "a grammar; crates/acl_text_tests",
-    "bytes of a FILE                      268,435,456": "a table; tools/check/sizes.py",
+    "bytes of a FILE                      268,435,456": "a table; tools/check.py sizes",
     "chown [-R] USER[:GROUP]|:GROUP FILE..": "synopses; test_owners.py",
     "nobody may write anything at or below /srv/project/sealed.txt": "takes a file system with chattr; test_marks.py",
     "PATH=/usr/local/bin:/usr/bin:/bin": "a file of cron; test_lines_of_cron_and_systemd runs its command",
@@ -40,7 +40,7 @@ BLOCKS: Dict[str, str] = {
     "tools/demo.sh": "proves the program; by hand",
     "facl-snapshot before /srv/project": "the other examples run it",
     ".ci/run": "has these tests in it",
-    "tools/quick.sh": "has tests in it that need no program",
+    "tools/quick.py": "has tests in it that need no program",
 }
 # The commands of README's tables.
 OWN = ("facl-snapshot", "facl-ask", "facl-who", "facl-diff", "facl-audit", "facl-check", "facl-report", "facl-plan",

@@ -1,6 +1,6 @@
 """What Linux looks at beside lists: immutable and append-only files, read-only and noexec file systems, and lists of other kinds, in
 snapshots, answers, pages, plans and facl-apply. File systems are played by code that is added to a copy of the commands; real ones
-are in tools/check/snapshot.py, tools/check/kernel.py and tools/check/live.py."""
+are in tools/check.py snapshot, kernel and live."""
 from __future__ import annotations
 
 import json

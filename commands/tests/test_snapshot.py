@@ -1,5 +1,5 @@
 """facl-snapshot: what it writes, whom it trusts, and what it says. Lists, people and what somebody does meanwhile are played by code
-that is added to a copy of the commands; the rest is in tools/check/snapshot.py."""
+that is added to a copy of the commands; the rest is in tools/check.py snapshot."""
 from __future__ import annotations
 
 import calendar

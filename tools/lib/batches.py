@@ -4,7 +4,7 @@ from __future__ import annotations
 import contextlib
 from typing import Dict, List, NamedTuple
 
-from wrong_bodies import Fault, WrongBody, edited
+from .wrong_bodies import Fault, WrongBody, edited
 
 
 class Batch(NamedTuple):

@@ -8,7 +8,7 @@ from __future__ import annotations
 import os
 from typing import NamedTuple
 
-from wrong_bodies import Fault, lines_of, read_text
+from .wrong_bodies import Fault, lines_of, read_text
 
 WORDS = ["test", "file", "old", "new"]
 PACKAGE = "facl_commands"

@@ -5,7 +5,7 @@ import random
 import sys
 from typing import Dict, List, Optional, Sequence, Tuple, TypeVar, Union
 
-from texts import dump_of
+from .texts import dump_of
 
 Word = Union[str, bytes]
 Thing = TypeVar("Thing")

@@ -8,7 +8,7 @@ import random
 import socket
 from typing import Any, Callable, Dict, List, Sequence, Tuple
 
-from live_tree import GIDS, MALLORY, make, remove
+from .live_tree import GIDS, MALLORY, make, remove
 
 DEEP = 100_000  # Levels of lists or objects in a value.
 BESIDE = b".beside"  # At the end of a second name.

@@ -9,8 +9,8 @@ import subprocess
 from pathlib import Path
 from typing import List, Set
 
-import script
 from ways import PROGRAMS, Crates
+from . import script
 
 # What `rt ci` says of a crate whose library, or program, then stands in its out/: proved by this run or by an earlier one.
 PROVED = re.compile(r"^rt: (\w+) (?:proved$|is kept: )", re.MULTILINE)

@@ -21,8 +21,8 @@ import traceback
 from collections import Counter
 from typing import Callable, Dict, Iterator, List, NamedTuple, Optional, Sequence, Tuple, Type, Union
 
-import script
-from session import conclude, options_of
+from . import script
+from .session import conclude, options_of
 
 COMMANDS = os.fsencode(os.path.join(script.TOP, "commands"))
 USERS = {b"ines": (70001, 70100), b"ben": (70002, 70100), b"mara": (70003, 70200), b"guest": (70009, 70300)}
@@ -528,7 +528,7 @@ def faults_of(check: Check) -> Iterator[str]:
         print(f"{time.monotonic() - started:7.1f} seconds of {part}", flush=True)
 
 
-def main(kind: Type[Check], head: Optional[str]) -> int:
+def run_parts(kind: Type[Check], head: Optional[str]) -> int:
     """Runs a check, and returns its exit status; where a signal ends it, what was counted so far is printed."""
     given = given_of(kind, head)
     missing = [tool for tool in kind.tools if shutil.which(tool) is None]

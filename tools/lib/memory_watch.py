@@ -13,8 +13,8 @@ import signal
 from pathlib import Path
 from typing import Dict, List, NamedTuple, Optional, Set, Tuple
 
-from processes import Process
 from ways import Crates
+from .processes import Process
 
 # The most that a check takes, in bytes: what the gate saw on 2026-11-29 on two processors with 8 GB, rounded up.
 MOST = 3_400_000_000

@@ -1,15 +1,11 @@
 """Random lines over small trees, more than a third of them faulty, with the users and groups that they are about."""
 from __future__ import annotations
 
-import os
 import random
 import re
-import sys
 from typing import Iterable, List, NamedTuple, Optional, Sequence, Tuple, TypeVar
 
-sys.path.append(os.path.join(os.path.dirname(os.path.realpath(__file__)), "..", "..", "commands"))
-
-from facl_commands.program import tools  # noqa: E402
+from facl_commands.program import tools
 
 PASSWD = b"""root:x:0:0:root:/root:/bin/sh
 lisa:x:1001:50:Lisa:/home/lisa:/bin/sh

@@ -11,7 +11,7 @@ import threading
 import time
 from typing import IO, Dict, Iterable, Iterator, List, Optional, Sequence, Tuple, TypeVar, Union
 
-from script import Failed, record
+from .script import Failed, record
 
 TEXTS = ("passwd", "group", "dump")
 UNKNOWN = b"facl: unknown tool\n"

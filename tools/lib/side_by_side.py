@@ -12,10 +12,10 @@ from pathlib import Path
 from types import FrameType
 from typing import Callable, Dict, Iterable, Iterator, List, Optional, Set
 
-import script
-from processes import end_session
-from script import TOP, say
 from ways import Crates
+from . import script
+from .processes import end_session
+from .script import TOP, say
 
 OUT = os.path.join(TOP, "out")
 LOGS = os.path.join(OUT, "logs")

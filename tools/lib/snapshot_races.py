@@ -5,7 +5,7 @@ import os
 import time
 from typing import Callable, Dict, List, NamedTuple, NoReturn, Tuple
 
-from live_tree import LIBRARY, MALLORY, exchange, expect, make, must, records_of, remove, run
+from .live_tree import LIBRARY, MALLORY, exchange, expect, make, must, records_of, remove, run
 
 FILES = 240
 USER_ENTRY = 100000  # The first id of the entries, each of one file.

@@ -11,8 +11,8 @@ import os
 import re
 from typing import Dict, List, NamedTuple, Optional, Tuple
 
-import script
-from script import TOP
+from . import script
+from .script import TOP
 
 PARTS = ("src", "specs", "proofs")
 TYPES = re.compile(r"\b(?:struct|enum) (\w+)")

@@ -1,6 +1,6 @@
 """The tools of the script language, one record each; and how the words of a line are split into options and operands.
 
-All other modules make what they know of tools from these; tools/check/tool_rows.py compares them with the program's
+All other modules make what they know of tools from these; tools/checks/tool_rows.py compares them with the program's
 definitions.
 """
 from __future__ import annotations
