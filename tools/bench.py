@@ -2,7 +2,7 @@
 """Measures the program and the commands, and prints tables in Markdown.
 
 usage: tools/bench.py MEASUREMENT PROGRAM [FOLDER] [--files N,..] [--users N] [--runs N]
-                             [--beside OTHER] [--only RANGE,..]
+                      [--beside OTHER] [--only RANGE,..]
        tools/bench.py tree [--files N] [--users N]
 
   tools    each tool on the trees of tools/lib/texts.py (10000,100000,1000000 files, 1000 users, 3 runs)

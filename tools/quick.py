@@ -1,6 +1,13 @@
 #!/usr/bin/env -S python3 -B
-"""What tools/quick.py runs: the tests of all crates and the rows of scripts without a proof, and those of commands and tools,
-side by side."""
+"""Runs the tests of all crates without a proof, the scripts of commands/tests/rows by the program before its proof, and those
+tests of the commands and of tools/ that need no program, side by side, in some minutes.
+
+usage: tools/quick.py
+
+Each crate of tests and the program are compiled with run-time checks by `rt try`. It prints a line for each part as it ends, and
+what a part that failed printed. The last line says how many tests passed and failed, and that nothing was proved. The exit status
+is 0 where none failed, 1 where one did or rt is not installed, and 128 and the signal's number where it is interrupted.
+"""
 from __future__ import annotations
 
 import os
@@ -34,8 +41,8 @@ class Part(NamedTuple):
 def parts() -> List[Part]:
     """All that is run, what takes longest first: crates of tests by their bytes, after the rows and the tests of Python."""
     found = [Part(name, [*PYTHON, name], os.path.join(TOP, "commands", "tests"), 1 << 30) for name in OF_COMMANDS]
-    found.append(Part("scripts", [*PYTHON, "discover", "-s", "tools/checks/tests"], TOP, 1 << 30))
-    rows = [sys.executable, os.path.join(TOP, "tools", "try_rows.py"), "--seconds", str(LIMIT)]
+    found.append(Part("scripts", [*PYTHON, "discover", "-s", "tools/checks/tests", "-t", "tools"], TOP, 1 << 30))
+    rows = [os.path.join(TOP, "tools", "try_rows.py"), "--seconds", str(LIMIT)]
     found.append(Part("rows", rows, TOP, 1 << 30))
     for crate in Crates().uses:
         if crate.endswith("_tests"):

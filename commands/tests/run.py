@@ -19,8 +19,7 @@ from typing import Iterator, List, NamedTuple
 sys.dont_write_bytecode = True
 HERE = os.path.dirname(os.path.realpath(__file__))
 sys.path.insert(0, HERE)
-# those of the checks of sources and documents run with them
-CHECKS = os.path.join(HERE, "..", "..", "tools", "checks", "tests")
+TOOLS = os.path.join(HERE, "..", "..", "tools")
 MOST_PROCESSES = 4
 INTERRUPTED = 130
 CLASSES: List[unittest.TestSuite] = []  # each with the tests of a class; processes have it from the one that loaded them
@@ -51,8 +50,8 @@ def tests_of(suite: unittest.TestSuite) -> Iterator[unittest.TestCase]:
 
 def load_classes() -> None:
     """Fills CLASSES."""
-    for folder in (HERE, CHECKS):
-        tests = tests_of(unittest.TestLoader().discover(folder))
+    for folder, top in ((HERE, HERE), (os.path.join(TOOLS, "checks", "tests"), TOOLS)):
+        tests = tests_of(unittest.TestLoader().discover(folder, top_level_dir=top))
         CLASSES.extend(unittest.TestSuite(of_class) for _class, of_class in itertools.groupby(tests, type))
 
 

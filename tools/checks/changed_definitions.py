@@ -109,7 +109,7 @@ class Trial:
         """What the tests of a crate show, or the rows; no answer where the trial was interrupted."""
         words, folder = ["rt", "try", "--test", "--seconds", SECONDS], os.path.join(top, "crates", crate)
         if crate == ROWS:
-            words, folder = [sys.executable, os.path.join(top, "tools", "try_rows.py"), "--seconds", SECONDS], top
+            words, folder = [sys.executable, "-B", os.path.join(top, "tools", "try_rows.py"), "--seconds", SECONDS], top
         with self.lock:
             if self.is_over:
                 return "no answer"

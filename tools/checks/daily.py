@@ -1,6 +1,6 @@
-"""Runs commands/facl-daily as root over a small tree, with a sendmail of its own, and ends it at any moment, fills its
-disk, and has another user lock, open and own what it uses: what changed is said once or again, each run that ends without
-its text, but by SIGKILL, sends a mail, and the next one leaves nothing of it.
+"""Ends commands/facl-daily at any moment, fills its disk, and has another user lock, open and own what it uses, as root. It runs
+over a small tree, with a sendmail of its own: what changed is said once or again, each run that ends without its text, but by
+SIGKILL, sends a mail, and the next one leaves nothing of it.
 
 usage: tools/check.py daily [--PART N].. [--seed N] [--folder DIR] [--record] PROGRAM
 

@@ -1,5 +1,7 @@
 """Damages snapshots, plans, rules and accepted findings, and runs the commands on them, as root on a real file system.
 
+usage: tools/check.py damaged [--PART N].. [--seed N] [--folder DIR] [--record] PROGRAM
+
 Each file of them may have other bytes, lines or values, or an end that came too early; it may be gone, too large, of
 somebody else, or no file: a folder, a FIFO, a device, a socket, a link (tools/lib/damages.py). A command
 then answers of what is there, or ends with status 2 and a message. It ends in time, with a status of its manual page,

@@ -12,13 +12,13 @@ usage: tools/check.py documents [--write | --files [CRATE]..]
   which completion is made, and in docs/SPECIFICATION.md; each tool in the README's table. The
   first two and the README have no others. The words that name a text are those of the options that read one (tool_rows.py).
 - docs/READING.md: each line of its examples is one of the sources or definitions.
-- tools/README.md names each script of tools/, and none that is not there.
+- tools/README.md names each script of tools/, a check as `check.py NAME`, and none that is not there.
 - The blocks `<!-- graph -->` of docs/ARCHITECTURE.md, `<!-- index -->` of docs/PROOFS.md and `<!-- chain -->` of
   docs/READING.md, which chain.py counts, are as the sources have them; --write makes them so, and does nothing else.
 - Each file of src/ and specs/ of a crate, and each script of commands/, debian/ and tools/, has a sentence at its head; --files
   prints these sentences, of some crates or of all and the scripts, and does nothing else.
-- All documents: each link within the repository, and each path that starts with a folder of it or of a crate, leads to
-  something; each name with `_` or `::` is a word of the sources, or of the tests of the commands.
+- All documents: each link within the repository, each path that starts with a folder of it or of a crate, and each
+  `tools/check.py NAME` leads to something; each name with `_` or `::` is a word of the sources, or of the tests of the commands.
 
 Prints `FILE:LINE: what is wrong`. The exit status is 1 where something is.
 """
@@ -30,10 +30,10 @@ import sys
 from pathlib import Path
 from typing import Dict, Iterable, Iterator, List, NamedTuple, Set, Tuple
 
-from lib.script import Failed
+from lib.script import TOP, Failed
 from ways import Crates
 from . import chain
-from .memory_faults import TOP, Function, Library, found_in, is_of_tests, text_of
+from .memory_faults import Function, Library, found_in, is_of_tests, text_of
 from .tool_rows import ToolRows
 
 PROOFS, ARCHITECTURE, READING, PAGE = "docs/PROOFS.md", "docs/ARCHITECTURE.md", "docs/READING.md", "docs/facl.1"
@@ -42,6 +42,7 @@ POINTS, LEFT = "The points", "What an error leaves as it was"
 LINK = re.compile(r"\[[^\]]*\]\(([^)\s]+)\)")
 PATH = re.compile(r"(?<![\w/.-])((?:tools|commands|docs|demo|debian|crates|\.ci)/[\w./-]*[\w/])")
 IN_CRATE = re.compile(r"(?<![\w/])((?:\w+/)?(?:src|specs|proofs)/(?:\w+/)*\w+\.(?:rt|antt))\b")
+CHECK = re.compile(r"\bcheck\.py ([a-z]\w*)")
 SCRIPT = re.compile(r"(?<![\w/.])(?:\w+/)*\w+\.(?:py|sh|c)\b")
 NAME = re.compile(r"(?:[A-Za-z]\w*::)*[A-Za-z]\w*")
 PLACEHOLDER = re.compile(r"X_\w+|\w+_")
@@ -93,6 +94,11 @@ def lines_of(text: str) -> Iterator[Line]:
         is_head = not heads or not re.search(r"[^|\s:-]", line)
         yield Line(number, section, line, in_code, heads, [] if is_head else cells)
         heads = (heads or list(cells)) if is_row else []
+
+
+def with_modules(text: str) -> str:
+    """The text with the path of its module in the place of each call of a check."""
+    return CHECK.sub(r"checks/\1.py", text)
 
 
 def codes_of(text: str) -> List[str]:
@@ -240,8 +246,9 @@ class Checks:
 
     def scripts(self) -> Iterator[Fault]:
         """Scripts that tools/README.md does not name, by their paths in tools/, and those that are not there."""
-        there = {path[len("tools/"):] for path in found_in(self.top, *SCRIPTS) if path.startswith("tools/")}
-        named = {name: line.number for line in self.lines[TOOLS] for name in SCRIPT.findall(line.text)}
+        there = {path[len("tools/"):] for path in found_in(self.top, *SCRIPTS)
+                 if path.startswith("tools/") and not path.endswith("/__init__.py")}
+        named = {name: line.number for line in self.lines[TOOLS] for name in SCRIPT.findall(with_modules(line.text))}
         yield from ((TOOLS, named[name], f"no {name} in tools/") for name in set(named) - there)
         yield from ((TOOLS, 1, f"{name} is not named") for name in there - set(named))
 
@@ -337,7 +344,7 @@ class Checks:
 
     def path_faults(self, text: str) -> List[str]:
         faults = [f"no {path} in crates/" for path in IN_CRATE.findall(text) if path not in self.files]
-        paths = [path for path in PATH.findall(text.replace("\\-", "-")) if "/out/" not in path + "/"]
+        paths = [path for path in PATH.findall(with_modules(text.replace("\\-", "-"))) if "/out/" not in path + "/"]
         return faults + [f"no {path}" for path in paths if not os.path.exists(os.path.join(self.top, path))]
 
     def link_faults(self, document: str, text: str) -> Iterator[str]:

@@ -1,5 +1,7 @@
 """The way to the live system and back on a real file system, as root: facl-snapshot, facl-plan, facl-apply.
 
+usage: tools/check.py live [--PART N].. [--seed N] [--folder DIR] [--record] PROGRAM
+
 It makes a folder of its own, and removes it; users and groups are those of files of its own, so that no account is
 made. It needs the packages acl, strace, e2fsprogs and libcap2-bin. --help prints its parts.
 

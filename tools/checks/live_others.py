@@ -1,6 +1,8 @@
 """Other users and other commands at work beside facl-apply, facl-plan, by_hand and by_hand_undo, as root on a real file
 system. One user without rights, MALLORY, meddles.
 
+usage: tools/check.py live_others [--PART N].. [--seed N] [--folder DIR] [--record] PROGRAM
+
 It makes a folder of its own, and removes it; it needs the packages acl and strace. --help prints its parts.
 
 The exit status is 1 where something is not as it has to be, 2 where the words are others, a tool is not installed or it

@@ -16,7 +16,7 @@ EXCEPTIONS has the other places: the one arm of a function, with its reason. One
 fault too.
 Prints `FILE:LINE: what is wrong`. The exit status is 1 where something is.
 
-tools/check.py documents reads the sources by this file too: tokens, and functions with their clauses. It reads as much
+documents.py reads the sources by this file too: tokens, and functions with their clauses. It reads as much
 of Rattle as items need; the body of a function stays a list of tokens.
 """
 from __future__ import annotations
@@ -26,6 +26,8 @@ import os
 import re
 import sys
 from typing import Dict, Iterable, Iterator, List, NamedTuple, Optional, Set, Tuple
+
+from lib.script import TOP
 
 ALONE = "it is the only fault of the call before it, by a clause or by its type"
 FOUND = "the path was looked up before, so that this call has no other fault"
@@ -52,7 +54,6 @@ PATTERNS = {"let": ("=", ";"), "for": ("in", ";"), "->": ("{", "=", ";", ")"), "
 
 # --- what the sources have
 
-TOP = os.path.dirname(os.path.dirname(os.path.dirname(os.path.realpath(__file__))))
 TOKEN = re.compile(r"""
     (?P<skip>\s+|//[^\n]*|/\*.*?\*/)
     | b?r(?P<hashes>\#*)".*?"(?P=hashes) | b?"(?:\\.|[^"\\])*"

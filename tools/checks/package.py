@@ -1,4 +1,4 @@
-"""Makes the Debian package in two clones, by tools/package.sh and by dpkg-buildpackage, and in a copy without git; and has it
+"""Makes the Debian package in two clones, by tools/package.sh and by dpkg-buildpackage, and in a copy without git. It is then
 installed, upgraded, removed and purged: the same bytes, no warning of lintian, and nothing left but what is said.
 
 usage: tools/check.py package [--before PACKAGE] [--record] FILE LINUX_FILE

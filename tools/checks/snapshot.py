@@ -1,5 +1,5 @@
-"""Takes snapshots by commands/facl-snapshot as root, also while a user exchanges and moves files, and compares what it writes,
-warns of and leaves, and what the program answers of them, with what has to be.
+"""Takes snapshots by commands/facl-snapshot as root, also while a user exchanges and moves files. What it writes, warns of and
+leaves, and what the program answers of them, is compared with what has to be.
 
 usage: tools/check.py snapshot [--PART N].. [--seed N] [--folder DIR] [--record] PROGRAM
 

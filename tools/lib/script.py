@@ -35,7 +35,7 @@ def at_signals(handler: Callable[[int, Optional[FrameType]], object]) -> None:
 
 
 def name() -> str:
-    """The path of the script in the repository."""
+    """The path of the script in the repository; of a check with its name, as tools/check.py gives it."""
     return os.path.relpath(os.path.realpath(sys.argv[0]), TOP)
 
 

@@ -250,7 +250,7 @@ sys.exit(0 if proved == len(asked) else 1)
 RT = "#!/bin/sh\necho kit\n"
 EDIT = "function: {0}\nfile: src/lib.rt\nold: {0} is right\nnew: {0} is {1}\n"
 OF_EDITS = ("tools/edits.py", "tools/prove.py", "tools/ways.py",
-            *(f"tools/lib/{name}.py" for name in ("batches", "command_edits", "kit", "lanes", "processes", "script", "side_by_side", "wrong_bodies")))
+            *(f"tools/lib/{name}.py" for name in ("__init__", "batches", "command_edits", "kit", "lanes", "processes", "script", "side_by_side", "wrong_bodies")))
 
 
 class Edits(Case):
@@ -270,7 +270,7 @@ class Edits(Case):
         self.write({"log": log})
         ended = subprocess.Popen(["true"])
         ended.wait()
-        return self.run_script(sys.executable, "tools/edits.py", "--beside", str(ended.pid), "--log", "log")[:2]
+        return self.run_script("tools/edits.py", "--beside", str(ended.pid), "--log", "log")[:2]
 
     def faulty(self, text: str, *more: str) -> None:
         """An edit that fails, with these words, beside one that is refused."""
@@ -337,8 +337,8 @@ class Edits(Case):
         self.faulty(EDIT.format("one", "unread"), "no verdict, status 1")
 
     def test_function(self) -> None:
-        """The function that an edit names is where its path says: tools/check.py edits_apply finds a fault before anything is proved."""
-        self.copy("tools/checks/edits_apply.py")
+        """The function that an edit names is where its path says: the check edits_apply finds a fault before anything is proved."""
+        self.copy("tools/check.py", "tools/checks/__init__.py", "tools/checks/edits_apply.py")
         self.write({"crates/low/src/map.rt": "struct Map\nfn new\n", "crates/low/src/map/more.rt": "impl Map\nfn put\n"})
         for path, fault in (("one", ""), ("map::new", ""), ("map::Map::put", ""), ("map::MapTest::put", ""), ("map::more::put", ""),
                             ("gone", "src/lib.rt has no `fn gone`"), ("put", "src/lib.rt has no `fn put`"),
@@ -436,7 +436,7 @@ class Stages(Case):
     def setUp(self) -> None:
         super().setUp()
         self.copy(".ci/run", "tools/gate.py", "tools/ways.py",
-                  *(f"tools/lib/{name}.py" for name in ("kit", "lanes", "memory_watch", "processes", "script")))
+                  *(f"tools/lib/{name}.py" for name in ("__init__", "kit", "lanes", "memory_watch", "processes", "script")))
         checks = LINT.replace("exit", "[ \"$1\" = --lint ] && exit") + TEST + STAGE
         self.write({"crates.txt": "low:\nfacl_cli: low\nfacl_linux_cli: low\n"})
         self.write({"tools/edits.py": STAGE, "tools/check_commands.sh": checks, "bin/rt": RT_CI}, 0o755)

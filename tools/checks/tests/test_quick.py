@@ -38,6 +38,7 @@ class Quick(unittest.TestCase):
                                "crates/facl_cli/src/main.rt": "x", "commands/tests/rows/some.rows": ROW,
                                "commands/tests/rows/setups": "nothing\n", "commands/tests/row_files.py": ROW_FILES,
                                **{f"commands/tests/{name}.py": OK for name in ("test_completion", "test_layers", "test_snapshot")},
+                               "tools/checks/__init__.py": "", "tools/checks/tests/__init__.py": "",
                                "tools/checks/tests/test_a.py": OK}.items():
                 os.makedirs(os.path.join(top, os.path.dirname(name)), exist_ok=True)
                 with open(os.path.join(top, name), "w", encoding="utf-8") as file:

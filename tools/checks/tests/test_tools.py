@@ -1,9 +1,10 @@
-"""Tests of tools/: documents.py over a small repository, tool_rows.py over parts of this one, what memory_faults.py reads
-and finds, growth.py on machine code of its own, and lib/ with a program of its own in the place of the real one."""
+"""Tests of tools/: check.py, documents.py over a small repository, tool_rows.py over parts of this one, what memory_faults.py
+reads and finds, growth.py on machine code of its own, and lib/ with a program of its own in the place of the real one."""
 from __future__ import annotations
 
 import argparse
 import contextlib
+import importlib
 import io
 import os
 import re
@@ -17,6 +18,7 @@ import unittest
 import unittest.mock
 from typing import Dict, List, Set, Tuple
 
+import check
 from benches import grow
 from benches.sessions import Step, Tree
 from checks import documents, growth
@@ -24,16 +26,12 @@ from checks.documents import Checks
 from checks.memory_faults import Source, faults_of
 from checks.syntaxes import of_tools
 from checks.tool_rows import TEXT_WORDS, ToolRows
-from lib import answers, random_lines
+from lib import answers, random_lines, script
 from lib.random_lines import Unit, is_of_tools, numbers_of, script_of
-from lib.script import Failed, with_row, TOP
+from lib.script import TOP, Failed, with_row
 from lib.session import Expect, MeasuredSession, Session, TimedRun, has_tool, program_at, timed
 from ways import Crates
 from facl_commands.program import tools
-
-HERE = os.path.dirname(os.path.realpath(__file__))
-LIB = os.path.realpath(os.path.join(HERE, "..", "..", "lib"))
-
 
 
 class Case(unittest.TestCase):
@@ -50,6 +48,43 @@ class Case(unittest.TestCase):
         with open(path, "w", encoding="utf-8") as file:
             file.write(text)
         return path
+
+
+# --- check.py
+
+class Launcher(unittest.TestCase):
+    def run_check(self, *words: str) -> Tuple[int, str, str]:
+        done = subprocess.run([os.path.join(TOP, "tools", "check.py"), *words], capture_output=True, text=True, check=False)
+        return done.returncode, done.stdout, done.stderr
+
+    def test_list(self) -> None:
+        """Without a name, or with one that no check has, all checks are listed."""
+        wanted = "\nmemory_faults        Checks where the sources of the crates say that memory ran out: only where an allocation failed\n"
+        for words in ((), ("frob",), ("tool_rows",)):
+            status, printed, said = self.run_check(*words)
+            self.assertEqual((status, printed, wanted in said, "\ntool_rows" in said), (2, "", True, False))
+        self.assertEqual(self.run_check("--help"), (0, said, ""))
+
+    def test_each_can_be_run(self) -> None:
+        for name in check.checks():
+            self.assertTrue(callable(importlib.import_module(f"checks.{name}").main))
+
+    def test_words_and_name(self) -> None:
+        """A check gets the other words, and says by which words it is run."""
+        self.assertTrue(self.run_check("growth", "--help")[1].startswith("usage: check.py growth [-h] "))
+        status, _, said = self.run_check("growth")
+        self.assertEqual((status, said.splitlines()[-1]),
+                         (2, "check.py growth: error: the following arguments are required: PROGRAM"))
+        seen: List[Tuple[str, List[str]]] = []
+
+        def main() -> int:
+            seen.append((script.name(), sys.argv[1:]))
+            return 3
+
+        with unittest.mock.patch.object(sys, "argv", [os.path.join(TOP, "tools", "check.py"), "growth", "--quick", "p"]), \
+                unittest.mock.patch.object(growth, "main", main):
+            self.assertEqual(check.main(), 3)
+        self.assertEqual(seen, [("tools/check.py growth", ["--quick", "p"])])
 
 
 # --- growth.py
@@ -208,7 +243,7 @@ pub const MOST: usize = 4_096;
 | a map | `low::Map::get` | 1 | 2 | 1 |
 <!-- end -->
 """
-README = """[a](tools/README.md), tools/lib/a.py, [b](docs/READING.md#to-read-short), [here](https://example.org/a).
+README = """[a](tools/README.md), tools/lib/a.py, tools/check.py b, [b](docs/READING.md#to-read-short), [here](https://example.org/a).
 `low/src/a.rt`, `src/b.rt`, specs/Maps.antt, crates/low/out/facl, `[a](b)`.
 `look_up`, `Map::get`, `anyhow::Error`, `X_tests`, `of_`.
 ## The tools of a script
@@ -252,7 +287,8 @@ FILES: Dict[str, str] = {
     "commands/facl-ask": "#!/bin/sh\n# Asks\n# all.\nexit\n",
     "commands/facl_commands/program/tools.py": RECORDS,
     "tools/lib/a.py": '#!/usr/bin/env python3\n"""Checks\nall.\n\nMore.\n"""\n',
-    "tools/README.md": "lib/a.py, and facl_script.md is no script.\n",
+    "tools/checks/b.py": '"""Checks b."""\n',
+    "tools/README.md": "lib/a.py, check.py b, and facl_script.md is no script.\n",
     "docs/PROOFS.md": PROOFS,
     "docs/ARCHITECTURE.md": ARCHITECTURE,
     "docs/facl.1": PAGE,
@@ -291,13 +327,15 @@ FAULTS: Dict[str, List[Tuple[str, ...]]] = {
         ("{ℕ}", "{ℤ}", "1: crates/low/specs/Maps.antt:5: nothing declares, imports or binds `ℕ`")],
     "CONTRIBUTING.md": [
         ("| low |", "| facl |", "3: low_tests does not use facl: crates.txt", "1: low is not in the table of tests")],
-    "tools/README.md": [("lib/a.py", "gone.sh", "1: lib/a.py is not named", "1: no gone.sh in tools/")],
+    "tools/README.md": [("lib/a.py", "gone.sh", "1: lib/a.py is not named", "1: no gone.sh in tools/"),
+                        ("check.py b", "check.py c", "1: checks/b.py is not named", "1: no checks/c.py in tools/")],
     "crates/low/src/b.rt": [("//! Closed.", "", "1: has no sentence at its head")],
     "commands/facl-ask": [("# Asks\n# all.\n", "", "1: has no sentence at its head")],
     "README.md": [
         ("(tools/README.md)", "(tools/gone.md)", "1: no tools/gone.md"),
         ("-short", "-long", "1: no heading docs/READING.md#to-read-long"),
         ("tools/lib/a.py", "tools/lib/gone", "1: no tools/lib/gone"),
+        ("tools/check.py b", "tools/check.py gone", "1: no tools/checks/gone.py"),
         ("`low/src/a.rt`", "`low/src/gone.rt`", "2: no low/src/gone.rt in crates/"),
         ("`look_up`", "`look_down`", "3: no `look_down` in the sources"),
         ("`Map::get`", "`Map::gone`", "3: no `Map::gone` in the sources")],
@@ -511,16 +549,15 @@ done
 exit 1
 """
 # Scripts that make a folder, print its path and a process, and wait.
-PYTHON = f"""import os, sys, tempfile, time
-sys.path.insert(0, {LIB!r})
-import script
+PYTHON = """import os, tempfile, time
+from lib import script
 def main():
     with tempfile.TemporaryDirectory(prefix="facl-test.") as folder:
         print(folder, os.getpid(), flush=True)
         time.sleep(60)
 script.run(main)
 """
-SHELL = f"""top={LIB}/../..; . "$top/tools/lib/program.sh"; make_work
+SHELL = f"""top={TOP}; . "$top/tools/lib/program.sh"; make_work
 sleep 60 & echo "$work $!"; wait_for_child
 """
 
@@ -574,7 +611,8 @@ class Lib(Case):
 
     def test_interrupted_scripts(self) -> None:
         for words in ([sys.executable, "-B", "-c", PYTHON], ["sh", "-c", SHELL]):
-            with subprocess.Popen(words, stdout=subprocess.PIPE, stderr=subprocess.DEVNULL, text=True) as run:
+            with subprocess.Popen(words, cwd=os.path.join(TOP, "tools"), stdout=subprocess.PIPE, stderr=subprocess.DEVNULL,
+                                  text=True) as run:
                 folder, process = next(iter(run.stdout or ())).split()
                 self.assertTrue(os.path.isdir(folder))
                 time.sleep(0.1)  # until it waits
