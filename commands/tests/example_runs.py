@@ -26,7 +26,7 @@ COMMANDS_APART: Dict[str, str] = {
     "tools/install.sh": "installs; by hand",
     "tools/package.sh": "makes a package; by hand",
     ".ci/run": "has these tests in it",
-    "tools/quick.py": "has tests in it that need no program",
+    "tools/quick.sh": "has tests in it that need no program",
     "rt": "the kit; by hand",
     "git": "by hand",
     "man": "by hand",

@@ -40,7 +40,7 @@ BLOCKS: Dict[str, str] = {
     "tools/demo.sh": "proves the program; by hand",
     "facl-snapshot before /srv/project": "the other examples run it",
     ".ci/run": "has these tests in it",
-    "tools/quick.py": "has tests in it that need no program",
+    "tools/quick.sh": "has tests in it that need no program",
 }
 # The commands of README's tables.
 OWN = ("facl-snapshot", "facl-ask", "facl-who", "facl-diff", "facl-audit", "facl-check", "facl-report", "facl-plan",

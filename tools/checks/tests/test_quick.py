@@ -1,4 +1,4 @@
-"""Tests of tools/quick.py with an rt of its own, and of how it reads what tests print."""
+"""Tests of tools/quick.sh with an rt of its own, and of how it reads what tests print."""
 from __future__ import annotations
 
 import os
@@ -9,7 +9,7 @@ import unittest
 from pathlib import Path
 
 from lib.script import TOP
-from quick import numbers
+from lib.quick import numbers
 
 RT = """#!/bin/sh
 case " $* " in *" --cases "*) echo "case=row_0 run=ended status=0 runners=1" >&2; exit;; esac
@@ -47,7 +47,7 @@ class Quick(unittest.TestCase):
             environment = {**os.environ, "PATH": os.path.join(top, "bin") + ":" + os.environ["PATH"]}
             for found, status, last in (("ok. 5 passed; 0 failed", 0, "10 passed, 0 failed; nothing was proved"),
                                         ("FAILED. 3 passed; 2 failed", 1, "8 passed, 2 failed; nothing was proved")):
-                ran = subprocess.run([os.path.join(top, "tools", "quick.py")], env={**environment, "FOUND": found},
+                ran = subprocess.run([os.path.join(top, "tools", "quick.sh")], env={**environment, "FOUND": found},
                                      capture_output=True, text=True, check=False)
                 self.assertEqual((ran.returncode, ran.stdout.splitlines()[-1]), (status, last), ran.stdout + ran.stderr)
 

@@ -10,7 +10,8 @@ import unittest
 from typing import Dict, List, Tuple
 
 TOP = os.path.realpath(os.path.join(os.path.dirname(os.path.realpath(__file__)), "..", "..", ".."))
-COPIED = ("tools/checks/wrong_commands.py", *(f"tools/lib/{name}.py" for name in ("command_edits", "script", "wrong_bodies")))
+COPIED = ("tools/check.py", *(f"tools/checks/{name}.py" for name in ("__init__", "wrong_commands")),
+          *(f"tools/lib/{name}.py" for name in ("__init__", "command_edits", "script", "wrong_bodies")))
 TESTS = """\
 import sys
 import unittest
@@ -45,7 +46,7 @@ class WrongCommands(unittest.TestCase):
         self.write({f"commands/tests/wrong/{name}.edit": EDIT % it for name, it in tests.items()})
 
     def run_all(self, *words: str) -> Tuple[int, List[str]]:
-        done = subprocess.run([sys.executable, "-B", os.path.join(self.top, COPIED[0]), *words], capture_output=True, text=True, check=False)
+        done = subprocess.run([sys.executable, "-B", os.path.join(self.top, COPIED[0]), "wrong_commands", *words], capture_output=True, text=True, check=False)
         return done.returncode, done.stdout.splitlines()
 
     def test_each_is_tried_alone(self) -> None:

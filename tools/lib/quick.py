@@ -1,13 +1,4 @@
-#!/usr/bin/env -S python3 -B
-"""Runs the tests of all crates without a proof, the scripts of commands/tests/rows by the program before its proof, and those
-tests of the commands and of tools/ that need no program, side by side, in some minutes.
-
-usage: tools/quick.py
-
-Each crate of tests and the program are compiled with run-time checks by `rt try`. It prints a line for each part as it ends, and
-what a part that failed printed. The last line says how many tests passed and failed, and that nothing was proved. The exit status
-is 0 where none failed, 1 where one did or rt is not installed, and 128 and the signal's number where it is interrupted.
-"""
+"""Runs the parts of tools/quick.sh side by side."""
 from __future__ import annotations
 
 import os
@@ -16,11 +7,12 @@ import sys
 import time
 from typing import List, NamedTuple, Tuple
 
-from lib import lanes, script
-from lib.kit import rt
-from lib.script import TOP
-from lib.side_by_side import LOGS, Run, files_of, folder_of, log_of
 from ways import Crates
+
+from . import lanes, script
+from .kit import rt
+from .script import TOP
+from .side_by_side import LOGS, Run, files_of, folder_of, log_of
 
 # The seconds that each test of a crate may take, beside others.
 LIMIT = 240
