@@ -6,11 +6,11 @@ its pipes are closed.
 """
 from __future__ import annotations
 
-import atexit
 import base64
 import contextlib
 import fcntl
 import json
+import multiprocessing.util
 import os
 import select
 import shutil
@@ -120,6 +120,14 @@ class Pipe:
                 os.close(descriptor)
 
 
+def remove(folder: str) -> None:
+    """Removes the folder of a browser that ended; a process of it that is about to end may still write there."""
+    end = time.monotonic() + LIMIT
+    while os.path.exists(folder) and time.monotonic() < end:
+        shutil.rmtree(folder, ignore_errors=True)
+        time.sleep(0.02)
+
+
 class Browser:
     """A run of Chromium, which ends with the block that it is made for."""
 
@@ -163,7 +171,7 @@ class Browser:
             with contextlib.suppress(ProcessLookupError):
                 os.killpg(self.run.pid, signal.SIGKILL)
             self.run.wait()
-            shutil.rmtree(self.folder, ignore_errors=True)
+            remove(self.folder)
 
     def page(self) -> Page:
         """A new page, of which all faults and requests are kept."""
@@ -176,10 +184,13 @@ SHARED: List[Browser] = []
 
 
 def shared() -> Browser:
-    """The browser of all tests of a run, which starts with the first one that asks and ends with the run."""
+    """The browser of all tests of a process, which starts with the first one that asks and ends with the process.
+
+    A process of a pool ends without what `atexit` has, but not without what multiprocessing has to finish.
+    """
     if not SHARED:
         SHARED.append(Browser())
-        atexit.register(SHARED[0].close)
+        multiprocessing.util.Finalize(None, SHARED[0].close, exitpriority=0)
     return SHARED[0]
 
 
