@@ -4,7 +4,7 @@ ghost use Rattle.std.specs.Prelude.{◌≡◌, ◌++◌, [], IfOk, MatchResult, 
 ghost use Rattle.std.specs.List.{list_any};
 ghost use Rattle.clap.specs.Words.{all_of, first_of, found_of, rows_of};
 ghost use Rattle.facl_script.specs.Rows.{syntax_view, option_view};
-ghost use Rattle.facl_script.specs.Commands.{is_covered, is_on, flags_in, operands_in, value_or, values_in};
+ghost use Rattle.facl_script.specs.Commands.{is_covered, is_on, value_or};
 ghost use Rattle.facl_script.specs.Refusals.{IsRefusal};
 ghost use Rattle.facl_script.specs.ToolWords.{words_in, words_read};
 ghost use Rattle.facl_script.specs.Forms.{file_of, files_of, is_dash as names_input};
@@ -27,18 +27,6 @@ fn is_flag_on(matches: &ArgMatches<'_>, id: &str) -> bool
     }
 }
 
-/// Tells for each flag of the syntax whether `clap` found it.
-fn flags_of(alloc: Global, syntax: &Syntax, matches: &ArgMatches<'_>) -> Result<Flags, AllocError>
-    ensures { IfOk result (λ f.
-        f ≡ flags_in (syntax_view syntax.now) (rows_of (found_of matches.now))) }
-{
-    let mut items = Vec::new(alloc);
-    for flag in syntax.flags {
-        items.push(is_flag_on(matches, flag.id))?;
-    }
-    Ok(Flags::new(items))
-}
-
 /// Returns the value of an option, if `clap` found it.
 fn option_value(
     alloc: Global,
@@ -57,27 +45,7 @@ fn option_value(
     }
 }
 
-/// Returns for each option of the syntax its value, if `clap` found it.
-fn values_of(alloc: Global, syntax: &Syntax, matches: &ArgMatches<'_>) -> Result<Values, AllocError>
-    ensures { IfOk result (λ v.
-        v ≡ values_in (syntax_view syntax.now) (rows_of (found_of matches.now))) }
-{
-    let mut items = Vec::new(alloc);
-    for option in syntax.options {
-        items.push(option_value(alloc, option, matches)?)?;
-    }
-    Ok(Values::new(items))
-}
-
-fn push_words(alloc: Global, items: &mut Vec<Word>, texts: &[&str]) -> Result<(), AllocError>
-    ensures { OnOk result (items.new.items ≡ items.old.items ++ map (λ t. t.now) texts.now) }
-{
-    for text in texts {
-        items.push(Word::new(alloc, text)?)?;
-    }
-    Ok(())
-}
-
+/// Appends the words of an operand.
 fn push_operand(
     alloc: Global,
     items: &mut Vec<Word>,
@@ -87,28 +55,15 @@ fn push_operand(
     ensures { OnOk result (items.new.items
         ≡ items.old.items ++ unwrap_or (all_of id.now (rows_of (found_of matches.now))) []) }
 {
-    match matches.get_raw(id) {
-        Some(texts) => push_words(alloc, items, texts),
-        None => Ok(()),
+    if let Some(texts) = matches.get_raw(id) {
+        for text in texts {
+            items.push(Word::new(alloc, text)?)?;
+        }
     }
+    Ok(())
 }
 
-/// Returns the operands that `clap` found, in their order.
-fn operands_of(
-    alloc: Global,
-    syntax: &Syntax,
-    matches: &ArgMatches<'_>,
-) -> Result<Operands, AllocError>
-    ensures { IfOk result (λ o.
-        o ≡ operands_in (syntax_view syntax.now) (rows_of (found_of matches.now))) }
-{
-    let mut items = Vec::new(alloc);
-    for operand in syntax.operands {
-        push_operand(alloc, &mut items, operand.id, matches)?;
-    }
-    Ok(Operands::new(items))
-}
-
+/// Returns what `clap` found of the flags, options and operands of the syntax, in their orders.
 fn words_found(
     alloc: Global,
     syntax: &Syntax,
@@ -116,13 +71,22 @@ fn words_found(
 ) -> Result<Words, AllocError>
     ensures { IfOk result (λ w. w ≡ words_in (syntax_view syntax.now) (rows_of (found_of matches.now))) }
 {
-    let flags = flags_of(alloc, syntax, matches)?;
-    let values = values_of(alloc, syntax, matches)?;
-    let operands = operands_of(alloc, syntax, matches)?;
+    let mut flags = Vec::new(alloc);
+    for flag in syntax.flags {
+        flags.push(is_flag_on(matches, flag.id))?;
+    }
+    let mut values = Vec::new(alloc);
+    for option in syntax.options {
+        values.push(option_value(alloc, option, matches)?)?;
+    }
+    let mut operands = Vec::new(alloc);
+    for operand in syntax.operands {
+        push_operand(alloc, &mut operands, operand.id, matches)?;
+    }
     Ok(Words {
-        flags,
-        values,
-        operands,
+        flags: Flags::new(flags),
+        values: Values::new(values),
+        operands: Operands::new(operands),
     })
 }
 

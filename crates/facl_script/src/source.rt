@@ -1,6 +1,6 @@
 //! The script's bytes, read in chunks and returned by lines.
-ghost use Rattle.std.specs.Prelude.{◌≡◌, ◌≤◌, ◌<◌, ◌+◌, ◌-◌, ℕ, false, List, [], ◌∷◌, ◌++◌, take, drop, length, is_err, IfOk, MatchOption};
-ghost use Rattle.facl_script.specs.Lines.{HasNoLineFeed, Held};
+ghost use Rattle.std.specs.Prelude.{◌≡◌, ◌≤◌, ◌<◌, ◌+◌, ◌-◌, ℕ, false, List, [], ◌++◌, drop, length, is_err, IfOk};
+ghost use Rattle.facl_script.specs.Lines.{Held};
 ghost use Rattle.facl_script.specs.Limits.{chunk_limit, script_limit};
 ghost use Rattle.facl_script.specs.Devices.{ReadsSome};
 
@@ -22,15 +22,6 @@ const CHUNK: usize = 65_536;
 pub(crate) struct LineRead {
     pub is_ended: bool,
     pub is_too_long: bool,
-}
-
-/// Returns the place of the first LF, if there is one.
-fn line_feed_at(piece: &[u8]) -> Option<usize>
-    ensures { MatchOption result (HasNoLineFeed piece.now) (λ n.
-        (n < length piece.now) × HasNoLineFeed (take n piece.now)
-        × (piece.now ≡ take n piece.now ++ (10 ∷ drop (n + 1) piece.now))) }
-{
-    memchr(b'\n', piece)
 }
 
 /// Adds a piece to what is kept of a line, and returns whether the line is too long by now.
@@ -159,7 +150,7 @@ impl ByteSource {
                     is_too_long,
                 }));
             }
-            match line_feed_at(piece) {
+            match memchr(b'\n', piece) {
                 Some(at) => {
                     is_too_long = hold(line, is_too_long, &piece[..at])?;
                     self.skip(at + 1);

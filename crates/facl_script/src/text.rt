@@ -1,18 +1,17 @@
 //! The text of a unit: the lines up to a line `.`.
-ghost use Rattle.std.specs.Prelude.{◌≡◌, ◌≤◌, ◌+◌, ℕ, List, [], ◌∷◌, ◌++◌, false, take, length, OnOk, IfSome, Option, option_map};
+ghost use Rattle.std.specs.Prelude.{◌≡◌, ◌≤◌, ◌+◌, ℕ, List, ◌++◌, false, take, length, Option, option_map};
 ghost use Rattle.facl_script.specs.ByteSource.{pending, taken_count};
 ghost use Rattle.facl_script.specs.Units.{is_end as ends_text, more_text};
 ghost use Rattle.facl_script.specs.Limits.{line_limit};
 ghost use Rattle.facl_script.specs.Lines.{Held};
 ghost use Rattle.facl_script.specs.Pieces.{line_feeds};
-ghost use Rattle.facl_script.specs.ReadText.{HoldsText, IsLastFeed, IsTextPart, TakesLines, ReadsText};
+ghost use Rattle.facl_script.specs.ReadText.{HoldsText, IsTextPart, TakesLines, ReadsText};
 
 use crate::devices::Feed;
 use crate::fault::ScriptFault;
 use crate::source::ByteSource;
 use memchr::arch::all::is_prefix;
 use memchr::{memchr_iter, memmem, memrchr};
-use std::alloc::AllocError;
 
 /// What is held of the text of a unit.
 #[derive(Clone, Copy, Debug, PartialEq, Eq)]
@@ -37,30 +36,14 @@ pub(crate) struct TextRead {
     pub(crate) is_full: bool,
 }
 
-/// Tells whether the line ends a text: it is `.`.
-fn is_end(line: &[u8]) -> bool
-    ensures { result ≡ ends_text line.now }
-{
-    match line {
-        [only] => *only == b'.',
-        _ => false,
-    }
-}
-
-/// Tells whether the line that is held is the end of a text.
+/// Tells whether the line that is held ends a text: it is `.`.
 fn ends_here(is_too_long: bool, line: &[u8]) -> bool
     ensures { (text : List ℕ) → Held is_too_long line.now text → result ≡ ends_text text }
 {
-    !is_too_long && is_end(line)
-}
-
-/// Adds a line and its LF.
-fn append(text: &mut Vec<u8>, line: &[u8]) -> Result<(), AllocError>
-    ensures { OnOk result (text.new.items ≡ text.old.items ++ (line.now ++ 10 ∷ [])) }
-{
-    text.extend_from_slice(line)?;
-    text.push(b'\n')?;
-    Ok(())
+    match line {
+        [only] => !is_too_long && *only == b'.',
+        _ => false,
+    }
 }
 
 /// Adds a line to what is kept of a text, and returns what is kept by now.
@@ -71,10 +54,13 @@ fn keep(text: &mut Vec<u8>, held: TextFound, is_too_long: bool, line: &[u8]) -> 
 {
     match held {
         TextFound::Whole if is_too_long => TextFound::TooLong,
-        TextFound::Whole => match append(text, line) {
-            Ok(()) => TextFound::Whole,
-            Err(_) => TextFound::Lost,
-        },
+        TextFound::Whole => {
+            if text.extend_from_slice(line).is_ok() && text.push(b'\n').is_ok() {
+                TextFound::Whole
+            } else {
+                TextFound::Lost
+            }
+        }
         _ => held,
     }
 }
@@ -85,17 +71,8 @@ fn line_feeds(bytes: &[u8]) -> usize
     memchr_iter(b'\n', bytes).count()
 }
 
-/// Returns the place of the LF before the first line `.` that has one, or else of the last LF, if there is one.
-fn last_feed(piece: &[u8]) -> Option<usize>
-    ensures { IfSome result (IsLastFeed piece.now) }
-{
-    match memmem::find(piece, b"\n.\n") {
-        Some(at) => Some(at),
-        None => memrchr(b'\n', piece),
-    }
-}
-
-/// Returns how far whole lines go of which none ends a text. No line of a piece is over the limit.
+/// Returns how far whole lines go of which none ends a text: up to the first line `.`, or else to the last LF. No line
+/// of a piece is over the limit.
 fn end_of_lines(piece: &[u8]) -> usize
     requires { length piece.now ≤ line_limit }
     ensures within { result ≤ length piece.now }
@@ -104,7 +81,10 @@ fn end_of_lines(piece: &[u8]) -> usize
     if is_prefix(piece, b".\n") {
         return 0;
     }
-    match last_feed(piece) {
+    if let Some(at) = memmem::find(piece, b"\n.\n") {
+        return at + 1;
+    }
+    match memrchr(b'\n', piece) {
         Some(at) => at + 1,
         None => 0,
     }

@@ -1,8 +1,8 @@
 //! A script, read unit by unit: each line with its text, if it takes one.
 ghost use Rattle.std.specs.Prelude.{◌≡◌, ◌≤◌, ◌+◌, ℕ, Bool, List, true, false, Option};
 ghost use Rattle.facl_script.specs.Held.{IsUnitHeld};
-ghost use Rattle.facl_script.specs.ReadUnit.{IsLineFound, IsUnitFound, is_last};
-ghost use Rattle.facl_script.specs.Units.{ScriptUnit, line_takes};
+ghost use Rattle.facl_script.specs.ReadUnit.{IsUnitFound, is_last};
+ghost use Rattle.facl_script.specs.Units.{ScriptUnit};
 ghost use Rattle.facl_script.specs.ByteSource.{taken_count};
 ghost use Rattle.facl_script.specs.Limits.{script_limit};
 
@@ -25,13 +25,6 @@ pub struct UnitFound {
     pub text: TextFound,
     /// Whether the LF of its last line was there. Else it ends the script.
     pub is_full: bool,
-}
-
-/// Tells whether the line that was found takes a text.
-fn takes<S: Session>(found: LineFound, line: &[u8]) -> bool
-    ensures { (content : Option (List ℕ)) → IsLineFound found line.now content → result ≡ line_takes S.asks content }
-{
-    S::asks_for_text(&HeldLine::found(found, line))
 }
 
 /// A script that is read unit by unit, with the line and the text of the last one.
@@ -95,7 +88,7 @@ impl Script {
         };
         let bytes = self.line.as_slice();
         let line = LineFound::of(found.is_too_long, bytes);
-        if !takes::<S>(line, bytes) {
+        if !S::asks_for_text(&HeldLine::found(line, bytes)) {
             self.number += 1;
             return Ok(Some(UnitFound {
                 number,

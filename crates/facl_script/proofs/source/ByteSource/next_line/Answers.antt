@@ -1,18 +1,18 @@
-use Rattle.std.proofs.Common.{◌≡◌, ◌+◌, ℕ, [], ◌∷◌, ◌++◌, take, drop, length, sym, ap, ◌∙◌, append_assoc, append-nil, length-append, length-take, take-append-drop, true≢false, arith}
+use Rattle.std.proofs.Common.{◌≡◌, ◌+◌, ℕ, None, Some, [], ◌∷◌, ◌++◌, take, drop, length, sym, ap, ◌∙◌, append_assoc, append-nil, length-append, length-take, take-append-drop, true≢false, arith}
 use Rattle.std.proofs.lemmas.Grind.{common_steps}
 use Rattle.std.proofs.lemmas.List.{take_all}
 use Rattle.std.proofs.lemmas.Result.{err_from_is_err_and}
 use Rattle.facl_script.specs.ByteSource.{pending}
-use Rattle.facl_script.proofs.LineLemmas.{HasNoLineFeed-append}
+use Rattle.facl_script.proofs.LineLemmas.{HasNoLineFeed-append, first_line_feed}
 use Rattle.facl_script.proofs.SourceLemmas.{handed, stops_later}
 use Rattle.facl_script.proofs.source.ByteSource.next_line.Goals as goal
 
 pub returns-in-Some-clause-reads : goal.returns-in-Some-clause-reads
 returns-in-Some-clause-reads g c =
     let inv = c.loop-self.invariant in
-    let found = c.in-Some.ensures in
     let piece = c.pending-piece.result.now in
     let n : ℕ = c.in-Some.at in
+    let found = first_line_feed piece (Some n) c.in-Some.ensures in
     let front = take n piece in
     let cut : pending c.fill.new.self ≡ (front ++ 10 ∷ []) ++ pending c.skip.new.self =
     sym c.pending-piece.ensures.all ∙ found.2 ∙ sym (append_assoc front (10 ∷ []) (drop (n + 1) piece))
@@ -42,7 +42,7 @@ loop-self-preserved g c =
     record {
       works = c.in_ok-fill.ensures.fills.1;
       text = inv.text ++ piece;
-      no_line_feed = HasNoLineFeed-append _ _ inv.no_line_feed c.in-None.ensures;
+      no_line_feed = HasNoLineFeed-append _ _ inv.no_line_feed (first_line_feed piece None c.in-None.ensures);
       consumes = handed _ _ (g.R.Feed.remaining c.fill.new.reader) _ _ _ _ inv.consumes c.in_ok-fill.ensures.fills.0 cut;
       held = c.in_ok-is_too_long-in-None.ensures inv.text inv.held;
       count = omega (arith, c.skip-in-None.ensures.count, c.in_ok-fill.ensures.count, inv.count, length-append inv.text piece);
