@@ -21,22 +21,16 @@ fn digits(alloc: Global, acl: &Acl) -> Result<String, AllocError>
     hex::encode(alloc, bytes.as_slice())
 }
 
-/// Adds the line of an attribute whose value has these digits.
-fn push_attr(text: &mut Vec<u8>, name: &[u8], digits: &[u8]) -> Result<(), AllocError>
-    ensures { Appends result text.old text.new (name.now ++ (codes "=0x" ++ (digits.now ++ 10 ∷ []))) }
-{
-    text.extend_from_slice(name)?;
-    text.extend_from_slice(b"=0x")?;
-    text.extend_from_slice(digits)?;
-    text.push(b'\n')?;
-    Ok(())
-}
-
+/// Adds the line of an attribute.
 fn push_line(alloc: Global, text: &mut Vec<u8>, name: &[u8], acl: &Acl) -> Result<(), AllocError>
     ensures { Appends result text.old text.new (attr_line name.now acl.now) }
 {
     let digits = digits(alloc, acl)?;
-    push_attr(text, name, digits.as_bytes())
+    text.extend_from_slice(name)?;
+    text.extend_from_slice(b"=0x")?;
+    text.extend_from_slice(digits.as_bytes())?;
+    text.push(b'\n')?;
+    Ok(())
 }
 
 /// Adds the line of the default list, if there is one.

@@ -208,26 +208,8 @@ fn end_of_path_line(
     Ok(end)
 }
 
-/// Adds the record of a file, and keeps what it has after the line of the path.
-fn push_new_record<'a, N: Names>(
-    text: &mut Vec<u8>,
-    kept: &mut KeptTexts<'a>,
-    names: &N,
-    options: &Options,
-    file: &FoundFile<'a>,
-    mark: u64,
-) -> Result<(), AllocError>
-    requires { AreKept (after_path (N.naming names.now) options.now) kept.old }
-    ensures text { Appends result text.old text.new (file_text (N.naming names.now) options.now file.now) }
-    ensures kept { OnOk result (AreKept (after_path (N.naming names.now) options.now) kept.new) }
-{
-    let end = end_of_path_line(text, options, file)?;
-    push_record(text, names, options, file)?;
-    kept.keep(mark, file.node(), text.as_slice(), end)?;
-    Ok(())
-}
-
-/// Adds the record of a file. What follows the line of its path is copied, if it was kept of a file with the same node.
+/// Adds the record of a file. What follows the line of its path is copied, if it was kept of a file with the same node,
+/// and else kept.
 fn push_file<'a, N: Names>(
     text: &mut Vec<u8>,
     kept: &mut KeptTexts<'a>,
@@ -249,7 +231,10 @@ fn push_file<'a, N: Names>(
         kept.note_found();
         return Ok(());
     }
-    push_new_record(text, kept, names, options, file, mark)
+    let end = end_of_path_line(text, options, file)?;
+    push_record(text, names, options, file)?;
+    kept.keep(mark, file.node(), text.as_slice(), end)?;
+    Ok(())
 }
 
 /// Adds the records of the files that are listed.

@@ -57,22 +57,14 @@ fn push_line_fault(text: &mut Vec<u8>, fault: &LineFault) -> Result<(), AllocErr
     }
 }
 
-/// Adds `line N: ` for the line with this number.
-fn push_number(text: &mut Vec<u8>, number: u64) -> Result<(), AllocError>
-    ensures { Appends result text.old text.new (numbered number) }
+/// Adds `line N: TOOL: `.
+fn push_head(text: &mut Vec<u8>, number: u64, reported_by: &[u8]) -> Result<(), AllocError>
+    ensures { Appends result text.old text.new (head number reported_by.now) }
 {
     let mut buffer = Buffer::new();
     text.extend_from_slice(b"line ")?;
     text.extend_from_slice(buffer.format(number).as_bytes())?;
     text.extend_from_slice(b": ")?;
-    Ok(())
-}
-
-/// Adds `line N: TOOL: `.
-fn push_head(text: &mut Vec<u8>, number: u64, reported_by: &[u8]) -> Result<(), AllocError>
-    ensures { Appends result text.old text.new (head number reported_by.now) }
-{
-    push_number(text, number)?;
     text.extend_from_slice(reported_by)?;
     text.extend_from_slice(b": ")?;
     Ok(())

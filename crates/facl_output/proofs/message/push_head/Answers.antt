@@ -1,6 +1,6 @@
 use Rattle.std.proofs.Common.{arith}
 use Rattle.std.proofs.lemmas.Grind.{common_steps}
-use Rattle.facl_output.proofs.message.push_number.Goals as goal
+use Rattle.facl_output.proofs.message.push_head.Goals as goal
 
 pub returns-in_err-extend_from_slice : goal.returns-in_err-extend_from_slice
 returns-in_err-extend_from_slice c = grind (arith, common_steps)
@@ -10,6 +10,12 @@ returns-in_err-extend_from_slice-2 c = grind (arith, common_steps)
 
 pub returns-in_err-extend_from_slice-3 : goal.returns-in_err-extend_from_slice-3
 returns-in_err-extend_from_slice-3 c = grind (arith, common_steps)
+
+pub returns-in_err-extend_from_slice-4 : goal.returns-in_err-extend_from_slice-4
+returns-in_err-extend_from_slice-4 c = grind (arith, common_steps)
+
+pub returns-in_err-extend_from_slice-5 : goal.returns-in_err-extend_from_slice-5
+returns-in_err-extend_from_slice-5 c = grind (arith, common_steps)
 
 pub returns : goal.returns
 returns c = grind (arith, common_steps)
