@@ -14,6 +14,7 @@ ghost use Rattle.path_classes.specs.ChangedAnswers.{SameRow, SameReach, HadSameR
 use crate::cells::same_row;
 use crate::label_row::LabelRow;
 use crate::path_class::PathClass;
+use crate::same_rows::StateClasses;
 use crate::searchers::Searchers;
 use acl_names::Path;
 use kinds::{KindMap, Kinds};
@@ -105,20 +106,18 @@ fn has_same_above(
 
 /// Tells whether files of the class `was` before have the same answers as files of the class `is` now.
 fn has_same_reach(
-    old: &Kinds<LabelRow>,
-    before: &Kinds<PathClass>,
-    rows: &Kinds<LabelRow>,
-    after: &Kinds<PathClass>,
+    before: &StateClasses<'_, '_>,
+    after: &StateClasses<'_, '_>,
     was: usize,
     is: usize,
 ) -> bool
-    ensures { result ≡ true → SameReach old.now before.now rows.now after.now was is }
+    ensures { result ≡ true → SameReach before.now.labels.now before.now.classes.now after.now.labels.now after.now.classes.now was is }
 {
-    match before.get(was) {
-        Some(was) => match after.get(is) {
+    match before.classes.get(was) {
+        Some(was) => match after.classes.get(is) {
             Some(is) => {
-                has_same_row(old, rows, was.kind, is.kind)
-                    && has_same_above(before, after, was.above, is.above)
+                has_same_row(before.labels, after.labels, was.kind, is.kind)
+                    && has_same_above(before.classes, after.classes, was.above, is.above)
             }
             None => false,
         },
@@ -164,16 +163,14 @@ impl Comparisons {
     /// classes are compared once.
     fn are_same(
         &mut self,
-        old: &Kinds<LabelRow>,
-        before: &Kinds<PathClass>,
-        rows: &Kinds<LabelRow>,
-        after: &Kinds<PathClass>,
+        before: &StateClasses<'_, '_>,
+        after: &StateClasses<'_, '_>,
         was: usize,
         is: usize,
     ) -> Result<bool, AllocError>
-        requires { AreTrue old.now before.now rows.now after.now self.old }
-        ensures kept { OnOk result (AreTrue old.now before.now rows.now after.now self.new) }
-        ensures same { IfOk result (IsTrueFor old.now before.now rows.now after.now was is) }
+        requires { AreTrue before.now.labels.now before.now.classes.now after.now.labels.now after.now.classes.now self.old }
+        ensures kept { OnOk result (AreTrue before.now.labels.now before.now.classes.now after.now.labels.now after.now.classes.now self.new) }
+        ensures same { IfOk result (IsTrueFor before.now.labels.now before.now.classes.now after.now.labels.now after.now.classes.now was is) }
     {
         if let Some(found) = found_for(self.last, was, is) {
             return Ok(found.is_same);
@@ -183,7 +180,7 @@ impl Comparisons {
             self.last = Some(found);
             return Ok(found.is_same);
         }
-        let is_same = has_same_reach(old, before, rows, after, was, is);
+        let is_same = has_same_reach(before, after, was, is);
         let found = Comparison { was, is, is_same };
         let _before = self.all.insert(key, found)?;
         self.last = Some(found);
@@ -193,19 +190,18 @@ impl Comparisons {
     /// Tells whether a file of the class `was`, if it had one, has the same answers with the class `is`.
     fn is_same(
         &mut self,
-        old: &Kinds<LabelRow>,
-        before: &Kinds<PathClass>,
-        rows: &Kinds<LabelRow>,
-        after: &Kinds<PathClass>,
+        before: &StateClasses<'_, '_>,
+        after: &StateClasses<'_, '_>,
         was: Option<usize>,
         is: usize,
     ) -> Result<bool, AllocError>
-        requires { AreTrue old.now before.now rows.now after.now self.old }
-        ensures kept { OnOk result (AreTrue old.now before.now rows.now after.now self.new) }
-        ensures same { IfOk result (λ same. same ≡ true → HadSameReach old.now before.now rows.now after.now was is) }
+        requires { AreTrue before.now.labels.now before.now.classes.now after.now.labels.now after.now.classes.now self.old }
+        ensures kept { OnOk result (AreTrue before.now.labels.now before.now.classes.now after.now.labels.now after.now.classes.now self.new) }
+        ensures same { IfOk result (λ same. same ≡ true
+            → HadSameReach before.now.labels.now before.now.classes.now after.now.labels.now after.now.classes.now was is) }
     {
         match was {
-            Some(was) => self.are_same(old, before, rows, after, was, is),
+            Some(was) => self.are_same(before, after, was, is),
             None => Ok(false),
         }
     }
@@ -238,17 +234,21 @@ pub(crate) fn changed_answers(
 {
     old.order_law();
     rows.order_law();
-    let labels_before = old.kinds();
-    let labels = rows.kinds();
-    let classes_before = before.kinds();
-    let classes = after.kinds();
+    let state_before = StateClasses {
+        labels: old.kinds(),
+        classes: before.kinds(),
+    };
+    let state_after = StateClasses {
+        labels: rows.kinds(),
+        classes: after.kinds(),
+    };
     let found = before.numbers().get_all(alloc, files)?;
     let mut compared = Comparisons::new(alloc);
     let mut count = 0;
     for at in 0..files.len() {
         let was = found[at];
         let is = files[at].1;
-        let is_same = compared.is_same(labels_before, classes_before, labels, classes, was, is)?;
+        let is_same = compared.is_same(&state_before, &state_after, was, is)?;
         count = count_unless(count, is_same);
     }
     Ok(count)

@@ -18,7 +18,7 @@ use crate::classed_rows::ClassedRows;
 use crate::label_row::LabelRow;
 use crate::left_rows::{class_cell, class_row, label_cell};
 use crate::path_class::{ClassNumber, PathClass};
-use crate::same_rows::{has_same_cells, is_same_row, kept_search, leaves_same_row};
+use crate::same_rows::{StateClasses, has_same_cells, is_same_row, kept_search, leaves_same_row};
 use acl_entry::Requests;
 use acl_names::Path;
 use kinds::Kinds;
@@ -168,14 +168,17 @@ impl<'a> NumberedFiles<'a> {
     {
         match self.classes {
             Some(classes) => match others.classes {
-                Some(other_classes) => leaves_same_row(
-                    self.labels,
-                    classes,
-                    number,
-                    others.labels,
-                    other_classes,
-                    other,
-                ),
+                Some(other_classes) => {
+                    let state = StateClasses {
+                        labels: self.labels,
+                        classes,
+                    };
+                    let others = StateClasses {
+                        labels: others.labels,
+                        classes: other_classes,
+                    };
+                    leaves_same_row(&state, number, &others, other)
+                }
                 None => false,
             },
             None => {

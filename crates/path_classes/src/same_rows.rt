@@ -12,6 +12,13 @@ use crate::path_class::{ClassNumber, PathClass};
 use crate::searchers::Searchers;
 use kinds::Kinds;
 
+/// The labels and the path classes of a state.
+#[derive(Clone, Copy)]
+pub(crate) struct StateClasses<'l, 'c> {
+    pub labels: &'l Kinds<LabelRow>,
+    pub classes: &'c Kinds<PathClass>,
+}
+
 /// Returns who gets through the class above, if there is one that keeps it.
 pub(crate) fn kept_search(
     classes: &Kinds<PathClass>,
@@ -80,21 +87,19 @@ pub(crate) fn has_same_cells(
 /// Tells whether two classes of two states are of labels with the same verdicts, and the same users get through
 /// above.
 pub(crate) fn leaves_same_row(
-    labels: &Kinds<LabelRow>,
-    classes: &Kinds<PathClass>,
+    state: &StateClasses<'_, '_>,
     number: usize,
-    other_labels: &Kinds<LabelRow>,
-    other_classes: &Kinds<PathClass>,
+    others: &StateClasses<'_, '_>,
     other: usize,
 ) -> bool
-    ensures { result ≡ true → class_row labels.now classes.now number ≡ class_row other_labels.now other_classes.now other }
+    ensures { result ≡ true → class_row state.now.labels.now state.now.classes.now number ≡ class_row others.now.labels.now others.now.classes.now other }
 {
-    let Some(class) = classes.get(number) else {
+    let Some(class) = state.classes.get(number) else {
         return false;
     };
-    let Some(others) = other_classes.get(other) else {
+    let Some(other) = others.classes.get(other) else {
         return false;
     };
-    has_same_cells(labels, class.kind, other_labels, others.kind)
-        && is_same_search(classes, class.above, other_classes, others.above)
+    has_same_cells(state.labels, class.kind, others.labels, other.kind)
+        && is_same_search(state.classes, class.above, others.classes, other.above)
 }

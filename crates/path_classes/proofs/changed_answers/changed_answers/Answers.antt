@@ -17,10 +17,10 @@ pub loop-at-init : goal.loop-at-init
 loop-at-init c = record {
   compared = record {
     last =
-        subst (λ (o : Option Comparison). IfSome o (IsTrueIn c.kinds-labels_before.result.now c.kinds-classes_before.result.now c.kinds-labels.result.now c.kinds-classes.result.now))
+        subst (λ (o : Option Comparison). IfSome o (IsTrueIn c.kinds.result.now c.kinds-2.result.now c.kinds-3.result.now c.kinds-4.result.now))
         (sym c.new-compared.ensures.last) tt;
     all = λ key.
-        subst (λ (o : Option Comparison). IfSome o (IsTrueIn c.kinds-labels_before.result.now c.kinds-classes_before.result.now c.kinds-labels.result.now c.kinds-classes.result.now))
+        subst (λ (o : Option Comparison). IfSome o (IsTrueIn c.kinds.result.now c.kinds-2.result.now c.kinds-3.result.now c.kinds-4.result.now))
         (sym (c.new-compared.ensures.all key)) tt;
   };
   least = λ differs stays. omega arith;
@@ -43,12 +43,12 @@ loop-at-preserved c =
       compared = c.in_ok-is_same.ensures.kept;
       least =
           subst (AreCountedOf old rows (map seen (take (c.loop-at.at + 1) files))) (sym c.count_unless-count.ensures)
-          (counted_more old rows before after c.kinds-labels_before.ensures.sound.used c.kinds-labels.ensures.sound.used c.order_law.ensures c.order_law-2.ensures c.requires.were c.requires.are
+          (counted_more old rows before after c.kinds.ensures.sound.used c.kinds-3.ensures.sound.used c.order_law.ensures c.order_law-2.ensures c.requires.were c.requires.are
           files c.requires.among c.loop-at.at e c.loop-at-test.true c.index-files-at.is c.index-was.result.now was c.in_ok-is_same.is_same
           (λ same.
           subst (λ (d : Bor PathOf × ℕ). HadSameReach old.0 before.0 rows.0 after.0 c.index-was.result.now d.1) (sym c.index-files-at.is)
-          (same_at c.kinds-labels_before.result.now old.0 c.kinds-labels_before.ensures.all c.kinds-classes_before.result.now before.0 c.kinds-classes_before.ensures.all
-          c.kinds-labels.result.now rows.0 c.kinds-labels.ensures.all c.kinds-classes.result.now after.0 c.kinds-classes.ensures.all c.index-was.result.now
+          (same_at c.kinds.result.now old.0 c.kinds.ensures.all c.kinds-2.result.now before.0 c.kinds-2.ensures.all
+          c.kinds-3.result.now rows.0 c.kinds-3.ensures.all c.kinds-4.result.now after.0 c.kinds-4.ensures.all c.index-was.result.now
           (get_or files c.loop-at.at e).1 (c.in_ok-is_same.ensures.same same)))
           c.loop-at.count c.loop-at.invariant.least);
       most = few_unless c.in_ok-is_same.is_same c.loop-at.count c.loop-at.at c.count_unless-count.result c.count_unless-count.ensures c.loop-at.invariant.most;
