@@ -65,20 +65,8 @@ impl Effect {
     }
 }
 
-/// Prepares the state after a command. The present state is left as it is.
-pub(crate) fn prepared(
-    alloc: Global,
-    state: &State,
-    command: &Command<'_>,
-) -> Result<Effect, LineFault>
-    ensures { Replies state.now result (done state.now command.now) }
-{
-    let staged = state.prepare(alloc, command)?;
-    Ok(Effect::changes(alloc, staged))
-}
-
-/// As `prepared`, but takes the command and drops it by name, which is cheaper to prove than letting it go out of
-/// scope.
+/// Prepares the state after a command. The present state is left as it is. The command is dropped by name, which is
+/// cheaper to prove than letting it go out of scope.
 pub(crate) fn effect_of(
     alloc: Global,
     state: &State,
@@ -86,7 +74,8 @@ pub(crate) fn effect_of(
 ) -> Result<Effect, LineFault>
     ensures { Replies state.now result (done state.now command.entry) }
 {
-    let outcome = prepared(alloc, state, &command);
+    let outcome = state.prepare(alloc, &command);
     drop(command);
-    outcome
+    let staged = outcome?;
+    Ok(Effect::changes(alloc, staged))
 }

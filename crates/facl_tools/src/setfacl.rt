@@ -50,7 +50,7 @@ fn change_files(
     let paths = paths_of(alloc, line.files.as_slice())?;
     let warns = drops(line.flags.as_default, &entries);
     let edit = edit_of(line.flags, entries);
-    let effect = edit_or_test(alloc, state, paths, edit, line.recursive, line.test)?;
+    let effect = edit_or_test(alloc, state, line, paths, edit)?;
     Ok(effect.warning(warns))
 }
 

@@ -10,6 +10,7 @@ ghost use Rattle.acl_tree.specs.State.{State};
 ghost use Rattle.acl_tree.specs.Step.{step};
 
 use crate::effect::{Effect, effect_of};
+use crate::setfacl::ChangeLine;
 use acl_edit::Edit;
 use acl_names::Path;
 use acl_text::DumpRecord;
@@ -107,24 +108,23 @@ fn test_edit(
     outcome
 }
 
-/// Edits files, or tries it out.
+/// Edits the files of a line, or tries it out.
 pub(crate) fn edit_or_test(
     alloc: Global,
     state: &State,
+    line: &ChangeLine<'_>,
     paths: Paths,
     edit: Edit,
-    recursive: bool,
-    is_test: bool,
 ) -> Result<Effect, LineFault>
-    ensures { Replies state.now result (edited_or_tested is_test state.now recursive paths edit) }
+    ensures { Replies state.now result (edited_or_tested line.now.test state.now line.now.recursive paths edit) }
 {
-    if is_test {
-        return test_edit(alloc, state, paths, edit, recursive);
+    if line.test {
+        return test_edit(alloc, state, paths, edit, line.recursive);
     }
     let command = Command::Edit {
         paths,
         edit,
-        recursive,
+        recursive: line.recursive,
     };
     effect_of(alloc, state, command)
 }
