@@ -15,8 +15,33 @@ use acl_names::Path;
 use kinds::{KindMap, TaggedMap};
 use std::alloc::{AllocError, Global};
 
+/// Finds the classes at or below the changed and the gone files again, and counts the files there that may have other
+/// answers by that.
+fn found_again<V, W>(
+    alloc: Global,
+    old: &KindMap<LabelRow>,
+    rows: &KindMap<LabelRow>,
+    before: &TaggedMap<PathClass>,
+    changed: &[(&Path, V)],
+    gone: &[(&Path, W)],
+) -> Result<(TaggedMap<PathClass>, usize), AllocError>
+    requires changed { IsInOrder (map seen changed.now) }
+    requires gone { IsInOrder (map seen gone.now) }
+    requires were { AreClasses old.now before.now }
+    requires puts { PutsRows old.now (map seen changed.now) (map seen gone.now) rows.now }
+    ensures classes { IfOk result (λ new. AreClasses rows.now new.0) }
+    ensures least { IfOk result (λ new. AreCounted old.now rows.now new.1) }
+    ensures most { IfOk result (λ new. new.1 ≤ length (inside (paths_of (map seen changed.now) ++ paths_of (map seen gone.now)) rows.now.1)) }
+{
+    let _files_before = old.numbers();
+    let _files = rows.numbers();
+    let tops = tops_of(alloc, changed, gone)?;
+    let new = classes_after(alloc, old, rows, before, &tops)?;
+    Ok(new)
+}
+
 /// Returns the classes after some files changed and others are gone, and how many files at or below these may have
-/// other answers by that: one file alone gets its label in place if it can, else the classes there are found again.
+/// other answers by that: one file alone gets its label in place if it can.
 pub(crate) fn classes_with_files<V, W>(
     alloc: Global,
     old: &KindMap<LabelRow>,
@@ -33,12 +58,8 @@ pub(crate) fn classes_with_files<V, W>(
     ensures least { IfOk result (λ new. AreCounted old.now rows.now new.1) }
     ensures most { IfOk result (λ new. new.1 ≤ length (inside (paths_of (map seen changed.now) ++ paths_of (map seen gone.now)) rows.now.1)) }
 {
-    if let Some(alone) = relabelled_alone(alloc, old, rows, before, changed, gone)? {
-        return Ok(alone);
+    match relabelled_alone(alloc, old, rows, before, changed, gone)? {
+        Some(new) => Ok(new),
+        None => found_again(alloc, old, rows, before, changed, gone),
     }
-    let _files_before = old.numbers();
-    let _files = rows.numbers();
-    let tops = tops_of(alloc, changed, gone)?;
-    let new = classes_after(alloc, old, rows, before, &tops)?;
-    Ok(new)
 }

@@ -4,7 +4,7 @@ use Rattle.acl_names.specs.Paths.{PathOf}
 use Rattle.path_map.specs.Entries.{seen}
 use Rattle.path_classes.specs.ClassesWithin.{paths_seen, inside, AreTops, ChangesInside}
 use Rattle.path_classes.proofs.ChangedFiles.{changes_inside, same_inside}
-use Rattle.path_classes.proofs.changed_files.classes_with_files.Goals as goal
+use Rattle.path_classes.proofs.changed_files.found_again.Goals as goal
 
 pub classes_after-requires-clause-tops : goal.classes_after-requires-clause-tops
 classes_after-requires-clause-tops g c = subst (λ (ts : List (Bor PathOf)). AreTops (paths_seen ts)) (sym c.deref.ensures.value) c.in_ok-tops.ensures.tops
