@@ -27,7 +27,8 @@ returns-then-not-asks_for_text g c =
     let n : ℕ = c.args.self.now.number in
     let held = subst (λ (l : List ℕ). Held c.in-Some.found.is_too_long l t) (sym c.as_slice-bytes.ensures.value) line.held in
     let is = c.of-line.ensures t held in
-    let takes : takes_text g.S.Session.asks t ≡ false = sym (takes_within g.S.Session.asks t) ∙ sym (c.asks_for_text.ensures (within_limit t) (c.found.ensures (within_limit t) is)) ∙ c.if-not-asks_for_text.true in
+    let takes : takes_text g.S.Session.asks t ≡ false = sym (takes_within g.S.Session.asks t)
+    ∙ sym (c.asks_for_text.ensures (within_limit t) (c.found.ensures (within_limit t) is)) ∙ c.if-not-asks_for_text.true in
     let some = spelled_some t e (λ h. (line.last h).0) in (
       (
         spelled t e,
@@ -55,7 +56,8 @@ returns-then-not-found g c =
     let n : ℕ = c.args.self.now.number in
     let held = subst (λ (l : List ℕ). Held c.in-Some.found.is_too_long l t) (sym c.as_slice-bytes.ensures.value) line.held in
     let is = c.of-line.ensures t held in
-    let takes : takes_text g.S.Session.asks t ≡ true = sym (takes_within g.S.Session.asks t) ∙ sym (c.asks_for_text.ensures (within_limit t) (c.found.ensures (within_limit t) is)) ∙ c.if-not-asks_for_text.false in
+    let takes : takes_text g.S.Session.asks t ≡ true = sym (takes_within g.S.Session.asks t)
+    ∙ sym (c.asks_for_text.ensures (within_limit t) (c.found.ensures (within_limit t) is)) ∙ c.if-not-asks_for_text.false in
     let some = (line.last no_end).0 in
     let consumes = subst
     (λ (b : Bool). Consumes (unread c.args.self.now.source (g.R.Feed.remaining c.args.reader.now))
@@ -93,7 +95,8 @@ returns-in_err-read g c =
     let ended : c.in-Some.found.is_ended ≡ true = of_not_not _ c.if-not-found.false in
     let held = subst (λ (l : List ℕ). Held c.in-Some.found.is_too_long l t) (sym c.as_slice-bytes.ensures.value) line.held in
     let is = c.of-line.ensures t held in
-    let takes : takes_text g.S.Session.asks t ≡ true = sym (takes_within g.S.Session.asks t) ∙ sym (c.asks_for_text.ensures (within_limit t) (c.found.ensures (within_limit t) is)) ∙ c.if-not-asks_for_text.false in
+    let takes : takes_text g.S.Session.asks t ≡ true = sym (takes_within g.S.Session.asks t)
+    ∙ sym (c.asks_for_text.ensures (within_limit t) (c.found.ensures (within_limit t) is)) ∙ c.if-not-asks_for_text.false in
     let consumes = subst
     (λ (b : Bool). Consumes (unread c.args.self.now.source (g.R.Feed.remaining c.args.reader.now))
     (unread c.next_line.new.self (g.R.Feed.remaining c.next_line.new.reader)) (spelled t b)) ended line.consumes in
@@ -126,7 +129,8 @@ returns g c =
     let n : ℕ = c.args.self.now.number in
     let held = subst (λ (l : List ℕ). Held c.in-Some.found.is_too_long l t) (sym c.as_slice-bytes.ensures.value) line.held in
     let is = c.of-line.ensures t held in
-    let takes : takes_text g.S.Session.asks t ≡ true = sym (takes_within g.S.Session.asks t) ∙ sym (c.asks_for_text.ensures (within_limit t) (c.found.ensures (within_limit t) is)) ∙ c.if-not-asks_for_text.false in
+    let takes : takes_text g.S.Session.asks t ≡ true = sym (takes_within g.S.Session.asks t)
+    ∙ sym (c.asks_for_text.ensures (within_limit t) (c.found.ensures (within_limit t) is)) ∙ c.if-not-asks_for_text.false in
     let same = subst (λ (l : List ℕ). IsLineFound c.of-line.result l (Some t)) c.as_slice-bytes.ensures.value
     (subst (λ o. IsLineFound c.of-line.result c.as_slice-bytes.result.now o) (takes_some g.S.Session.asks t takes) is) in
     let consumes = subst
