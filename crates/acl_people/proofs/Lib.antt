@@ -2,6 +2,8 @@ pub mod Pointers
 pub mod Changed
 pub mod Places
 pub mod NamedRows
+pub mod NotesInOrder
+pub mod NotesOfNames
 pub mod Joined
 pub mod Gids
 pub mod Bytes

@@ -1,10 +1,13 @@
--- One more name in a name table, and what its places give.
-use Rattle.std.proofs.Common.{◌≡◌, ℕ, ◌+◌, ◌<◌, Bool, true, false, not, ◌&&◌, cond, List, [], ◌∷◌, ◌++◌, length, map, take, get_or, slice_get, position, find}
-use Rattle.std.proofs.Common.{Option, Some, None, option_map, option_and_then, if◌then◌else◌, refl, sym, ap, ◌∙◌}
-use Rattle.std.specs.Option.{option_or}
+-- One more name in a name table, copies of names, and what its places give.
+use Rattle.std.proofs.Common.{◌≡◌, ℕ, ◌+◌, ◌<◌, Bool, true, false, cond, List, [], ◌∷◌, ◌++◌, length, map, take, get_or, slice_get, position, find}
+use Rattle.std.proofs.Common.{Option, Some, None, option_map, option_and_then, Vec, vec_len, Global, refl, sym, ap, ◌∙◌, arith}
+use Rattle.std.specs.List.{AllZip}
+use Rattle.std.proofs.lemmas.List.{take_at, length_push, get_or_push}
+use Rattle.std.proofs.lemmas.List.Elements.{same_from_all_zip}
 use Rattle.indexmap.specs.IndexMap.{insert_entry}
 use Rattle.acl_people.specs.NameTables.{Named, is_name, AreNames}
-use Rattle.acl_people.proofs.Places.{position-cons, position-push, position-before, find-position}
+use Rattle.acl_people.specs.Kept.{named_in}
+use Rattle.acl_people.proofs.Places.{position-cons, position-before, find-position}
 
 none_from : (o : Option ℕ) → option_map (λ k. k + 1) o ≡ None → o ≡ None
 none_from None e = refl
@@ -30,28 +33,6 @@ insert-absent {K} {V} eq p f k v agrees (e ∷ es) none =
         let rest = none_from _ (sym (ap (λ b. cond b (Some 0) (option_map (λ i. i + 1) (position p (map f es)))) is) ∙ found) in
         ap (λ xs. f e ∷ xs) (more rest)
 
--- the first place, once it is kept unless there is one
-pub first_more : (old new : List Named) (y : Named) → new ≡ old ++ y ∷ [] → (p : Named → Bool) (was now : Option ℕ) (place : ℕ) → place ≡ length old
-    → was ≡ position p old → now ≡ option_or was (if p y then Some place else None) → now ≡ position p new
-first_more old new y pushed p was now place last is noted =
-    noted
-    ∙ ap (λ o. option_or o (if p y then Some place else None)) is
-    ∙ ap (λ n. option_or (position p old) (if p y then Some n else None)) last
-    ∙ sym (position-push p old y)
-    ∙ ap (λ es. position p es) (sym pushed)
-
-pub or_none : (o : Option ℕ) → o ≡ option_or o None
-or_none None = refl
-or_none (Some i) = refl
-
-pub and_true : (b c : Bool) → c ≡ false → (b && not c) ≡ b
-and_true true c e = ap not e
-and_true false c e = refl
-
-pub and_false : (b c : Bool) → c ≡ true → (b && not c) ≡ false
-and_false true c e = ap not e
-and_false false c e = refl
-
 -- what the first of a kind is, by its place
 pub found_at : {X Y : Type 0} (p : X → Bool) (f : X → Y) (xs : List X) (i : ℕ) (r : Option Y) → Some i ≡ position p xs → r ≡ option_map f (slice_get xs i) → r ≡ option_map f (find p xs)
 found_at p f xs i r at is = is ∙ ap (λ o. option_map f (option_and_then (λ k. slice_get xs k) o)) at ∙ ap (λ o. option_map f o) (sym (find-position p xs))
@@ -62,3 +43,15 @@ not_found p f xs at = ap (λ o. option_map f (option_and_then (λ k. slice_get x
 -- a name is not among those before it
 pub fresh : (es : List Named) (i : ℕ) (e : Named) → AreNames es → i < length es → get_or es i e ≡ e → position (is_name e.0) (take i es) ≡ None
 fresh es i e names within at = position-before (is_name e.0) i es (ap (λ y. position (is_name y.0) es) (sym at) ∙ names.once i e within)
+
+pub new_name : (es : List Named) (y : Named) → AreNames (es ++ y ∷ []) → position (is_name y.0) es ≡ None
+new_name es y names =
+    ap (λ l. position (is_name y.0) l) (sym (take_at es (y ∷ []) (length es) refl))
+    ∙ fresh (es ++ y ∷ []) (length es) y names (omega (arith, length_push es y)) (get_or_push es y y (length es) refl)
+
+-- clones of names and ids
+pub clones_named : (es fs : List (Vec ℕ Global × ℕ)) → AllZip (λ p q. (AllZip (λ x y. y ≡ x) p.0.items q.0.items × (vec_len q.0 ≡ vec_len p.0)) × (q.1 ≡ p.1)) es fs → named_in fs ≡ named_in es
+clones_named [] [] h = refl
+clones_named [] (f ∷ fs) h = absurd h
+clones_named (e ∷ es) [] h = absurd h
+clones_named (e ∷ es) (f ∷ fs) h = λ i. (same_from_all_zip (λ x y. y ≡ x) e.0.items f.0.items h.0.0.0 (λ x y is. is) i, h.0.1 i) ∷ clones_named es fs h.1 i

@@ -1,24 +1,46 @@
 -- What a name table keeps. Only clauses of inner functions name it.
-use Rattle.std.specs.Prelude.{◌≡◌, ℕ, List, [], ◌∷◌, ◌++◌, length, map, Bool, Some, None, position, Vec, if◌then◌else◌}
-use Rattle.std.specs.Option.{option_or}
-use Rattle.std.specs.Ordering.{nat_cmp}
-use Rattle.std.specs.BTreeMap.{BTreeMap, get}
-use Rattle.acl_people.specs.NameTables.{Named, is_id, prints}
+use Rattle.std.specs.Prelude.{◌≡◌, ℕ, ◌+◌, ◌-◌, ◌==◌, ◌||◌, List, [], ◌∷◌, map, filter, find, Bool, not, nat_lt, Option, option_map, Vec, if◌then◌else◌}
+use Rattle.std.specs.List.Sorted.{IsNonDecreasingBy}
+use Rattle.acl_text.specs.Ids.{is_number}
+use Rattle.acl_people.specs.declared.places_by_id.Note.{Note}
+use Rattle.acl_people.specs.NameTables.{Named}
 
 -- the names of a map, with their ids
 abbrev pub named_in : {Z : Type 0} → List (Vec ℕ Z × ℕ) → List Named
 named_in entries = map (λ e. (e.0.items, e.1)) entries
 
--- for each id the first place of a name that passes
-abbrev pub AreFirstPlaces : (ℕ → Named → Bool) → BTreeMap ℕ ℕ → List Named → Type 0
-AreFirstPlaces test places es = (id : ℕ) → get nat_cmp places id ≡ position (test id) es
+-- a name has a note: each, or only one that is not digits alone
+abbrev pub has_note : Bool → Named → Bool
+has_note digits e = digits || not (is_number e.0)
 
--- a place is kept for the ids that pass, unless they have one
-abbrev pub KeepsFirst : BTreeMap ℕ ℕ → BTreeMap ℕ ℕ → (ℕ → Bool) → ℕ → Type 0
-KeepsFirst old new test place = (id : ℕ) → get nat_cmp new id ≡ option_or (get nat_cmp old id) (if test id then Some place else None)
+-- the notes of names that pass, where the first name has the place n
+abbrev pub notes_from : (Named → Bool) → ℕ → List Named → List Note
+notes_from test n [] = []
+notes_from test n (e ∷ es) = if test e then record { id = e.1; place = n } ∷ notes_from test (n + 1) es else notes_from test (n + 1) es
 
--- a name goes last, and its place is kept for its id, as the first one and as the first that is printed, unless there is one
-pub record AddsName {Z : Type 0} (old new : List (Vec ℕ Z × ℕ)) (first_old first_new shown_old shown_new : BTreeMap ℕ ℕ) (e : Named) : Type 0 where
-  pub added : named_in new ≡ named_in old ++ e ∷ []
-  pub first : KeepsFirst first_old first_new (λ q. is_id q e) (length old)
-  pub shown : KeepsFirst shown_old shown_new (λ q. prints q e) (length old)
+abbrev pub notes_of : Bool → List Named → List Note
+notes_of digits es = notes_from (has_note digits) 0 es
+
+abbrev pub is_for : ℕ → Note → Bool
+is_for id n = n.id == id
+
+-- the first place that is noted for an id
+abbrev pub first_place : ℕ → List Note → Option ℕ
+first_place id notes = option_map (λ n. n.place) (find (is_for id) notes)
+
+-- in the order of the ids
+abbrev pub AreInOrder : List Note → Type 0
+AreInOrder notes = IsNonDecreasingBy (λ n. n.id) notes
+
+-- the old notes in the order of the ids, those of one id as they were
+pub record AreSorted (old new : List Note) : Type 0 where
+  pub in_order : AreInOrder new
+  pub same : (id : ℕ) → filter (is_for id) new ≡ filter (is_for id) old
+
+-- a note once the name at the place `gone` is removed
+abbrev pub lowered : ℕ → Note → Note
+lowered gone n = record { id = n.id; place = if nat_lt gone n.place then n.place - 1 else n.place }
+
+-- the notes without that of a place
+abbrev pub without_place : ℕ → List Note → List Note
+without_place gone notes = map (lowered gone) (filter (λ n. not (n.place == gone)) notes)

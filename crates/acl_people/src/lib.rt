@@ -16,6 +16,7 @@ mod name_table;
 mod people;
 mod persons;
 mod places_by_id;
+mod sorted_notes;
 mod subjects;
 mod user_name;
 mod users;

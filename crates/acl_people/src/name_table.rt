@@ -1,81 +1,162 @@
 //! Names with their ids, looked up by name and by id; and the hashes of names, keyed by all the names of a table.
 
-ghost use Rattle.std.specs.Prelude.{◌≡◌, ◌++◌, ◌∷◌, [], ℕ, ◌==◌, map, position, None, OnOk, option_map, slice_get, List};
+ghost use Rattle.std.specs.Prelude.{◌≡◌, ◌++◌, ◌∷◌, [], ℕ, ◌||◌, not, true, false, if◌then◌else◌, map, position, None, IfOk, OnOk, option_map, slice_get, List};
+ghost use Rattle.std.specs.List.{remove};
 ghost use Rattle.std.specs.Option.{option_copied};
+ghost use Rattle.acl_text.specs.Ids.{is_number};
 ghost use Rattle.acl_people.specs.NameTables.{is_name, is_id, prints, id_named, name_shown, place_of_word, AreNames, IsPlaceIn};
 ghost use Rattle.acl_people.specs.Hashes.{keyed};
-ghost use Rattle.acl_people.specs.Kept.{named_in, AreFirstPlaces, KeepsFirst, AddsName};
-ghost use Rattle.acl_names.specs.Made.{Makes, MakesOne};
+ghost use Rattle.acl_people.specs.Kept.{named_in, has_note, notes_of, AreInOrder, AreSorted};
+ghost use Rattle.acl_names.specs.Made.{Makes, MakesOne, MakesList};
 
+use crate::places_by_id::Note;
+use crate::sorted_notes::{first_of_id, sorted, with_note, without_place};
 use acl_entry::Id;
 use acl_text::{is_number, read_id};
 use indexmap::IndexMap;
 use sha2::{Digest, Sha256};
 use std::alloc::{AllocError, Global};
-use std::collections::BTreeMap;
 use std::hash::{BuildHasher, DefaultHasher, Hasher};
 use std::marker::Model;
 use std::rc::Rc;
 
-/// Names in the order of their rows, each once, with their ids. The first place of each id, and the first
-/// place of each id whose name is not digits alone, are kept beside them.
+/// The most names that are added under one key of the hashes. Who knows the names of a table knows its key, and can
+/// choose names to add that collide: a look-up then compares a name with this number of names. A new key takes a pass
+/// over all names.
+const MOST_ADDED: usize = 64;
+
+/// Names in the order of their rows, each once, with their ids.
+type Names = IndexMap<Vec<u8>, Id, NameHashes>;
+
+/// Names with their ids. The places of all names, and of those that are not digits alone, are kept beside them in the
+/// order of the ids.
 #[derive(Drop)]
 pub(crate) struct NameTable {
-    ids: IndexMap<Vec<u8>, Id, NameHashes>,
-    first: BTreeMap<u32, usize>,
-    shown: BTreeMap<u32, usize>,
+    names: Names,
+    /// How many names were added since the key of the hashes was made.
+    added: usize,
+    by_id: Vec<Note>,
+    shown: Vec<Note>,
 }
 
 impl Model for NameTable {
     ghost Value = { List (List ℕ × ℕ) };
 
-    ghost view = { λ r. named_in r.ids.entries };
+    ghost view = { λ t. named_in t.names.entries };
 
-    ghost invariant = { λ r.
-        AreFirstPlaces is_id r.first (named_in r.ids.entries) × AreFirstPlaces prints r.shown (named_in r.ids.entries) };
+    ghost invariant = { λ t.
+        AreSorted (notes_of true (named_in t.names.entries)) t.by_id.items × AreSorted (notes_of false (named_in t.names.entries)) t.shown.items };
 }
 
-/// Keeps the place for the id, unless it has one.
-fn note(places: &mut BTreeMap<u32, usize>, id: u32, place: usize) -> Result<(), AllocError>
-    ensures { OnOk result (KeepsFirst places.old places.new (λ q. id == q) place) }
+/// Adds a name, which is not among them, with its id.
+fn add(alloc: Global, names: &mut Names, name: &[u8], id: Id) -> Result<(), AllocError>
+    requires { position (is_name name.now) (named_in names.old.entries) ≡ None }
+    ensures { OnOk result (named_in names.new.entries ≡ named_in names.old.entries ++ (name.now, id) ∷ []) }
 {
-    places.entry(id)?.or_insert(place);
+    names.insert(Vec::from_slice(alloc, name)?, id)?;
     Ok(())
 }
 
-/// Adds a name, which is not among them, with its id, and keeps its place.
-fn add(
-    alloc: Global,
-    ids: &mut IndexMap<Vec<u8>, Id, NameHashes>,
-    first: &mut BTreeMap<u32, usize>,
-    shown: &mut BTreeMap<u32, usize>,
-    name: &[u8],
-    id: Id,
-) -> Result<(), AllocError>
-    requires { position (is_name name.now) (named_in ids.old.entries) ≡ None }
-    ensures { OnOk result (AddsName ids.old.entries ids.new.entries first.old first.new shown.old shown.new (name.now, id)) }
+/// Returns the names of the rows, hashed with a key that all of them make.
+fn names_of<R: NamedRow>(alloc: Global, rows: &[R]) -> Result<Names, AllocError>
+    requires { AreNames (map R.named rows.now) }
+    ensures { IfOk result (λ names. named_in names.entries ≡ map R.named rows.now) }
 {
-    let place = ids.len();
-    note(first, id.number(), place)?;
-    if !is_number(name) {
-        note(shown, id.number(), place)?;
+    let mut names = IndexMap::with_capacity_and_hasher(alloc, rows.len(), NameHashes::of(rows))?;
+    for row in rows {
+        add(alloc, &mut names, row.name(), row.id())?;
     }
-    ids.insert(Vec::from_slice(alloc, name)?, id)?;
+    Ok(names)
+}
+
+/// Copies names, and the key of their hashes.
+fn copied(names: &Names) -> Result<Names, AllocError>
+    ensures { IfOk result (λ copy. named_in copy.entries ≡ named_in names.now.entries) }
+{
+    let copy = names.clone()?;
+    Ok(copy)
+}
+
+/// Copies names, with a further one, which is not among them, the last.
+fn with_name(alloc: Global, names: &Names, name: &[u8], id: Id) -> Result<Names, AllocError>
+    requires { position (is_name name.now) (named_in names.now.entries) ≡ None }
+    ensures { IfOk result (λ more. named_in more.entries ≡ named_in names.now.entries ++ (name.now, id) ∷ []) }
+{
+    let mut more = copied(names)?;
+    add(alloc, &mut more, name, id)?;
+    Ok(more)
+}
+
+/// Tells whether a name's place is noted: that of one of digits alone only if `digits`.
+fn has_note(digits: bool, name: &[u8]) -> bool
+    ensures { result ≡ (digits || not (is_number name.now)) }
+{
+    digits || !is_number(name)
+}
+
+/// Adds the note of a name, if it has one.
+fn push_note(
+    notes: &mut Vec<Note>,
+    digits: bool,
+    name: &[u8],
+    note: Note,
+) -> Result<(), AllocError>
+    ensures { OnOk result (notes.new.items ≡ notes.old.items ++ (if has_note digits (name.now, note.id) then note ∷ [] else [])) }
+{
+    if has_note(digits, name) {
+        notes.push(note)?;
+    }
     Ok(())
+}
+
+/// Notes the place of each row for its id, where its name has a note.
+fn notes_of<R: NamedRow>(alloc: Global, digits: bool, rows: &[R]) -> Result<Vec<Note>, AllocError>
+    ensures { MakesList result (notes_of digits (map R.named rows.now)) }
+{
+    let mut notes = Vec::with_capacity(alloc, rows.len())?;
+    for (place, row) in rows.iter().enumerate() {
+        let note = Note {
+            id: row.id(),
+            place,
+        };
+        push_note(&mut notes, digits, row.name(), note)?;
+    }
+    Ok(notes)
+}
+
+/// Copies notes, with the note of a further name after those of its id, if it has one.
+fn noted(
+    alloc: Global,
+    notes: &[Note],
+    digits: bool,
+    name: &[u8],
+    note: Note,
+) -> Result<Vec<Note>, AllocError>
+    requires { AreInOrder notes.now }
+    ensures { IfOk result (λ new. AreSorted (notes.now ++ (if has_note digits (name.now, note.id) then note ∷ [] else [])) new.items) }
+{
+    if has_note(digits, name) {
+        return with_note(alloc, notes, note);
+    }
+    let copy = Vec::from_slice(alloc, notes)?;
+    Ok(copy)
 }
 
 impl NameTable {
-    /// Indexes the names of the rows, hashed with a key that all of them make. A change of users makes a new name
-    /// table, so a name is never added under a key that was known before.
-    pub fn of<R: NamedRow>(alloc: Global, rows: &[R]) -> Result<NameTable, AllocError>
+    /// Indexes the names of the rows, hashed with a key that all of them make.
+    fn of<R: NamedRow>(alloc: Global, rows: &[R]) -> Result<NameTable, AllocError>
         requires { AreNames (map R.named rows.now) }
         ensures { Makes result (map R.named rows.now) }
     {
-        let mut name_table = NameTable::with_room(alloc, rows.len(), NameHashes::of(rows))?;
-        for row in rows {
-            name_table = name_table.with(alloc, row.name(), row.id())?;
-        }
-        Ok(name_table)
+        let by_id = sorted(notes_of(alloc, true, rows)?)?;
+        let shown = sorted(notes_of(alloc, false, rows)?)?;
+        let names = names_of(alloc, rows)?;
+        Ok(NameTable {
+            names,
+            added: 0,
+            by_id,
+            shown,
+        })
     }
 
     /// Indexes the names of the rows, for those that share them.
@@ -87,45 +168,72 @@ impl NameTable {
         Ok(Rc::new(alloc, name_table)?)
     }
 
-    /// Returns an empty table, with room for `count` names.
-    fn with_room(alloc: Global, count: usize, hashes: NameHashes) -> Result<NameTable, AllocError>
-        ensures { Makes result [] }
+    /// Copies the table, with a further name, which is not among them, the last.
+    fn with(&self, alloc: Global, name: &[u8], id: Id) -> Result<NameTable, AllocError>
+        requires { position (is_name name.now) self.now ≡ None }
+        ensures { Makes result (self.now ++ (name.now, id) ∷ []) }
     {
+        let note = Note {
+            id,
+            place: self.names.len(),
+        };
+        let by_id = noted(alloc, &self.by_id, true, name, note)?;
+        let shown = noted(alloc, &self.shown, false, name, note)?;
+        let names = with_name(alloc, &self.names, name, id)?;
         Ok(NameTable {
-            ids: IndexMap::with_capacity_and_hasher(alloc, count, hashes)?,
-            first: BTreeMap::new(alloc),
-            shown: BTreeMap::new(alloc),
+            names,
+            added: self.added.saturating_add(1),
+            by_id,
+            shown,
         })
     }
 
-    /// Adds a name, which is not among them.
-    fn with(mut self, alloc: Global, name: &[u8], id: Id) -> Result<NameTable, AllocError>
-        requires { position (is_name name.now) self ≡ None }
-        ensures { Makes result (self ++ (name.now, id) ∷ []) }
+    /// Indexes the names of the rows: those of this table, and that of `row`, the last.
+    pub fn with_row<R: NamedRow>(
+        &self,
+        alloc: Global,
+        rows: &[R],
+        row: &R,
+    ) -> Result<Rc<NameTable>, AllocError>
+        requires names { AreNames (map R.named rows.now) }
+        requires added { map R.named rows.now ≡ self.now ++ R.named row.now ∷ [] }
+        ensures { MakesOne result (map R.named rows.now) }
     {
-        add(
-            alloc,
-            &mut self.ids,
-            &mut self.first,
-            &mut self.shown,
-            name,
-            id,
-        )?;
-        Ok(self)
+        if self.added >= MOST_ADDED {
+            return NameTable::shared(alloc, rows);
+        }
+        let name_table = self.with(alloc, row.name(), row.id())?;
+        Ok(Rc::new(alloc, name_table)?)
+    }
+
+    /// Copies the table without the name at a place.
+    pub fn without(&self, alloc: Global, at: usize) -> Result<NameTable, AllocError>
+        ensures { Makes result (remove self.now at) }
+    {
+        let by_id = without_place(alloc, &self.by_id, at)?;
+        let shown = without_place(alloc, &self.shown, at)?;
+        let mut names = copied(&self.names)?;
+        let _gone = names.shift_remove_index(at);
+        Ok(NameTable {
+            names,
+            added: self.added,
+            by_id,
+            shown,
+        })
     }
 
     /// Returns the place of a name.
     pub fn place_of_name(&self, name: &[u8]) -> Option<usize>
         ensures { result ≡ position (is_name name.now) self.now }
     {
-        self.ids.get_index_of(name)
+        self.names.get_index_of(name)
     }
 
     /// Returns the first place of an id.
     pub fn place_of_id(&self, id: Id) -> Option<usize>
         ensures { result ≡ position (is_id id) self.now }
     {
-        self.first.get(&id.number()).copied()
+        first_of_id(&self.by_id, id)
     }
 
     /// Returns the place that a word means: digits alone are an id, any other word is a name.
@@ -146,7 +254,7 @@ impl NameTable {
     fn id_at(&self, place: usize) -> Option<Id>
         ensures { result ≡ option_map (λ e. e.1) (slice_get self.now place) }
     {
-        match self.ids.get_index(place) {
+        match self.names.get_index(place) {
             Some((_, id)) => Some(*id),
             None => None,
         }
@@ -155,7 +263,7 @@ impl NameTable {
     fn name_at(&self, place: usize) -> Option<&[u8]>
         ensures { option_copied result ≡ option_map (λ e. e.0) (slice_get self.now place) }
     {
-        match self.ids.get_index(place) {
+        match self.names.get_index(place) {
             Some((name, _)) => Some(name),
             None => None,
         }
@@ -173,7 +281,7 @@ impl NameTable {
     fn place_shown(&self, id: Id) -> Option<usize>
         ensures { result ≡ position (prints id) self.now }
     {
-        self.shown.get(&id.number()).copied()
+        first_of_id(&self.shown, id)
     }
 
     /// Returns the name that an id prints as.
@@ -197,8 +305,8 @@ pub(crate) trait NamedRow {
         ensures { result ≡ (named self.now).1 };
 }
 
-/// Hashes names: SipHash, keyed by the SHA-256 digest of all names of a name table. So names that are to collide
-/// would have to be found for a key that each of them changes.
+/// Hashes names: SipHash, keyed by the SHA-256 digest of all names that a table was made of. So names of these that are
+/// to collide would have to be found for a key that each of them changes.
 #[derive(Clone, Copy)]
 pub(crate) struct NameHashes {
     start: DefaultHasher,

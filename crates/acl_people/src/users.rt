@@ -103,9 +103,11 @@ impl Users {
         requires { AreUsers (self.now ++ row ∷ []) }
         ensures { Makes result (self.now ++ row ∷ []) }
     {
+        let row = Rc::new(alloc, row)?;
         let mut rows = self.rows.clone()?;
-        rows.push(Rc::new(alloc, row)?)?;
-        Users::of(alloc, rows)
+        rows.push(row.clone()?)?;
+        let name_table = self.name_table.with_row(alloc, &rows, &row)?;
+        Ok(Users { rows, name_table })
     }
 
     /// Removes a user.
@@ -113,8 +115,9 @@ impl Users {
         requires { user < length self.now }
         ensures { Makes result (remove self.now user) }
     {
+        let name_table = Rc::new(alloc, self.name_table.without(alloc, user)?)?;
         let mut rows = self.rows.clone()?;
         let _gone = rows.remove(user);
-        Users::of(alloc, rows)
+        Ok(Users { rows, name_table })
     }
 }

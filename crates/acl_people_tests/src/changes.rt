@@ -362,3 +362,46 @@ fn users_come_again(rt: HostRuntime) {
     expect_groups(&rt, &people, b"joe", &[100]);
     drop(people);
 }
+
+/// Adds 72 users, more than there are under one key of the hashes: ia has the place 67 and the id 2936, ih, the last,
+/// the place 74 and the id 2929.
+fn with_many(rt: &impl Abort, alloc: Global) -> People {
+    let mut people = known(rt, alloc);
+    let mut number = 3000;
+    for first in b"abcdefghi".as_slice() {
+        for second in b"abcdefgh".as_slice() {
+            let next = with_user(rt, alloc, &people, &[*first, *second], number, b"staff");
+            drop(mem::replace(&mut people, next));
+            number = number.saturating_sub(1);
+        }
+    }
+    people
+}
+
+#[test]
+fn many_users_come(rt: HostRuntime) {
+    let people = with_many(&rt, rt.alloc());
+    assert!(rt; people.users() == 75);
+    assert!(rt; people.find_user(b"joe") == Some(1) && people.find_user(b"1000") == Some(1));
+    assert!(rt; people.find_user(b"aa") == Some(3) && people.find_user(b"3000") == Some(3));
+    assert!(rt; people.find_user(b"ia") == Some(67) && people.find_user(b"2936") == Some(67));
+    assert!(rt; people.find_user(b"ih") == Some(74) && people.find_user(b"2929") == Some(74));
+    assert!(rt; people.user_name(id(&rt, 2936)) == Some(b"ia".as_slice()));
+    expect_groups(&rt, &people, b"ia", &[50]);
+    drop(people);
+}
+
+/// The users after the one who goes have the places before theirs.
+#[test]
+fn one_of_many_users_goes(rt: HostRuntime) {
+    let alloc = rt.alloc();
+    let before = with_many(&rt, alloc);
+    let people = before.without_user(alloc, 67).expect(&rt, "memory");
+    drop(before);
+    assert!(rt; people.find_user(b"ia").is_none() && people.find_user(b"2936").is_none());
+    assert!(rt; people.user_name(id(&rt, 2936)).is_none());
+    assert!(rt; people.find_user(b"aa") == Some(3) && people.find_user(b"3000") == Some(3));
+    assert!(rt; people.find_user(b"ih") == Some(73) && people.find_user(b"2929") == Some(73));
+    assert!(rt; people.user_name(id(&rt, 2929)) == Some(b"ih".as_slice()));
+    drop(people);
+}

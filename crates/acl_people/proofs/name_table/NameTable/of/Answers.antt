@@ -1,28 +1,11 @@
-use Rattle.std.proofs.Common.{◌≡◌, ◌++◌, ◌∷◌, [], length, map, take, position, sym, ap, ◌∙◌, arith}
-use Rattle.std.proofs.lemmas.List.{length-map, get_or-map, take-map, take_more, map_push}
-use Rattle.acl_people.specs.NameTables.{is_name}
-use Rattle.acl_people.proofs.NamedRows.{fresh}
+use Rattle.std.proofs.Common.{true, false, sym, subst}
+use Rattle.acl_people.specs.Kept.{notes_of, AreSorted}
 use Rattle.acl_people.proofs.name_table.NameTable.of.Goals as goal
 
-pub with-requires : goal.with-requires
-with-requires g c =
-    let named = g.R.NamedRow.named in
-    let rows = c.args.rows.now in
-    let i = c.loop-row.row-index in
-    let row = c.row-item.result in
-    let as_long : length (map named rows) ≡ length rows = length-map rows named in
-    ap (λ name. position (is_name name) c.loop-row.name_table) c.name.ensures
-    ∙ ap (λ es. position (is_name (named row).0) es) (c.loop-row.invariant ∙ sym (take-map named i rows))
-    ∙ fresh (map named rows) i (named row) c.requires (omega (arith, c.loop-row-test.true))
-    (get_or-map named rows i row (named row) c.loop-row-test.true ∙ ap named (sym c.row-item.is))
-
-pub loop-row-preserved : goal.loop-row-preserved
-loop-row-preserved g c =
-    let named = g.R.NamedRow.named in
-    let rows = c.args.rows.now in
-    let i = c.loop-row.row-index in
-    let row = c.row-item.result in
-    c.in_ok-name_table-2.ensures
-    ∙ (λ j. c.loop-row.invariant j ++ (c.name.ensures j, c.id.ensures j) ∷ [])
-    ∙ sym (map_push named (take i rows) row)
-    ∙ ap (λ some. map named some) (sym (take_more rows i row c.loop-row-test.true ∙ ap (λ r. take i rows ++ r ∷ []) (sym c.row-item.is)))
+pub invariant_of-result : goal.invariant_of-result
+invariant_of-result g c = (
+  subst (λ es. AreSorted (notes_of true es) c.in_ok-by_id.by_id.items) (sym c.in_ok-names.ensures)
+  (subst (λ ns. AreSorted ns c.in_ok-by_id.by_id.items) c.in_ok-notes_of.ensures c.in_ok-by_id.ensures),
+  subst (λ es. AreSorted (notes_of false es) c.in_ok-shown.shown.items) (sym c.in_ok-names.ensures)
+  (subst (λ ns. AreSorted ns c.in_ok-shown.shown.items) c.in_ok-notes_of-2.ensures c.in_ok-shown.ensures),
+)

@@ -1,7 +1,6 @@
 use Rattle.std.proofs.Common.{◌≡◌, ◌<◌, length, map, sym, subst, ap, ◌∙◌}
 use Rattle.std.specs.List.{remove}
 use Rattle.std.proofs.lemmas.List.{length-map}
-use Rattle.std.proofs.lemmas.Result.{IfOk-weaker}
 use Rattle.acl_names.proofs.Basics.{same_values}
 use Rattle.acl_people.specs.NameTables.{AreCounted}
 use Rattle.acl_people.specs.Entries.{user_entry}
@@ -17,16 +16,19 @@ rows c =
     ∙ map-remove (λ r. r.value) c.args.user c.in_ok-rows.rows.items
     ∙ ap (λ rs. remove rs c.args.user) (same_values (λ r. r.value) c.self.inside.rows.items c.in_ok-rows.rows.items c.in_ok-rows.ensures.cases.0 ∙ c.self.view_is)
 
-pub of-requires : goal.of-requires
-of-requires c =
-    let entries : map user_entry (map (λ r. r.value) c.remove-gone.new.self.items) ≡ remove (map user_entry c.args.self.now) c.args.user =
-    ap (λ rs. map user_entry rs) (rows c) ∙ map-remove user_entry c.args.user c.args.self.now
+pub invariant_of-result : goal.invariant_of-result
+invariant_of-result c =
+    let old = c.args.self.now in
+    let are = rows (goal.at.invariant_of-result c).After-remove-gone in
+    let entries : map user_entry (map (λ r. r.value) c.remove-gone.new.self.items) ≡ remove (map user_entry old) c.args.user =
+    ap (λ rs. map user_entry rs) are ∙ map-remove user_entry c.args.user old
     in
-    let within : c.args.user < length (map user_entry c.args.self.now) = subst (λ n. c.args.user < n) (sym (length-map c.args.self.now user_entry)) c.requires in
-    subst AreCounted (sym entries) (counted_remove (map user_entry c.args.self.now) c.args.user within (subst (λ rs. AreCounted (map user_entry rs)) c.self.view_is c.self.invariant.counted))
+    let within : c.args.user < length (map user_entry old) = subst (λ n. c.args.user < n) (sym (length-map old user_entry)) c.requires in
+    let table : c.self.inside.name_table.value ≡ map user_entry old = c.self.invariant.all ∙ ap (λ rs. map user_entry rs) c.self.view_is in
+    record {
+      all = c.in_ok-name_table.ensures.ok ∙ c.in_ok-without.ensures ∙ ap (λ es. remove es c.args.user) (c.deref.ensures ∙ table) ∙ sym entries;
+      counted = subst AreCounted (sym entries) (counted_remove (map user_entry old) c.args.user within (subst (λ rs. AreCounted (map user_entry rs)) c.self.view_is c.self.invariant.counted));
+    }
 
 pub returns : goal.returns
-returns c =
-    IfOk-weaker c.of.result (λ users. users ≡ map (λ r. r.value) c.remove-gone.new.self.items) (λ users. users ≡ remove c.args.self.now c.args.user)
-    (λ users is. is ∙ rows (goal.at.returns c).After-remove-gone)
-    c.of.ensures
+returns c = rows (goal.at.returns c).After-remove-gone

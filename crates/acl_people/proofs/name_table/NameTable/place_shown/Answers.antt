@@ -1,0 +1,18 @@
+use Rattle.std.proofs.Common.{map, false, position, sym, ap, subst, ◌∙◌}
+use Rattle.acl_people.specs.NameTables.{prints}
+use Rattle.acl_people.specs.Kept.{named_in, notes_of, first_place, AreInOrder}
+use Rattle.acl_people.proofs.NotesInOrder.{first_sorted}
+use Rattle.acl_people.proofs.NotesOfNames.{noted_first}
+use Rattle.acl_people.proofs.name_table.NameTable.place_shown.Goals as goal
+
+pub first_of_id-requires : goal.first_of_id-requires
+first_of_id-requires c = subst AreInOrder (sym c.deref.ensures.value) c.self.invariant.1.in_order
+
+pub returns : goal.returns
+returns c =
+    let es = named_in c.self.inside.names.entries in
+    c.first_of_id.ensures
+    ∙ ap (first_place c.args.id) c.deref.ensures.value
+    ∙ first_sorted c.args.id (notes_of false es) c.self.inside.shown.items c.self.invariant.1
+    ∙ noted_first false c.args.id es
+    ∙ ap (λ l. position (prints c.args.id) l) c.self.view_is
