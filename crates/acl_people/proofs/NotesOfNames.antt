@@ -28,7 +28,8 @@ notes_push t n (e ∷ es) y = by (t e) (notes_push t (n + 1) es y ∙ ap (λ p. 
 pub notes_more : (digits : Bool) (es : List Named) (y : Named) (place : ℕ) → place ≡ length es
     → notes_of digits es ++ cond (has_note digits y) (note y place ∷ []) [] ≡ notes_of digits (es ++ y ∷ [])
 notes_more digits es y place last =
-    ap (λ p. notes_of digits es ++ cond (has_note digits y) (note y p ∷ []) []) (last ∙ omega arith) ∙ sym (notes_push (has_note digits) 0 es y)
+    let from_zero : place ≡ 0 + length es = omega (arith, last) in
+    ap (λ p. notes_of digits es ++ cond (has_note digits y) (note y p ∷ []) []) from_zero ∙ sym (notes_push (has_note digits) 0 es y)
 
 pub noted_more : (digits : Bool) (es : List Named) (y : Named) (place : ℕ) (old new : List Note) → place ≡ length es → AreSorted (notes_of digits es) old
     → AreSorted (old ++ cond (has_note digits y) (note y place ∷ []) []) new → AreSorted (notes_of digits (es ++ y ∷ [])) new
@@ -78,8 +79,11 @@ removed t n zero (e ∷ es) = by (t e) (moved_down t (n + 0) n (omega arith) es)
         → without_place (n + 0) (cond b (note e n ∷ notes_from t (n + 1) es) (notes_from t (n + 1) es)) ≡ notes_from t n es
     by true h = ap (λ b. map (lowered (n + 0)) (cond (not b) (note e n ∷ rest) rest)) (eq-eqb n (n + 0) (omega arith)) ∙ h
     by false h = h
-removed t n (suc at) (e ∷ es) = by (t e) (ap (λ g. without_place g (notes_from t (n + 1) es)) (omega arith) ∙ removed t (n + 1) at es)
+removed t n (suc at) (e ∷ es) = by (t e) (ap (λ g. without_place g (notes_from t (n + 1) es)) later ∙ removed t (n + 1) at es)
   where
+    later : n + suc at ≡ n + 1 + at
+    later = omega arith
+
     same : lowered (n + suc at) (note e n) ≡ note e n
     same = ap (λ b. note e (if b then n - 1 else n)) (le-ltb (n + suc at) n (omega arith))
 
