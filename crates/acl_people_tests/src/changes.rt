@@ -367,7 +367,7 @@ fn users_come_again(rt: HostRuntime) {
 /// the place 74 and the id 2929.
 fn with_many(rt: &impl Abort, alloc: Global) -> People {
     let mut people = known(rt, alloc);
-    let mut number = 3000;
+    let mut number: u32 = 3000;
     for first in b"abcdefghi".as_slice() {
         for second in b"abcdefgh".as_slice() {
             let next = with_user(rt, alloc, &people, &[*first, *second], number, b"staff");
