@@ -146,8 +146,8 @@ first_at id (n ∷ ns) zero h below above = by (is_for id n) refl
         find-filter (is_for id) ns
         ∙ ap (λ l. slice_get l 0) (none_pass (is_for id) ns
         (λ k d lt.
-            let later : n.id ≤ (get_or ns k d).id = h 0 (suc k) d (omega arith) (omega (arith, lt)) in
-            ne_eqb (get_or ns k d).id id (λ one. true≢false (sym (eq-eqb n.id id (omega (arith, least, later, one))) ∙ is))))
+        let later : n.id ≤ (get_or ns k d).id = h 0 (suc k) d (omega arith) (omega (arith, lt)) in
+        ne_eqb (get_or ns k d).id id (λ one. true≢false (sym (eq-eqb n.id id (omega (arith, least, later, one))) ∙ is))))
 first_at id (n ∷ ns) (suc i) h below above =
     ap (λ b. cond b (Some n) (find (is_for id) ns)) (ne_eqb n.id id (λ one. omega (arith, below 0 n (omega arith) (omega arith), one)))
     ∙ first_at id ns i (λ a b d le lt. h (suc a) (suc b) d (omega arith) (omega arith))

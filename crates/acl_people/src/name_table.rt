@@ -95,12 +95,7 @@ fn has_note(digits: bool, name: &[u8]) -> bool
 }
 
 /// Adds the note of a name, if it has one.
-fn push_note(
-    notes: &mut Vec<Note>,
-    digits: bool,
-    name: &[u8],
-    note: Note,
-) -> Result<(), AllocError>
+fn push_note(notes: &mut Vec<Note>, digits: bool, name: &[u8], note: Note) -> Result<(), AllocError>
     ensures { OnOk result (notes.new.items ≡ notes.old.items ++ (if has_note digits (name.now, note.id) then note ∷ [] else [])) }
 {
     if has_note(digits, name) {

@@ -27,11 +27,11 @@ invariant_of-result c =
     let by_id = c.in_ok-by_id.by_id.items in
     let shown = c.in_ok-shown.shown.items in (
       subst (λ l. AreSorted (notes_of true l) by_id) (sym named)
-      (noted_more true es y place c.self.inside.by_id.items by_id last c.self.invariant.0
-      (subst (λ ns. AreSorted (ns ++ cond (has_note true y) (note y place ∷ []) []) by_id) c.deref.ensures.value c.in_ok-by_id.ensures)),
+          (noted_more true es y place c.self.inside.by_id.items by_id last c.self.invariant.0
+          (subst (λ ns. AreSorted (ns ++ cond (has_note true y) (note y place ∷ []) []) by_id) c.deref.ensures.value c.in_ok-by_id.ensures)),
       subst (λ l. AreSorted (notes_of false l) shown) (sym named)
-      (noted_more false es y place c.self.inside.shown.items shown last c.self.invariant.1
-      (subst (λ ns. AreSorted (ns ++ cond (has_note false y) (note y place ∷ []) []) shown) c.deref-2.ensures.value c.in_ok-shown.ensures)),
+          (noted_more false es y place c.self.inside.shown.items shown last c.self.invariant.1
+          (subst (λ ns. AreSorted (ns ++ cond (has_note false y) (note y place ∷ []) []) shown) c.deref-2.ensures.value c.in_ok-shown.ensures)),
     )
 
 pub returns : goal.returns
