@@ -1,11 +1,11 @@
 -- Notes in the order of their ids: sorted, with one more, without one, and the first of an id.
 use Rattle.std.proofs.Common.{◌≡◌, ℕ, zero, suc, ◌+◌, ◌<◌, ◌≤◌, ◌==◌, ◌&&◌, Bool, true, false, true≢false, not, cond, List, [], ◌∷◌, ◌++◌, length, map, filter, find, take, drop, get_or}
 use Rattle.std.proofs.Common.{slice_get, Option, Some, None, option_map, refl, sym, ap, subst, ◌∙◌, arith, nat_cmp, take-append-drop, append-nil}
-use Rattle.std.specs.Prelude.{nat_lt}
+use Rattle.std.specs.Prelude.{nat_lt, nat_le}
 use Rattle.std.specs.List.{All, insert}
 use Rattle.std.specs.List.Sorted.{IsSortedByKey, IsStableByKey, IsPartitionPoint, ties}
 use Rattle.std.specs.Ordering.{is_lt}
-use Rattle.std.proofs.lemmas.Bool.{ltb-true, ltb-false, eqb-true, eq-eqb, ne_eqb}
+use Rattle.std.proofs.lemmas.Bool.{ltb-true, ltb-false, leb-true, leb-false, eqb-true, eq-eqb, ne_eqb}
 use Rattle.std.proofs.lemmas.Bool.Decides.{nat_tests}
 use Rattle.std.proofs.lemmas.List.{length-map, length-drop, get_or-map, get_or-drop}
 use Rattle.std.proofs.lemmas.List.Elements.{filter-append, filter_agree}
@@ -48,6 +48,10 @@ sorted_notes old new sorted stable = record {
 
 pub sorted_same : (old new : List Note) → AreInOrder old → new ≡ old → AreSorted (old ++ []) new
 sorted_same old new h is = record { in_order = subst AreInOrder (sym is) h; same = λ id. ap (filter (is_for id)) (is ∙ sym (append-nil old)) }
+
+-- where the notes of greater ids begin
+pub end_at : (id : ℕ) (ns : List Note) (i : ℕ) → IsPartitionPoint (λ n. nat_le n.id id ≡ true) (λ n. nat_le n.id id ≡ false) ns i → IsPartitionPoint (λ n. n.id ≤ id) (λ n. id < n.id) ns i
+end_at id ns i h = (λ k d a b. leb-true _ _ (h.0 k d a b), λ k d a b. leb-false _ _ (h.1 k d a b))
 
 -- one more, after those of its id
 pub sorted_more : (ns : List Note) (at : ℕ) (y : Note) → AreInOrder ns → at ≤ length ns → IsPartitionPoint (λ n. n.id ≤ y.id) (λ n. y.id < n.id) ns at → AreSorted (ns ++ y ∷ []) (insert ns at y)

@@ -1,8 +1,9 @@
 -- Notes of the names of a table: of one more, without one, and the first of an id.
-use Rattle.std.proofs.Common.{◌≡◌, ℕ, zero, suc, ◌+◌, ◌-◌, ◌≤◌, ◌==◌, ◌&&◌, Bool, true, false, not, cond, List, [], ◌∷◌, ◌++◌, length, map, filter, find}
+use Rattle.std.proofs.Common.{◌≡◌, ℕ, zero, suc, ◌+◌, ◌-◌, ◌<◌, ◌≤◌, ◌==◌, ◌&&◌, Bool, true, false, not, cond, List, [], ◌∷◌, ◌++◌, length, map, filter, find, take, get_or}
 use Rattle.std.proofs.Common.{position, Option, Some, None, option_map, if◌then◌else◌, refl, sym, ap, subst, ◌∙◌, arith}
 use Rattle.std.specs.List.{remove}
 use Rattle.std.proofs.lemmas.Bool.{ne_eqb, eq-eqb, lt-ltb, le-ltb}
+use Rattle.std.proofs.lemmas.List.{length-map, length-take-le, take_more, map_push}
 use Rattle.std.proofs.lemmas.List.Elements.{filter-append}
 use Rattle.acl_people.specs.declared.places_by_id.Note.{Note}
 use Rattle.acl_people.specs.NameTables.{Named, is_id}
@@ -25,11 +26,20 @@ notes_push t n (e ∷ es) y = by (t e) (notes_push t (n + 1) es y ∙ ap (λ p. 
     by true h = ap (λ l. note e n ∷ l) h
     by false h = h
 
-pub notes_more : (digits : Bool) (es : List Named) (y : Named) (place : ℕ) → place ≡ length es
+notes_more : (digits : Bool) (es : List Named) (y : Named) (place : ℕ) → place ≡ length es
     → notes_of digits es ++ cond (has_note digits y) (note y place ∷ []) [] ≡ notes_of digits (es ++ y ∷ [])
 notes_more digits es y place last =
     let from_zero : place ≡ 0 + length es = omega (arith, last) in
     ap (λ p. notes_of digits es ++ cond (has_note digits y) (note y p ∷ []) []) from_zero ∙ sym (notes_push (has_note digits) 0 es y)
+
+-- one row more
+pub noted_row : {R : Type 0} (named : R → Named) (digits : Bool) (rows : List R) (i : ℕ) (row : R) → i < length rows → row ≡ get_or rows i row
+    → notes_of digits (map named (take i rows)) ++ cond (has_note digits (named row)) (note (named row) i ∷ []) [] ≡ notes_of digits (map named (take (i + 1) rows))
+noted_row named digits rows i row lt is =
+    let long : length (map named (take i rows)) ≡ length (take i rows) = length-map (take i rows) named in
+    notes_more digits (map named (take i rows)) (named row) i (omega (arith, long, length-take-le i rows (omega arith)))
+    ∙ ap (λ es. notes_of digits es)
+    (sym (map_push named (take i rows) row) ∙ ap (λ rs. map named rs) (sym (take_more rows i row lt ∙ ap (λ r. take i rows ++ r ∷ []) (sym is))))
 
 pub noted_more : (digits : Bool) (es : List Named) (y : Named) (place : ℕ) (old new : List Note) → place ≡ length es → AreSorted (notes_of digits es) old
     → AreSorted (old ++ cond (has_note digits y) (note y place ∷ []) []) new → AreSorted (notes_of digits (es ++ y ∷ [])) new

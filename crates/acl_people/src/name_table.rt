@@ -168,12 +168,9 @@ impl NameTable {
         requires { position (is_name name.now) self.now ≡ None }
         ensures { Makes result (self.now ++ (name.now, id) ∷ []) }
     {
-        let note = Note {
-            id,
-            place: self.names.len(),
-        };
-        let by_id = noted(alloc, &self.by_id, true, name, note)?;
-        let shown = noted(alloc, &self.shown, false, name, note)?;
+        let place = self.names.len();
+        let by_id = noted(alloc, &self.by_id, true, name, Note { id, place })?;
+        let shown = noted(alloc, &self.shown, false, name, Note { id, place })?;
         let names = with_name(alloc, &self.names, name, id)?;
         Ok(NameTable {
             names,

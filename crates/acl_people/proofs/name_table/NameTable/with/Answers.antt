@@ -21,8 +21,8 @@ pub invariant_of-result : goal.invariant_of-result
 invariant_of-result c =
     let es : List Named = map seen c.self.inside.names.entries in
     let y : Named = (c.args.name.now, c.args.id) in
-    let place = c.len.result in
-    let last : place ≡ length es = c.len.ensures.len ∙ sym (length-map c.self.inside.names.entries seen) in
+    let place = c.len-place.result in
+    let last : place ≡ length es = c.len-place.ensures.len ∙ sym (length-map c.self.inside.names.entries seen) in
     let named : map seen c.in_ok-names.names.entries ≡ es ++ y ∷ [] = c.in_ok-names.ensures in
     let by_id = c.in_ok-by_id.by_id.items in
     let shown = c.in_ok-shown.shown.items in (
