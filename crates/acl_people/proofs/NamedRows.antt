@@ -1,8 +1,8 @@
--- One more name in a name table, copies of names, and what its places give.
+-- One more name in a name table, copies of names, and what places give.
 use Rattle.std.proofs.Common.{◌≡◌, ℕ, ◌+◌, ◌<◌, Bool, true, false, cond, List, [], ◌∷◌, ◌++◌, length, map, take, get_or, slice_get, position, find}
 use Rattle.std.proofs.Common.{Option, Some, None, option_map, option_and_then, Vec, vec_len, Global, refl, sym, ap, ◌∙◌, arith}
 use Rattle.std.specs.List.{AllZip}
-use Rattle.std.proofs.lemmas.List.{take_at, length_push, get_or_push}
+use Rattle.std.proofs.lemmas.List.{take_at, take_more, map_push, length_push, get_or_push}
 use Rattle.std.proofs.lemmas.List.Elements.{same_from_all_zip}
 use Rattle.indexmap.specs.IndexMap.{insert_entry}
 use Rattle.acl_people.specs.NameTables.{Named, is_name, AreNames}
@@ -39,6 +39,11 @@ found_at p f xs i r at is = is ∙ ap (λ o. option_map f (option_and_then (λ k
 
 pub not_found : {X Y : Type 0} (p : X → Bool) (f : X → Y) (xs : List X) → None ≡ position p xs → None ≡ option_map f (find p xs)
 not_found p f xs at = ap (λ o. option_map f (option_and_then (λ k. slice_get xs k) o)) at ∙ ap (λ o. option_map f o) (sym (find-position p xs))
+
+-- one row more
+pub named_more : {R : Type 0} (named : R → Named) (rows : List R) (i : ℕ) (row : R) → i < length rows → row ≡ get_or rows i row
+    → map named (take i rows) ++ named row ∷ [] ≡ map named (take (i + 1) rows)
+named_more named rows i row lt is = sym (map_push named (take i rows) row) ∙ ap (λ rs. map named rs) (sym (take_more rows i row lt ∙ ap (λ r. take i rows ++ r ∷ []) (sym is)))
 
 -- a name is not among those before it
 pub fresh : (es : List Named) (i : ℕ) (e : Named) → AreNames es → i < length es → get_or es i e ≡ e → position (is_name e.0) (take i es) ≡ None

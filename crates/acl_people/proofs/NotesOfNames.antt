@@ -3,12 +3,13 @@ use Rattle.std.proofs.Common.{◌≡◌, ℕ, zero, suc, ◌+◌, ◌-◌, ◌<�
 use Rattle.std.proofs.Common.{position, Option, Some, None, option_map, if◌then◌else◌, refl, sym, ap, subst, ◌∙◌, arith}
 use Rattle.std.specs.List.{remove}
 use Rattle.std.proofs.lemmas.Bool.{ne_eqb, eq-eqb, lt-ltb, le-ltb}
-use Rattle.std.proofs.lemmas.List.{length-map, length-take-le, take_more, map_push}
+use Rattle.std.proofs.lemmas.List.{length-map, length-take-le}
 use Rattle.std.proofs.lemmas.List.Elements.{filter-append}
 use Rattle.acl_people.specs.declared.places_by_id.Note.{Note}
 use Rattle.acl_people.specs.NameTables.{Named, is_id}
 use Rattle.acl_people.specs.Kept.{has_note, notes_from, notes_of, is_for, first_place, lowered, without_place, AreSorted}
 use Rattle.acl_people.proofs.Places.{position-cons}
+use Rattle.acl_people.proofs.NamedRows.{named_more}
 use Rattle.acl_people.proofs.NotesInOrder.{sorted_without}
 
 abbrev pub note : Named → ℕ → Note
@@ -38,8 +39,7 @@ pub noted_row : {R : Type 0} (named : R → Named) (digits : Bool) (rows : List 
 noted_row named digits rows i row lt is =
     let long : length (map named (take i rows)) ≡ length (take i rows) = length-map (take i rows) named in
     notes_more digits (map named (take i rows)) (named row) i (omega (arith, long, length-take-le i rows (omega arith)))
-    ∙ ap (λ es. notes_of digits es)
-    (sym (map_push named (take i rows) row) ∙ ap (λ rs. map named rs) (sym (take_more rows i row lt ∙ ap (λ r. take i rows ++ r ∷ []) (sym is))))
+    ∙ ap (λ es. notes_of digits es) (named_more named rows i row lt is)
 
 pub noted_more : (digits : Bool) (es : List Named) (y : Named) (place : ℕ) (old new : List Note) → place ≡ length es → AreSorted (notes_of digits es) old
     → AreSorted (old ++ cond (has_note digits y) (note y place ∷ []) []) new → AreSorted (notes_of digits (es ++ y ∷ [])) new

@@ -1,8 +1,8 @@
-use Rattle.std.proofs.Common.{◌≡◌, ◌++◌, ◌∷◌, [], length, map, take, position, sym, ap, ◌∙◌, arith}
-use Rattle.std.proofs.lemmas.List.{length-map, get_or-map, take-map, take_more, map_push}
+use Rattle.std.proofs.Common.{◌≡◌, ◌++◌, ◌∷◌, [], length, map, position, sym, ap, ◌∙◌, arith}
+use Rattle.std.proofs.lemmas.List.{length-map, get_or-map, take-map}
 use Rattle.acl_people.specs.NameTables.{is_name}
 use Rattle.acl_people.specs.Kept.{named_in}
-use Rattle.acl_people.proofs.NamedRows.{fresh}
+use Rattle.acl_people.proofs.NamedRows.{named_more, fresh}
 use Rattle.acl_people.proofs.name_table.names_of.Goals as goal
 
 pub loop-row-init : goal.loop-row-init
@@ -22,11 +22,6 @@ add-requires g c =
 
 pub loop-row-preserved : goal.loop-row-preserved
 loop-row-preserved g c =
-    let named = g.R.NamedRow.named in
-    let rows = c.args.rows.now in
-    let i = c.loop-row.row-index in
-    let row = c.row-item.result in
     c.in_ok-add.ensures
     ∙ (λ j. c.loop-row.invariant j ++ (c.name.ensures j, c.id.ensures j) ∷ [])
-    ∙ sym (map_push named (take i rows) row)
-    ∙ ap (λ some. map named some) (sym (take_more rows i row c.loop-row-test.true ∙ ap (λ r. take i rows ++ r ∷ []) (sym c.row-item.is)))
+    ∙ named_more g.R.NamedRow.named c.args.rows.now c.loop-row.row-index c.row-item.result c.loop-row-test.true c.row-item.is

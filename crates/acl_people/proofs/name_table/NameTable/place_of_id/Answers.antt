@@ -1,4 +1,4 @@
-use Rattle.std.proofs.Common.{map, true, position, sym, ap, subst, ◌∙◌}
+use Rattle.std.proofs.Common.{true, position, sym, ap, subst, ◌∙◌}
 use Rattle.acl_people.specs.NameTables.{is_id}
 use Rattle.acl_people.specs.Kept.{named_in, notes_of, first_place, AreInOrder}
 use Rattle.acl_people.proofs.NotesInOrder.{first_sorted}

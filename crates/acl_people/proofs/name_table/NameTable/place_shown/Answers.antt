@@ -1,4 +1,4 @@
-use Rattle.std.proofs.Common.{map, false, position, sym, ap, subst, ◌∙◌}
+use Rattle.std.proofs.Common.{false, position, sym, ap, subst, ◌∙◌}
 use Rattle.acl_people.specs.NameTables.{prints}
 use Rattle.acl_people.specs.Kept.{named_in, notes_of, first_place, AreInOrder}
 use Rattle.acl_people.proofs.NotesInOrder.{first_sorted}
