@@ -396,7 +396,8 @@ fn many_users_come(rt: HostRuntime) {
 fn one_of_many_users_goes(rt: HostRuntime) {
     let alloc = rt.alloc();
     let before = with_many(&rt, alloc);
-    let people = before.without_user(alloc, 67).expect(&rt, "memory");
+    let user = before.find_user(b"ia").expect(&rt, "a user");
+    let people = before.without_user(alloc, user).expect(&rt, "memory");
     drop(before);
     assert!(rt; people.find_user(b"ia").is_none() && people.find_user(b"2936").is_none());
     assert!(rt; people.user_name(id(&rt, 2936)).is_none());
