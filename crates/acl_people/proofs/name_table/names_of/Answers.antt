@@ -5,9 +5,6 @@ use Rattle.acl_people.specs.Kept.{named_in}
 use Rattle.acl_people.proofs.NamedRows.{named_more, fresh}
 use Rattle.acl_people.proofs.name_table.names_of.Goals as goal
 
-pub loop-row-init : goal.loop-row-init
-loop-row-init g c = ap (λ es. named_in es) c.in_ok-names.ensures.empty
-
 pub add-requires : goal.add-requires
 add-requires g c =
     let named = g.R.NamedRow.named in
