@@ -1,6 +1,7 @@
 //! What `below` prints: on how many files at or below some paths each user is granted a request, and on which first.
 
-ghost use Rattle.std.specs.Prelude.{◌≡◌, ◌≢◌, ◌++◌, None, map, IfOk, IfErr, OnOk};
+ghost use Rattle.std.specs.Prelude.{◌≡◌, ◌≢◌, ◌++◌, ℕ, List, None, Vec, map, IfOk, IfErr, OnOk};
+ghost use Rattle.std.specs.declared.alloc.Global.{Global};
 ghost use Rattle.std.specs.List.{flat_map};
 ghost use Rattle.acl_names.specs.Paths.{PathOf};
 ghost use Rattle.path_map.specs.Below.{within};
@@ -35,7 +36,6 @@ fn push_found(text: &mut Vec<u8>, files: &[FoundFile<'_>]) -> Result<(), AllocEr
 
 /// Adds the line of a user, if there is a file.
 fn push_sum(
-    alloc: Global,
     text: &mut Vec<u8>,
     tree: &Tree,
     name: &[u8],
@@ -46,13 +46,12 @@ fn push_sum(
     let Some(first) = sum.first else {
         return Ok(());
     };
-    let files = files_at(alloc, tree, first)?;
+    let files = files_at(*text.allocator(), tree, first)?;
     push_count(text, sum.count, name)?;
     push_found(text, &files)
 }
 
 fn push_sums(
-    alloc: Global,
     text: &mut Vec<u8>,
     tree: &Tree,
     names: &[Vec<u8>],
@@ -62,7 +61,7 @@ fn push_sums(
 {
     for at in 0..names.len() {
         if let Some(sum) = sums.get(at) {
-            push_sum(alloc, text, tree, &names[at], &sum)?;
+            push_sum(text, tree, &names[at], &sum)?;
         }
     }
     Ok(())
@@ -89,10 +88,9 @@ fn add_all<'a, J: Judge>(
     sums: &mut UserSums<'a>,
     verdicts: &Verdicts<'a, J>,
     request: Perm,
-    names: &[Vec<u8>],
 ) -> Result<(), AllocError>
-    ensures { OnOk result ((seen : Rows) → AreSums request seen names.now sums.old
-        → AreSums request (seen ++ rows_granted J.verdict_of verdicts.now.along verdicts.now.state.now) names.now sums.new) }
+    ensures { OnOk result ((names : List (Vec ℕ Global)) (seen : Rows) → AreSums request seen names sums.old
+        → AreSums request (seen ++ rows_granted J.verdict_of verdicts.now.along verdicts.now.state.now) names sums.new) }
 {
     let (classes, found) = verdicts.counted_classes(alloc)?;
     let tallies = count_found(alloc, &found)?;
@@ -106,14 +104,13 @@ fn add_below<'a, J: Judge>(
     sums: &mut UserSums<'a>,
     verdicts: &Verdicts<'a, J>,
     request: Perm,
-    names: &[Vec<u8>],
     top: &Path,
 ) -> Result<(), AllocError>
-    ensures { OnOk result ((seen : Rows) → AreSums request seen names.now sums.old
-        → AreSums request (seen ++ within top.now (rows_granted J.verdict_of verdicts.now.along verdicts.now.state.now)) names.now sums.new) }
+    ensures { OnOk result ((names : List (Vec ℕ Global)) (seen : Rows) → AreSums request seen names sums.old
+        → AreSums request (seen ++ within top.now (rows_granted J.verdict_of verdicts.now.along verdicts.now.state.now)) names sums.new) }
 {
     if top.borrowed().is_root() {
-        return add_all(alloc, sums, verdicts, request, names);
+        return add_all(alloc, sums, verdicts, request);
     }
     verdicts.state.state().tree().soundness_law();
     let mut classes = verdicts.classes_from(alloc, top);
@@ -137,7 +134,7 @@ fn sums_below<'a, J: Judge>(
     verdicts.state.state().tree().soundness_law();
     let mut sums = UserSums::new(alloc, names)?;
     for top in tops {
-        add_below(alloc, &mut sums, verdicts, request, names, *top)?;
+        add_below(alloc, &mut sums, verdicts, request, *top)?;
     }
     Ok(sums)
 }
@@ -169,6 +166,6 @@ pub fn write_below<J: Judge>(
     let names = written_names(alloc, state.people())?;
     let sums = sums_below(alloc, verdicts, request, &tops, &names)?;
     let mut text = Vec::new(alloc);
-    push_sums(alloc, &mut text, state.tree(), &names, &sums)?;
+    push_sums(&mut text, state.tree(), &names, &sums)?;
     Ok(text)
 }

@@ -27,27 +27,6 @@ fn code(key: Sides) -> u64 {
         .wrapping_add(number(key.1))
 }
 
-/// Returns the place that is kept with a hash, or the first one.
-fn hint_at(hints: &BTreeMap<u64, usize>, code: u64) -> usize {
-    match hints.get(&code) {
-        Some(at) => *at,
-        None => 0,
-    }
-}
-
-/// Keeps the place of a key that was not at the place where it was expected.
-fn expect(
-    hints: &mut BTreeMap<u64, usize>,
-    code: u64,
-    hint: usize,
-    at: usize,
-) -> Result<(), AllocError> {
-    if at != hint {
-        let _before = hints.insert(code, at)?;
-    }
-    Ok(())
-}
-
 /// Counts by keys the next files of both, as long as they are at a path or below it.
 pub(crate) fn count_within<'a>(
     alloc: Global,
@@ -62,9 +41,11 @@ pub(crate) fn count_within<'a>(
     let mut hints = BTreeMap::new(alloc);
     while let Some((path, key)) = both.next_within(alloc, top)? {
         let code = code(key);
-        let hint = hint_at(&hints, code);
+        let hint = hints.get(&code).copied().unwrap_or(0);
         let at = tallies.add(hint, key, 1, path)?;
-        expect(&mut hints, code, hint, at)?;
+        if at != hint {
+            let _before = hints.insert(code, at)?;
+        }
     }
     Ok(tallies)
 }

@@ -4,7 +4,7 @@ ghost use Rattle.std.specs.Prelude.{◌≡◌, ◌++◌, ◌∷◌, [], List, No
 ghost use Rattle.path_map.specs.Entries.{seen};
 ghost use Rattle.facl_counts.specs.Counting.{tallied};
 ghost use Rattle.facl_answers.specs.BothStates.{front};
-ghost use Rattle.facl_counts.specs.Sums.{row_of, of_class, after_tally, after_tallies, AreCounted, TakesWithin};
+ghost use Rattle.facl_counts.specs.Sums.{of_class, after_tally, after_tallies, AreCounted, TakesWithin};
 ghost use Rattle.facl_answers.specs.BothStates.{Sides};
 ghost use Rattle.path_classes.specs.Tallies.{Tallied, SaysAs, class_tally};
 
@@ -12,7 +12,7 @@ use crate::sums::UserSums;
 use crate::tallies::{Tallies, Tally};
 use acl_entry::Perm;
 use acl_names::Path;
-use acl_rights::{Cells, ClassFiles, FileClasses};
+use acl_rights::{ClassFiles, FileClasses};
 use facl_answers::Sides;
 use std::alloc::{AllocError, Global};
 
@@ -75,20 +75,6 @@ pub(crate) fn count_found<'a>(
     Ok(tallies)
 }
 
-/// Returns the row of the class of a key, if there is one.
-fn row_of(
-    alloc: Global,
-    classes: &FileClasses<'_>,
-    key: &Sides,
-) -> Result<Option<Cells>, AllocError>
-    ensures { IfOk result (λ row. row ≡ row_of classes.now.0 key.now) }
-{
-    match key.1 {
-        Some(class) => classes.row(alloc, class),
-        None => Ok(None),
-    }
-}
-
 /// Adds files of a class to the sums.
 fn add_tally<'a>(
     alloc: Global,
@@ -99,7 +85,10 @@ fn add_tally<'a>(
 ) -> Result<(), AllocError>
     ensures { OnOk result (sums.new ≡ after_tally classes.now.0 request (tallied tally.now) sums.old) }
 {
-    match row_of(alloc, classes, &tally.key)? {
+    let Some(class) = tally.key.1 else {
+        return Ok(());
+    };
+    match classes.row(alloc, class)? {
         Some(row) => sums.add_row(row.as_slice(), request, tally),
         None => Ok(()),
     }

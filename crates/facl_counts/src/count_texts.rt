@@ -1,44 +1,22 @@
 //! The parts that lines of counts share: a number of files, a user, and a path.
 
-ghost use Rattle.std.specs.Prelude.{◌≡◌, ◌++◌, decimal};
 ghost use Rattle.acl_names.specs.Appends.{Appends};
 ghost use Rattle.facl_answers.specs.Answers.{line};
-ghost use Rattle.facl_counts.specs.CountTexts.{count_text, spaced};
+ghost use Rattle.facl_counts.specs.CountTexts.{count_text};
 
 use itoa::Buffer;
 use std::alloc::AllocError;
-
-/// Adds a number in decimal.
-fn push_number(text: &mut Vec<u8>, number: u64) -> Result<(), AllocError>
-    ensures { Appends result text.old text.new (decimal number) }
-{
-    let mut buffer = Buffer::new();
-    text.extend_from_slice(buffer.format(number).as_bytes())?;
-    Ok(())
-}
-
-fn push_spaced_number(text: &mut Vec<u8>, number: u64) -> Result<(), AllocError>
-    ensures { Appends result text.old text.new (spaced (decimal number)) }
-{
-    push_number(text, number)?;
-    text.push(b' ')?;
-    Ok(())
-}
-
-fn push_spaced(text: &mut Vec<u8>, user: &[u8]) -> Result<(), AllocError>
-    ensures { Appends result text.old text.new (spaced user.now) }
-{
-    text.extend_from_slice(user)?;
-    text.push(b' ')?;
-    Ok(())
-}
 
 /// Adds a number of files and a user, with a space after each.
 pub(crate) fn push_count(text: &mut Vec<u8>, count: u64, user: &[u8]) -> Result<(), AllocError>
     ensures { Appends result text.old text.new (count_text count user.now) }
 {
-    push_spaced_number(text, count)?;
-    push_spaced(text, user)
+    let mut buffer = Buffer::new();
+    text.extend_from_slice(buffer.format(count).as_bytes())?;
+    text.push(b' ')?;
+    text.extend_from_slice(user)?;
+    text.push(b' ')?;
+    Ok(())
 }
 
 /// Adds a path, and the end of the line.

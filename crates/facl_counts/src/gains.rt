@@ -1,18 +1,17 @@
 //! What `gains` prints: for each user and each change of what the user is granted, on how many files, and on which first.
 
-ghost use Rattle.std.specs.Prelude.{◌≡◌, ◌<◌, ◌+◌, ◌++◌, if◌then◌else◌, IfOk, OnOk, map, option_map};
+ghost use Rattle.std.specs.Prelude.{◌≡◌, ◌<◌, IfOk, OnOk, map, option_map};
 ghost use Rattle.std.specs.List.{flat_map, list_any};
 ghost use Rattle.acl_names.specs.Appends.{Appends};
 ghost use Rattle.path_map.specs.Entries.{IsInOrder};
 ghost use Rattle.path_map.specs.Below.{within};
-ghost use Rattle.path_classes.specs.ClassesWithin.{AreTops, inside};
+ghost use Rattle.path_classes.specs.ClassesWithin.{AreTops};
 ghost use Rattle.acl_rights.specs.Outside.{SameOutside};
-ghost use Rattle.facl_answers.specs.Answers.{line};
-ghost use Rattle.facl_counts.specs.CountTexts.{count_text, spaced};
+ghost use Rattle.facl_counts.specs.CountTexts.{spaced};
 ghost use Rattle.facl_counts.specs.Counting.{tallied};
 ghost use Rattle.facl_counts.specs.GainsText.{gains_text, is_same, is_same_side, side_of, side_text};
 ghost use Rattle.facl_answers.specs.BothStates.{rows_in_both};
-ghost use Rattle.facl_counts.specs.InnerGains.{HaveChanges, count_line, is_before, lines_after, lines_of_user, tally_line, tally_lines};
+ghost use Rattle.facl_counts.specs.InnerGains.{HaveChanges, count_line, is_before, lines_after, lines_of_user, tally_line};
 ghost use Rattle.facl_answers.specs.PathTexts.{text_in};
 ghost use Rattle.path_classes.specs.Tallies.{count_where, first_where};
 
@@ -85,22 +84,7 @@ fn push_spaced_side(text: &mut Vec<u8>, side: Option<u8>) -> Result<(), AllocErr
     Ok(())
 }
 
-/// Adds what is granted before and after.
-fn push_sides(text: &mut Vec<u8>, granted: Granted) -> Result<(), AllocError>
-    ensures { Appends result text.old text.new (spaced (side_text granted.0) ++ spaced (side_text granted.1)) }
-{
-    push_spaced_side(text, granted.0)?;
-    push_spaced_side(text, granted.1)
-}
-
-/// Adds how many files there are, a user and a path.
-fn push_counted(text: &mut Vec<u8>, count: u64, user: &[u8], path: &[u8]) -> Result<(), AllocError>
-    ensures { Appends result text.old text.new (count_text count user.now ++ line path.now) }
-{
-    push_count(text, count, user)?;
-    push_path(text, path)
-}
-
+/// Adds what is granted before and after, how many files there are, a user and a path.
 fn push_line(
     text: &mut Vec<u8>,
     granted: Granted,
@@ -110,18 +94,10 @@ fn push_line(
 ) -> Result<(), AllocError>
     ensures { Appends result text.old text.new (count_line granted count user.now path.now) }
 {
-    push_sides(text, granted)?;
-    push_counted(text, count, user, path)
-}
-
-/// Adds a count to a sum, if `counts` says so.
-fn with_count(sum: u64, counts: bool, count: u64) -> Result<u64, AllocError>
-    ensures { IfOk result (λ new. new ≡ sum + (if counts then count else 0)) }
-{
-    if !counts {
-        return Ok(sum);
-    }
-    together(sum, count)
+    push_spaced_side(text, granted.0)?;
+    push_spaced_side(text, granted.1)?;
+    push_count(text, count, user)?;
+    push_path(text, path)
 }
 
 /// Sums the counts of a key.
@@ -130,8 +106,10 @@ fn count_of(tallies: &[Tally<'_>], granted: Granted) -> Result<u64, AllocError>
 {
     let mut sum: u64 = 0;
     for tally in tallies {
-        let more = with_count(sum, is_same(granted, tally.key), tally.count)?;
-        sum = more;
+        if !is_same(granted, tally.key) {
+            continue;
+        }
+        sum = together(sum, tally.count)?;
     }
     Ok(sum)
 }
@@ -158,97 +136,63 @@ fn has_before(tallies: &[Tally<'_>], before: Option<u8>) -> bool
 }
 
 /// Adds a user's line of a change, if there is one.
-#[tactic(auto, using(crate::proofs::GainLines::line_of_first, crate::proofs::GainLines::line_of_none))]
 fn push_change(
-    alloc: Global,
     text: &mut Vec<u8>,
-    loaded: &Tree,
-    now: &Tree,
-    user: &[u8],
-    tallies: &[Tally<'_>],
+    trees: (&Tree, &Tree),
+    gains: &UserGains<'_>,
     granted: Granted,
 ) -> Result<(), AllocError>
-    ensures { Appends result text.old text.new (tally_line (text_in loaded.now now.now) user.now (map tallied tallies.now) granted) }
+    ensures { Appends result text.old text.new (tally_line (text_in trees.entry.0.now trees.entry.1.now) gains.now.user.name.items gains.now.tallies granted) }
 {
+    let tallies = gains.tallies.as_slice();
     let Some(first) = first_of(tallies, granted) else {
         return Ok(());
     };
     let count = count_of(tallies, granted)?;
-    let path = text_of(alloc, loaded, now, first)?;
-    push_line(text, granted, count, user, &path)
+    let path = text_of(*text.allocator(), trees.0, trees.1, first)?;
+    push_line(text, granted, count, &gains.user.name, &path)
 }
 
-/// Adds a user's lines of the changes with this side before.
+/// Adds a user's lines of the changes with this side before. No file has one if no count has the side.
 fn push_after(
-    alloc: Global,
     text: &mut Vec<u8>,
-    loaded: &Tree,
-    now: &Tree,
-    user: &[u8],
-    tallies: &[Tally<'_>],
+    trees: (&Tree, &Tree),
+    gains: &UserGains<'_>,
     before: Option<u8>,
 ) -> Result<(), AllocError>
-    ensures { Appends result text.old text.new (lines_after (text_in loaded.now now.now) user.now (map tallied tallies.now) before) }
+    ensures { Appends result text.old text.new (lines_after (text_in trees.entry.0.now trees.entry.1.now) gains.now.user.name.items gains.now.tallies before) }
 {
+    if !has_before(gains.tallies.as_slice(), before) {
+        return Ok(());
+    }
     for after in 0..SIDES {
-        let granted = (before, side_of(after));
-        push_change(alloc, text, loaded, now, user, tallies, granted)?;
+        push_change(text, trees, gains, (before, side_of(after)))?;
     }
     Ok(())
 }
 
-/// Adds a user's lines of the changes with this side before. No file has one if no count has the side.
-fn push_before(
-    alloc: Global,
-    text: &mut Vec<u8>,
-    loaded: &Tree,
-    now: &Tree,
-    user: &[u8],
-    tallies: &[Tally<'_>],
-    before: Option<u8>,
-) -> Result<(), AllocError>
-    ensures { Appends result text.old text.new (lines_after (text_in loaded.now now.now) user.now (map tallied tallies.now) before) }
-{
-    if !has_before(tallies, before) {
-        return Ok(());
-    }
-    push_after(alloc, text, loaded, now, user, tallies, before)
-}
-
 fn push_user(
-    alloc: Global,
     text: &mut Vec<u8>,
-    loaded: &Tree,
-    now: &Tree,
-    user: &[u8],
-    tallies: &[Tally<'_>],
+    trees: (&Tree, &Tree),
+    gains: &UserGains<'_>,
 ) -> Result<(), AllocError>
-    ensures { Appends result text.old text.new (tally_lines (text_in loaded.now now.now) user.now (map tallied tallies.now)) }
+    ensures { Appends result text.old text.new (lines_of_user (text_in trees.entry.0.now trees.entry.1.now) gains.now) }
 {
     for before in 0..SIDES {
-        push_before(alloc, text, loaded, now, user, tallies, side_of(before))?;
+        push_after(text, trees, gains, side_of(before))?;
     }
     Ok(())
 }
 
 fn push_users(
-    alloc: Global,
     text: &mut Vec<u8>,
-    loaded: &Tree,
-    now: &Tree,
+    trees: (&Tree, &Tree),
     users: &[UserGains<'_>],
 ) -> Result<(), AllocError>
-    ensures { Appends result text.old text.new (flat_map (lines_of_user (text_in loaded.now now.now)) users.now) }
+    ensures { Appends result text.old text.new (flat_map (lines_of_user (text_in trees.entry.0.now trees.entry.1.now)) users.now) }
 {
     for gains in users {
-        push_user(
-            alloc,
-            text,
-            loaded,
-            now,
-            &gains.user.name,
-            gains.tallies.as_slice(),
-        )?;
+        push_user(text, trees, gains)?;
     }
     Ok(())
 }
@@ -268,25 +212,6 @@ fn count_within_top<'x, J: Judge>(
     count_changes(alloc, users, &both, tallies.as_slice())
 }
 
-/// Counts each user's changes on the files at or below some paths, of which none is below another one.
-fn count_inside<'x, J: Judge>(
-    alloc: Global,
-    users: &mut [UserGains<'x>],
-    loaded: &'x IndexedState<J>,
-    verdicts: &Verdicts<'x, J>,
-    tops: &[Path],
-) -> Result<(), AllocError>
-    requires tops { AreTops tops.now }
-    requires before { IsInOrder loaded.now.tree.files }
-    requires after { IsInOrder verdicts.now.state.now.tree.files }
-    ensures { OnOk result (HaveChanges (inside tops.now (rows_in_both J.verdict_of verdicts.now.along loaded.now verdicts.now.state.now)) users.old users.new) }
-{
-    for top in tops {
-        count_within_top(alloc, users, loaded, verdicts, top)?;
-    }
-    Ok(())
-}
-
 /// Counts each user's changes. If no user has another place than before, only the files of the part are looked at
 /// outside which users may do the same in both states.
 fn count_all<'x, J: Judge>(
@@ -302,11 +227,13 @@ fn count_all<'x, J: Judge>(
     requires after { IsInOrder verdicts.now.state.now.tree.files }
     ensures { OnOk result (HaveChanges (rows_in_both J.verdict_of verdicts.now.along loaded.now verdicts.now.state.now) users.old users.new) }
 {
-    if keep_places(users) {
-        count_inside(alloc, users, loaded, verdicts, tops)
-    } else {
-        count_within_top(alloc, users, loaded, verdicts, &root(alloc))
+    if !keep_places(users) {
+        return count_within_top(alloc, users, loaded, verdicts, &root(alloc));
     }
+    for top in tops {
+        count_within_top(alloc, users, loaded, verdicts, top)?;
+    }
+    Ok(())
 }
 
 /// Collects the users of both states, with their changes counted.
@@ -343,9 +270,9 @@ pub fn write_gains_within<'x, J: Judge>(
     ensures { IfOk result (λ text. text.items ≡ gains_text J.verdict_of verdicts.now.along loaded.now verdicts.now.state.now) }
 {
     let users = gains_of_users(alloc, loaded, verdicts, tops)?;
-    let now = verdicts.state.state().tree();
+    let trees = (loaded.state().tree(), verdicts.state.state().tree());
     let mut text = Vec::new(alloc);
-    push_users(alloc, &mut text, loaded.state().tree(), now, &users)?;
+    push_users(&mut text, trees, &users)?;
     Ok(text)
 }
 

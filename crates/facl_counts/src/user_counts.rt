@@ -50,25 +50,6 @@ fn add_few(counts: &mut [u8], row: &[Requests], request: Perm, more: u8)
     }
 }
 
-/// Adds narrow counts to the wide ones of the same users.
-fn add_narrow(wide: &mut [u64], narrow: &[u8])
-    requires long { length wide.old ≡ length narrow.now }
-    requires small { AreSmall (2 ^ 64) 0 (totals wide.old narrow.now) }
-    ensures { wide.new ≡ totals wide.old narrow.now }
-{
-    for at in 0..narrow.len() {
-        wide[at] += narrow[at] as u64;
-    }
-}
-
-fn clear(narrow: &mut [u8])
-    ensures { narrow.new ≡ replicate (length narrow.old) 0 }
-{
-    for at in 0..narrow.len() {
-        narrow[at] = 0;
-    }
-}
-
 /// Makes room for `more` in narrow counts, of which none is above `most`: if there is none, adds them to the wide
 /// ones. Returns the new `most`.
 fn make_room(wide: &mut [u64], narrow: &mut [u8], most: u8, more: u8) -> u8
@@ -82,8 +63,12 @@ fn make_room(wide: &mut [u64], narrow: &mut [u8], most: u8, more: u8) -> u8
     if most <= 255 - more {
         return most;
     }
-    add_narrow(wide, narrow);
-    clear(narrow);
+    for at in 0..narrow.len() {
+        wide[at] += narrow[at] as u64;
+    }
+    for place in 0..narrow.len() {
+        narrow[place] = 0;
+    }
     0
 }
 
@@ -126,10 +111,7 @@ pub(crate) fn repeated<T: Copy>(alloc: Global, count: usize, value: T) -> Result
 pub(crate) fn item_at<T: Copy>(items: &[T], at: usize) -> Option<T>
     ensures { result ≡ slice_get items.now at }
 {
-    match items.get(at) {
-        Some(item) => Some(*item),
-        None => None,
-    }
+    items.get(at).copied()
 }
 
 /// The counts of users: wide and narrow numbers, which are added when a count is read.

@@ -123,13 +123,6 @@ fn digit(side: Option<usize>) -> usize
     granted / 2 % 4 + granted / 16 % 2 * 4
 }
 
-/// Hashes a change to the number of its hint. Two changes may have the same one.
-fn hint_number(key: Sides) -> usize
-    ensures { result < 64 }
-{
-    digit(key.0) * 8 + digit(key.1)
-}
-
 impl<'a> UserGains<'a> {
     /// Counts `count` further files with these rows; `first` is the first of them.
     fn count(
@@ -142,7 +135,8 @@ impl<'a> UserGains<'a> {
         ensures { OnOk result (IsCountedFor (row_given before.now, row_given after.now) count first.now (gained_of self.old) (gained_of self.new)) }
     {
         if let Some(key) = change_of(&self.user, before, after) {
-            let number = hint_number(key);
+            // Two changes may have the same hint.
+            let number = digit(key.0) * 8 + digit(key.1);
             let at = self.tallies.place_of(self.hints[number] as usize, key);
             let at = self.tallies.add(at, key, count, first)?;
             // Keeps a wrong hint for a place past 255, which costs a search alone.
@@ -189,26 +183,8 @@ pub(crate) fn keep_places(users: &[UserGains<'_>]) -> bool
         .all(|entry| same_place(entry.user.before, entry.user.after))
 }
 
-/// Counts `count` further files with these rows for each user: `is_kept` says that all keep their places. Nothing
-/// changes if the rows and the users are the same.
-fn count_rows<'a>(
-    users: &mut [UserGains<'a>],
-    is_kept: bool,
-    before: &GivenRow<'_>,
-    after: &GivenRow<'_>,
-    count: u64,
-    first: &'a Path,
-) -> Result<(), AllocError>
-    requires kept { is_kept ≡ true → list_all keeps users.old ≡ true }
-    ensures { OnOk result (AreCountedFor (row_given before.now, row_given after.now) count first.now users.old users.new) }
-{
-    if is_kept && row_stays(before, after) {
-        return Ok(());
-    }
-    count_for_each(users, before, after, count, first)
-}
-
-/// Counts the files of one key for each user: `is_kept` says that all keep their places.
+/// Counts the files of one key for each user: `is_kept` says that all keep their places. Nothing changes if the rows
+/// and the users are the same.
 fn count_tally<'a>(
     alloc: Global,
     users: &mut [UserGains<'a>],
@@ -224,14 +200,12 @@ fn count_tally<'a>(
     }
     let before = both.row_before(alloc, tally.key.0)?;
     let after = both.row_after(alloc, tally.key.1)?;
-    count_rows(
-        users,
-        is_kept,
-        &given(&before),
-        &given(&after),
-        tally.count,
-        tally.first,
-    )
+    let had = given(&before);
+    let has = given(&after);
+    if is_kept && row_stays(&had, &has) {
+        return Ok(());
+    }
+    count_for_each(users, &had, &has, tally.count, tally.first)
 }
 
 /// Counts the changes of each user from counts of files by classes.

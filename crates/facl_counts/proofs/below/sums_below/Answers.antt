@@ -26,7 +26,7 @@ loop-top-preserved g c =
     let order = subst (λ (t : Recorded). IsInOrder t.files) (c.tree.ensures ∙ ap (λ (known : State). known.tree) c.state.ensures) c.soundness_law.ensures.order in
     subst (λ (rows : Rows). AreSums c.args.request rows c.args.names.now c.add_below.new.sums)
     (one_inside c.args.tops.now c.loop-top.top-index c.top-item.result c.loop-top-test.true c.top-item.is c.requires all (rows_order V asked.along asked.state.now order))
-    (c.in_ok-add_below.ensures (inside (paths_seen (take c.loop-top.top-index c.args.tops.now)) all) c.loop-top.invariant)
+    (c.in_ok-add_below.ensures c.args.names.now (inside (paths_seen (take c.loop-top.top-index c.args.tops.now)) all) c.loop-top.invariant)
 
 pub returns : goal.returns
 returns g c =

@@ -1,9 +1,18 @@
-use Rattle.std.specs.Prelude.{decimal}
-use Rattle.acl_text.proofs.Appending.{appends_both}
-use Rattle.facl_counts.specs.CountTexts.{spaced}
+use Rattle.std.proofs.Common.{arith}
+use Rattle.std.proofs.lemmas.Grind.{common_steps}
 use Rattle.facl_counts.proofs.count_texts.push_count.Goals as goal
 
+pub returns-in_err-extend_from_slice : goal.returns-in_err-extend_from_slice
+returns-in_err-extend_from_slice c = grind (arith, common_steps)
+
+pub returns-in_err-push : goal.returns-in_err-push
+returns-in_err-push c = grind (arith, common_steps)
+
+pub returns-in_err-extend_from_slice-2 : goal.returns-in_err-extend_from_slice-2
+returns-in_err-extend_from_slice-2 c = grind (arith, common_steps)
+
+pub returns-in_err-push-2 : goal.returns-in_err-push-2
+returns-in_err-push-2 c = grind (arith, common_steps)
+
 pub returns : goal.returns
-returns c =
-    appends_both c.push_spaced.result c.args.text.now c.push_spaced_number.new.text c.push_spaced.new.text (spaced (decimal c.args.count))
-    (spaced c.args.user.now) c.in_ok-push_spaced_number.ensures c.push_spaced.ensures
+returns c = grind (arith, common_steps)

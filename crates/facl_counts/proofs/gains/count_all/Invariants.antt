@@ -2,7 +2,7 @@ use Rattle.std.proofs.Common.{take}
 use Rattle.path_classes.specs.ClassesWithin.{inside}
 use Rattle.facl_answers.specs.BothStates.{rows_in_both}
 use Rattle.facl_counts.specs.InnerGains.{HaveChanges}
-use Rattle.facl_counts.proofs.gains.count_inside.Given as goal
+use Rattle.facl_counts.proofs.gains.count_all.Given as goal
 
 abbrev pub invariant-loop-top : goal.invariant-loop-top
 invariant-loop-top g l =
