@@ -1,7 +1,7 @@
 -- For inner functions, and those that facl_counts calls: no contract of a question names these definitions.
 use Rattle.std.specs.Prelude.{◌≡◌, ℕ, ◌==◌, ◌<◌, Bool, true, false, not, if◌then◌else◌, List, [], ◌∷◌, ◌++◌, get_or, length, map, zip, position, slice_get}
 use Rattle.std.specs.Prelude.{Option, Some, None, option_and_then, unwrap_or}
-use Rattle.std.specs.List.{flat_map}
+use Rattle.std.specs.List.{flat_map, list_all}
 use Rattle.std.specs.Option.{option_map_or}
 use Rattle.acl_entry.specs.Check.{is_for}
 use Rattle.acl_entry.specs.Keys.{same_key}
@@ -29,6 +29,7 @@ use Rattle.facl_answers.specs.Answers.{all_files, file_line, user_line, verdict_
 use Rattle.facl_answers.specs.BothStates.{RowsOfFile}
 use Rattle.facl_answers.specs.ChangesText.{change_lines}
 use Rattle.facl_answers.specs.declared.placed_users.PlacedUser.{PlacedUser}
+use Rattle.facl_answers.specs.declared.placed_users.PlacedUsers.{PlacedUsers}
 use Rattle.facl_answers.specs.declared.file_walk.FileInClass.{FileInClass}
 use Rattle.facl_answers.specs.declared.file_walk.Walk.{Walk}
 
@@ -81,6 +82,10 @@ same_place (Some before) (Some after) = before == after
 
 abbrev pub keeps_place : PlacedUser → Bool
 keeps_place user = same_place user.before user.after
+
+-- each user has the same place in both states, or none in both, if `keep_places` is set
+abbrev pub KnowPlaces : PlacedUsers → Type 0
+KnowPlaces users = users.keep_places ≡ true → list_all keeps_place users.list.now ≡ true
 
 -- a user's verdict in a row; none where the user is not there
 abbrev pub verdict_or_none : List ℕ → Option ℕ → ℕ

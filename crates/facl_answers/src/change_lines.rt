@@ -1,13 +1,13 @@
 //! The lines of one file that `changes` prints: for each user those of the requests that the user gains and loses.
 
-ghost use Rattle.std.specs.Prelude.{◌≡◌, ◌&&◌, ℕ, IfOk, List, [], ◌∷◌, false, not, true};
-ghost use Rattle.std.specs.List.{flat_map, list_all, list_any};
+ghost use Rattle.std.specs.Prelude.{◌≡◌, ◌&&◌, ℕ, IfOk, List, [], false, not};
+ghost use Rattle.std.specs.List.{flat_map, list_any};
 ghost use Rattle.acl_entry.specs.Check.{has};
 ghost use Rattle.acl_names.specs.Appends.{Appends};
 ghost use Rattle.facl_answers.specs.ChangesText.{requests_gained, after_comma, change_line, change_lines};
-ghost use Rattle.facl_answers.specs.Inner.{differs, keeps_place, lines_between, verdict_or_none};
+ghost use Rattle.facl_answers.specs.Inner.{KnowPlaces, differs, lines_between, verdict_or_none};
 
-use crate::placed_users::PlacedUser;
+use crate::placed_users::{PlacedUser, PlacedUsers};
 use crate::requests::NUMBERS;
 use acl_entry::{Perm, Requests};
 use acl_rights::same_row;
@@ -50,17 +50,19 @@ fn push_more(text: &mut Vec<u8>, requests: &[Perm]) -> Result<(), AllocError>
     Ok(())
 }
 
-/// Adds a line of a request and others that a user gains or loses on a file.
+/// Adds a line of the requests that a user gains or loses on a file, if there are any.
 fn push_line(
     text: &mut Vec<u8>,
     path: &[u8],
     user: &[u8],
     word: &[u8],
-    request: Perm,
-    more: &[Perm],
+    requests: &[Perm],
 ) -> Result<(), AllocError>
-    ensures { Appends result text.old text.new (change_line path.now user.now word.now (request ∷ more.now)) }
+    ensures { Appends result text.old text.new (change_line path.now user.now word.now requests.now) }
 {
+    let Some((request, more)) = requests.split_first() else {
+        return Ok(());
+    };
     text.extend_from_slice(user)?;
     text.push(b' ')?;
     text.extend_from_slice(word)?;
@@ -73,41 +75,8 @@ fn push_line(
     Ok(())
 }
 
-/// Adds a line of the requests that a user gains or loses on a file, if there are any.
-fn push_change(
-    text: &mut Vec<u8>,
-    path: &[u8],
-    user: &[u8],
-    word: &[u8],
-    requests: &[Perm],
-) -> Result<(), AllocError>
-    ensures { Appends result text.old text.new (change_line path.now user.now word.now requests.now) }
-{
-    if let Some((request, more)) = requests.split_first() {
-        push_line(text, path, user, word, *request, more)?;
-    }
-    Ok(())
-}
-
-/// Adds a line of the requests that are granted after and were not before, if there are any.
-fn push_gained(
-    alloc: Global,
-    text: &mut Vec<u8>,
-    path: &[u8],
-    user: &[u8],
-    word: &[u8],
-    before: Requests,
-    after: Requests,
-) -> Result<(), AllocError>
-    ensures { Appends result text.old text.new (change_line path.now user.now word.now (requests_gained before after)) }
-{
-    let gained = requests_gained(alloc, before, after)?;
-    push_change(text, path, user, word, &gained)
-}
-
 /// Adds what a user gains on a file, and what the user loses there.
 fn push_user(
-    alloc: Global,
     text: &mut Vec<u8>,
     path: &[u8],
     user: &[u8],
@@ -116,8 +85,10 @@ fn push_user(
 ) -> Result<(), AllocError>
     ensures { Appends result text.old text.new (change_lines path.now user.now before after) }
 {
-    push_gained(alloc, text, path, user, b"gains", before, after)?;
-    push_gained(alloc, text, path, user, b"loses", after, before)
+    let gained = requests_gained(*text.allocator(), before, after)?;
+    let lost = requests_gained(*text.allocator(), after, before)?;
+    push_line(text, path, user, b"gains", &gained)?;
+    push_line(text, path, user, b"loses", &lost)
 }
 
 /// Returns what a row grants the user at a place, if there is one.
@@ -151,26 +122,20 @@ fn some_differs(users: &[PlacedUser], before: &[Requests], after: &[Requests]) -
 
 /// Tells whether a file with these rows may have lines. If all users keep their places, the rows are compared at
 /// once.
-pub(crate) fn has_lines(
-    users: &[PlacedUser],
-    keep_places: bool,
-    before: &[Requests],
-    after: &[Requests],
-) -> bool
-    requires { keep_places ≡ true → list_all keeps_place users.now ≡ true }
-    ensures { result ≡ false → (path : List ℕ) → lines_between users.now path before.now after.now ≡ [] }
+pub(crate) fn has_lines(users: &PlacedUsers<'_>, before: &[Requests], after: &[Requests]) -> bool
+    requires { KnowPlaces users.now }
+    ensures { result ≡ false → (path : List ℕ) → lines_between users.now.list.now path before.now after.now ≡ [] }
 {
-    if keep_places {
+    if users.keep_places {
         !same_row(before, after)
     } else {
-        some_differs(users, before, after)
+        some_differs(users.list, before, after)
     }
 }
 
 /// Adds the lines of a file, by its rows before and after.
 #[tactic(auto, using(crate::proofs::Unchanged::no_change))]
 pub(crate) fn push_rows(
-    alloc: Global,
     text: &mut Vec<u8>,
     users: &[PlacedUser],
     path: &[u8],
@@ -183,7 +148,7 @@ pub(crate) fn push_rows(
         let had = verdict_or_none(before, user.before);
         let has = verdict_or_none(after, user.after);
         if had.bits() != has.bits() {
-            push_user(alloc, text, path, &user.name, had, has)?;
+            push_user(text, path, &user.name, had, has)?;
         }
     }
     Ok(())

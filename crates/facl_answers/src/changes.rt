@@ -1,22 +1,21 @@
 //! What `changes` prints: what each user may do with each file, beside what the user might do before; and its lines.
 
-ghost use Rattle.std.specs.Prelude.{◌≡◌, [], true, unwrap_or, IfOk};
-ghost use Rattle.std.specs.List.{list_all};
+ghost use Rattle.std.specs.Prelude.{◌≡◌, [], unwrap_or, IfOk};
 ghost use Rattle.std.specs.Option.{option_copied};
 ghost use Rattle.acl_names.specs.Appends.{Appends};
 ghost use Rattle.path_map.specs.Below.{within};
 ghost use Rattle.path_map.specs.Entries.{IsInOrder};
-ghost use Rattle.path_classes.specs.ClassesWithin.{AreTops, inside};
+ghost use Rattle.path_classes.specs.ClassesWithin.{AreTops};
 ghost use Rattle.acl_rights.specs.Outside.{SameOutside};
 ghost use Rattle.facl_answers.specs.BothStates.{both_of, front, rows_in_both, rows_of_both, rows_of_key};
 ghost use Rattle.facl_answers.specs.ChangesText.{changes_text};
-ghost use Rattle.facl_answers.specs.Inner.{keeps_place, lines_of_file, lines_of_files};
+ghost use Rattle.facl_answers.specs.Inner.{KnowPlaces, lines_of_file, lines_of_files};
 ghost use Rattle.facl_answers.specs.PathTexts.{text_in};
 
 use crate::both_classes::{BothClasses, Sides};
 use crate::change_lines::{has_lines, push_rows};
 use crate::path_texts::{root, text_of};
-use crate::placed_users::{PlacedUser, keep_places, users_of_both};
+use crate::placed_users::{PlacedUser, PlacedUsers, keep_places, users_of_both};
 use acl_entry::Requests;
 use acl_names::Path;
 use acl_rights::{Cells, IndexedState, Judge, Verdicts};
@@ -36,35 +35,34 @@ pub(crate) fn row_or_none(row: &Option<Cells>) -> &[Requests]
 /// Adds the lines of a file of either tree, by the rows of its classes. The path is printed only if there may be
 /// lines.
 fn push_file(
-    alloc: Global,
     text: &mut Vec<u8>,
-    users: &[PlacedUser],
-    keep_places: bool,
+    users: &PlacedUsers<'_>,
     trees: (&Tree, &Tree),
     both: &BothClasses<'_>,
-    path: &Path,
-    classes: Sides,
+    file: (&Path, Sides),
 ) -> Result<(), AllocError>
-    requires { keep_places ≡ true → list_all keeps_place users.now ≡ true }
-    ensures { Appends result text.old text.new (lines_of_file users.now (text_in trees.entry.0.now trees.entry.1.now) (path.now, rows_of_key (both_of both.now) classes)) }
+    requires { KnowPlaces users.now }
+    ensures { Appends result text.old text.new (lines_of_file users.now.list.now (text_in trees.entry.0.now trees.entry.1.now)
+        (file.entry.0.now, rows_of_key (both_of both.now) file.entry.1)) }
 {
-    if keep_places && both.keeps_row(classes) {
+    let (path, classes) = file;
+    if users.keep_places && both.keeps_row(classes) {
         return Ok(());
     }
+    let alloc = *text.allocator();
     let before = both.row_before(alloc, classes.0)?;
     let after = both.row_after(alloc, classes.1)?;
     let had = row_or_none(&before);
     let has = row_or_none(&after);
-    if !has_lines(users, keep_places, had, has) {
+    if !has_lines(users, had, has) {
         return Ok(());
     }
     let path = text_of(alloc, trees.0, trees.1, path)?;
-    push_rows(alloc, text, users, &path, had, has)
+    push_rows(text, users.list, &path, had, has)
 }
 
 /// Adds the lines of the next files of both, as long as they are at a path or below it.
 fn push_both(
-    alloc: Global,
     text: &mut Vec<u8>,
     users: &[PlacedUser],
     trees: (&Tree, &Tree),
@@ -76,16 +74,19 @@ fn push_both(
     ensures { Appends result text.old text.new (lines_of_files users.now (text_in trees.entry.0.now trees.entry.1.now)
         (front top.now (rows_of_both both.old.before.1 both.old.after.1))) }
 {
-    let keep_places = keep_places(users);
-    while let Some((path, classes)) = both.next_within(alloc, top)? {
-        push_file(alloc, text, users, keep_places, trees, both, path, classes)?;
+    let alloc = *text.allocator();
+    let users = PlacedUsers {
+        list: users,
+        keep_places: keep_places(users),
+    };
+    while let Some(file) = both.next_within(alloc, top)? {
+        push_file(text, &users, trees, both, file)?;
     }
     Ok(())
 }
 
 /// Adds the lines of the files at a path or below it.
 fn push_within<J: Judge>(
-    alloc: Global,
     text: &mut Vec<u8>,
     users: &[PlacedUser],
     loaded: &IndexedState<J>,
@@ -95,36 +96,14 @@ fn push_within<J: Judge>(
     ensures { Appends result text.old text.new (lines_of_files users.now (text_in loaded.now.tree verdicts.now.state.now.tree)
         (within top.now (rows_in_both J.verdict_of verdicts.now.along loaded.now verdicts.now.state.now))) }
 {
-    let mut both = BothClasses::of_states(alloc, loaded, verdicts, top);
+    let mut both = BothClasses::of_states(*text.allocator(), loaded, verdicts, top);
     let trees = (loaded.state().tree(), verdicts.state.state().tree());
-    push_both(alloc, text, users, trees, &mut both, top)
-}
-
-/// Adds the lines of the files at or below some paths, of which none is below another one.
-fn push_inside<J: Judge>(
-    alloc: Global,
-    text: &mut Vec<u8>,
-    users: &[PlacedUser],
-    loaded: &IndexedState<J>,
-    verdicts: &Verdicts<'_, J>,
-    tops: &[Path],
-) -> Result<(), AllocError>
-    requires tops { AreTops tops.now }
-    requires before { IsInOrder loaded.now.tree.files }
-    requires after { IsInOrder verdicts.now.state.now.tree.files }
-    ensures { Appends result text.old text.new (lines_of_files users.now (text_in loaded.now.tree verdicts.now.state.now.tree)
-        (inside tops.now (rows_in_both J.verdict_of verdicts.now.along loaded.now verdicts.now.state.now))) }
-{
-    for top in tops {
-        push_within(alloc, text, users, loaded, verdicts, top)?;
-    }
-    Ok(())
+    push_both(text, users, trees, &mut both, top)
 }
 
 /// Adds the lines of all files, if users may do the same outside a part of the tree. If no user has another place
 /// than before, only the files of the part are looked at.
 fn push_part<J: Judge>(
-    alloc: Global,
     text: &mut Vec<u8>,
     users: &[PlacedUser],
     loaded: &IndexedState<J>,
@@ -138,11 +117,14 @@ fn push_part<J: Judge>(
     ensures { Appends result text.old text.new (lines_of_files users.now (text_in loaded.now.tree verdicts.now.state.now.tree)
         (rows_in_both J.verdict_of verdicts.now.along loaded.now verdicts.now.state.now)) }
 {
-    if keep_places(users) {
-        push_inside(alloc, text, users, loaded, verdicts, tops)
-    } else {
-        push_within(alloc, text, users, loaded, verdicts, &root(alloc))
+    if !keep_places(users) {
+        let root = root(*text.allocator());
+        return push_within(text, users, loaded, verdicts, &root);
     }
+    for top in tops {
+        push_within(text, users, loaded, verdicts, top)?;
+    }
+    Ok(())
 }
 
 /// Writes what `changes` prints, if users may do the same in both states outside a part of the tree, what is at or
@@ -162,7 +144,7 @@ pub fn write_changes_within<J: Judge>(
     let people = verdicts.state.state().people();
     let users = users_of_both(alloc, loaded.state().people(), people)?;
     let mut text = Vec::new(alloc);
-    push_part(alloc, &mut text, &users, loaded, verdicts, tops)?;
+    push_part(&mut text, &users, loaded, verdicts, tops)?;
     Ok(text)
 }
 

@@ -1,8 +1,6 @@
 //! The file of a path, and how its path is printed: as it is now, or as it was.
 
-ghost use Rattle.std.specs.Prelude.{◌≡◌, ◌∷◌, [], false, IfOk, is_some, option_map};
-ghost use Rattle.std.specs.FinMap.{find};
-ghost use Rattle.acl_names.specs.Paths.{path_cmp};
+ghost use Rattle.std.specs.Prelude.{◌≡◌, ◌∷◌, [], false, IfOk, option_map};
 ghost use Rattle.acl_tree.specs.Found.{files_found};
 ghost use Rattle.facl_answers.specs.PathTexts.{text_in, text_in_tree};
 
@@ -10,12 +8,6 @@ use crate::index::path_shown;
 use acl_names::Path;
 use acl_tree::{FoundFile, Paths, Selection, Tree};
 use std::alloc::{AllocError, Global};
-
-fn is_recorded(tree: &Tree, path: &Path) -> bool
-    ensures { result ≡ is_some (find path_cmp path.now tree.now.files) }
-{
-    tree.get(path).is_some()
-}
 
 /// Returns the path of the root.
 pub fn root(alloc: Global) -> Path
@@ -32,10 +24,12 @@ pub fn files_at<'a>(
 ) -> Result<Vec<FoundFile<'a>>, AllocError>
     ensures { IfOk result (λ files. files.items ≡ files_found false (path.now ∷ []) tree.now.files) }
 {
-    if !is_recorded(tree, path) {
+    if tree.get(path).is_none() {
         return Ok(Vec::new(alloc));
     }
-    let paths = one_path(alloc, path)?;
+    let mut list = Vec::new(alloc);
+    list.push(path.try_clone(alloc)?)?;
+    let paths = Paths::new(list);
     let selection = Selection {
         operands: &paths,
         recursive: false,
@@ -47,14 +41,6 @@ pub fn files_at<'a>(
             Err(AllocError)
         }
     }
-}
-
-fn one_path(alloc: Global, path: &Path) -> Result<Paths, AllocError>
-    ensures { IfOk result (λ paths. paths ≡ path.now ∷ []) }
-{
-    let mut list = Vec::new(alloc);
-    list.push(path.try_clone(alloc)?)?;
-    Ok(Paths::new(list))
 }
 
 /// Returns the path of a file as it is printed, if it is recorded.

@@ -18,6 +18,13 @@ pub struct PlacedUser {
     pub after: Option<usize>,
 }
 
+/// The users of two states. If `keep_places` is set, each has the same place in both, or none in both.
+#[derive(Clone, Copy)]
+pub(crate) struct PlacedUsers<'a> {
+    pub list: &'a [PlacedUser],
+    pub keep_places: bool,
+}
+
 /// Returns the user of a name, who is in either state.
 fn placed_user(
     alloc: Global,

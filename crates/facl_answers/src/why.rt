@@ -5,7 +5,7 @@ ghost use Rattle.acl_names.specs.Appends.{Appends};
 ghost use Rattle.acl_people.specs.KnownPeople.{naming_of};
 ghost use Rattle.acl_tree.specs.Walks.{ancestors};
 ghost use Rattle.acl_tree.specs.Operands.{first_missing, IsMissing};
-ghost use Rattle.facl_answers.specs.Inner.{is_chosen, ways, asked_paths};
+ghost use Rattle.facl_answers.specs.Inner.{is_chosen, asked_paths};
 ghost use Rattle.facl_answers.specs.WhyText.{deciding_text, files_asked, why_record, why_text};
 
 use acl_entry::{Entry, Id, Key, Label, Subject};
@@ -108,27 +108,18 @@ fn push_way(alloc: Global, all: &mut Vec<Path>, tree: &Tree, path: &Path) -> Res
     Ok(())
 }
 
-/// Puts before each path its recorded ancestors.
-fn with_ways(alloc: Global, tree: &Tree, paths: &Paths) -> Result<Paths, AllocError>
-    ensures { IfOk result (λ all. all ≡ ways paths.now tree.now.files) }
-{
-    let mut all = Vec::new(alloc);
-    for path in paths.as_slice() {
-        push_way(alloc, &mut all, tree, path)?;
-    }
-    Ok(Paths::new(all))
-}
-
-/// Returns the paths whose files are printed.
+/// Returns the paths whose files are printed: with `along` each after its recorded ancestors.
 fn asked_paths(alloc: Global, tree: &Tree, paths: Paths, along: bool) -> Result<Paths, AllocError>
     ensures { IfOk result (λ asked. asked ≡ asked_paths along paths tree.now.files) }
 {
     if along {
-        let asked = with_ways(alloc, tree, &paths)?;
-        Ok(asked)
-    } else {
-        Ok(paths)
+        let mut all = Vec::new(alloc);
+        for path in paths.as_slice() {
+            push_way(alloc, &mut all, tree, path)?;
+        }
+        return Ok(Paths::new(all));
     }
+    Ok(paths)
 }
 
 /// Returns the files of these paths, each once, in path order; with `along` their recorded ancestors too.

@@ -1,8 +1,8 @@
-use Rattle.std.proofs.Common.{arith, ◌≡◌, ◌++◌, ◌∷◌, [], ℕ, List, length, take, ap, ◌∙◌}
+use Rattle.std.proofs.Common.{arith, ◌≡◌, ◌++◌, ◌∷◌, [], ℕ, List, length, take, ap, sym, subst, ◌∙◌}
 use Rattle.std.proofs.lemmas.Grind.{common_steps}
 use Rattle.std.specs.List.{flat_map}
 use Rattle.acl_entry.specs.Perms.{text}
-use Rattle.facl_answers.specs.ChangesText.{after_comma}
+use Rattle.facl_answers.specs.ChangesText.{after_comma, change_line}
 use Rattle.facl_output.proofs.Parts.{two_parts, begins_itself, begins_later, begins_more}
 use Rattle.facl_answers.proofs.change_lines.push_line.Goals as goal
 
@@ -46,7 +46,7 @@ returns-in_err-push-3 c =
     after_five c.args.user.now (32 ∷ []) c.args.word.now
     (32 ∷ []) c.text.result start c.extend_from_slice.new.self.items c.push.new.self.items c.extend_from_slice-2.new.self.items c.push-2.new.self.items requested
     c.in_ok-extend_from_slice.ensures.items c.in_ok-push.ensures.items c.in_ok-extend_from_slice-2.ensures.items c.in_ok-push-2.ensures.items c.in_ok-extend_from_slice-3.ensures.items in
-    let more = flat_map after_comma c.args.more.now in
+    let more = flat_map after_comma c.in-Some.more.now in
     let with_more = begins_more start requested more c.push_more.new.text.items begins_before c.in_ok-push_more.ensures in
     grind (arith, common_steps, with_more)
 
@@ -58,7 +58,7 @@ returns-in_err-extend_from_slice-4 c =
     after_five c.args.user.now (32 ∷ []) c.args.word.now
     (32 ∷ []) c.text.result start c.extend_from_slice.new.self.items c.push.new.self.items c.extend_from_slice-2.new.self.items c.push-2.new.self.items requested
     c.in_ok-extend_from_slice.ensures.items c.in_ok-push.ensures.items c.in_ok-extend_from_slice-2.ensures.items c.in_ok-push-2.ensures.items c.in_ok-extend_from_slice-3.ensures.items in
-    let more = flat_map after_comma c.args.more.now in
+    let more = flat_map after_comma c.in-Some.more.now in
     let with_more = begins_more start requested more c.push_more.new.text.items begins_before c.in_ok-push_more.ensures in
     let spaced = begins_more start c.push_more.new.text.items (32 ∷ []) c.push-3.new.self.items with_more c.in_ok-push-3.ensures.items in
     grind (arith, common_steps, spaced)
@@ -71,7 +71,7 @@ returns-in_err-push-4 c =
     after_five c.args.user.now (32 ∷ []) c.args.word.now
     (32 ∷ []) c.text.result start c.extend_from_slice.new.self.items c.push.new.self.items c.extend_from_slice-2.new.self.items c.push-2.new.self.items requested
     c.in_ok-extend_from_slice.ensures.items c.in_ok-push.ensures.items c.in_ok-extend_from_slice-2.ensures.items c.in_ok-push-2.ensures.items c.in_ok-extend_from_slice-3.ensures.items in
-    let more = flat_map after_comma c.args.more.now in
+    let more = flat_map after_comma c.in-Some.more.now in
     let with_more = begins_more start requested more c.push_more.new.text.items begins_before c.in_ok-push_more.ensures in
     let spaced = begins_more start c.push_more.new.text.items (32 ∷ []) c.push-3.new.self.items with_more c.in_ok-push-3.ensures.items in
     let with_path = begins_more start c.push-3.new.self.items c.args.path.now c.extend_from_slice-4.new.self.items spaced c.in_ok-extend_from_slice-4.ensures.items in
@@ -79,9 +79,13 @@ returns-in_err-push-4 c =
 
 pub returns : goal.returns
 returns c =
-    line_of_parts c.args.user.now c.args.word.now (text c.args.request) (flat_map after_comma c.args.more.now) c.args.path.now
+    let user = c.args.user.now in
+    let word = c.args.word.now in
+    let path = c.args.path.now in
+    subst (λ requests. c.push-4.new.self.items ≡ c.args.text.now.items ++ change_line path user word requests) (sym c.in-Some.ensures.cases.0)
+    (line_of_parts user word (text c.in-Some.request.now) (flat_map after_comma c.in-Some.more.now) path
     c.args.text.now.items c.extend_from_slice.new.self.items c.push.new.self.items c.extend_from_slice-2.new.self.items c.push-2.new.self.items
     c.extend_from_slice-3.new.self.items c.push_more.new.text.items c.push-3.new.self.items c.extend_from_slice-4.new.self.items c.push-4.new.self.items
     c.in_ok-extend_from_slice.ensures.items c.in_ok-push.ensures.items c.in_ok-extend_from_slice-2.ensures.items c.in_ok-push-2.ensures.items
     (c.in_ok-extend_from_slice-3.ensures.items ∙ ap (λ request. c.push-2.new.self.items ++ request) c.text.ensures)
-    c.in_ok-push_more.ensures c.in_ok-push-3.ensures.items c.in_ok-extend_from_slice-4.ensures.items c.in_ok-push-4.ensures.items
+    c.in_ok-push_more.ensures c.in_ok-push-3.ensures.items c.in_ok-extend_from_slice-4.ensures.items c.in_ok-push-4.ensures.items)

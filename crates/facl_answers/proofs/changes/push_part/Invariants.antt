@@ -3,7 +3,7 @@ use Rattle.path_classes.specs.ClassesWithin.{inside}
 use Rattle.facl_answers.specs.BothStates.{rows_in_both}
 use Rattle.facl_answers.specs.Inner.{lines_of_files}
 use Rattle.facl_answers.specs.PathTexts.{text_in}
-use Rattle.facl_answers.proofs.changes.push_inside.Given as goal
+use Rattle.facl_answers.proofs.changes.push_part.Given as goal
 
 abbrev pub invariant-loop-top : goal.invariant-loop-top
 invariant-loop-top g l =
