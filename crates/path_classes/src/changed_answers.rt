@@ -12,7 +12,7 @@ ghost use Rattle.path_classes.specs.ClassedRows.{AreCountedOf};
 ghost use Rattle.path_classes.specs.ChangedAnswers.{SameRow, SameReach, HadSameReach, IsTrueFor, AreTrue};
 
 use crate::cells::same_row;
-use crate::label_row::LabelRow;
+use crate::label_row::{BothRows, LabelRow};
 use crate::path_class::PathClass;
 use crate::same_rows::StateClasses;
 use crate::searchers::Searchers;
@@ -219,27 +219,26 @@ fn count_unless(count: usize, is_same: bool) -> usize
 /// has other answers than their class now.
 pub(crate) fn changed_answers(
     alloc: Global,
-    old: &KindMap<LabelRow>,
+    rows: &BothRows<'_, '_>,
     before: &KindMap<PathClass>,
-    rows: &KindMap<LabelRow>,
     after: &KindMap<PathClass>,
     files: &[(&Path, usize)],
 ) -> Result<usize, AllocError>
-    requires were { AreClasses old.now before.now }
-    requires are { AreClasses rows.now after.now }
+    requires were { AreClasses rows.now.before.now before.now }
+    requires are { AreClasses rows.now.after.now after.now }
     requires order { IsInOrder (map seen files.now) }
     requires among { AreAmong after.now.1 (map seen files.now) }
-    ensures least { IfOk result (AreCountedOf old.now rows.now (map seen files.now)) }
+    ensures least { IfOk result (AreCountedOf rows.now.before.now rows.now.after.now (map seen files.now)) }
     ensures most { IfOk result (λ count. count ≤ length files.now) }
 {
-    old.order_law();
-    rows.order_law();
+    rows.before.order_law();
+    rows.after.order_law();
     let state_before = StateClasses {
-        labels: old.kinds(),
+        labels: rows.before.kinds(),
         classes: before.kinds(),
     };
     let state_after = StateClasses {
-        labels: rows.kinds(),
+        labels: rows.after.kinds(),
         classes: after.kinds(),
     };
     let found = before.numbers().get_all(alloc, files)?;

@@ -7,59 +7,37 @@ ghost use Rattle.path_classes.specs.ClassesWithin.{inside};
 ghost use Rattle.path_classes.specs.ClassedRows.{AreCounted, PutsRows, paths_of};
 
 use crate::classes_within::classes_after;
-use crate::label_row::LabelRow;
+use crate::label_row::BothRows;
 use crate::path_class::PathClass;
 use crate::relabelled_file::relabelled_alone;
 use crate::top_paths::tops_of;
 use acl_names::Path;
-use kinds::{KindMap, TaggedMap};
+use kinds::TaggedMap;
 use std::alloc::{AllocError, Global};
 
-/// Finds the classes at or below the changed and the gone files again, and counts the files there that may have other
-/// answers by that.
-fn found_again<V, W>(
-    alloc: Global,
-    old: &KindMap<LabelRow>,
-    rows: &KindMap<LabelRow>,
-    before: &TaggedMap<PathClass>,
-    changed: &[(&Path, V)],
-    gone: &[(&Path, W)],
-) -> Result<(TaggedMap<PathClass>, usize), AllocError>
-    requires changed { IsInOrder (map seen changed.now) }
-    requires gone { IsInOrder (map seen gone.now) }
-    requires were { AreClasses old.now before.now }
-    requires puts { PutsRows old.now (map seen changed.now) (map seen gone.now) rows.now }
-    ensures classes { IfOk result (λ new. AreClasses rows.now new.0) }
-    ensures least { IfOk result (λ new. AreCounted old.now rows.now new.1) }
-    ensures most { IfOk result (λ new. new.1 ≤ length (inside (paths_of (map seen changed.now) ++ paths_of (map seen gone.now)) rows.now.1)) }
-{
-    let _files_before = old.numbers();
-    let _files = rows.numbers();
-    let tops = tops_of(alloc, changed, gone)?;
-    let new = classes_after(alloc, old, rows, before, &tops)?;
-    Ok(new)
-}
-
 /// Returns the classes after some files changed and others are gone, and how many files at or below these may have
-/// other answers by that: one file alone gets its label in place if it can.
+/// other answers by that: one file alone gets its label in place if it can, else the classes there are found again.
 pub(crate) fn classes_with_files<V, W>(
     alloc: Global,
-    old: &KindMap<LabelRow>,
-    rows: &KindMap<LabelRow>,
+    rows: &BothRows<'_, '_>,
     before: &TaggedMap<PathClass>,
     changed: &[(&Path, V)],
     gone: &[(&Path, W)],
 ) -> Result<(TaggedMap<PathClass>, usize), AllocError>
     requires changed { IsInOrder (map seen changed.now) }
     requires gone { IsInOrder (map seen gone.now) }
-    requires were { AreClasses old.now before.now }
-    requires puts { PutsRows old.now (map seen changed.now) (map seen gone.now) rows.now }
-    ensures classes { IfOk result (λ new. AreClasses rows.now new.0) }
-    ensures least { IfOk result (λ new. AreCounted old.now rows.now new.1) }
-    ensures most { IfOk result (λ new. new.1 ≤ length (inside (paths_of (map seen changed.now) ++ paths_of (map seen gone.now)) rows.now.1)) }
+    requires were { AreClasses rows.now.before.now before.now }
+    requires puts { PutsRows rows.now.before.now (map seen changed.now) (map seen gone.now) rows.now.after.now }
+    ensures classes { IfOk result (λ new. AreClasses rows.now.after.now new.0) }
+    ensures least { IfOk result (λ new. AreCounted rows.now.before.now rows.now.after.now new.1) }
+    ensures most { IfOk result (λ new. new.1 ≤ length (inside (paths_of (map seen changed.now) ++ paths_of (map seen gone.now)) rows.now.after.now.1)) }
 {
-    match relabelled_alone(alloc, old, rows, before, changed, gone)? {
-        Some(new) => Ok(new),
-        None => found_again(alloc, old, rows, before, changed, gone),
+    if let Some(alone) = relabelled_alone(alloc, rows, before, changed, gone)? {
+        return Ok(alone);
     }
+    let _files_before = rows.before.numbers();
+    let _files = rows.after.numbers();
+    let tops = tops_of(alloc, changed, gone)?;
+    let new = classes_after(alloc, rows, before, &tops)?;
+    Ok(new)
 }

@@ -7,7 +7,7 @@ ghost use Rattle.path_classes.specs.PathClasses.{ClassKinds, AboveKeeps, search_
 ghost use Rattle.path_classes.specs.ClassBuilding.{IsKnown, IsRightAt, IsRightAbove, AreRight, AreKept, IsThere, Fills, Keeps, Finds, SameClassesBut};
 
 use crate::class_hints::ClassHints;
-use crate::kept_classes::{KeptClasses, is_class_of};
+use crate::kept_classes::{ClassSources, is_class_of};
 use crate::label_row::LabelRow;
 use crate::path_class::{ClassNumber, PathClass};
 use crate::searchers::{Searchers, searchers_below};
@@ -179,22 +179,21 @@ fn added(
 /// Returns the class of a key that the walk has not found yet: one that paths outside have, or a new one.
 fn kept_or_added(
     alloc: Global,
-    rows: &Kinds<LabelRow>,
-    kept: &KeptClasses,
+    sources: &ClassSources<'_, '_>,
     classes: Kinds<PathClass>,
     above: Option<ClassNumber>,
     kind: KindNumber,
 ) -> Result<(Kinds<PathClass>, usize), AllocError>
-    requires row { IsNode rows.now kind }
-    requires above { IsRightAbove rows.now classes above }
-    requires kept { AreKept rows.now classes kept.now.outside }
-    ensures { IfOk result (λ new. Finds rows.now classes above kind new.0 new.1) }
+    requires row { IsNode sources.now.rows.now kind }
+    requires above { IsRightAbove sources.now.rows.now classes above }
+    requires kept { AreKept sources.now.rows.now classes sources.now.kept.now.outside }
+    ensures { IfOk result (λ new. Finds sources.now.rows.now classes above kind new.0 new.1) }
 {
-    if let Some(class) = kept.find(alloc, &classes, above, kind)? {
+    if let Some(class) = sources.kept.find(alloc, &classes, above, kind)? {
         return Ok((classes, class));
     }
-    let classes = above_keeping(alloc, rows, classes, above)?;
-    added(alloc, rows, classes, above, kind)
+    let classes = above_keeping(alloc, sources.rows, classes, above)?;
+    added(alloc, sources.rows, classes, above, kind)
 }
 
 impl ClassBuilder {
@@ -216,17 +215,16 @@ impl ClassBuilder {
     pub fn class_of(
         self,
         alloc: Global,
-        rows: &Kinds<LabelRow>,
-        kept: &KeptClasses,
+        sources: &ClassSources<'_, '_>,
         above: Option<ClassNumber>,
         kind: KindNumber,
     ) -> Result<(ClassBuilder, usize), AllocError>
-        requires row { IsNode rows.now kind }
-        requires above { IsRightAbove rows.now self.classes above }
-        requires known { AreRight rows.now self.classes self.known.items }
-        requires kept { AreKept rows.now self.classes kept.now.outside }
-        ensures finds { IfOk result (λ new. Finds rows.now self.classes above kind new.0.classes new.1) }
-        ensures known { IfOk result (λ new. AreRight rows.now new.0.classes new.0.known.items) }
+        requires row { IsNode sources.now.rows.now kind }
+        requires above { IsRightAbove sources.now.rows.now self.classes above }
+        requires known { AreRight sources.now.rows.now self.classes self.known.items }
+        requires kept { AreKept sources.now.rows.now self.classes sources.now.kept.now.outside }
+        ensures finds { IfOk result (λ new. Finds sources.now.rows.now self.classes above kind new.0.classes new.1) }
+        ensures known { IfOk result (λ new. AreRight sources.now.rows.now new.0.classes new.0.known.items) }
         ensures begun { IfOk result (λ new. (first : ClassKinds) → SameClassesBut self.begun.items first self.classes → SameClassesBut new.0.begun.items first new.0.classes) }
     {
         let ClassBuilder {
@@ -245,7 +243,7 @@ impl ClassBuilder {
             };
             return Ok((same, class));
         }
-        let (classes, class) = kept_or_added(alloc, rows, kept, classes, above, kind)?;
+        let (classes, class) = kept_or_added(alloc, sources, classes, above, kind)?;
         hints.add(above, kind, known.len())?;
         known.push(class)?;
         push_found(&mut begun, &[above])?;

@@ -10,12 +10,10 @@ ghost use Rattle.path_classes.specs.ClassBuilding.{IsRightAbove, AreRight, AreKe
 ghost use Rattle.path_classes.specs.PathClasses.{ClassKinds};
 
 use crate::class_builder::ClassBuilder;
-use crate::kept_classes::KeptClasses;
-use crate::label_row::LabelRow;
+use crate::kept_classes::ClassSources;
 use crate::path_class::ClassNumber;
 use crate::stack::{depth_above, last};
 use acl_names::Path;
-use kinds::Kinds;
 use path_map::Within;
 use std::alloc::{AllocError, Global};
 
@@ -49,19 +47,18 @@ fn put<'a>(
 /// are right below the class `over`, or below none.
 pub(crate) fn walk<'a, 'p>(
     alloc: Global,
-    rows: &Kinds<LabelRow>,
-    kept: &KeptClasses,
+    sources: &ClassSources<'_, '_>,
     builder: ClassBuilder,
     over: Option<ClassNumber>,
     files: Within<'a, 'p, usize>,
 ) -> Result<(ClassBuilder, Vec<(&'a Path, usize)>), AllocError>
     requires order { IsInOrder files }
-    requires used { AreUsed rows.now files }
-    requires over { IsRightAbove rows.now builder.classes over }
-    requires known { AreRight rows.now builder.classes builder.known.items }
-    requires kept { AreKept rows.now builder.classes kept.now.outside }
-    ensures walked { IfOk result (λ new. AreWalked rows.now files.entry over builder.classes new.0.classes (map seen new.1.items)) }
-    ensures known { IfOk result (λ new. AreRight rows.now new.0.classes new.0.known.items) }
+    requires used { AreUsed sources.now.rows.now files }
+    requires over { IsRightAbove sources.now.rows.now builder.classes over }
+    requires known { AreRight sources.now.rows.now builder.classes builder.known.items }
+    requires kept { AreKept sources.now.rows.now builder.classes sources.now.kept.now.outside }
+    ensures walked { IfOk result (λ new. AreWalked sources.now.rows.now files.entry over builder.classes new.0.classes (map seen new.1.items)) }
+    ensures known { IfOk result (λ new. AreRight sources.now.rows.now new.0.classes new.0.known.items) }
     ensures begun { IfOk result (λ new. (first : ClassKinds) → SameClassesBut builder.begun.items first builder.classes → SameClassesBut new.0.begun.items first new.0.classes) }
 {
     let mut builder = builder;
@@ -71,7 +68,7 @@ pub(crate) fn walk<'a, 'p>(
     while let Some((path, kind)) = rest.next() {
         let depth = depth_above(&stack, path);
         let above = last_class(&stack, depth, over);
-        let (next, class) = builder.class_of(alloc, rows, kept, above, kind)?;
+        let (next, class) = builder.class_of(alloc, sources, above, kind)?;
         builder = next;
         put(&mut stack, depth, path, class)?;
         made.push((path, class))?;

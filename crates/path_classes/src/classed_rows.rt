@@ -10,7 +10,7 @@ ghost use Rattle.path_classes.specs.ClassedRows.{AreCounted, PutsRows, paths_of,
 ghost use Rattle.path_classes.specs.PathClasses.{AreClasses};
 
 use crate::changed_files::classes_with_files;
-use crate::label_row::LabelRow;
+use crate::label_row::{BothRows, LabelRow};
 use crate::marked_classes::changed_count;
 use crate::path_class::PathClass;
 use crate::path_classes::classes_of;
@@ -158,7 +158,11 @@ impl ClassedRows {
     {
         let old = self.rows();
         let before = self.classes();
-        let new = classes_with_files(alloc, old.map(), rows.map(), before, changed, gone)?;
+        let both = BothRows {
+            before: old.map(),
+            after: rows.map(),
+        };
+        let new = classes_with_files(alloc, &both, before, changed, gone)?;
         let (classes, count) = new;
         Ok((ClassedRows { rows, classes }, count))
     }

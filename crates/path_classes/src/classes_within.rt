@@ -3,17 +3,16 @@
 ghost use Rattle.std.specs.Prelude.{◌≡◌, ◌≤◌, ◌++◌, ◌∷◌, [], not, is_none, length, map, filter, IfOk, OnOk, if◌then◌else◌};
 ghost use Rattle.path_map.specs.Entries.{IsInOrder, seen};
 ghost use Rattle.path_map.specs.Merged.{has};
-ghost use Rattle.kinds.specs.Numbered.{AreUsed};
-ghost use Rattle.path_classes.specs.PathClasses.{ClassKinds, class_above, AreClasses};
-ghost use Rattle.path_classes.specs.ClassBuilding.{IsRightAbove, AreRight, AreKept, SameClassesBut};
-ghost use Rattle.path_classes.specs.ClassesWithin.{paths_seen, inside, outside, AreTops, FitOutside, ChangesInside, WalksTop, AreFound};
+ghost use Rattle.path_classes.specs.PathClasses.{class_above, AreClasses};
+ghost use Rattle.path_classes.specs.ClassBuilding.{AreKept, SameClassesBut};
+ghost use Rattle.path_classes.specs.ClassesWithin.{paths_seen, inside, outside, AreTops, FitOutside, ChangesInside, AreFound};
 ghost use Rattle.path_classes.specs.ClassedRows.{AreCounted};
 
 use crate::changed_answers::changed_answers;
 use crate::class_builder::ClassBuilder;
 use crate::class_walk::walk;
-use crate::kept_classes::KeptClasses;
-use crate::label_row::LabelRow;
+use crate::kept_classes::{ClassSources, KeptClasses};
+use crate::label_row::{BothRows, LabelRow};
 use crate::path_class::PathClass;
 use acl_names::Path;
 use kinds::{KindMap, Kinds, TaggedMap};
@@ -28,33 +27,6 @@ fn class_over(classes: &PathMap<usize>, path: &Path) -> Option<usize>
         Some(entry) => Some(entry.1),
         None => None,
     }
-}
-
-/// Adds the classes of the files at or below a top.
-fn walk_top<'a>(
-    alloc: Global,
-    rows: &Kinds<LabelRow>,
-    files: &'a PathMap<usize>,
-    before: &PathMap<usize>,
-    kept: &KeptClasses,
-    builder: ClassBuilder,
-    top: &Path,
-    made: &mut Vec<(&'a Path, usize)>,
-) -> Result<ClassBuilder, AllocError>
-    requires used { AreUsed rows.now files.now }
-    requires over { IsRightAbove rows.now builder.classes (class_above top.now before.now) }
-    requires known { AreRight rows.now builder.classes builder.known.items }
-    requires kept { AreKept rows.now builder.classes kept.now.outside }
-    ensures walks { IfOk result (λ new. WalksTop rows.now files.now (class_above top.now before.now) top.now builder.classes (map seen made.old.items) new.classes (map seen made.new.items)) }
-    ensures known { IfOk result (λ new. AreRight rows.now new.classes new.known.items) }
-    ensures begun { IfOk result (λ new. (first : ClassKinds) → SameClassesBut builder.begun.items first builder.classes → SameClassesBut new.begun.items first new.classes) }
-{
-    files.order_law();
-    let over = class_over(before, top);
-    let below = files.within(top);
-    let (next, own) = walk(alloc, rows, kept, builder, over, below)?;
-    made.extend_from_slice(&own)?;
-    Ok(next)
 }
 
 /// Returns the classes of the files at or below `tops`, of which none is below another one, beside the classes that
@@ -78,10 +50,15 @@ fn classes_within<'a>(
     let paths = before.numbers();
     let old = before.kinds();
     let classes = old.share()?;
+    let sources = ClassSources { rows: kinds, kept };
     let mut builder = ClassBuilder::new(alloc, classes);
     let mut made = Vec::new(alloc);
+    numbers.order_law();
     for top in tops {
-        let next = walk_top(alloc, kinds, numbers, paths, kept, builder, *top, &mut made)?;
+        let over = class_over(paths, *top);
+        let below = numbers.within(*top);
+        let (next, own) = walk(alloc, &sources, builder, over, below)?;
+        made.extend_from_slice(&own)?;
         builder = next;
     }
     let (classes, begun) = builder.into_parts();
@@ -188,26 +165,25 @@ fn found_within<'a>(
 /// one. Returns also how many of the files inside may have other answers than before.
 pub(crate) fn classes_after(
     alloc: Global,
-    old: &KindMap<LabelRow>,
-    rows: &KindMap<LabelRow>,
+    rows: &BothRows<'_, '_>,
     before: &TaggedMap<PathClass>,
     tops: &[&Path],
 ) -> Result<(TaggedMap<PathClass>, usize), AllocError>
     requires tops { AreTops (paths_seen tops.now) }
-    requires were { AreClasses old.now before.now }
-    requires changes { ChangesInside old.now (paths_seen tops.now) rows.now }
-    ensures classes { IfOk result (λ new. AreClasses rows.now new.0) }
-    ensures least { IfOk result (λ new. AreCounted old.now rows.now new.1) }
-    ensures most { IfOk result (λ new. new.1 ≤ length (inside (paths_seen tops.now) rows.now.1)) }
+    requires were { AreClasses rows.now.before.now before.now }
+    requires changes { ChangesInside rows.now.before.now (paths_seen tops.now) rows.now.after.now }
+    ensures classes { IfOk result (λ new. AreClasses rows.now.after.now new.0) }
+    ensures least { IfOk result (λ new. AreCounted rows.now.before.now rows.now.after.now new.1) }
+    ensures most { IfOk result (λ new. new.1 ≤ length (inside (paths_seen tops.now) rows.now.after.now.1)) }
 {
-    old.order_law();
-    rows.order_law();
-    let _files = rows.numbers();
+    rows.before.order_law();
+    rows.after.order_law();
+    let _files = rows.after.numbers();
     let classes_before = before.map();
     let _paths = classes_before.numbers();
-    let (classes, made, begun, gone) = found_within(alloc, rows, before, tops)?;
+    let (classes, made, begun, gone) = found_within(alloc, rows.after, before, tops)?;
     let after = before.put_counted(alloc, classes, &made, &gone, &begun)?;
     let new = after.map();
-    let changed = changed_answers(alloc, old, classes_before, rows, new, &made)?;
+    let changed = changed_answers(alloc, rows, classes_before, new, &made)?;
     Ok((after, changed))
 }

@@ -8,6 +8,7 @@ ghost use Rattle.kinds.specs.Numbered.{one_if, paths_with};
 ghost use Rattle.path_classes.specs.ClassBuilding.{IsClassOf, IsKeptClass};
 
 use crate::class_tags::pair_tag;
+use crate::label_row::LabelRow;
 use crate::path_class::{ClassNumber, PathClass};
 use acl_names::Path;
 use kinds::{KindNumber, Kinds, TaggedMap};
@@ -18,6 +19,13 @@ use std::alloc::{AllocError, Global};
 pub(crate) struct KeptClasses {
     tagged: TaggedMap<PathClass>,
     pub(crate) outside: Kinds<PathClass>,
+}
+
+/// What the classes of files are found with: the rows of their labels, and the classes that paths outside have.
+#[derive(Clone, Copy)]
+pub(crate) struct ClassSources<'r, 'k> {
+    pub rows: &'r Kinds<LabelRow>,
+    pub kept: &'k KeptClasses,
 }
 
 fn is_same_class(some: Option<usize>, other: Option<usize>) -> bool

@@ -5,7 +5,7 @@ ghost use Rattle.acl_entry.specs.Mentions.{mentions};
 
 use crate::cells::Cells;
 use acl_entry::{Id, Label};
-use kinds::Tagged;
+use kinds::{KindMap, Tagged};
 use std::alloc::{AllocError, Global};
 
 /// A label, and what each user may do with a file of this label, in the order of the users.
@@ -13,6 +13,13 @@ use std::alloc::{AllocError, Global};
 pub struct LabelRow {
     pub label: Label,
     pub row: Cells,
+}
+
+/// The rows before some files changed, and after.
+#[derive(Clone, Copy)]
+pub(crate) struct BothRows<'b, 'a> {
+    pub before: &'b KindMap<LabelRow>,
+    pub after: &'a KindMap<LabelRow>,
 }
 
 /// Adds the numbers of groups.

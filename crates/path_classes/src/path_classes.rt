@@ -5,7 +5,7 @@ ghost use Rattle.path_classes.specs.PathClasses.{AreClasses};
 
 use crate::class_builder::ClassBuilder;
 use crate::class_walk::walk;
-use crate::kept_classes::KeptClasses;
+use crate::kept_classes::{ClassSources, KeptClasses};
 use crate::label_row::LabelRow;
 use crate::path_class::PathClass;
 use acl_names::Path;
@@ -34,7 +34,11 @@ pub(crate) fn classes_of(
     let files = numbers.within(&top);
     let kept = KeptClasses::none(alloc)?;
     let none = ClassBuilder::new(alloc, Kinds::new(alloc));
-    let (walked, made) = walk(alloc, kinds, &kept, none, None, files)?;
+    let sources = ClassSources {
+        rows: kinds,
+        kept: &kept,
+    };
+    let (walked, made) = walk(alloc, &sources, none, None, files)?;
     let (classes, _begun) = walked.into_parts();
     KindMap::renumbered(alloc, numbers, classes, &made)
 }

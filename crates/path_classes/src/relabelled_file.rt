@@ -8,7 +8,7 @@ ghost use Rattle.path_classes.specs.ClassesWithin.{inside};
 ghost use Rattle.path_classes.specs.PathClasses.{AreClasses};
 ghost use Rattle.path_classes.specs.Renewing.{IsOwnClass};
 
-use crate::label_row::LabelRow;
+use crate::label_row::{BothRows, LabelRow};
 use crate::path_class::PathClass;
 use crate::renewed_searches::relabelled_classes;
 use crate::rerowed_classes::paths_below;
@@ -77,22 +77,21 @@ pub(crate) fn relabelled_file(
 /// Calls `relabelled_file` if exactly one file changed and none is gone; else returns `None`.
 pub(crate) fn relabelled_alone<V, W>(
     alloc: Global,
-    old: &KindMap<LabelRow>,
-    rows: &KindMap<LabelRow>,
+    rows: &BothRows<'_, '_>,
     before: &TaggedMap<PathClass>,
     changed: &[(&Path, V)],
     gone: &[(&Path, W)],
 ) -> Result<Option<(TaggedMap<PathClass>, usize)>, AllocError>
-    requires were { AreClasses old.now before.now }
-    requires puts { PutsRows old.now (map seen changed.now) (map seen gone.now) rows.now }
-    ensures classes { IfOk result (λ new. IfSome new (λ new. AreClasses rows.now new.0)) }
-    ensures least { IfOk result (λ new. IfSome new (λ new. AreCounted old.now rows.now new.1)) }
-    ensures most { IfOk result (λ new. IfSome new (λ new. new.1 ≤ length (inside (paths_of (map seen changed.now) ++ paths_of (map seen gone.now)) rows.now.1))) }
+    requires were { AreClasses rows.now.before.now before.now }
+    requires puts { PutsRows rows.now.before.now (map seen changed.now) (map seen gone.now) rows.now.after.now }
+    ensures classes { IfOk result (λ new. IfSome new (λ new. AreClasses rows.now.after.now new.0)) }
+    ensures least { IfOk result (λ new. IfSome new (λ new. AreCounted rows.now.before.now rows.now.after.now new.1)) }
+    ensures most { IfOk result (λ new. IfSome new (λ new. new.1 ≤ length (inside (paths_of (map seen changed.now) ++ paths_of (map seen gone.now)) rows.now.after.now.1))) }
 {
     if changed.len() != 1 || !gone.is_empty() {
         return Ok(None);
     }
     let (path, _) = &changed[0];
-    let new = relabelled_file(alloc, old, rows, before, path)?;
+    let new = relabelled_file(alloc, rows.before, rows.after, before, path)?;
     Ok(new)
 }

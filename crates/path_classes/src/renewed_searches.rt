@@ -77,7 +77,6 @@ pub(crate) fn searched_again(
 
 /// Finds again who can search down to the class of a number; if others can, the classes right below it wait.
 fn renew_one(
-    alloc: Global,
     rows: &Kinds<LabelRow>,
     before: &TaggedMap<PathClass>,
     classes: Kinds<PathClass>,
@@ -88,6 +87,7 @@ fn renew_one(
     requires linked { IsLinkedAt rows.now classes number }
     ensures { IfOk result (RenewsOne rows.now before.now.0 classes number queue.old.waiting.items queue.old.changed.items queue.new.waiting.items queue.new.changed.items) }
 {
+    let alloc = *queue.waiting.allocator();
     let again = searched_again(alloc, rows, &classes, number)?;
     let Some(class) = again else {
         return Ok(classes);
@@ -120,7 +120,7 @@ pub(crate) fn renewed_searches(
     let mut at = 0;
     while at < queue.waiting.len() {
         let number = queue.waiting[at];
-        classes = renew_one(alloc, rows, before, classes, number, &mut queue)?;
+        classes = renew_one(rows, before, classes, number, &mut queue)?;
         at += 1;
     }
     let Queue { waiting, changed } = queue;

@@ -53,7 +53,6 @@ fn mark(marks: &mut Vec<bool>, number: usize) -> Result<(), AllocError>
 
 /// Searches the class of a number again and marks the number, if the class above is marked; else puts it off.
 fn search_next(
-    alloc: Global,
     rows: &Kinds<LabelRow>,
     classes: Kinds<PathClass>,
     number: usize,
@@ -68,6 +67,7 @@ fn search_next(
         return Ok(classes);
     }
     mark(marks, number)?;
+    let alloc = *waiting.allocator();
     let again = searched_again(alloc, rows, &classes, number)?;
     let Some(class) = again else {
         return Ok(classes);
@@ -100,7 +100,7 @@ pub(crate) fn searched_once(
             return Ok(None);
         }
         let number = waiting[at];
-        classes = search_next(alloc, rows, classes, number, &mut marks, &mut waiting)?;
+        classes = search_next(rows, classes, number, &mut marks, &mut waiting)?;
         at += 1;
     }
     Ok(Some(classes))

@@ -29,8 +29,8 @@ loop-at-init c = record {
 
 pub loop-at-preserved : goal.loop-at-preserved
 loop-at-preserved c =
-    let old : Kept LabelRow = c.args.old.now in
-    let rows : Kept LabelRow = c.args.rows.now in
+    let old : Kept LabelRow = c.args.rows.now.before.now in
+    let rows : Kept LabelRow = c.args.rows.now.after.now in
     let before : Kept PathClass = c.args.before.now in
     let after : Kept PathClass = c.args.after.now in
     let files : List (Bor PathOf × ℕ) = c.args.files.now in
@@ -56,5 +56,6 @@ loop-at-preserved c =
 
 pub returns-clause-least : goal.returns-clause-least
 returns-clause-least c =
-    subst (λ (es : List (Bor PathOf × ℕ)). AreCountedOf c.args.old.now c.args.rows.now (map seen es) c.loop-at.count) (take_all c.loop-at.at c.args.files.now c.loop-at-test.false)
+    subst (λ (es : List (Bor PathOf × ℕ)). AreCountedOf c.args.rows.now.before.now c.args.rows.now.after.now (map seen es) c.loop-at.count)
+    (take_all c.loop-at.at c.args.files.now c.loop-at-test.false)
     c.loop-at.invariant.least

@@ -7,6 +7,6 @@ use Rattle.path_classes.proofs.changed_answers.changed_answers.Given as goal
 abbrev pub invariant-loop-at : goal.invariant-loop-at
 invariant-loop-at l = record {
   compared : AreTrue l.state_before.labels.now l.state_before.classes.now l.state_after.labels.now l.state_after.classes.now l.compared;
-  least : AreCountedOf l.old l.rows (map seen (take l.at l.files)) l.count;
+  least : AreCountedOf l.rows.before.now l.rows.after.now (map seen (take l.at l.files)) l.count;
   most : l.count ≤ l.at;
 }

@@ -12,7 +12,7 @@ use Rattle.path_classes.proofs.class_walk.walk.Goals as goal
 pub loop-path-init : goal.loop-path-init
 loop-path-init c = record {
   made =
-      made_none c.args.rows.now c.args.files c.args.files c.args.over c.args.builder.classes (map seen c.new-made.result.items) (map seen c.new-stack.result.items)
+      made_none c.args.sources.now.rows.now c.args.files c.args.files c.args.over c.args.builder.classes (map seen c.new-made.result.items) (map seen c.new-stack.result.items)
       (ap (map seen) c.new-made.ensures.items) (ap (map seen) c.new-stack.ensures.items) refl;
   known = c.requires.known;
   begun = λ first h. h;
@@ -24,13 +24,13 @@ depth_above-depth-requires c =
     record {
       before =
           subst (λ (fs : List (Bor PathOf × ℕ)). AllBefore c.in-Some.path.now (map seen fs)) (sym c.deref.ensures.value)
-          (step_before c.args.rows.now c.args.files c.requires.order c.args.over c.args.builder.classes c.loop-path.builder.classes (map seen c.loop-path.made.items) c.loop-path.rest stack
+          (step_before c.args.sources.now.rows.now c.args.files c.requires.order c.args.over c.args.builder.classes c.loop-path.builder.classes (map seen c.loop-path.made.items) c.loop-path.rest stack
           c.in-Some.path.now c.in-Some.kind c.next.new.self c.in-Some.ensures c.loop-path.invariant.made);
     }
 
 pub class_of-requires-clause-row : goal.class_of-requires-clause-row
 class_of-requires-clause-row c =
-    step_row c.args.rows.now c.args.files c.requires.order c.args.over c.args.builder.classes c.loop-path.builder.classes
+    step_row c.args.sources.now.rows.now c.args.files c.requires.order c.args.over c.args.builder.classes c.loop-path.builder.classes
     (map seen c.loop-path.made.items) c.loop-path.rest (map seen c.loop-path.stack.items)
     c.in-Some.path.now c.in-Some.kind c.next.new.self c.in-Some.ensures c.loop-path.invariant.made c.requires.used
 
@@ -42,7 +42,7 @@ class_of-requires-clause-above c =
     subst (λ (fs : List (Bor PathOf × ℕ)). IsLeftAbove c.in-Some.path.now (map seen fs) (take depth (map seen fs))) c.deref.ensures.value c.depth_above-depth.ensures.left in
     let above : c.last_class-above.result ≡ option_or (last_of (take depth stack)) c.args.over =
     c.last_class-above.ensures ∙ ap (λ (fs : List (Bor PathOf × ℕ)). option_or (last_of (take depth (map seen fs))) c.args.over) c.deref-in-Some.ensures.value in
-    step_above c.args.rows.now c.args.files c.requires.order c.args.over c.args.builder.classes c.loop-path.builder.classes (map seen c.loop-path.made.items) c.loop-path.rest stack
+    step_above c.args.sources.now.rows.now c.args.files c.requires.order c.args.over c.args.builder.classes c.loop-path.builder.classes (map seen c.loop-path.made.items) c.loop-path.rest stack
     c.in-Some.path.now c.in-Some.kind c.next.new.self c.in-Some.ensures c.loop-path.invariant.made depth left c.last_class-above.result above c.requires.over
 
 pub loop-path-preserved : goal.loop-path-preserved
@@ -55,7 +55,7 @@ loop-path-preserved c =
     c.last_class-above.ensures ∙ ap (λ (fs : List (Bor PathOf × ℕ)). option_or (last_of (take depth (map seen fs))) c.args.over) c.deref-in-Some.ensures.value in
     record {
       made =
-          step_made c.args.rows.now c.args.files c.requires.order c.args.over c.args.builder.classes c.loop-path.builder.classes (map seen c.loop-path.made.items) c.loop-path.rest stack
+          step_made c.args.sources.now.rows.now c.args.files c.requires.order c.args.over c.args.builder.classes c.loop-path.builder.classes (map seen c.loop-path.made.items) c.loop-path.rest stack
           c.in-Some.path.now c.in-Some.kind c.next.new.self c.in-Some.ensures c.loop-path.invariant.made depth left c.last_class-above.result above
           c.in_ok-next.next.classes c.in_ok-next.class c.in_ok-next.ensures.finds
           (map seen c.push.new.self.items) (map seen c.put.new.files.items)
@@ -67,7 +67,8 @@ loop-path-preserved c =
 
 pub returns-clause-walked : goal.returns-clause-walked
 returns-clause-walked c =
-    made_all c.args.rows.now c.args.files c.args.over c.args.builder.classes c.loop-path.builder.classes (map seen c.loop-path.made.items) c.loop-path.rest (map seen c.loop-path.stack.items)
+    made_all c.args.sources.now.rows.now c.args.files c.args.over c.args.builder.classes c.loop-path.builder.classes
+    (map seen c.loop-path.made.items) c.loop-path.rest (map seen c.loop-path.stack.items)
     c.in_default.ensures.0 c.loop-path.invariant.made
 
 pub class_of-requires-clause-kept : goal.class_of-requires-clause-kept

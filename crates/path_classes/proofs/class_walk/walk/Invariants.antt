@@ -6,8 +6,8 @@ use Rattle.path_classes.proofs.class_walk.walk.Given as goal
 
 abbrev pub invariant-loop-path : goal.invariant-loop-path
 invariant-loop-path l = record {
-  made : AreMade l.rows l.fn.files l.over l.fn.builder.classes l.builder.classes (map seen l.made.items) l.rest (map seen l.stack.items);
-  known : AreRight l.rows l.builder.classes l.builder.known.items;
+  made : AreMade l.sources.rows.now l.fn.files l.over l.fn.builder.classes l.builder.classes (map seen l.made.items) l.rest (map seen l.stack.items);
+  known : AreRight l.sources.rows.now l.builder.classes l.builder.known.items;
   begun : (first : ClassKinds) → SameClassesBut l.fn.builder.begun.items first l.fn.builder.classes → SameClassesBut l.builder.begun.items first l.builder.classes;
 }
 

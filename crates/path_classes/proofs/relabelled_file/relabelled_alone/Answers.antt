@@ -9,8 +9,8 @@ use Rattle.path_classes.proofs.relabelled_file.relabelled_alone.Goals as goal
 
 pub relabelled_file-requires-clause-puts : goal.relabelled_file-requires-clause-puts
 relabelled_file-requires-clause-puts g c =
-    let old : Kept LabelRow = c.args.old.now in
-    let rows : Kept LabelRow = c.args.rows.now in
+    let old : Kept LabelRow = c.args.rows.now.before.now in
+    let rows : Kept LabelRow = c.args.rows.now.after.now in
     let x = c.index-changed-0.result in
     let long : length c.args.changed.now ≡ 1 = grind (arith, common_steps) in
     let short : length c.args.gone.now ≡ 0 = grind (arith, common_steps) in
