@@ -142,12 +142,11 @@ pub(crate) fn add_content<N: Names>(
     names: &N,
     draft: &mut Option<RecordDraft>,
     at: usize,
-    kind: LineKind,
-    value: &[u8],
+    content: (LineKind, &[u8]),
 ) -> Result<(), TextFault>
-    ensures { Gives (λ _. draft.new) result (content_added (N.naming names.now) draft.old at kind value.now) }
+    ensures { Gives (λ _. draft.new) result (content_added (N.naming names.now) draft.old at content.entry.0 content.entry.1.now) }
 {
-    let item = item_of(alloc, names, at, kind, value)?;
+    let item = item_of(alloc, names, at, content.0, content.1)?;
     add(draft, at, item)
 }
 

@@ -15,7 +15,7 @@ use crate::fault::{FaultKind, TextFault};
 use crate::known::read_known;
 use crate::line::{LineKind, content_of};
 use crate::naming::Names;
-use crate::record::{DumpRecord, DumpUse};
+use crate::record::{DumpReading, DumpRecord, DumpUse};
 use crate::seen::Seen;
 use acl_names::cut::first_piece;
 use std::alloc::Global;
@@ -46,7 +46,8 @@ pub fn read_dump<N: Names>(
     ensures apart { IfOk result (λ records. have_own_paths records.items ≡ true) }
 {
     // A dump without a fault needs no set of paths: they are compared once all are known.
-    match read_known(alloc, bytes, dump_use, names) {
+    let reading = DumpReading { dump_use, names };
+    match read_known(alloc, bytes, &reading) {
         Ok(records) => {
             if are_apart(alloc, &records)? {
                 return Ok(records);
@@ -59,89 +60,87 @@ pub fn read_dump<N: Names>(
         }
     }
     // Which fault is the first, a repeated path or another, is found by reading the dump again, line by line.
-    read_stream(alloc, bytes, dump_use, names, Some(Seen::new(alloc)))
+    read_stream(alloc, bytes, &reading, Some(Seen::new(alloc)))
 }
 
 /// Reads the records of a dump. A repeated path is a fault only if paths are kept in `seen`, which starts empty.
 fn read_stream<N: Names>(
     alloc: Global,
     bytes: &[u8],
-    dump_use: DumpUse,
-    names: &N,
+    reading: &DumpReading<'_, N>,
     mut seen: Option<Seen>,
 ) -> Result<Vec<DumpRecord>, TextFault>
     requires { SeenPathsAre seen [] }
-    ensures { Gives (λ records. records.items) result (watched.stream (N.naming names.now) (is_some seen) dump_use [] None (lines_of bytes.now)) }
+    ensures { Gives (λ records. records.items) result (watched.stream (N.naming reading.now.names.now) (is_some seen) reading.now.dump_use [] None (lines_of bytes.now)) }
 {
     let mut records = Vec::new(alloc);
-    read_lines(alloc, bytes, dump_use, names, &mut records, &mut seen)?;
+    read_lines(bytes, reading, &mut records, &mut seen)?;
     Ok(records)
 }
 
 fn read_lines<N: Names>(
-    alloc: Global,
     bytes: &[u8],
-    dump_use: DumpUse,
-    names: &N,
+    reading: &DumpReading<'_, N>,
     records: &mut Vec<DumpRecord>,
     seen: &mut Option<Seen>,
 ) -> Result<(), TextFault>
     requires { SeenPathsAre seen.old records.old.items }
-    ensures { Gives (λ _. records.new.items) result (watched.stream (N.naming names.now) (is_some seen.old) dump_use records.old.items None (lines_of bytes.now)) }
+    ensures { Gives (λ _. records.new.items) result (watched.stream (N.naming reading.now.names.now) (is_some seen.old) reading.now.dump_use records.old.items None (lines_of bytes.now)) }
 {
+    let alloc = *records.allocator();
     let mut draft = None;
     let mut rest = bytes;
     let mut at = 0;
     while !rest.is_empty() {
         at += 1;
         let (line, after) = first_piece(rest, b'\n');
-        read_line(alloc, names, dump_use, records, seen, &mut draft, at, line)?;
+        read_line(reading, records, seen, &mut draft, (at, line))?;
         rest = after;
     }
-    close(alloc, dump_use, records, seen, draft)
+    close(alloc, reading.dump_use, records, seen, draft)
 }
 
-/// Reads a line: one that begins a record closes the record before it, and any other belongs to the
+/// Reads a line with its number: one that begins a record closes the record before it, and any other belongs to the
 /// open record.
 fn read_line<N: Names>(
-    alloc: Global,
-    names: &N,
-    dump_use: DumpUse,
+    reading: &DumpReading<'_, N>,
     records: &mut Vec<DumpRecord>,
     seen: &mut Option<Seen>,
     draft: &mut Option<RecordDraft>,
-    at: usize,
-    line: &[u8],
+    line: (usize, &[u8]),
 ) -> Result<(), TextFault>
     requires { SeenPathsAre seen.old records.old.items }
-    ensures stepped { Gives (λ _. (records.new.items, draft.new)) result (stepped begins (watched.open_record (is_some seen.old)) (line_in (N.naming names.now)) (close dump_use) records.old.items draft.old (at, line.now)) }
+    ensures stepped { Gives (λ _. (records.new.items, draft.new)) result (stepped begins (watched.open_record (is_some seen.old)) (line_in (N.naming reading.now.names.now)) (close reading.now.dump_use) records.old.items draft.old (line.entry.0, line.entry.1.now)) }
     ensures seen_are { OnOk result (SeenPathsAre seen.new records.new.items) }
     ensures watched { is_some seen.new ≡ is_some seen.old }
 {
-    let (kind, value) = content_of(line);
+    let (at, bytes) = line;
+    let (kind, value) = content_of(bytes);
     match kind {
-        LineKind::File => begin_record(alloc, dump_use, records, seen, draft, at, value),
-        _ => add_content(alloc, names, draft, at, kind, value),
+        LineKind::File => begin_record(reading.dump_use, records, seen, draft, (at, value)),
+        _ => {
+            let alloc = *records.allocator();
+            add_content(alloc, reading.names, draft, at, (kind, value))
+        }
     }
 }
 
-/// Closes the open record, if there is one, and opens the one that a `file:` line of this value begins.
+/// Closes the open record, if there is one, and opens the one that a `file:` line of this number and value begins.
 fn begin_record(
-    alloc: Global,
     dump_use: DumpUse,
     records: &mut Vec<DumpRecord>,
     seen: &mut Option<Seen>,
     draft: &mut Option<RecordDraft>,
-    at: usize,
-    value: &[u8],
+    line: (usize, &[u8]),
 ) -> Result<(), TextFault>
     requires { SeenPathsAre seen.old records.old.items }
     ensures next_opened { Gives (λ _. (records.new.items, draft.new)) result
-        (watched.next_opened (is_some seen.old) dump_use records.old.items draft.old at value.now) }
+        (watched.next_opened (is_some seen.old) dump_use records.old.items draft.old line.entry.0 line.entry.1.now) }
     ensures seen_are { OnOk result (SeenPathsAre seen.new records.new.items) }
     ensures watched { is_some seen.new ≡ is_some seen.old }
 {
+    let alloc = *records.allocator();
     close(alloc, dump_use, records, seen, draft.take())?;
-    *draft = Some(open_record(alloc, seen, at, value)?);
+    *draft = Some(open_record(alloc, seen, line.0, line.1)?);
     Ok(())
 }

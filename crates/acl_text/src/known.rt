@@ -17,7 +17,7 @@ use crate::fault::{FaultKind, TextFault};
 use crate::item::bad_header;
 use crate::line::{LineKind, content_of};
 use crate::naming::Names;
-use crate::record::{DumpRecord, DumpUse};
+use crate::record::{DumpReading, DumpRecord};
 use crate::shared::Shared;
 use acl_entry::Acl;
 use acl_names::cut::{cut, first_piece};
@@ -28,25 +28,16 @@ use std::alloc::{AllocError, Global};
 pub(crate) fn read_known<N: Names>(
     alloc: Global,
     bytes: &[u8],
-    dump_use: DumpUse,
-    names: &N,
+    reading: &DumpReading<'_, N>,
 ) -> Result<Vec<DumpRecord>, TextFault>
-    ensures { IfOk result (λ records. watched.stream (N.naming names.now) false dump_use [] None (lines_of bytes.now) ≡ Ok records.items) }
+    ensures { IfOk result (λ records. watched.stream (N.naming reading.now.names.now) false reading.now.dump_use [] None (lines_of bytes.now) ≡ Ok records.items) }
 {
     let mut records = Vec::new(alloc);
     let mut bodies = Bodies::new(alloc, bytes.len())?;
     let mut rest = bytes;
     let mut at = 1;
     while !rest.is_empty() {
-        let (lines, after) = read_next(
-            alloc,
-            dump_use,
-            names,
-            &mut bodies,
-            &mut records,
-            at,
-            rest,
-        )?;
+        let (lines, after) = read_next(reading, &mut bodies, &mut records, at, rest)?;
         at += lines;
         rest = after;
     }
@@ -56,20 +47,18 @@ pub(crate) fn read_known<N: Names>(
 /// Reads the record that begins at a line of a dump, or a line that is empty or a comment. Returns the number of
 /// lines read, and the rest of the text.
 fn read_next<'a, N: Names>(
-    alloc: Global,
-    dump_use: DumpUse,
-    names: &N,
+    reading: &DumpReading<'_, N>,
     bodies: &mut Bodies<'a>,
     records: &mut Vec<DumpRecord>,
     at: usize,
     rest: &'a [u8],
 ) -> Result<(usize, &'a [u8]), TextFault>
     requires fits { at + length rest.now < 2 ^ 64 }
-    requires known { AreKnown (N.naming names.now) dump_use records.old.items bodies.old }
-    ensures read { IfOk result (λ next. rest_of (N.naming names.now) dump_use records.old.items at rest.now ≡ rest_of (N.naming names.now) dump_use records.new.items (at + next.0) next.1.now) }
+    requires known { AreKnown (N.naming reading.now.names.now) reading.now.dump_use records.old.items bodies.old }
+    ensures read { IfOk result (λ next. rest_of (N.naming reading.now.names.now) reading.now.dump_use records.old.items at rest.now ≡ rest_of (N.naming reading.now.names.now) reading.now.dump_use records.new.items (at + next.0) next.1.now) }
     ensures fits { IfOk result (λ next. next.0 + length next.1.now ≤ length rest.now) }
     ensures shorter { IfOk result (λ next. length next.1.now < length rest.now) }
-    ensures known { OnOk result (AreKnown (N.naming names.now) dump_use records.new.items bodies.new) }
+    ensures known { OnOk result (AreKnown (N.naming reading.now.names.now) reading.now.dump_use records.new.items bodies.new) }
 {
     // A record of this line alone has no list.
     let Some((line, text)) = cut(rest, b'\n') else {
@@ -78,8 +67,8 @@ fn read_next<'a, N: Names>(
     let (kind, value) = content_of(line);
     match kind {
         LineKind::File => {
-            let draft = open_record(alloc, &None, at, value)?;
-            let (lines, after) = read_lines(alloc, dump_use, names, bodies, records, draft, text)?;
+            let draft = open_record(*records.allocator(), &None, at, value)?;
+            let (lines, after) = read_lines(reading, bodies, records, draft, text)?;
             Ok((lines + 1, after))
         }
         LineKind::Nothing => Ok((1, text)),
@@ -92,19 +81,17 @@ fn read_next<'a, N: Names>(
 
 /// Reads the lines of a text that belong to the open record, and closes it.
 fn read_lines<'a, N: Names>(
-    alloc: Global,
-    dump_use: DumpUse,
-    names: &N,
+    reading: &DumpReading<'_, N>,
     bodies: &mut Bodies<'a>,
     records: &mut Vec<DumpRecord>,
     draft: RecordDraft,
     text: &'a [u8],
 ) -> Result<(usize, &'a [u8]), TextFault>
-    requires known { AreKnown (N.naming names.now) dump_use records.old.items bodies.old }
+    requires known { AreKnown (N.naming reading.now.names.now) reading.now.dump_use records.old.items bodies.old }
     requires opened { draft ≡ opened draft.at draft.path draft.slash }
-    ensures read { IfOk result (λ next. ReadsTo (N.naming names.now) dump_use records.old.items draft text.now records.new.items next.0 next.1.now) }
+    ensures read { IfOk result (λ next. ReadsTo (N.naming reading.now.names.now) reading.now.dump_use records.old.items draft text.now records.new.items next.0 next.1.now) }
     ensures fits { IfOk result (λ next. next.0 + length next.1.now ≤ length text.now) }
-    ensures known { OnOk result (AreKnown (N.naming names.now) dump_use records.new.items bodies.new) }
+    ensures known { OnOk result (AreKnown (N.naming reading.now.names.now) reading.now.dump_use records.new.items bodies.new) }
 {
     if let Some((known, after)) = bodies.first_known(text) {
         bodies.missed = 0;
@@ -113,29 +100,28 @@ fn read_lines<'a, N: Names>(
     }
     if bodies.is_next_looked_for() {
         if let Some((body, after)) = first_body(text) {
-            read_body(alloc, dump_use, names, bodies, records, draft, body)?;
+            read_body(reading, bodies, records, draft, body)?;
             return Ok((body.lines, after));
         }
     }
-    read_alone(alloc, dump_use, names, records, draft, text)
+    read_alone(reading, records, draft, text)
 }
 
 /// Reads the lines of a text that belong to the open record, and closes it. Other records are not looked up.
 fn read_alone<'a, N: Names>(
-    alloc: Global,
-    dump_use: DumpUse,
-    names: &N,
+    reading: &DumpReading<'_, N>,
     records: &mut Vec<DumpRecord>,
     draft: RecordDraft,
     text: &'a [u8],
 ) -> Result<(usize, &'a [u8]), TextFault>
-    ensures read { IfOk result (λ next. ReadsTo (N.naming names.now) dump_use records.old.items draft text.now records.new.items next.0 next.1.now) }
+    ensures read { IfOk result (λ next. ReadsTo (N.naming reading.now.names.now) reading.now.dump_use records.old.items draft text.now records.new.items next.0 next.1.now) }
     ensures fits { IfOk result (λ next. next.0 + length next.1.now ≤ length text.now) }
     ensures more { OnOk result ((more : List DumpRecord) × (records.new.items ≡ records.old.items ++ more)) }
 {
+    let alloc = *records.allocator();
     let mut open = Some(draft);
-    let (lines, after) = add_record(alloc, names, &mut open, text)?;
-    close(alloc, dump_use, records, &mut None, open)?;
+    let (lines, after) = add_record(alloc, reading.names, &mut open, text)?;
+    close(alloc, reading.dump_use, records, &mut None, open)?;
     Ok((lines, after))
 }
 
@@ -159,7 +145,7 @@ fn add_record<'a, N: Names>(
         let (kind, value) = content_of(line);
         match kind {
             LineKind::File => return Ok((lines, rest)),
-            _ => add_content(alloc, names, draft, lines, kind, value)?,
+            _ => add_content(alloc, names, draft, lines, (kind, value))?,
         }
         lines += 1;
         rest = after;
@@ -169,19 +155,17 @@ fn add_record<'a, N: Names>(
 
 /// Reads a body as that of the open record, and closes it.
 fn read_body<'a, N: Names>(
-    alloc: Global,
-    dump_use: DumpUse,
-    names: &N,
+    reading: &DumpReading<'_, N>,
     bodies: &mut Bodies<'a>,
     records: &mut Vec<DumpRecord>,
     draft: RecordDraft,
     body: Body<'a>,
 ) -> Result<(), TextFault>
-    requires known { AreKnown (N.naming names.now) dump_use records.old.items bodies.old }
+    requires known { AreKnown (N.naming reading.now.names.now) reading.now.dump_use records.old.items bodies.old }
     requires opened { draft ≡ opened draft.at draft.path draft.slash }
     requires body { IsBody body.bytes.now body.lines }
-    ensures closed { OnOk result ((from : ℕ) → closed (N.naming names.now) dump_use records.old.items draft from body.entry.bytes.now ≡ Ok records.new.items) }
-    ensures known { OnOk result (AreKnown (N.naming names.now) dump_use records.new.items bodies.new) }
+    ensures closed { OnOk result ((from : ℕ) → closed (N.naming reading.now.names.now) reading.now.dump_use records.old.items draft from body.entry.bytes.now ≡ Ok records.new.items) }
+    ensures known { OnOk result (AreKnown (N.naming reading.now.names.now) reading.now.dump_use records.new.items bodies.new) }
 {
     let mark = mark_of(body.bytes);
     if let Some(known) = bodies.find(mark, body.bytes) {
@@ -189,7 +173,7 @@ fn read_body<'a, N: Names>(
         return Ok(());
     }
     let place = records.len();
-    let record = record_in(alloc, dump_use, names, draft, body.bytes)?;
+    let record = record_in(*records.allocator(), reading, draft, body.bytes)?;
     records.push(record)?;
     bodies.keep(Known { body, mark, place });
     Ok(())
@@ -240,18 +224,17 @@ fn share_if(acl: &Option<Shared<Acl>>) -> Result<Option<Shared<Acl>>, AllocError
 /// Returns the record of an open record and the lines of a text, which are all its other lines.
 fn record_in<N: Names>(
     alloc: Global,
-    dump_use: DumpUse,
-    names: &N,
+    reading: &DumpReading<'_, N>,
     draft: RecordDraft,
     text: &[u8],
 ) -> Result<DumpRecord, TextFault>
     requires { draft ≡ opened draft.at draft.path draft.slash }
-    ensures { IfOk result (λ r. Says (N.naming names.now) dump_use text.now r × (r ≡ moved draft.at draft.path draft.slash r)) }
+    ensures { IfOk result (λ r. Says (N.naming reading.now.names.now) reading.now.dump_use text.now r × (r ≡ moved draft.at draft.path draft.slash r)) }
 {
     let mut open = Some(draft);
-    add_lines(alloc, names, &mut open, text)?;
+    add_lines(alloc, reading.names, &mut open, text)?;
     match open {
-        Some(draft) => Ok(record_of(alloc, dump_use, draft)?),
+        Some(draft) => Ok(record_of(alloc, reading.dump_use, draft)?),
         // Lines close no record.
         None => Err(bad_header(0)),
     }
@@ -272,7 +255,7 @@ fn add_lines<N: Names>(
         at += 1;
         let (line, after) = first_piece(rest, b'\n');
         let (kind, value) = content_of(line);
-        add_content(alloc, names, draft, at, kind, value)?;
+        add_content(alloc, names, draft, at, (kind, value))?;
         rest = after;
     }
     Ok(())

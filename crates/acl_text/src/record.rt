@@ -1,5 +1,6 @@
 //! The records of a dump.
 
+use crate::naming::Names;
 use crate::shared::Shared;
 use acl_entry::{Acl, Id};
 use acl_names::Path;
@@ -11,6 +12,13 @@ pub enum DumpUse {
     Load,
     /// To give files their lists back, as setfacl(1) --restore does.
     Restore,
+}
+
+/// What a dump is read for, and the names with which it is read.
+#[derive(Clone, Copy)]
+pub(crate) struct DumpReading<'n, N: Names> {
+    pub dump_use: DumpUse,
+    pub names: &'n N,
 }
 
 /// A file as in a record of a dump. It shares its lists with records that have the same lines.

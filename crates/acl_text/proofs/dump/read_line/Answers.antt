@@ -26,6 +26,6 @@ file_begins watched more_lines dump_use records draft at line content same is =
 pub returns-in-File-clause-stepped : goal.returns-in-File-clause-stepped
 returns-in-File-clause-stepped g c =
     let is = file_begins (is_some c.args.seen.now)
-    (line_in (g.N.Names.naming c.args.names.now)) c.args.dump_use c.args.records.now.items c.args.draft.now c.args.at c.args.line.now
+    (line_in (g.N.Names.naming c.args.reading.now.names.now)) c.args.reading.now.dump_use c.args.records.now.items c.args.draft.now c.args.line.0 c.args.line.1.now
     (c.content_of-kind.result.0, c.content_of-kind.result.1.now) c.content_of-kind.ensures c.in-File.is in
     subst (λ r. Gives (λ _. (c.begin_record.new.records.items, c.begin_record.new.draft)) c.begin_record.result r) is c.begin_record.ensures.next_opened

@@ -11,8 +11,8 @@ invariant-loop-rest g l = record {
   place : l.at + length l.rest ≤ length l.bytes;
   seen : SeenPathsAre l.seen l.records.items;
   watched : is_some l.seen ≡ is_some l.fn.seen;
-  goes_on : stream (g.N.Names.naming l.names) (is_some l.fn.seen) l.dump_use l.records.items l.draft (enumerate_from (l.at + 1) (pieces 10 l.rest))
-      ≡ stream (g.N.Names.naming l.names) (is_some l.fn.seen) l.dump_use l.fn.records.items None (lines_of l.bytes);
+  goes_on : stream (g.N.Names.naming l.reading.names.now) (is_some l.fn.seen) l.reading.dump_use l.records.items l.draft (enumerate_from (l.at + 1) (pieces 10 l.rest))
+      ≡ stream (g.N.Names.naming l.reading.names.now) (is_some l.fn.seen) l.reading.dump_use l.fn.records.items None (lines_of l.bytes);
 }
 
 abbrev pub decreases-loop-rest : goal.decreases-loop-rest

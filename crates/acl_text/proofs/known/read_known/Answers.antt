@@ -6,5 +6,5 @@ pub loop-rest-init : goal.loop-rest-init
 loop-rest-init g c = record {
   place = omega arith;
   known = λ k among. absurd (c.in_ok-bodies.ensures k among);
-  goes_on = ap (λ rs. rest_of (g.N.Names.naming c.args.names.now) c.args.dump_use rs 1 c.args.bytes.now) c.new-records.ensures.items;
+  goes_on = ap (λ rs. rest_of (g.N.Names.naming c.args.reading.now.names.now) c.args.reading.now.dump_use rs 1 c.args.bytes.now) c.new-records.ensures.items;
 }
