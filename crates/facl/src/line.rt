@@ -4,7 +4,7 @@ ghost use Rattle.std.specs.Prelude.{◌≡◌, ℕ, List, Option, Err, IfOk, map
 ghost use Rattle.facl_script.specs.Units.{UnitText};
 ghost use Rattle.facl_script.specs.Held.{IsLineHeld, IsTextHeld};
 ghost use Rattle.acl_rights.specs.Deciders.{judging};
-ghost use Rattle.acl_rights.specs.States.{IsPrepared, loaded_state, states_in};
+ghost use Rattle.acl_rights.specs.States.{IsPrepared, states_in};
 ghost use Rattle.facl_tools.specs.Replies.{Gives, Replies};
 ghost use Rattle.facl.specs.Tools.{tool_line};
 ghost use Rattle.facl.specs.Units.{is_silent, words_of_line, text_of, tool_reply};
@@ -49,20 +49,6 @@ fn text_of_unit<'a>(text: &HeldText<'a>) -> Result<&'a [u8], LineFault>
     }
 }
 
-/// Does what a tool does with the words after its name and a text. `changes` and `gains` look at the state after the
-/// texts were loaded.
-fn tool_effect<J: Judge>(
-    alloc: Global,
-    indexed_states: &IndexedStates<J>,
-    tool: Tool,
-    words: &[String],
-    text: &[u8],
-) -> Result<Effect, LineFault>
-    ensures { Replies indexed_states.now.state result (tool_line (judging J.verdict_of J.decider_of) (loaded_state indexed_states.now) indexed_states.now.state tool (map string_bytes words.now) text.now) }
-{
-    tool_line(alloc, indexed_states, tool, words, text)
-}
-
 /// Does what a tool does with the text of a line and the words after its name.
 pub(crate) fn tool_reply<J: Judge>(
     alloc: Global,
@@ -76,5 +62,5 @@ pub(crate) fn tool_reply<J: Judge>(
     ensures prepared { IfOk result (λ effect. IsPrepared indexed_states.now.state effect.staged) }
 {
     let text = text_of_unit(text)?;
-    tool_effect(alloc, indexed_states, tool, words, text)
+    tool_line(alloc, indexed_states, tool, words, text)
 }

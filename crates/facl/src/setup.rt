@@ -1,11 +1,9 @@
 //! The texts that are loaded before a script.
 
 ghost use Rattle.std.specs.Prelude.{◌≡◌, ◌≢◌, Ok, Err, MatchResult, option_map};
-ghost use Rattle.acl_text.specs.Results.{map_err};
-ghost use Rattle.acl_tree.specs.Loads.{load};
 ghost use Rattle.facl.specs.Setups.{with_text, initial_state};
 
-use acl_tree::{Command, Staged, State, Table, TreeFault};
+use acl_tree::{Command, State, Table, TreeFault};
 use facl_output::RunFault;
 use std::alloc::Global;
 
@@ -31,50 +29,29 @@ fn setup_fault(which: Table, fault: TreeFault) -> RunFault
     }
 }
 
-/// Prepares the state with a text loaded.
-fn prepared(alloc: Global, which: Table, text: &[u8], state: &State) -> Result<Staged, RunFault>
-    ensures { MatchResult result
-        (λ staged. map_err (λ fault. RunFault.Setup which fault) (load state.now which text.now) ≡ Ok staged.state)
-        (λ fault. fault ≢ RunFault.NoMemory → map_err (λ fault. RunFault.Setup which fault) (load state.now which text.now) ≡ Err fault) }
-{
-    let command = Command::Load { which, bytes: text };
-    let outcome = state.prepare(alloc, &command);
-    drop(command);
-    match outcome {
-        Ok(staged) => Ok(staged),
-        Err(fault) => Err(setup_fault(which, fault)),
-    }
-}
-
-fn with_loaded(
-    alloc: Global,
-    which: Table,
-    text: &[u8],
-    mut state: State,
-) -> Result<State, RunFault>
-    ensures { MatchResult result
-        (λ new. map_err (λ fault. RunFault.Setup which fault) (load state which text.now) ≡ Ok new)
-        (λ fault. fault ≢ RunFault.NoMemory → map_err (λ fault. RunFault.Setup which fault) (load state which text.now) ≡ Err fault) }
-{
-    let staged = prepared(alloc, which, text, &state)?;
-    state.commit(staged);
-    Ok(state)
-}
-
 /// Loads a text, if there is one.
 fn with_text(
     alloc: Global,
     which: Table,
     text: Option<&[u8]>,
-    state: State,
+    mut state: State,
 ) -> Result<State, RunFault>
     ensures { MatchResult result
         (λ new. with_text which (option_map (λ t. t.now) text.entry) state ≡ Ok new)
         (λ fault. fault ≢ RunFault.NoMemory → with_text which (option_map (λ t. t.now) text.entry) state ≡ Err fault) }
 {
-    match text {
-        Some(text) => with_loaded(alloc, which, text, state),
-        None => Ok(state),
+    let Some(text) = text else {
+        return Ok(state);
+    };
+    let command = Command::Load { which, bytes: text };
+    let outcome = state.prepare(alloc, &command);
+    drop(command);
+    match outcome {
+        Ok(staged) => {
+            state.commit(staged);
+            Ok(state)
+        }
+        Err(fault) => Err(setup_fault(which, fault)),
     }
 }
 
