@@ -59,24 +59,6 @@ fn setup_line(alloc: Global, fault: &RunFault) -> Result<Vec<u8>, AllocError>
     Ok(line)
 }
 
-fn write_run_fault<E: Sink>(alloc: Global, fault: &RunFault, err: &mut E) -> Result<(), ScriptFault>
-    requires { E.has_failed err.old ≡ false }
-    ensures ok { OnOk result (IsLineReported (ProgramFault.Run fault.now) (E.contents err.old) (E.contents err.new)) }
-    ensures err { OnErr result (E.has_failed err.new ≡ true) }
-    ensures which { IfErr result (λ e. e ≡ ScriptFault.Write) }
-{
-    match fault {
-        RunFault::Read => write_whole(err, b"facl: read fault\n"),
-        RunFault::Write => write_whole(err, b"facl: write fault\n"),
-        RunFault::ScriptTooLong => write_whole(err, b"facl: script too long\n"),
-        RunFault::NoMemory => write_whole(err, b"facl: no memory\n"),
-        RunFault::Setup { .. } => match setup_line(alloc, fault) {
-            Ok(line) => write_whole(err, &line),
-            Err(_) => write_whole(err, b"facl: no memory\n"),
-        },
-    }
-}
-
 /// Writes the line of a file that cannot be read.
 fn write_unread<E: Sink>(file: &str, err: &mut E) -> Result<(), ScriptFault>
     requires { E.has_failed err.old ≡ false }
@@ -104,7 +86,16 @@ pub(crate) fn write_fault<E: Sink>(
     match fault {
         ProgramFault::Usage => write_whole(err, b"facl: usage\n"),
         ProgramFault::CannotRead { file } => write_unread(file, err),
-        ProgramFault::Run(fault) => write_run_fault(alloc, fault, err),
+        ProgramFault::Run(fault) => match fault {
+            RunFault::Read => write_whole(err, b"facl: read fault\n"),
+            RunFault::Write => write_whole(err, b"facl: write fault\n"),
+            RunFault::ScriptTooLong => write_whole(err, b"facl: script too long\n"),
+            RunFault::NoMemory => write_whole(err, b"facl: no memory\n"),
+            RunFault::Setup { .. } => match setup_line(alloc, fault) {
+                Ok(line) => write_whole(err, &line),
+                Err(_) => write_whole(err, b"facl: no memory\n"),
+            },
+        },
         ProgramFault::NoMemory => write_whole(err, b"facl: no memory\n"),
     }
 }

@@ -116,29 +116,7 @@ fn read_file<S: FileStore>(alloc: Global, store: &mut S, file: &str) -> Result<V
     text
 }
 
-/// Reads the text of a file. If there is none, the fault names the file, unless memory ran out.
-fn read_text<S: FileStore>(
-    alloc: Global,
-    store: &mut S,
-    file: String,
-) -> Result<Vec<u8>, ProgramFault>
-    requires works { S.has_failed store.old ≡ false }
-    requires closed { S.is_open store.old ≡ false }
-    ensures ok { IfOk result (λ text. IsText file_limit (S.bytes_of store.old (string_bytes file)) text.items) }
-    ensures works { OnOk result (S.has_failed store.new ≡ false) }
-    ensures err { IfErr result (λ fault. IsUnread (S.bytes_of store.old) fault (Some (string_bytes file))) }
-    ensures failed { IfErr result (λ fault. fault ≢ ProgramFault.NoMemory → S.has_failed store.new ≡ true) }
-    ensures closed { S.is_open store.new ≡ false }
-    ensures same { S.bytes_of store.new ≡ S.bytes_of store.old }
-{
-    match read_file(alloc, store, &file) {
-        Ok(text) => Ok(text),
-        Err(Unread::NoText) => Err(ProgramFault::CannotRead { file }),
-        Err(Unread::NoMemory) => Err(ProgramFault::NoMemory),
-    }
-}
-
-/// Reads the text of a file, if one is given.
+/// Reads the text of a file, if one is given. If it has none, the fault names the file, unless memory ran out.
 fn read_given<S: FileStore>(
     alloc: Global,
     store: &mut S,
@@ -154,9 +132,13 @@ fn read_given<S: FileStore>(
     ensures closed { S.is_open store.new ≡ false }
     ensures same { S.bytes_of store.new ≡ S.bytes_of store.old }
 {
-    match file {
-        Some(file) => Ok(Some(read_text(alloc, store, file)?)),
-        None => Ok(None),
+    let Some(file) = file else {
+        return Ok(None);
+    };
+    match read_file(alloc, store, &file) {
+        Ok(text) => Ok(Some(text)),
+        Err(Unread::NoText) => Err(ProgramFault::CannotRead { file }),
+        Err(Unread::NoMemory) => Err(ProgramFault::NoMemory),
     }
 }
 
