@@ -89,20 +89,15 @@ fn put_again<'a>(
     Ok(new)
 }
 
-/// Records the result `new` for the number `old`, which the memo does not have yet, and puts the entry of the path
-/// that has it.
-fn put_first<'a, N>(
+/// Records the result `new` for the number `old`, which the memo does not have yet.
+fn note_first<N>(
     kinds: &Kinds<N>,
     memo: &mut Memo,
-    puts: &mut Vec<(&'a Path, usize)>,
-    path: &'a Path,
     old: usize,
     new: usize,
 ) -> Result<(), AllocError>
-    ensures kept { OnOk result (memo.new.met.items ≡ memo.old.met.items ++ record { old = old; new = new; count = 1 } ∷ []) }
-    ensures put { OnOk result (puts.new.items ≡ puts.old.items ++ (path.entry, new) ∷ []) }
+    ensures { OnOk result (memo.new.met.items ≡ memo.old.met.items ++ record { old = old; new = new; count = 1 } ∷ []) }
 {
-    puts.push((path, new))?;
     if kinds.count(old) == 1 {
         return memo.note_alone(old, new);
     }
@@ -111,25 +106,26 @@ fn put_first<'a, N>(
 
 /// Edits one entry: takes the result from the memo, or else edits its node.
 fn edit_entry<'a, N: Drop, E: KindEdit<N>>(
-    alloc: Global,
     kinds: Kinds<N>,
     memo: &mut Memo,
     puts: &mut Vec<(&'a Path, usize)>,
-    path: &'a Path,
-    number: KindNumber,
+    item: (&'a Path, usize),
     edit: &E,
 ) -> Result<Kinds<N>, Stop<(Path, E::Fault)>>
-    requires { IsNode kinds number }
-    ensures made { IfOk result (λ new. EditsOneMore (E.edited edit.now) (path.now, number) kinds memo.old.met.items (map seen puts.old.items) new memo.new.met.items (map seen puts.new.items)) }
-    ensures reported { StopsAt result (edit_each (E.edited edit.now) (entries_by kinds ((path.now, number) ∷ []))) }
+    requires { IsNode kinds item.entry.1 }
+    ensures made { IfOk result (λ new. EditsOneMore (E.edited edit.now) (seen item.entry) kinds memo.old.met.items (map seen puts.old.items) new memo.new.met.items (map seen puts.new.items)) }
+    ensures reported { StopsAt result (edit_each (E.edited edit.now) (entries_by kinds (seen item.entry ∷ []))) }
 {
+    let (path, number) = item;
+    let alloc = *puts.allocator();
     if let Some(at) = memo.place(number) {
         let _new = put_again(memo, puts, path, at)?;
         return Ok(kinds);
     }
     let node = edit_one(alloc, &kinds, path, number, edit)?;
     let (kinds, new) = kinds.add(alloc, node)?;
-    put_first(&kinds, memo, puts, path, number, new)?;
+    note_first(&kinds, memo, number, new)?;
+    puts.push((path, new))?;
     Ok(kinds)
 }
 
@@ -157,7 +153,7 @@ fn edit_entries<'a, N: Drop, E: KindEdit<N>>(
     let mut memo = Memo::new(alloc);
     let mut puts = Vec::with_capacity(alloc, entries.len())?;
     for entry in entries {
-        kinds = edit_entry(alloc, kinds, &mut memo, &mut puts, entry.0, entry.1, edit)?;
+        kinds = edit_entry(kinds, &mut memo, &mut puts, *entry, edit)?;
     }
     Ok(EditedNumbers { kinds, memo, puts })
 }

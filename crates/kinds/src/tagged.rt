@@ -116,7 +116,6 @@ fn push_pairs(pairs: &mut Vec<Pair>, tags: &[usize], number: KindNumber) -> Resu
 
 /// Adds the pairs of a number that a set loses, and those that it gets, as the tags of the number's node change.
 fn push_changed<N: Tagged>(
-    alloc: Global,
     gone: &mut Vec<Pair>,
     new: &mut Vec<Pair>,
     before: &KindMap<N>,
@@ -126,6 +125,7 @@ fn push_changed<N: Tagged>(
     ensures { OnOk result ((done : List ℕ) → AreSettled N.tags_of before.now.0 after.now.0 done gone.old.items new.old.items
         → AreSettled N.tags_of before.now.0 after.now.0 (done ++ number ∷ []) gone.new.items new.new.items) }
 {
+    let alloc = *gone.allocator();
     let old_tags = tags_at(alloc, before, number)?;
     let new_tags = tags_at(alloc, after, number)?;
     if old_tags.as_slice() == new_tags.as_slice() {
@@ -148,7 +148,7 @@ fn changed_pairs<N: Tagged>(
     let mut gone = Vec::new(alloc);
     let mut new = Vec::new(alloc);
     for number in numbers {
-        push_changed(alloc, &mut gone, &mut new, before, after, *number)?;
+        push_changed(&mut gone, &mut new, before, after, *number)?;
     }
     Ok((gone, new))
 }
