@@ -124,12 +124,19 @@ pub(crate) fn judged_row<J: Judge>(
     Ok(Rc::new(alloc, new)?)
 }
 
+/// Rows with their labels, and hints at the numbers of labels.
+#[derive(Clone, Copy)]
+pub(crate) struct HintedRows<'r, 'h> {
+    pub rows: &'r KindMap<LabelRow>,
+    pub hints: &'h Hints,
+}
+
 /// Returns the number that hints give for a label, if a file has this number and its label is this one.
-fn known_number(rows: &KindMap<LabelRow>, hints: &Hints, label: &Label) -> Option<usize>
-    ensures { IfSome result (λ number. HasLabel label.now number rows.now) }
+fn known_number(known: &HintedRows<'_, '_>, label: &Label) -> Option<usize>
+    ensures { IfSome result (λ number. HasLabel label.now number known.now.rows.now) }
 {
-    let number = hints.get(hash_of(label))?;
-    let row = rows.used(number)?;
+    let number = known.hints.get(hash_of(label))?;
+    let row = known.rows.used(number)?;
     if is_same_label(&row.label, label) {
         Some(number)
     } else {
@@ -142,16 +149,15 @@ fn given_row<J: Judge>(
     alloc: Global,
     judge: &mut J,
     users: &Subjects,
-    rows: &KindMap<LabelRow>,
-    hints: &Hints,
+    known: &HintedRows<'_, '_>,
     label: &Label,
 ) -> Result<GivenNode<LabelRow>, AllocError>
     requires room { J.asked_of judge.old + length users.now < 2 ^ 64 }
-    requires known { AreRowsOf J.verdict_of users.now (entries_in rows.now) }
-    ensures row { IfOk result (λ node. given rows.now.0 node ≡ Some (label_row J.verdict_of users.now label.now)) }
+    requires known { AreRowsOf J.verdict_of users.now (entries_in known.now.rows.now) }
+    ensures row { IfOk result (λ node. given known.now.rows.now.0 node ≡ Some (label_row J.verdict_of users.now label.now)) }
     ensures at_most { J.asked_of judge.new ≤ J.asked_of judge.old + length users.now }
 {
-    if let Some(number) = known_number(rows, hints, label) {
+    if let Some(number) = known_number(known, label) {
         return Ok(GivenNode::Known(number));
     }
     let row = judged_row(alloc, judge, users, label)?;
@@ -163,18 +169,17 @@ fn given_rows<J: Judge>(
     alloc: Global,
     judge: &mut J,
     users: &Subjects,
-    rows: &KindMap<LabelRow>,
-    hints: &Hints,
+    known: &HintedRows<'_, '_>,
     labels: &[&Label],
 ) -> Result<Vec<GivenNode<LabelRow>>, AllocError>
     requires room { J.asked_of judge.old + length labels.now * length users.now < 2 ^ 64 }
-    requires known { AreRowsOf J.verdict_of users.now (entries_in rows.now) }
-    ensures rows { IfOk result (λ nodes. map (given rows.now.0) nodes.items ≡ map (some_row J.verdict_of users.now) (borrowed_labels labels.now)) }
+    requires known { AreRowsOf J.verdict_of users.now (entries_in known.now.rows.now) }
+    ensures rows { IfOk result (λ nodes. map (given known.now.rows.now.0) nodes.items ≡ map (some_row J.verdict_of users.now) (borrowed_labels labels.now)) }
     ensures at_most { J.asked_of judge.new ≤ J.asked_of judge.old + length labels.now * length users.now }
 {
     let mut nodes: Vec<GivenNode<LabelRow>> = Vec::with_capacity(alloc, labels.len())?;
     for at in 0..labels.len() {
-        let node = given_row(alloc, judge, users, rows, hints, labels[at])?;
+        let node = given_row(alloc, judge, users, known, labels[at])?;
         nodes.push(node)?;
     }
     Ok(nodes)
@@ -243,7 +248,11 @@ impl KindRows {
             places,
             by_hash,
         } = new;
-        let nodes = given_rows(alloc, judge, users, &left, &self.hints, &labels)?;
+        let known = HintedRows {
+            rows: &left,
+            hints: &self.hints,
+        };
+        let nodes = given_rows(alloc, judge, users, &known, &labels)?;
         let put = left.put_placed(alloc, &places, &nodes)?;
         let PlacedMap {
             map,
