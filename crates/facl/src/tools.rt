@@ -19,7 +19,7 @@ ghost use Rattle.acl_rights.specs.States.{loaded_state};
 ghost use Rattle.facl_script.specs.Rows.{syntax_view};
 ghost use Rattle.facl_tools.specs.Replies.{Gives, Replies};
 ghost use Rattle.facl.specs.ToolLines.{answered, line_answered, line_of, read_line, words_taken};
-ghost use Rattle.facl.specs.Tools.{loads, row_of, row_view, rows, syntax_of, tool_line, tool_name, tool_named, words_answered, words_of};
+ghost use Rattle.facl.specs.Tools.{loads, row_of, row_view, rows, syntax_of, tool_line, tool_name, tool_named, words_of};
 ghost use Rattle.facl.specs.contracts.tools.ToolPartialEq.TheImpl.{ghosts as equality};
 
 use acl_rights::{IndexedStates, Judge};
@@ -354,19 +354,6 @@ fn line_answer<J: Judge>(
     answer(alloc, indexed_states, line, text)
 }
 
-/// The same, by the table of tools.
-fn words_answer<J: Judge>(
-    alloc: Global,
-    indexed_states: &IndexedStates<J>,
-    tool: Tool,
-    words: &Words,
-    text: &[u8],
-) -> Result<Effect, LineFault>
-    ensures { Replies indexed_states.now.state result (words_answered (judging J.verdict_of J.decider_of) (loaded_state indexed_states.now) indexed_states.now.state tool words.now text.now) }
-{
-    line_answer(alloc, indexed_states, tool, words, text)
-}
-
 /// Does what a tool does at a state, by the words after its name and the text after the line. `changes` and `gains`
 /// alone look at the state after the texts were loaded.
 pub(crate) fn tool_line<J: Judge>(
@@ -379,7 +366,7 @@ pub(crate) fn tool_line<J: Judge>(
     ensures { Replies indexed_states.now.state result (tool_line (judging J.verdict_of J.decider_of) (loaded_state indexed_states.now) indexed_states.now.state tool (map string_bytes words.now) text.now) }
 {
     let words = words_of(alloc, tool, words)?;
-    let effect = words_answer(alloc, indexed_states, tool, &words, text);
+    let effect = line_answer(alloc, indexed_states, tool, &words, text);
     drop(words);
     effect
 }

@@ -1,8 +1,8 @@
 //! The tool `may`: the files with which a user may do something.
 
 ghost use Rattle.std.specs.Prelude.{◌≡◌, IfOk, option_map};
-ghost use Rattle.facl.specs.May.{answered, may_of, may_text_of, read};
-ghost use Rattle.facl_tools.specs.Replies.{Gives, Replies};
+ghost use Rattle.facl.specs.May.{answered, may_text_of, read};
+ghost use Rattle.facl_tools.specs.Replies.{Replies};
 
 use acl_entry::Perm;
 use acl_names::Name;
@@ -61,23 +61,6 @@ fn may_text_of<J: Judge>(
     }
 }
 
-/// Prints the files on which a request is granted to the user that a word means.
-fn may_of<J: Judge>(
-    alloc: Global,
-    verdicts: &Verdicts<'_, J>,
-    word: &WordRef<'_>,
-    request: Perm,
-) -> Result<Vec<u8>, LineFault>
-    ensures { Gives (λ out. out.items) result
-        (may_of J.verdict_of verdicts.now.along verdicts.now.state.now word.now request) }
-{
-    let name = name_meant(alloc, word)?;
-    match may_text_of(alloc, verdicts, request, &name)? {
-        Some(out) => Ok(out),
-        None => Err(LineFault::Tree(TreeFault::NoSuchUser { name })),
-    }
-}
-
 /// Prints the files with which a user may do something; with `--reach` only those whose recorded directories above
 /// the user can search.
 pub(crate) fn answer<J: Judge>(
@@ -87,7 +70,10 @@ pub(crate) fn answer<J: Judge>(
 ) -> Result<Effect, LineFault>
     ensures { Replies indexed.now result (answered J.verdict_of indexed.now line.entry) }
 {
+    let name = name_meant(alloc, &line.user)?;
     let verdicts = indexed.verdicts(line.reach);
-    let out = may_of(alloc, &verdicts, &line.user, line.request)?;
-    Ok(Effect::prints(out))
+    match may_text_of(alloc, &verdicts, line.request, &name)? {
+        Some(out) => Ok(Effect::prints(out)),
+        None => Err(LineFault::Tree(TreeFault::NoSuchUser { name })),
+    }
 }

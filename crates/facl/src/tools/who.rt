@@ -1,12 +1,11 @@
 //! The tool `who`: the users who may do something with a file.
 
 ghost use Rattle.std.specs.Prelude.{◌≡◌};
-ghost use Rattle.facl_tools.specs.Replies.{Gives, Replies};
-ghost use Rattle.facl.specs.Who.{answered, read, who_at, who_of};
+ghost use Rattle.facl_tools.specs.Replies.{Replies};
+ghost use Rattle.facl.specs.Who.{answered, read};
 
 use acl_entry::Perm;
-use acl_names::Path;
-use acl_rights::{IndexedState, Judge, Verdicts};
+use acl_rights::{IndexedState, Judge};
 use acl_text::read_perms;
 use acl_tree::TreeFault;
 use facl_answers::write_who;
@@ -46,36 +45,6 @@ pub(crate) fn read(words: &Words) -> Option<WhoLine<'_>>
     })
 }
 
-/// Prints the users who are granted a request on the file of a path.
-fn who_at<J: Judge>(
-    alloc: Global,
-    verdicts: &Verdicts<'_, J>,
-    request: Perm,
-    path: Path,
-) -> Result<Vec<u8>, LineFault>
-    ensures { Gives (λ out. out.items) result
-        (who_at J.verdict_of verdicts.now.along verdicts.now.state.now request path) }
-{
-    match write_who(alloc, verdicts, &path, request)? {
-        Some(out) => Ok(out),
-        None => Err(LineFault::Tree(TreeFault::NoSuchFile { path })),
-    }
-}
-
-/// Prints the users who are granted a request on the file that a word means.
-fn who_of<J: Judge>(
-    alloc: Global,
-    verdicts: &Verdicts<'_, J>,
-    word: &WordRef<'_>,
-    request: Perm,
-) -> Result<Vec<u8>, LineFault>
-    ensures { Gives (λ out. out.items) result
-        (who_of J.verdict_of verdicts.now.along verdicts.now.state.now word.now request) }
-{
-    let path = path_at(alloc, 1, word.as_bytes())?;
-    who_at(alloc, verdicts, request, path)
-}
-
 /// Prints the users who may do something with a file; with `--reach` only those who can search each recorded
 /// directory above it.
 pub(crate) fn answer<J: Judge>(
@@ -85,7 +54,10 @@ pub(crate) fn answer<J: Judge>(
 ) -> Result<Effect, LineFault>
     ensures { Replies indexed.now result (answered J.verdict_of indexed.now line.entry) }
 {
+    let path = path_at(alloc, 1, line.file.as_bytes())?;
     let verdicts = indexed.verdicts(line.reach);
-    let out = who_of(alloc, &verdicts, &line.file, line.request)?;
-    Ok(Effect::prints(out))
+    match write_who(alloc, &verdicts, &path, line.request)? {
+        Some(out) => Ok(Effect::prints(out)),
+        None => Err(LineFault::Tree(TreeFault::NoSuchFile { path })),
+    }
 }
