@@ -2,7 +2,7 @@
 
 ghost use Rattle.std.specs.List.{list_all};
 ghost use Rattle.std.specs.Prelude.{◌≡◌, IsTrue};
-ghost use Rattle.facl_tools.specs.Modes.{is_mode, mode_of, permission_mode_of, starts_with_zero, octal_after};
+ghost use Rattle.facl_tools.specs.Modes.{is_mode, mode_of, permission_mode_of, octal_after};
 ghost use Rattle.acl_names.specs.Names.{is_octal};
 
 /// Tells whether each byte is an octal digit.
@@ -17,13 +17,6 @@ fn is_mode(text: &[u8]) -> bool
     ensures { result ≡ is_mode text.now }
 {
     0 < text.len() && text.len() <= 4 && are_octal_digits(text)
-}
-
-/// Tells whether the first of four digits is 0.
-fn starts_with_zero(text: &[u8]) -> bool
-    ensures { result ≡ starts_with_zero text.now }
-{
-    text.len() < 4 || text[0] == b'0'
 }
 
 /// Reads octal digits.
@@ -55,7 +48,8 @@ pub(crate) fn mode_of(text: &[u8]) -> Option<u16>
 pub(crate) fn permission_mode_of(text: &[u8]) -> Option<u16>
     ensures { result ≡ permission_mode_of text.now }
 {
-    if starts_with_zero(text) {
+    // Of four digits the first one is 0.
+    if text.len() < 4 || text[0] == b'0' {
         mode_of(text)
     } else {
         None

@@ -2,7 +2,7 @@
 
 ghost use Rattle.std.specs.Prelude.{◌≡◌, IfOk};
 ghost use Rattle.facl_tools.specs.Replies.{Replies};
-ghost use Rattle.facl_tools.specs.Useradd.{answered, line_with, decoded_name, new_user, read, uid_of};
+ghost use Rattle.facl_tools.specs.Useradd.{answered, line_with, read};
 
 use crate::effect::{Effect, effect_of};
 use crate::operands::name_meant;
@@ -34,26 +34,13 @@ pub struct UseraddLine<'a> {
     pub group: WordRef<'a>,
 }
 
-/// Reads the id that a line gives: digits alone.
-fn uid_of(words: &Words) -> Option<Id>
-    ensures { result ≡ uid_of words.now }
-{
-    read_id(words.value(&SYNTAX, "u")?.as_bytes())
-}
-
-/// Reads the name of the new user, if it may be one.
-fn decoded_name(alloc: Global, words: &Words) -> Result<Option<UserName>, AllocError>
-    ensures { IfOk result (λ name. name ≡ decoded_name words.now) }
-{
-    let name = read_name(alloc, words.operand(&SYNTAX, "name").as_bytes())?;
-    Ok(UserName::new(name))
-}
-
+/// Reads the line of a user of this name: its id is digits alone.
 fn line_with(words: &Words, name: UserName) -> Option<UseraddLine<'_>>
     ensures { result ≡ line_with words.now name }
 {
-    let uid = uid_of(words)?;
-    let group = words.value(&SYNTAX, "g")?;
+    let syntax = &SYNTAX;
+    let uid = read_id(words.value(syntax, "u")?.as_bytes())?;
+    let group = words.value(syntax, "g")?;
     Some(UseraddLine { name, uid, group })
 }
 
@@ -61,27 +48,22 @@ fn line_with(words: &Words, name: UserName) -> Option<UseraddLine<'_>>
 pub fn read(alloc: Global, words: &Words) -> Result<Option<UseraddLine<'_>>, AllocError>
     ensures { IfOk result (λ line. line ≡ read words.now) }
 {
-    match decoded_name(alloc, words)? {
+    let name = read_name(alloc, words.operand(&SYNTAX, "name").as_bytes())?;
+    match UserName::new(name) {
         Some(name) => Ok(line_with(words, name)),
         None => Ok(None),
     }
-}
-
-fn new_user(alloc: Global, line: UseraddLine<'_>) -> Result<NewUser, AllocError>
-    ensures { IfOk result (λ new. new ≡ new_user line.entry) }
-{
-    let group = name_meant(alloc, &line.group)?;
-    Ok(NewUser {
-        name: line.name,
-        uid: line.uid,
-        group,
-    })
 }
 
 /// Adds a user.
 pub fn answer(alloc: Global, state: &State, line: UseraddLine<'_>) -> Result<Effect, LineFault>
     ensures { Replies state.now result (answered state.now line.entry) }
 {
-    let new = new_user(alloc, line)?;
+    let group = name_meant(alloc, &line.group)?;
+    let new = NewUser {
+        name: line.name,
+        uid: line.uid,
+        group,
+    };
     effect_of(alloc, state, Command::Useradd(new))
 }

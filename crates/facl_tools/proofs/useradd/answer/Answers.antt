@@ -1,4 +1,4 @@
-use Rattle.std.proofs.Common.{subst}
+use Rattle.std.proofs.Common.{ℕ, List, subst}
 use Rattle.acl_tree.specs.declared.command.Command.TheVariants.{Useradd}
 use Rattle.acl_tree.specs.declared.command.NewUser.{NewUser}
 use Rattle.facl_tools.specs.Replies.{Replies, done}
@@ -7,4 +7,6 @@ use Rattle.facl_tools.proofs.useradd.answer.Goals as goal
 pub returns : goal.returns
 returns c =
     let s = c.args.state.now in
-    subst (λ (new : NewUser). Replies s c.effect_of.result (done s (Useradd new))) c.in_ok-new.ensures c.effect_of.ensures
+    let line = c.args.line in
+    let new_in : List ℕ → NewUser = λ group. record { name = line.name; uid = line.uid; group = group } in
+    subst (λ (group : List ℕ). Replies s c.effect_of.result (done s (Useradd (new_in group)))) c.in_ok-group.ensures c.effect_of.ensures
