@@ -224,23 +224,22 @@ pub fn content(sep: Sep, piece: &[u8]) -> &[u8]
     }
 }
 
-/// Adds the spec of the piece at a place, unless the piece is white space alone.
+/// Adds the spec of a piece with its place, unless the piece is white space alone.
 fn read_piece<N: Names>(
-    alloc: Global,
     names: &N,
     sep: Sep,
     rules: Rules,
     specs: &mut Vec<Spec>,
-    at: usize,
-    piece: &[u8],
+    piece: (usize, &[u8]),
 ) -> Result<(), TextFault>
-    ensures { JudgesAt at result specs.new.items (one_more (N.naming names.now) sep rules at specs.old.items piece.now) }
+    ensures { JudgesAt piece.entry.0 result specs.new.items (one_more (N.naming names.now) sep rules piece.entry.0 specs.old.items piece.entry.1.now) }
 {
-    let entry = content(sep, piece);
+    let (at, text) = piece;
+    let entry = content(sep, text);
     if trim(entry).is_empty() {
         return Ok(());
     }
-    let spec = entry_of(alloc, names, rules, at, entry)?;
+    let spec = entry_of(*specs.allocator(), names, rules, at, entry)?;
     if specs.len() >= MAX_TEXT_ENTRIES {
         return Err(TextFault {
             kind: FaultKind::TooMany,
@@ -271,7 +270,7 @@ pub fn read_entries<N: Names>(
     while !rest.is_empty() {
         at += 1;
         let (piece, after) = first_piece(rest, separator(sep));
-        read_piece(alloc, names, sep, rules, &mut specs, at, piece)?;
+        read_piece(names, sep, rules, &mut specs, (at, piece))?;
         rest = after;
     }
     Ok(specs)

@@ -4,7 +4,7 @@
 ghost use Rattle.std.specs.Prelude.{◌≡◌, ◌||◌, option_map, Some, ◌+◌, false, if◌then◌else◌};
 ghost use Rattle.std.specs.Option.{option_copied};
 ghost use Rattle.std.specs.Str.{bytes_eq};
-ghost use Rattle.acl_text.specs.Fields.{row_view, tag_named, one_field, two_fields, three_fields, row_of, is_default_word, default_of, entry_fields};
+ghost use Rattle.acl_text.specs.Fields.{row_view, tag_named, one_field, two_fields, three_fields, row_of, default_of, entry_fields};
 ghost use Rattle.acl_text.specs.Blanks.{is_blank, trim_front, trim_back, trimmed};
 ghost use Rattle.std.specs.List.{list_all};
 ghost use Rattle.std.specs.Char.{is_ascii_digit};
@@ -55,13 +55,6 @@ fn tag_named(word: &[u8]) -> Option<Tag>
     } else {
         None
     }
-}
-
-/// Tells whether the word marks an entry of a default list.
-fn is_default_word(word: &[u8]) -> bool
-    ensures { result ≡ is_default_word word.now }
-{
-    is_one_of(word, b"d", b"default")
 }
 
 fn make_row<'a>(tag: Tag, word: &'a [u8], perms: Option<&'a [u8]>) -> Option<Row<'a>>
@@ -133,7 +126,7 @@ pub(crate) fn split_default(entry: &[u8]) -> (bool, &[u8])
     ensures { default_of (entry_fields entry.now) ≡ (result.0, entry_fields result.1.now) }
 {
     match cut(entry, b':') {
-        Some((first, rest)) if is_default_word(trim(first)) => (true, rest),
+        Some((first, rest)) if is_one_of(trim(first), b"d", b"default") => (true, rest),
         _ => (false, entry),
     }
 }

@@ -8,4 +8,4 @@ pub returns-in-Some : goal.returns-in-Some
 returns-in-Some c =
     rw c.in-Some.ensures.pieces
     (default_taken (trimmed c.in-Some.first.now) (entry_fields c.in-Some.rest.now) (fields-nonempty c.in-Some.rest.now)
-    (ap is_default_word (sym c.trim.ensures) ∙ (sym c.is_default_word.ensures ∙ c.if-is_default_word.true)))
+    (ap is_default_word (sym c.trim.ensures) ∙ (sym c.is_one_of.ensures ∙ c.if-is_one_of.true)))
