@@ -173,11 +173,11 @@ impl Renewal<LabelRow, LabelRow, ()> for NoUser {
     }
 }
 
-/// Judges a user again who joined or left groups that a label mentions.
+/// A user who joined or left groups, and is judged again on the labels that mention one of them.
 #[derive(Drop)]
-struct MovedUser<'a> {
-    at: usize,
-    user: &'a Subject,
+pub(crate) struct MovedUser<'a> {
+    pub at: usize,
+    pub user: &'a Subject,
 }
 
 impl<'a, J: Judge> NodeChange<LabelRow, J> for MovedUser<'a> {
@@ -294,11 +294,10 @@ impl KindRows {
         alloc: Global,
         judge: &mut J,
         groups: &[Id],
-        at: usize,
-        user: &Subject,
+        moved: &MovedUser<'_>,
     ) -> Result<UpdatedRows, AllocError>
         requires room { J.asked_of judge.old + count_by (λ e. mentions_any groups.now e.1) (entries_in self.now.rows) < 2 ^ 64 }
-        ensures rows { IfOk result (λ new. entries_in new.rows.rows ≡ each_row (with_again J.verdict_of at user.now groups.now) (entries_in self.now.rows)) }
+        ensures rows { IfOk result (λ new. entries_in new.rows.rows ≡ each_row (with_again J.verdict_of moved.now.at moved.now.user.now groups.now) (entries_in self.now.rows)) }
         ensures few { IfOk result (λ new. new.looked ≤ count_by (λ e. mentions_any groups.now e.1) (entries_in self.now.rows)) }
         ensures looked { IfOk result (λ new. J.asked_of judge.new ≤ J.asked_of judge.old + new.looked) }
         ensures least { IfOk result (λ new. AreCounted self.now.rows new.rows.rows new.refreshed) }
@@ -308,10 +307,9 @@ impl KindRows {
         let hints = self.hints.share()?;
         let mut tags = Vec::new(alloc);
         push_groups(&mut tags, groups)?;
-        let moved = MovedUser { at, user };
         let before = self.rows.rows();
         let _kinds = before.map().kinds();
-        let (updated, looked, labels) = before.with_tagged(alloc, judge, &tags, &moved)?;
+        let (updated, looked, labels) = before.with_tagged(alloc, judge, &tags, moved)?;
         let (rows, refreshed) = self.rows.with_rows(alloc, updated, &labels)?;
         Ok(UpdatedRows {
             rows: KindRows { rows, hints },

@@ -14,7 +14,7 @@ ghost use Rattle.acl_rights.specs.Stages.{most_asked, moves_groups};
 ghost use Rattle.acl_rights.specs.Lines.{labels_of, AreBefore, IsAfter};
 
 use crate::judge::Judge;
-use crate::kind_rows::{KindRows, UpdatedRows};
+use crate::kind_rows::{KindRows, MovedUser, UpdatedRows};
 use acl_edit::Node;
 use acl_entry::{Label, Subject};
 use acl_names::Path;
@@ -227,8 +227,9 @@ fn after_move<J: Judge>(
     staged.tree().soundness_law();
     rows.rows.rows().order_law();
     let user = moved_user::<J>(rows, staged, at, groups);
+    let moved = MovedUser { at, user };
     let groups = groups.as_slice();
-    let updated = rows.with_user_updated(alloc, judge, groups, at, user)?;
+    let updated = rows.with_user_updated(alloc, judge, groups, &moved)?;
     let UpdatedRows {
         rows,
         looked,

@@ -36,7 +36,7 @@ with_tagged-requires g c =
       room =
           subst (λ (k : Kept LabelRow). J c.args.judge.now + count_of (entries_in k) c.deref.result.now < 18446744073709551616) (sym c.rows-before.ensures)
           (subst (λ (l : List ℕ). J c.args.judge.now + count_of (entries_in c.args.self.now.rows) l < 18446744073709551616) (sym same) c.requires.room);
-      tags = label_stays g.J.Judge.verdict_of c.args.at c.args.user.now;
+      tags = label_stays g.J.Judge.verdict_of c.args.moved.now.at c.args.moved.now.user.now;
     }
 
 pub with_rows-requires : goal.with_rows-requires
@@ -48,7 +48,7 @@ with_rows-requires g c =
       changes =
           subst (λ (ls : List ℕ). ChangesRows c.args.self.now.rows ls c.in_ok-updated.updated) (sym c.deref-2.ensures.value)
           (subst (λ (k : Kept LabelRow). ChangesRows k c.in_ok-updated.labels.items c.in_ok-updated.updated) c.rows-before.ensures
-          (changes_rows (asked_again V c.args.at c.args.user.now) c.deref.result.now c.in_ok-updated.labels.items before c.in_ok-updated.updated c.in_ok-updated.ensures.kinds
+          (changes_rows (asked_again V c.args.moved.now.at c.args.moved.now.user.now) c.deref.result.now c.in_ok-updated.labels.items before c.in_ok-updated.updated c.in_ok-updated.ensures.kinds
           c.in_ok-updated.ensures.paths c.in_ok-updated.ensures.same));
     }
 
@@ -79,12 +79,13 @@ returns-clause-rows g c =
     let V = g.J.Judge.verdict_of in
     let es = entries_in c.args.self.now.rows in
     let made : entries_in c.in_ok-updated.updated
-    ≡ each_row (changed_where (mentions_any c.deref.result.now) (asked_again V c.args.at c.args.user.now)) (entries_in c.rows-before.result.now) = c.in_ok-updated.ensures.entries in
+    ≡ each_row (changed_where (mentions_any c.deref.result.now) (asked_again V c.args.moved.now.at c.args.moved.now.user.now)) (entries_in c.rows-before.result.now) =
+    c.in_ok-updated.ensures.entries in
     ap (λ (k : Kept LabelRow). entries_in k) c.in_ok-rows.ensures.rows
     ∙ made
-    ∙ ap (λ (k : Kept LabelRow). each_row (changed_where (mentions_any c.deref.result.now) (asked_again V c.args.at c.args.user.now)) (entries_in k)) c.rows-before.ensures
-    ∙ ap (λ (l : List ℕ). each_row (changed_where (mentions_any l) (asked_again V c.args.at c.args.user.now)) es) same
-    ∙ ap (λ (f : LabelRow → LabelRow). each_row f es) (again_where V c.args.at c.args.user.now c.args.groups.now)
+    ∙ ap (λ (k : Kept LabelRow). each_row (changed_where (mentions_any c.deref.result.now) (asked_again V c.args.moved.now.at c.args.moved.now.user.now)) (entries_in k)) c.rows-before.ensures
+    ∙ ap (λ (l : List ℕ). each_row (changed_where (mentions_any l) (asked_again V c.args.moved.now.at c.args.moved.now.user.now)) es) same
+    ∙ ap (λ (f : LabelRow → LabelRow). each_row f es) (again_where V c.args.moved.now.at c.args.moved.now.user.now c.args.groups.now)
 
 pub returns-clause-few : goal.returns-clause-few
 returns-clause-few g c =
