@@ -4,10 +4,9 @@ ghost use Rattle.std.specs.Prelude.{◌≡◌, ◌++◌, ◌∷◌, [], IfOk, co
 ghost use Rattle.acl_names.specs.Appends.{Appends};
 ghost use Rattle.hex.specs.Hex.{encode_lower};
 ghost use Rattle.acl_text.specs.Attr.{attr_bytes};
-ghost use Rattle.facl_output.specs.AttrListings.{attr_line, default_line, attr_lines, attr_text, attr_listing};
+ghost use Rattle.facl_output.specs.AttrListings.{attr_line, default_line, attr_text, attr_listing};
 
 use crate::listing::push_path;
-use acl_edit::Node;
 use acl_entry::Acl;
 use acl_text::encode_attr;
 use acl_tree::FoundFile;
@@ -22,10 +21,10 @@ fn digits(alloc: Global, acl: &Acl) -> Result<String, AllocError>
 }
 
 /// Adds the line of an attribute.
-fn push_line(alloc: Global, text: &mut Vec<u8>, name: &[u8], acl: &Acl) -> Result<(), AllocError>
+fn push_line(text: &mut Vec<u8>, name: &[u8], acl: &Acl) -> Result<(), AllocError>
     ensures { Appends result text.old text.new (attr_line name.now acl.now) }
 {
-    let digits = digits(alloc, acl)?;
+    let digits = digits(*text.allocator(), acl)?;
     text.extend_from_slice(name)?;
     text.extend_from_slice(b"=0x")?;
     text.extend_from_slice(digits.as_bytes())?;
@@ -34,37 +33,31 @@ fn push_line(alloc: Global, text: &mut Vec<u8>, name: &[u8], acl: &Acl) -> Resul
 }
 
 /// Adds the line of the default list, if there is one.
-fn push_default(alloc: Global, text: &mut Vec<u8>, dacl: &Option<Acl>) -> Result<(), AllocError>
+fn push_default(text: &mut Vec<u8>, dacl: &Option<Acl>) -> Result<(), AllocError>
     ensures { Appends result text.old text.new (default_line dacl.now) }
 {
     match dacl {
-        Some(dacl) => push_line(alloc, text, b"system.posix_acl_default", dacl),
+        Some(dacl) => push_line(text, b"system.posix_acl_default", dacl),
         None => Ok(()),
     }
 }
 
-fn push_attributes(alloc: Global, text: &mut Vec<u8>, node: &Node) -> Result<(), AllocError>
-    ensures { Appends result text.old text.new (attr_lines node.now) }
-{
-    push_line(alloc, text, b"system.posix_acl_access", &node.label.acl)?;
-    push_default(alloc, text, &node.dacl)?;
-    Ok(())
-}
-
-fn push_file(alloc: Global, text: &mut Vec<u8>, file: &FoundFile<'_>) -> Result<(), AllocError>
+fn push_file(text: &mut Vec<u8>, file: &FoundFile<'_>) -> Result<(), AllocError>
     ensures { Appends result text.old text.new (attr_text file.now) }
 {
     push_path(text, file)?;
-    push_attributes(alloc, text, file.node())?;
+    let node = file.node();
+    push_line(text, b"system.posix_acl_access", &node.label.acl)?;
+    push_default(text, &node.dacl)?;
     text.push(b'\n')?;
     Ok(())
 }
 
-fn push_files(alloc: Global, text: &mut Vec<u8>, files: &[FoundFile<'_>]) -> Result<(), AllocError>
+fn push_files(text: &mut Vec<u8>, files: &[FoundFile<'_>]) -> Result<(), AllocError>
     ensures { Appends result text.old text.new (attr_listing files.now) }
 {
     for file in files {
-        push_file(alloc, text, file)?;
+        push_file(text, file)?;
     }
     Ok(())
 }
@@ -75,6 +68,6 @@ pub fn write_attributes(alloc: Global, files: &[FoundFile<'_>]) -> Result<Vec<u8
     ensures { IfOk result (λ text. text.items ≡ attr_listing files.now) }
 {
     let mut text = Vec::new(alloc);
-    push_files(alloc, &mut text, files)?;
+    push_files(&mut text, files)?;
     Ok(text)
 }

@@ -5,7 +5,7 @@ ghost use Rattle.std.specs.List.{flat_map};
 ghost use Rattle.acl_names.specs.Appends.{Appends, AppendsWhole};
 ghost use Rattle.facl_output.specs.AfterPaths.{after_tested_path};
 ghost use Rattle.facl_output.specs.KeptTexts.{AreKept};
-ghost use Rattle.facl_output.specs.TestListing.{default_entry, default_entries, lists_text, file_line, test_listing};
+ghost use Rattle.facl_output.specs.TestListing.{default_entry, default_entries, file_line, test_listing};
 
 use crate::kept_texts::{KeptTexts, NodeText};
 use crate::listing::{end_line, push_path_shown};
@@ -55,27 +55,14 @@ fn push_default<N: Names>(
     }
 }
 
-fn push_lists<N: Names>(text: &mut Vec<u8>, names: &N, node: &Node) -> Result<(), AllocError>
-    ensures { Appends result text.old text.new (lists_text (N.naming names.now) node.now) }
-{
-    append_short(text, &node.label.acl, names)?;
-    push_default(text, names, &node.dacl)
-}
-
-/// Adds a file's lists and a line feed.
-fn push_lists_line<N: Names>(text: &mut Vec<u8>, names: &N, node: &Node) -> Result<(), AllocError>
-    ensures { Appends result text.old text.new (lists_text (N.naming names.now) node.now ++ 10 ∷ []) }
-{
-    push_lists(text, names, node)?;
-    end_line(text)
-}
-
-/// Adds what comes after a path.
+/// Adds what comes after a path: a file's lists and a line feed.
 fn push_after_path<N: Names>(text: &mut Vec<u8>, names: &N, node: &Node) -> Result<(), AllocError>
     ensures { Appends result text.old text.new (after_tested_path (N.naming names.now) node.now) }
 {
     text.extend_from_slice(b": ")?;
-    push_lists_line(text, names, node)
+    append_short(text, &node.label.acl, names)?;
+    push_default(text, names, &node.dacl)?;
+    end_line(text)
 }
 
 /// What comes after the path of a file, with names.
