@@ -1,6 +1,6 @@
 //! What an index answers: who may do what, with and without search along the files' paths.
 //!
-//! Beside each public call is a private one that is proved over the table; the public one adds what that means of a state.
+//! The first clause of a call is of the table, and the second says what that means of a state.
 
 ghost use Rattle.std.specs.Prelude.{◌≡◌, [], map, slice_get, IfOk};
 ghost use Rattle.std.specs.Option.{option_copied};
@@ -22,39 +22,16 @@ impl<J: Judge> Index<J> {
     ghost use Rattle.path_classes.specs.ReachedRows.{rows_along, reached_rows, reached_at};
     ghost use Rattle.acl_rights.specs.Reach.{reach_at, users_reaching, files_reached};
 
-    /// Returns the verdict on a user and a file.
-    fn cell(&self, user: UserPlace, path: &Path) -> Option<Requests>
-        ensures { result ≡ cell_at self.now user path.now }
+    /// Returns what a user may do with a file, if both are there.
+    pub fn get(&self, user: UserPlace, path: &Path) -> Option<Requests>
+        ensures cell { result ≡ cell_at self.now user path.now }
+        ensures verdict { (s : states.State) → IsWhole J.verdict_of s self.now → result ≡ verdict_at J.verdict_of s user path.now }
     {
         let now = &self.table;
         match now.rows.row(path) {
             Some(cells) => cells.get(user),
             None => None,
         }
-    }
-
-    /// Returns what a user may do with a file, if both are there.
-    pub fn get(&self, user: UserPlace, path: &Path) -> Option<Requests>
-        ensures cell { result ≡ cell_at self.now user path.now }
-        ensures verdict { (s : states.State) → IsWhole J.verdict_of s self.now → result ≡ verdict_at J.verdict_of s user path.now }
-    {
-        self.cell(user, path)
-    }
-
-    /// Returns the users who are granted a request on a file.
-    fn users(
-        &self,
-        alloc: Global,
-        path: &Path,
-        request: Perm,
-    ) -> Result<Option<Vec<usize>>, NoMemory>
-        ensures { FindsUsers result (users_at self.now.rows path.now request) }
-    {
-        let Some(cells) = self.cells(path) else {
-            return Ok(None);
-        };
-        let users = granted_users(alloc, cells, request)?;
-        Ok(Some(users))
     }
 
     /// Returns the users who are granted a request on a file, if it is there, by their places.
@@ -67,24 +44,11 @@ impl<J: Judge> Index<J> {
         ensures reported { FindsUsers result (users_at self.now.rows path.now request) }
         ensures whole { (s : states.State) → IsWhole J.verdict_of s self.now → FindsUsers result (users_granted_alone J.verdict_of s path.now request) }
     {
-        self.users(alloc, path, request)
-    }
-
-    /// Returns the files on which a user is granted a request.
-    fn paths(
-        &self,
-        alloc: Global,
-        user: UserPlace,
-        request: Perm,
-    ) -> Result<Option<Vec<&Path>>, NoMemory>
-        ensures { FindsFiles result (files_at self.now.users self.now.rows user request) }
-    {
-        let now = &self.table;
-        if user >= now.users {
+        let Some(cells) = self.row(path) else {
             return Ok(None);
-        }
-        let paths = now.rows.rows.granted_paths(alloc, user, request)?;
-        Ok(Some(paths))
+        };
+        let users = granted_users(alloc, cells, request)?;
+        Ok(Some(users))
     }
 
     /// Returns the files on which a request is granted to a user, if the user is there, in path order.
@@ -97,15 +61,12 @@ impl<J: Judge> Index<J> {
         ensures reported { FindsFiles result (files_at self.now.users self.now.rows user request) }
         ensures whole { (s : states.State) → IsWhole J.verdict_of s self.now → FindsFiles result (files_granted_alone J.verdict_of s user request) }
     {
-        self.paths(alloc, user, request)
-    }
-
-    /// Returns the verdict on a user and a file, with search along its path.
-    fn reach_cell(&self, user: UserPlace, path: &Path) -> Option<Requests>
-        ensures { result ≡ reached_at self.now.rows user path.now }
-    {
         let now = &self.table;
-        now.rows.rows.reach(user, path)
+        if user >= now.users {
+            return Ok(None);
+        }
+        let paths = now.rows.rows.granted_paths(alloc, user, request)?;
+        Ok(Some(paths))
     }
 
     /// Returns what a user may do with a file, if both are there and the user can search each recorded directory
@@ -114,24 +75,8 @@ impl<J: Judge> Index<J> {
         ensures cell { result ≡ reached_at self.now.rows user path.now }
         ensures reach { (s : states.State) → IsWhole J.verdict_of s self.now → result ≡ reach_at J.verdict_of s user path.now }
     {
-        self.reach_cell(user, path)
-    }
-
-    /// Returns the users who are granted a request on a file, with search along its path.
-    fn reaching(
-        &self,
-        alloc: Global,
-        path: &Path,
-        request: Perm,
-    ) -> Result<Option<Vec<usize>>, NoMemory>
-        ensures { FindsUsers result (users_at (reached_rows self.now.rows) path.now request) }
-    {
         let now = &self.table;
-        let Some(row) = now.rows.rows.reached_row(alloc, path)? else {
-            return Ok(None);
-        };
-        let users = granted_users(alloc, &row, request)?;
-        Ok(Some(users))
+        now.rows.rows.reach(user, path)
     }
 
     /// Returns the users who reach a file with a request, if it is there, by their places.
@@ -144,24 +89,12 @@ impl<J: Judge> Index<J> {
         ensures reported { FindsUsers result (users_at (reached_rows self.now.rows) path.now request) }
         ensures whole { (s : states.State) → IsWhole J.verdict_of s self.now → FindsUsers result (users_reaching J.verdict_of s path.now request) }
     {
-        self.reaching(alloc, path, request)
-    }
-
-    /// Returns the files on which a user is granted a request, with search along their paths.
-    fn reached_paths(
-        &self,
-        alloc: Global,
-        user: UserPlace,
-        request: Perm,
-    ) -> Result<Option<Vec<&Path>>, NoMemory>
-        ensures { FindsFiles result (files_at self.now.users (reached_rows self.now.rows) user request) }
-    {
         let now = &self.table;
-        if user >= now.users {
+        let Some(row) = now.rows.rows.reached_row(alloc, path)? else {
             return Ok(None);
-        }
-        let paths = now.rows.rows.reached_paths(alloc, user, request)?;
-        Ok(Some(paths))
+        };
+        let users = granted_users(alloc, &row, request)?;
+        Ok(Some(users))
     }
 
     /// Returns the files that a user reaches with a request, if the user is there, in path order.
@@ -174,17 +107,12 @@ impl<J: Judge> Index<J> {
         ensures reported { FindsFiles result (files_at self.now.users (reached_rows self.now.rows) user request) }
         ensures whole { (s : states.State) → IsWhole J.verdict_of s self.now → FindsFiles result (files_reached J.verdict_of s user request) }
     {
-        self.reached_paths(alloc, user, request)
-    }
-
-    fn cells(&self, path: &Path) -> Option<&[Requests]>
-        ensures { option_copied result ≡ find path_cmp path.now self.now.rows }
-    {
         let now = &self.table;
-        match now.rows.row(path) {
-            Some(cells) => Some(cells.as_slice()),
-            None => None,
+        if user >= now.users {
+            return Ok(None);
         }
+        let paths = now.rows.rows.reached_paths(alloc, user, request)?;
+        Ok(Some(paths))
     }
 
     /// Returns what each user may do with a file, in the order of the users, if the file is there.
@@ -192,7 +120,11 @@ impl<J: Judge> Index<J> {
         ensures row { option_copied result ≡ find path_cmp path.now self.now.rows }
         ensures verdicts { (s : states.State) → IsWhole J.verdict_of s self.now → option_copied result ≡ row_at J.verdict_of s path.now }
     {
-        self.cells(path)
+        let now = &self.table;
+        match now.rows.row(path) {
+            Some(cells) => Some(cells.as_slice()),
+            None => None,
+        }
     }
 
     /// Iterates over the files with their classes, in path order: files of a class have the same row, with `along`
