@@ -2,14 +2,14 @@
 
 ghost use Rattle.std.specs.Prelude.{◌≡◌};
 ghost use Rattle.std.specs.Option.{option_copied};
-ghost use Rattle.facl_tools.specs.Replies.{Gives, Replies};
-ghost use Rattle.facl.specs.Why.{answered, person_named, read, why_at, why_of};
+ghost use Rattle.facl_tools.specs.Replies.{Replies};
+ghost use Rattle.facl.specs.Why.{answered, person_named, read};
 
 use acl_entry::Subject;
 use acl_names::Name;
 use acl_people::People;
 use acl_rights::{IndexedState, Judge};
-use acl_tree::{Paths, TreeFault};
+use acl_tree::TreeFault;
 use facl_answers::{files_asked, write_why};
 use facl_output::LineFault;
 use facl_script::{LineFiles, OperandRow, OptionRow, Syntax, WordRef, Words};
@@ -53,38 +53,6 @@ fn subject_named<'a>(people: &'a People, name: &Name) -> Option<&'a Subject>
     people.subject_at(user)
 }
 
-/// Prints what decides on a user on the files of these paths.
-fn why_at<J: Judge>(
-    alloc: Global,
-    indexed: &IndexedState<J>,
-    along: bool,
-    paths: Paths,
-    subject: &Subject,
-) -> Result<Vec<u8>, LineFault>
-    ensures { Gives (λ out. out.items) result (why_at J.decider_of indexed.now along paths subject.now) }
-{
-    let files = files_asked(alloc, indexed.state().tree(), paths, along)?;
-    let out = write_why(alloc, indexed, subject, &files)?;
-    Ok(out)
-}
-
-/// Prints what decides on the user that a word means, on the files of these paths.
-fn why_of<J: Judge>(
-    alloc: Global,
-    indexed: &IndexedState<J>,
-    along: bool,
-    word: &WordRef<'_>,
-    paths: Paths,
-) -> Result<Vec<u8>, LineFault>
-    ensures { Gives (λ out. out.items) result (why_of J.decider_of indexed.now along word.now paths) }
-{
-    let name = name_meant(alloc, word)?;
-    match subject_named(indexed.state().people(), &name) {
-        Some(subject) => why_at(alloc, indexed, along, paths, subject),
-        None => Err(LineFault::Tree(TreeFault::NoSuchUser { name })),
-    }
-}
-
 /// Prints the entries that decide on a user, on files; with `--reach` on the recorded directories above them too.
 pub(crate) fn answer<J: Judge>(
     alloc: Global,
@@ -94,6 +62,11 @@ pub(crate) fn answer<J: Judge>(
     ensures { Replies indexed.now result (answered J.decider_of indexed.now line.entry) }
 {
     let paths = paths_of(alloc, line.files.as_slice())?;
-    let out = why_of(alloc, indexed, line.reach, &line.user, paths)?;
+    let name = name_meant(alloc, &line.user)?;
+    let Some(subject) = subject_named(indexed.state().people(), &name) else {
+        return Err(LineFault::Tree(TreeFault::NoSuchUser { name }));
+    };
+    let files = files_asked(alloc, indexed.state().tree(), paths, line.reach)?;
+    let out = write_why(alloc, indexed, subject, &files)?;
     Ok(Effect::prints(out))
 }
