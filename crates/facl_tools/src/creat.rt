@@ -1,8 +1,8 @@
 //! The tool `creat`: a new file, with what it inherits from its directory.
 
 ghost use Rattle.std.specs.Prelude.{◌≡◌};
-ghost use Rattle.facl_tools.specs.Creat.{answered, kind_of, mode_given, new_file, read};
-ghost use Rattle.facl_tools.specs.Replies.{Gives, Replies};
+ghost use Rattle.facl_tools.specs.Creat.{answered, kind_of, mode_given, read};
+ghost use Rattle.facl_tools.specs.Replies.{Replies};
 
 use crate::effect::{Effect, effect_of};
 use crate::mode::permission_mode_of;
@@ -74,24 +74,18 @@ pub fn read(words: &Words) -> Option<CreatLine<'_>>
     })
 }
 
-fn new_file(alloc: Global, line: CreatLine<'_>) -> Result<NewFile, LineFault>
-    ensures { Gives (λ new. new) result (new_file line.entry) }
+/// Makes a plain file or a directory.
+pub fn answer(alloc: Global, state: &State, line: CreatLine<'_>) -> Result<Effect, LineFault>
+    ensures { Replies state.now result (answered state.now line.entry) }
 {
     let user = name_meant(alloc, &line.user)?;
     let path = path_at(alloc, 1, line.file.as_bytes())?;
-    Ok(NewFile {
+    let new = NewFile {
         path,
         kind: line.kind,
         user,
         mode: line.mode,
         umask: line.umask,
-    })
-}
-
-/// Makes a plain file or a directory.
-pub fn answer(alloc: Global, state: &State, line: CreatLine<'_>) -> Result<Effect, LineFault>
-    ensures { Replies state.now result (answered state.now line.entry) }
-{
-    let new = new_file(alloc, line)?;
+    };
     effect_of(alloc, state, Command::Creat(new))
 }
