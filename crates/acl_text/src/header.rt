@@ -3,16 +3,15 @@
 ghost use Rattle.std.specs.Prelude.{◌≡◌, ◌++◌, ◌∷◌, [], option_copied};
 ghost use Rattle.acl_text.specs.Writing.{id_text};
 ghost use Rattle.acl_names.specs.Appends.{Appends, AppendsWhole};
-ghost use Rattle.acl_text.specs.DumpWriting.{mark, marks, flags_text, file_text, owner_text, group_text, header_text, list_text, default_text, record_text};
+ghost use Rattle.acl_text.specs.DumpWriting.{mark, marks, flags_text, file_text, owner_text, group_text, header_text, record_text};
 
 use crate::dump_writing::{append_default, append_list};
 use crate::effective::Effective;
 use crate::fault::Which;
 use crate::naming::Names;
 use crate::record::DumpRecord;
-use crate::shared::Shared;
 use crate::writing::append_id;
-use acl_entry::{Acl, Id};
+use acl_entry::Id;
 use acl_names::{Path, append_path};
 use std::alloc::AllocError;
 
@@ -134,6 +133,7 @@ pub fn append_header<N: Names>(
     Ok(())
 }
 
+/// Adds the header lines of a record, its lists, and an empty line.
 fn push_record<N: Names>(
     text: &mut Vec<u8>,
     dump_record: &DumpRecord,
@@ -149,32 +149,9 @@ fn push_record<N: Names>(
         flags: dump_record.flags,
     };
     append_header(text, &header, names)?;
-    push_lists(text, dump_record, names)
-}
-
-/// Adds the lists of a record, and an empty line.
-fn push_lists<N: Names>(
-    text: &mut Vec<u8>,
-    dump_record: &DumpRecord,
-    names: &N,
-) -> Result<(), AllocError>
-    ensures { Appends result text.old text.new (list_text (N.naming names.now) Effective.WhereMasked Which.Access dump_record.now.access
-        ++ (default_text (N.naming names.now) Effective.WhereMasked dump_record.now.dacl ++ 10 ∷ [])) }
-{
     let access = dump_record.access.get();
     append_list(text, access, Which::Access, Effective::WhereMasked, names)?;
-    end_record(text, &dump_record.dacl, names)
-}
-
-/// Ends a record: its default list, if there is one, and an empty line.
-fn end_record<N: Names>(
-    text: &mut Vec<u8>,
-    dacl: &Option<Shared<Acl>>,
-    names: &N,
-) -> Result<(), AllocError>
-    ensures { Appends result text.old text.new (default_text (N.naming names.now) Effective.WhereMasked dacl.now ++ 10 ∷ []) }
-{
-    append_default(text, dacl, Effective::WhereMasked, names)?;
+    append_default(text, &dump_record.dacl, Effective::WhereMasked, names)?;
     text.push(b'\n')?;
     Ok(())
 }
