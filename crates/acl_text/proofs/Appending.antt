@@ -9,3 +9,7 @@ pub appends_both : {A E Z : Type 0} (result : Result A E) (old mid new : Vec ℕ
     → Appends result mid new second → Appends result old new (first ++ second)
 appends_both (Ok x) old mid new first second added more = more ∙ ap (λ (l : List ℕ). l ++ second) added ∙ append_assoc old.items first second
 appends_both (Err fault) old mid new first second added more = still_begins old.items first mid.items new.items added more
+
+-- two parts that were added, as one
+pub both_added : (old first second t u : List ℕ) → t ≡ old ++ first → u ≡ t ++ second → u ≡ old ++ (first ++ second)
+both_added old first second t u one other = other ∙ ap (λ (l : List ℕ). l ++ second) one ∙ append_assoc old first second

@@ -66,21 +66,6 @@ fn push_effective(text: &mut Vec<u8>, perm: Perm, bytes: usize) -> Result<(), Al
     Ok(())
 }
 
-/// Ends the line of an entry of `bytes` bytes: its effective permissions, if they are shown, and a line feed.
-fn end_line(
-    text: &mut Vec<u8>,
-    how: Effective,
-    mask: &Option<Perm>,
-    entry: &Entry,
-    bytes: usize,
-) -> Result<(), AllocError>
-    ensures { Appends result text.old text.new (effective_text how mask.now entry.now bytes ++ 10 ∷ []) }
-{
-    push_comment(text, how, mask, entry, bytes)?;
-    text.push(b'\n')?;
-    Ok(())
-}
-
 /// Returns what is before each entry of a list.
 fn front(which: Which) -> &'static [u8]
     ensures { result.now ≡ front which }
@@ -120,7 +105,9 @@ pub fn push_line<N: Names>(
     let before = text.len();
     push_front_and_entry(text, which, entry, names)?;
     let bytes = text.len() - before;
-    end_line(text, how, mask, entry, bytes)
+    push_comment(text, how, mask, entry, bytes)?;
+    text.push(b'\n')?;
+    Ok(())
 }
 
 fn push_list<N: Names>(
