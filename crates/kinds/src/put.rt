@@ -62,21 +62,6 @@ fn has_first(numbers: &PathMap<usize>, entries: &[(&Path, usize)]) -> bool {
     }
 }
 
-/// Puts entries, of which some may be of new paths; and returns the numbers that their paths had.
-fn numbers_put(
-    alloc: Global,
-    numbers: &PathMap<usize>,
-    entries: &[(&Path, usize)],
-) -> Result<(PathMap<usize>, Vec<Option<usize>>), AllocError>
-    requires { IsInOrder (map seen entries.now) }
-    ensures new { IfOk result (λ new. new.0 ≡ put_all (map seen entries.now) numbers.now) }
-    ensures old { IfOk result (λ new. new.1.items ≡ found (map seen entries.now) numbers.now) }
-{
-    let found = numbers.get_all(alloc, entries)?;
-    let new = numbers.put_all(alloc, entries)?;
-    Ok((new, found))
-}
-
 /// Puts entries, and returns the numbers that their paths had. If each path is there already, both share all paths.
 pub(crate) fn numbers_with(
     alloc: Global,
@@ -94,7 +79,9 @@ pub(crate) fn numbers_with(
             return Ok((new, found));
         }
     }
-    numbers_put(alloc, numbers, entries)
+    let found = numbers.get_all(alloc, entries)?;
+    let new = numbers.put_all(alloc, entries)?;
+    Ok((new, found))
 }
 
 /// Puts entries by their numbers, which are not counted yet, and returns the numbers that their paths had. If each
