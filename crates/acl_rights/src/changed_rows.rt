@@ -119,7 +119,7 @@ pub(crate) fn judged_row<J: Judge>(
     ensures row { IfOk result (λ new. new.value ≡ label_row J.verdict_of users.now label.now) }
     ensures at_most { J.asked_of judge.new ≤ J.asked_of judge.old + length users.now }
 {
-    let row = judged(alloc, judge, users, label, 1, None)?;
+    let row = judged(alloc, judge, users, label, 1)?;
     let new = with_row(alloc, label, row)?;
     Ok(Rc::new(alloc, new)?)
 }

@@ -8,18 +8,16 @@ ghost use Rattle.acl_rights.specs.Rows.{row_of, Asks};
 use crate::judge::Judge;
 use acl_entry::{Label, Requests, Subject};
 use acl_people::Subjects;
-use path_classes::Cells;
+use path_classes::{Cells, LabelRow};
 use std::alloc::{AllocError, Global};
 
-/// Judges all users on a label; the verdicts count for `files` files that have it. They are shared with `other`, if
-/// they are the same.
+/// Judges all users on a label; the verdicts count for `files` files that have it.
 pub(crate) fn judged<J: Judge>(
     alloc: Global,
     judge: &mut J,
     users: &Subjects,
     label: &Label,
     files: u64,
-    other: Option<&Cells>,
 ) -> Result<Cells, AllocError>
     requires room { J.asked_of judge.old + files * length users.now < 2 ^ 64 }
     requires some { 0 < files }
@@ -28,25 +26,24 @@ pub(crate) fn judged<J: Judge>(
 {
     let mut requests = vec![in alloc; Requests::none(); users.len()]?;
     judge.verdicts(users, label, files, &mut requests);
-    Cells::new_or_shared(alloc, requests, other)
+    Cells::new(alloc, requests)
 }
 
-/// Judges one user again, and returns the verdicts if that verdict is another one.
+/// Judges one user again on a label, and returns its row if that verdict is another one.
 pub(crate) fn judged_again<J: Judge>(
     alloc: Global,
     judge: &mut J,
-    cells: &Cells,
+    node: &LabelRow,
     at: usize,
     user: &Subject,
-    label: &Label,
 ) -> Result<Option<Cells>, AllocError>
     requires room { J.asked_of judge.old + 1 < 2 ^ 64 }
-    requires at { at < length cells.now }
-    ensures cells { IfOk result (λ some. option_map_or (λ new. new) some cells.now ≡ slice_set cells.now at (J.verdict_of user.now label.now)) }
+    requires at { at < length node.now.row }
+    ensures cells { IfOk result (λ some. option_map_or (λ new. new) some node.now.row ≡ slice_set node.now.row at (J.verdict_of user.now node.now.label)) }
     ensures at_most { J.asked_of judge.new ≤ J.asked_of judge.old + 1 }
 {
-    let old = cells.as_slice();
-    let verdict = judge.verdict(user, label);
+    let old = node.row.as_slice();
+    let verdict = judge.verdict(user, &node.label);
     if old[at].bits() == verdict.bits() {
         return Ok(None);
     }
@@ -56,37 +53,31 @@ pub(crate) fn judged_again<J: Judge>(
     Ok(Some(row))
 }
 
-/// Judges a further user, the last.
+/// Judges a further user on a label, the last of its row.
 pub(crate) fn judged_last<J: Judge>(
     alloc: Global,
     judge: &mut J,
-    cells: &[Requests],
+    node: &LabelRow,
     user: &Subject,
-    label: &Label,
-    other: Option<&Cells>,
 ) -> Result<Cells, AllocError>
     requires { J.asked_of judge.old + 1 < 2 ^ 64 }
-    ensures cells { IfOk result (λ new. new ≡ cells.now ++ J.verdict_of user.now label.now ∷ []) }
+    ensures cells { IfOk result (λ new. new ≡ node.now.row ++ J.verdict_of user.now node.now.label ∷ []) }
     ensures at_most { J.asked_of judge.new ≤ J.asked_of judge.old + 1 }
 {
+    let cells = node.row.as_slice();
     let mut new = Vec::with_capacity(alloc, cells.len().saturating_add(1))?;
     new.extend_from_slice(cells)?;
-    new.push(judge.verdict(user, label))?;
-    Cells::new_or_shared(alloc, new, other)
+    new.push(judge.verdict(user, &node.label))?;
+    Cells::new(alloc, new)
 }
 
 /// Removes the verdict of one user.
-pub(crate) fn without(
-    alloc: Global,
-    cells: &[Requests],
-    at: usize,
-    other: Option<&Cells>,
-) -> Result<Cells, AllocError>
+pub(crate) fn without(alloc: Global, cells: &[Requests], at: usize) -> Result<Cells, AllocError>
     requires { at < length cells.now }
     ensures { IfOk result (λ new. new ≡ remove cells.now at) }
 {
     let mut new = Vec::with_capacity(alloc, cells.len())?;
     new.extend_from_slice(cells)?;
     let _gone = new.remove(at);
-    Cells::new_or_shared(alloc, new, other)
+    Cells::new(alloc, new)
 }

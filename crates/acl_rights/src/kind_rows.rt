@@ -93,7 +93,7 @@ impl<'a, J: Judge> Renewal<Node, LabelRow, J> for AllUsers<'a> {
         node: &Node,
         paths: usize,
     ) -> Result<LabelRow, AllocError> {
-        let row = judged(alloc, judge, self.users, &node.label, paths as u64, None)?;
+        let row = judged(alloc, judge, self.users, &node.label, paths as u64)?;
         let new = with_row(alloc, &node.label, row)?;
         Ok(new)
     }
@@ -121,14 +121,7 @@ impl<'a, J: Judge> Renewal<LabelRow, LabelRow, J> for LastUser<'a> {
         node: &LabelRow,
         _paths: usize,
     ) -> Result<LabelRow, AllocError> {
-        let row = judged_last(
-            alloc,
-            judge,
-            node.row.as_slice(),
-            self.user,
-            &node.label,
-            None,
-        )?;
+        let row = judged_last(alloc, judge, node, self.user)?;
         let new = with_row(alloc, &node.label, row)?;
         Ok(new)
     }
@@ -145,7 +138,7 @@ fn shorter(alloc: Global, row: &Cells, at: usize) -> Result<Cells, AllocError>
     ensures { IfOk result (λ new. new ≡ (if nat_lt at (length row.now) then remove row.now at else row.now)) }
 {
     if at < row.as_slice().len() {
-        without(alloc, row.as_slice(), at, None)
+        without(alloc, row.as_slice(), at)
     } else {
         row.share()
     }
@@ -194,7 +187,7 @@ impl<'a, J: Judge> NodeChange<LabelRow, J> for MovedUser<'a> {
         if self.at >= node.row.as_slice().len() {
             return Ok(None);
         }
-        let some = judged_again(alloc, judge, &node.row, self.at, self.user, &node.label)?;
+        let some = judged_again(alloc, judge, node, self.at, self.user)?;
         let Some(row) = some else {
             return Ok(None);
         };
