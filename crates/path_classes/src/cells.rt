@@ -82,11 +82,6 @@ impl Cells {
         })
     }
 
-    /// Tells whether both rows share their verdicts. If they do not, these may still be the same.
-    pub fn shares(&self, other: &Cells) -> bool {
-        Rc::ptr_eq(&self.requests, &other.requests)
-    }
-
     /// Returns the verdicts, one for each user.
     pub fn as_slice(&self) -> &[Requests]
         ensures { result.now ≡ self.now }
