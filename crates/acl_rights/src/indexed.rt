@@ -20,7 +20,7 @@ use crate::index::Index;
 use crate::judge::Judge;
 use acl_entry::{Perm, Requests};
 use acl_names::Path;
-use acl_tree::{FilesIter, Staged, State};
+use acl_tree::{Staged, State};
 use path_classes::{ClassFiles, FileClasses, UserPlace};
 use std::alloc::{AllocError, Global};
 use std::marker::Model;
@@ -92,14 +92,6 @@ impl<J: Judge> IndexedState<J> {
         ensures { result.now ≡ self.now }
     {
         &self.state
-    }
-
-    /// Iterates over the files from a path on, in path order.
-    pub fn files_from(&self, top: &Path) -> FilesIter<'_>
-        ensures { result ≡ from top.now self.now.tree.files }
-    {
-        let files = self.state.tree().files_whole().files_by_path();
-        files.from(top)
     }
 
     fn index(&self) -> &Index<J>
