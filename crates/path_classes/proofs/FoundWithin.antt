@@ -19,7 +19,7 @@ use Rattle.path_classes.specs.declared.label_row.LabelRow.{LabelRow}
 use Rattle.path_classes.specs.declared.path_class.PathClass.{PathClass}
 use Rattle.path_classes.specs.PathClasses.{ClassKinds, class_above, HasClassBelow, HasClass}
 use Rattle.path_classes.specs.ClassBuilding.{IsRightAbove, AreKept, AreWalked}
-use Rattle.path_classes.specs.ClassesWithin.{paths_seen, is_inside, inside, outside, AreTops, FitOutside, WalksTop, AreFound}
+use Rattle.path_classes.specs.ClassesWithin.{paths_seen, is_inside, inside, outside, AreTops, FitOutside, AreFound}
 use Rattle.path_classes.proofs.RenewedClasses.{counted_one}
 use Rattle.path_classes.proofs.Growing.{right_above, widens_itself, widens_on}
 use Rattle.path_classes.proofs.Making.{with_kind, kinds_widened, has_widened}
@@ -190,6 +190,12 @@ found_first rows out first k xs made same none =
     subst (λ es. AreFound rows (paths_seen (take 0 xs)) out first k es) (sym none)
     (subst (λ k. AreFound rows (paths_seen (take 0 xs)) out first k []) (sym same)
     (subst (λ ps. AreFound rows (paths_seen ps) out first first []) (sym (none_taken xs)) (found_none rows out first)))
+
+-- the paths at or below a top have classes, below a class that is given, and come after others
+pub record WalksTop (rows : KindsOf LabelRow) (files : Numbers) (over : Option ℕ) (top : PathOf) (first : ClassKinds) (made : Numbers) (k : ClassKinds) (more : Numbers) : Type 0 where
+  pub own : Numbers
+  pub added : more ≡ made ++ own
+  pub walked : AreWalked rows (within top files) over first k own
 
 module _ (rows : Kept LabelRow) (before : Kept PathClass) (order : IsInOrder rows.1) (xs : List (Bor PathOf)) (at : ℕ) (x : Bor PathOf) (lt : at < length xs) (is : x ≡ get_or xs at x)
     (tops : AreTops (paths_seen xs)) (fits : FitOutside rows (paths_seen xs) before) where

@@ -1,17 +1,17 @@
 -- Classes of the paths at or below some paths, the tops, where all other paths keep theirs.
-use Rattle.std.specs.Prelude.{◌≡◌, ⊤, ℕ, not, Bool, false, List, [], ◌∷◌, ◌++◌, map, filter, Option}
+use Rattle.std.specs.Prelude.{◌≡◌, ⊤, not, Bool, false, List, [], ◌∷◌, map, filter}
 use Rattle.std.specs.Borrow.{Bor}
 use Rattle.std.specs.List.{AllByRecursion, list_any}
 use Rattle.std.specs.Option.{option_or}
 use Rattle.acl_names.specs.Paths.{PathOf}
 use Rattle.acl_names.specs.Below.{encloses}
-use Rattle.path_map.specs.Below.{within, is_passed}
-use Rattle.kinds.specs.Kinds.{KindsOf, node_at}
+use Rattle.path_map.specs.Below.{is_passed}
+use Rattle.kinds.specs.Kinds.{node_at}
 use Rattle.kinds.specs.Numbered.{Kept, Numbers}
 use Rattle.path_classes.specs.declared.label_row.LabelRow.{LabelRow}
 use Rattle.path_classes.specs.declared.path_class.PathClass.{PathClass}
 use Rattle.path_classes.specs.PathClasses.{ClassKinds, kind_at, class_above, HasClassBelow, AreClasses}
-use Rattle.path_classes.specs.ClassBuilding.{Widens, AreWalked}
+use Rattle.path_classes.specs.ClassBuilding.{Widens}
 
 -- borrowed paths
 abbrev pub paths_seen : List (Bor PathOf) → List PathOf
@@ -41,12 +41,6 @@ FitOutside rows tops classes = AreClasses (rows.0, outside tops rows.1) (classes
 pub record ChangesInside (old : Kept LabelRow) (tops : List PathOf) (new : Kept LabelRow) : Type 0 where
   pub numbers : outside tops new.1 ≡ outside tops old.1
   pub rows : AllByRecursion (λ e. node_at new.0 e.1 ≡ node_at old.0 e.1) (outside tops old.1)
-
--- the paths at or below a top have classes, below a class that is given, and come after others
-pub record WalksTop (rows : KindsOf LabelRow) (files : Numbers) (over : Option ℕ) (top : PathOf) (first : ClassKinds) (made : Numbers) (k : ClassKinds) (more : Numbers) : Type 0 where
-  pub own : Numbers
-  pub added : more ≡ made ++ own
-  pub walked : AreWalked rows (within top files) over first k own
 
 -- the paths inside have classes, found by those of the paths outside; no path is counted
 pub record AreFound (rows : Kept LabelRow) (tops : List PathOf) (out : Numbers) (first k : ClassKinds) (made : Numbers) : Type 0 where

@@ -11,8 +11,8 @@ use Rattle.path_classes.specs.declared.label_row.LabelRow.{LabelRow}
 use Rattle.path_classes.specs.declared.path_class.PathClass.{PathClass}
 use Rattle.path_classes.specs.ClassBuilding.{IsRightAbove, IsRightAt, AreRight, AreWalked, SameClassesBut}
 use Rattle.path_classes.specs.PathClasses.{ClassKinds, class_above}
-use Rattle.path_classes.specs.ClassesWithin.{paths_seen, outside, WalksTop}
-use Rattle.path_classes.proofs.FoundWithin.{found_first, top_over, top_found, found_last, used_within}
+use Rattle.path_classes.specs.ClassesWithin.{paths_seen, outside}
+use Rattle.path_classes.proofs.FoundWithin.{WalksTop, found_first, top_over, top_found, found_last, used_within}
 use Rattle.path_classes.proofs.classes_within.classes_within.Goals as goal
 
 pub loop-top-init : goal.loop-top-init
