@@ -1,20 +1,17 @@
-//! Compares nodes by their hashes and then whole.
+//! Hashes of labels and nodes, and whether two nodes are the same.
 
-ghost use Rattle.std.specs.Prelude.{◌≡◌, IsTrue, IfOk};
+ghost use Rattle.std.specs.Prelude.{◌≡◌, IsTrue, IfOk, true};
 
 use acl_edit::{Kind, Node};
-use acl_entry::{Acl, Entry, Key};
+use acl_entry::{Acl, Entry, Key, Label};
 use kinds::Likeness;
-
-/// Compares nodes: hashes first, then the nodes.
-pub(crate) struct AlikeNodes;
 
 /// An odd multiplier that spreads the bits of a hash.
 const SPREAD: u64 = 0x9E37_79B9_7F4A_7C15;
 
 /// Works a number into a hash.
-fn mixed(mark: u64, number: u64) -> u64 {
-    (mark ^ number).wrapping_mul(SPREAD).rotate_left(29)
+fn mixed(hash: u64, number: u64) -> u64 {
+    (hash ^ number).wrapping_mul(SPREAD).rotate_left(29)
 }
 
 /// Encodes an entry as a number: its tag, its permissions and the id that it names.
@@ -32,12 +29,18 @@ fn number_of(entry: &Entry) -> u64 {
 }
 
 /// Works a list into a hash.
-fn mark_with(mark: u64, acl: &Acl) -> u64 {
-    let mut mark = mark;
+fn hash_with(hash: u64, acl: &Acl) -> u64 {
+    let mut hash = hash;
     for entry in acl.entries() {
-        mark = mixed(mark, number_of(entry));
+        hash = mixed(hash, number_of(entry));
     }
-    mark
+    hash
+}
+
+/// Hashes a label. Equal labels have equal hashes, and others seldom do.
+pub fn label_hash(label: &Label) -> u64 {
+    let ids = u64::from(label.owner.number()) << 32 | u64::from(label.group.number());
+    hash_with(mixed(0, ids), &label.acl)
 }
 
 /// Encodes the flags and the kind of a node as a number.
@@ -48,6 +51,15 @@ fn head_of(node: &Node) -> u64 {
         Kind::Directory => 8,
     };
     kind | u64::from(setuid) << 2 | u64::from(setgid) << 1 | u64::from(sticky)
+}
+
+/// Hashes a node. Equal nodes have equal hashes, and others seldom do.
+pub fn node_hash(node: &Node) -> u64 {
+    let hash = mixed(label_hash(&node.label), head_of(node));
+    match &node.dacl {
+        Some(dacl) => hash_with(mixed(hash, 1), dacl),
+        None => hash,
+    }
 }
 
 /// Tells whether both are one default list, or none.
@@ -73,21 +85,25 @@ fn has_same_flags(one: &Node, other: &Node) -> bool
     one.flags == other.flags
 }
 
+/// Tells whether two nodes are the same.
+pub fn is_same_node(one: &Node, other: &Node) -> bool
+    ensures { result ≡ true → one.now ≡ other.now }
+{
+    if !is_same_kind(one.kind, other.kind) || !has_same_flags(one, other) {
+        return false;
+    }
+    one.same_label(other) && is_same_default(&one.dacl, &other.dacl)
+}
+
+/// Compares nodes: hashes first, then the nodes.
+pub(crate) struct AlikeNodes;
+
 impl Likeness<Node> for AlikeNodes {
     fn mark(&self, node: &Node) -> u64 {
-        let label = &node.label;
-        let ids = u64::from(label.owner.number()) << 32 | u64::from(label.group.number());
-        let mark = mark_with(mixed(head_of(node), ids), &label.acl);
-        match &node.dacl {
-            Some(dacl) => mark_with(mixed(mark, 1), dacl),
-            None => mark,
-        }
+        node_hash(node)
     }
 
     fn is_same(&self, one: &Node, other: &Node) -> bool {
-        if !is_same_kind(one.kind, other.kind) || !has_same_flags(one, other) {
-            return false;
-        }
-        one.same_label(other) && is_same_default(&one.dacl, &other.dacl)
+        is_same_node(one, other)
     }
 }

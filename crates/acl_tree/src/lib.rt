@@ -35,6 +35,7 @@ mod userdel;
 mod usermod;
 mod walk;
 
+pub use alike::{is_same_node, label_hash, node_hash};
 pub use command::{Command, Membership, NewFile, NewUser, Table};
 pub use differences::Differences;
 pub use edit::{FileFault, NodeEdit};

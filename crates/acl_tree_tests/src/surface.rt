@@ -5,7 +5,7 @@ use crate::small_tree::{accept, load};
 use acl_tree::{
     Command, DumpRecord, DumpRecords, DumpUse, Edit, EditFault, FilesFinder, Id, Kind, Membership,
     Name, Names, NewFile, NewUser, NoMemory, NoNames, Node, Path, Paths, People, Staged, Subject,
-    Table, Tree, TreeFault, UserName, read_dump, read_name,
+    Table, Tree, TreeFault, UserName, is_same_node, label_hash, node_hash, read_dump, read_name,
 };
 use std::alloc::Global;
 use std::process::Abort;
@@ -65,6 +65,17 @@ fn expect_look_ups(rt: &impl Abort, tree: &Tree, log: &Path, root: &Path) {
     assert!(rt; finder.get(root).is_some());
 }
 
+fn expect_hashes(rt: &impl Abort, tree: &Tree, log: &Path, root: &Path) {
+    let node: &Node = tree.get(log).expect(rt, "a file");
+    let other: &Node = tree.get(root).expect(rt, "a directory");
+    let same: bool = is_same_node(node, other);
+    assert!(rt; !same);
+    let hash: u64 = node_hash(node);
+    assert!(rt; hash != node_hash(other));
+    let label: u64 = label_hash(&node.label);
+    assert!(rt; label != label_hash(&other.label));
+}
+
 fn expect_above(rt: &impl Abort, alloc: Global, tree: &Tree, log: &Path) {
     let above: Result<Vec<Path>, NoMemory> = tree.ancestors(alloc, log);
     assert!(rt; above.expect(rt, "memory").len() == 1);
@@ -85,6 +96,7 @@ fn people_and_files(rt: HostRuntime) {
     let root: Path = path(&rt, rt.alloc(), b".");
     expect_files(&rt, &tree, &log);
     expect_look_ups(&rt, &tree, &log, &root);
+    expect_hashes(&rt, &tree, &log, &root);
     expect_above(&rt, rt.alloc(), &tree, &log);
     expect_within(&rt, rt.alloc(), &tree, &root);
     drop(tree);

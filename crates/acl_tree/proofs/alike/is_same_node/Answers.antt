@@ -1,5 +1,5 @@
 use Rattle.acl_tree.proofs.SameNodes.{same_node}
-use Rattle.facl_output.proofs.kept_texts.is_same.Goals as goal
+use Rattle.acl_tree.proofs.alike.is_same_node.Goals as goal
 
 pub returns-then-same_label : goal.returns-then-same_label
 returns-then-same_label c = λ same. same_node c.args.one.now c.args.other.now (c.is_same_kind.ensures (c.if-not-is_same_kind.false))
