@@ -5,8 +5,8 @@ ghost use Rattle.acl_names.specs.Appends.{Appends};
 ghost use Rattle.acl_edit.specs.declared.node.Node.{Node};
 ghost use Rattle.facl_output.specs.KeptTexts.{IsKept, AreKept};
 
-use acl_edit::{Kind, Node};
-use acl_entry::{Acl, Entry, Key};
+use acl_edit::Node;
+use acl_tree::{is_same_node, node_hash};
 use std::alloc::{AllocError, Global};
 
 /// The most places of the cache.
@@ -24,85 +24,6 @@ const SAMPLING_INTERVAL: usize = 1 << 5;
 
 /// See [`MAX_CREDIT`]: a copy saves more than a look-up costs.
 const CREDIT_PER_HIT: usize = 3;
-
-/// An odd multiplier that spreads the bits of a hash.
-const SPREAD: u64 = 0x9E37_79B9_7F4A_7C15;
-
-/// Works a number into a hash.
-fn mixed(mark: u64, number: u64) -> u64 {
-    (mark ^ number).wrapping_mul(SPREAD).rotate_left(29)
-}
-
-/// Encodes an entry as a number: its permissions and the id that it names.
-fn number_of(entry: &Entry) -> u64 {
-    let id = match entry.key {
-        Key::User(id) | Key::Group(id) => id.number(),
-        Key::Owner | Key::OwningGroup | Key::Mask | Key::Other => 0,
-    };
-    u64::from(id) << 8 | u64::from(entry.perm.number())
-}
-
-/// Works a list into a hash.
-fn mark_with(mark: u64, acl: &Acl) -> u64 {
-    let mut mark = mark;
-    for entry in acl.entries() {
-        mark = mixed(mark, number_of(entry));
-    }
-    mark
-}
-
-/// Encodes the kind and the flags of a node as a number.
-fn head_of(node: &Node) -> u64 {
-    let [setuid, setgid, sticky] = node.flags;
-    let is_directory = node.kind == Kind::Directory;
-    u64::from(is_directory) << 3
-        | u64::from(setuid) << 2
-        | u64::from(setgid) << 1
-        | u64::from(sticky)
-}
-
-/// Hashes a node. Equal nodes have equal hashes, and others seldom do.
-pub(crate) fn mark_of(node: &Node) -> u64 {
-    let label = &node.label;
-    let ids = u64::from(label.owner.number()) << 32 | u64::from(label.group.number());
-    let mark = mark_with(mixed(head_of(node), ids), &label.acl);
-    match &node.dacl {
-        Some(dacl) => mark_with(mark, dacl),
-        None => mark,
-    }
-}
-
-fn is_same_kind(one: Kind, other: Kind) -> bool
-    ensures { result ≡ true → one ≡ other }
-{
-    one == other
-}
-
-fn has_same_flags(one: &Node, other: &Node) -> bool
-    ensures { result ≡ true → one.now.flags ≡ other.now.flags }
-{
-    one.flags == other.flags
-}
-
-/// Tells whether both are one default list, or none.
-fn is_same_default(one: &Option<Acl>, other: &Option<Acl>) -> bool
-    ensures { result ≡ true → one.now ≡ other.now }
-{
-    match (one, other) {
-        (None, None) => true,
-        (Some(one), Some(other)) => one.same(other),
-        _ => false,
-    }
-}
-
-fn is_same(one: &Node, other: &Node) -> bool
-    ensures { result ≡ true → one.now ≡ other.now }
-{
-    if !is_same_kind(one.kind, other.kind) || !has_same_flags(one, other) {
-        return false;
-    }
-    one.same_label(other) && is_same_default(&one.dacl, &other.dacl)
-}
 
 /// Writes the texts of nodes.
 pub(crate) trait NodeText {
@@ -192,7 +113,7 @@ impl<'a> KeptTexts<'a> {
         ensures { (text_of : Node → List ℕ) → AreKept text_of self.now → IfSome result (λ text. text.now ≡ text_of node.now) }
     {
         let kept = self.at(mark)?;
-        if kept.mark != mark || !is_same(kept.node, node) {
+        if kept.mark != mark || !is_same_node(kept.node, node) {
             return None;
         }
         self.bytes.get(kept.start..kept.end)
@@ -276,7 +197,7 @@ impl<'a> KeptTexts<'a> {
             writer.push(text, node)?;
             return Ok(());
         }
-        let mark = mark_of(node);
+        let mark = node_hash(node);
         if let Some(known) = self.find(mark, node) {
             text.extend_from_slice(known)?;
             self.note_found();

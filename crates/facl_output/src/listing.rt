@@ -8,11 +8,11 @@ ghost use Rattle.facl_output.specs.Listings.{has_base_alone, is_listed, has_slas
 ghost use Rattle.facl_output.specs.AfterPaths.{path_line, after_path};
 ghost use Rattle.facl_output.specs.KeptTexts.{AreKept};
 
-use crate::kept_texts::{KeptTexts, mark_of};
+use crate::kept_texts::KeptTexts;
 use acl_edit::{Kind, Node};
 use acl_names::append_path;
 use acl_text::{Effective, Header, Names, NoNames, Which, append_header, append_list};
-use acl_tree::FoundFile;
+use acl_tree::{FoundFile, node_hash};
 use std::alloc::AllocError;
 
 /// Tells whether a file has base entries alone, and no default list.
@@ -225,7 +225,7 @@ fn push_file<'a, N: Names>(
         push_record(text, names, options, file)?;
         return Ok(());
     }
-    let mark = mark_of(file.node());
+    let mark = node_hash(file.node());
     if let Some(known) = kept.find(mark, file.node()) {
         push_known_record(text, options, file, known)?;
         kept.note_found();
