@@ -9,7 +9,6 @@ ghost use Rattle.path_classes.specs.ClassedRows.{AreCounted, paths_of};
 ghost use Rattle.path_classes.specs.ClassesWithin.{inside};
 ghost use Rattle.acl_rights.specs.KindRows.{label_row, some_row, rowed_labels, with_label, borrowed_labels, AreRowsOf, HasLabel, IsPlaced, ArePlaced, BeginWithRoot};
 
-use crate::hash::hash_of;
 use crate::hints::Hints;
 use crate::judge::Judge;
 use crate::judged::judged;
@@ -17,6 +16,7 @@ use crate::kind_rows::{KindRows, with_row};
 use acl_entry::Label;
 use acl_names::Path;
 use acl_people::Subjects;
+use acl_tree::label_hash;
 use kinds::{GivenNode, KindMap, PlacedMap, push_found};
 use path_classes::LabelRow;
 use std::alloc::{AllocError, Global};
@@ -68,7 +68,7 @@ fn place_of<'a>(
     if let Some(at) = place_if(labels, last, label) {
         return Ok(at);
     }
-    let hash = hash_of(label);
+    let hash = label_hash(label);
     if let Some(at) = place_by_hash(labels, by_hash, hash, label) {
         return Ok(at);
     }
@@ -135,7 +135,7 @@ pub(crate) struct HintedRows<'r, 'h> {
 fn known_number(known: &HintedRows<'_, '_>, label: &Label) -> Option<usize>
     ensures { IfSome result (λ number. HasLabel label.now number known.now.rows.now) }
 {
-    let number = known.hints.get(hash_of(label))?;
+    let number = known.hints.get(label_hash(label))?;
     let row = known.rows.used(number)?;
     if is_same_label(&row.label, label) {
         Some(number)

@@ -11,7 +11,6 @@ ghost use Rattle.path_classes.specs.ClassedRows.{AreCounted};
 ghost use Rattle.path_classes.specs.KindRows.{rows_at};
 ghost use Rattle.acl_rights.specs.KindRows.{label_row, rowed, each_row, with_last, without_at, with_again, asked_again, mentions_any};
 
-use crate::hash::hash_of;
 use crate::hints::{FIRST_HINTS, Hint, Hints};
 use crate::judge::Judge;
 use crate::judged::{judged, judged_again, judged_last, without};
@@ -19,7 +18,7 @@ use acl_edit::Node;
 use acl_entry::{Id, Label, Subject};
 use acl_names::Path;
 use acl_people::Subjects;
-use acl_tree::Files;
+use acl_tree::{Files, label_hash};
 use kinds::{KindMap, NodeChange, Renewal, TaggedMap};
 use path_classes::{Cells, ClassedRows, LabelRow, push_groups};
 use std::alloc::{AllocError, Global};
@@ -64,7 +63,7 @@ pub(crate) fn hints_of(alloc: Global, rows: &KindMap<LabelRow>) -> Result<Hints,
     let mut hints = Vec::new(alloc);
     for number in 0..rows.numbers_len().min(FIRST_HINTS) {
         if let Some(row) = rows.used(number) {
-            let hash = hash_of(&row.label);
+            let hash = label_hash(&row.label);
             hints.push(Hint { hash, number })?;
         }
     }

@@ -37,7 +37,6 @@
 mod changed_part;
 mod changed_rows;
 mod deciding;
-mod hash;
 mod hints;
 mod index;
 mod indexed;

@@ -10,13 +10,13 @@ ghost use Rattle.path_classes.specs.ClassedRows.{AreCounted};
 ghost use Rattle.acl_rights.specs.KindRows.{label_row, node_row, rowed, shared_rows, AreRowsOf, AreRows, AreOfEntries, AsManyAreSame, IsAmongRows};
 
 use crate::changed_rows::{is_same_label, judged_row};
-use crate::hash::hash_of;
 use crate::judge::Judge;
 use crate::kept_labels::kept_labels;
 use crate::kind_rows::{KindRows, hints_of};
 use acl_edit::Node;
 use acl_entry::Label;
 use acl_people::Subjects;
+use acl_tree::label_hash;
 use kinds::KindMap;
 use path_classes::{ClassedRows, LabelRow};
 use std::alloc::{AllocError, Global};
@@ -71,7 +71,7 @@ fn put_number(
     let Some(row) = some else {
         return Ok(());
     };
-    let hash = hash_of(&row.label);
+    let hash = label_hash(&row.label);
     known.put(hash, row)?;
     Ok(())
 }
@@ -104,7 +104,7 @@ fn row_of_label<J: Judge>(
     ensures known { IfOk result (λ _. AreRows J.verdict_of users.now (shared_rows known.new.rows.items)) }
     ensures at_most { J.asked_of judge.new ≤ J.asked_of judge.old + length users.now }
 {
-    let hash = hash_of(label);
+    let hash = label_hash(label);
     let some = known.row(hash, label)?;
     if let Some(row) = some {
         return Ok(row);
