@@ -8,7 +8,7 @@ const SPREAD: u64 = 0x9E37_79B9_7F4A_7C15;
 
 /// Works a number into a hash.
 #[tactic(auto, unfolding(crate::specs::Hashes::mixed))]
-pub fn mixed(hash: u64, number: u64) -> u64
+pub(crate) fn mixed(hash: u64, number: u64) -> u64
     ensures { result ≡ mixed hash number }
 {
     (hash ^ number).wrapping_mul(SPREAD).rotate_left(29)

@@ -69,7 +69,6 @@ pub use cells::{Cells, UserPlace, same_row};
 pub use class_counts::ClassFiles;
 pub use classed_rows::ClassedRows;
 pub use file_classes::FileClasses;
-pub use hash::mixed;
 pub use label_row::{LabelRow, push_groups};
 pub use path_class::{ClassNumber, PathClass};
 pub use searchers::Searchers;
