@@ -56,7 +56,7 @@ fn has_same_row(old: &Kinds<LabelRow>, rows: &Kinds<LabelRow>, was: usize, is: u
 }
 
 /// Returns who can search down to a class, if the class keeps that.
-fn kept_search(classes: &Kinds<PathClass>, number: usize) -> Option<&Searchers>
+pub(crate) fn kept_search(classes: &Kinds<PathClass>, number: usize) -> Option<&Searchers>
     ensures { option_copied result ≡ kept_search (node_at classes.now number) }
 {
     match classes.get(number) {

@@ -2,15 +2,14 @@
 //! and by the counts of classes.
 
 ghost use Rattle.std.specs.Prelude.{◌≡◌, ◌≤◌, ℕ, true, false, length, get_or, IfOk};
-ghost use Rattle.std.specs.Option.{option_copied, option_map_or, unwrap_or};
-ghost use Rattle.kinds.specs.Kinds.{node_at};
+ghost use Rattle.std.specs.Option.{option_map_or, unwrap_or};
 ghost use Rattle.path_classes.specs.ClassedRows.{AreCounted, verdicts_at};
-ghost use Rattle.path_classes.specs.PathClasses.{AreClasses, kept_search, search_at};
+ghost use Rattle.path_classes.specs.PathClasses.{AreClasses, search_at};
 
 use crate::cells::same_row;
+use crate::changed_answers::kept_search;
 use crate::label_row::LabelRow;
 use crate::path_class::{ClassNumber, PathClass};
-use crate::searchers::Searchers;
 use kinds::{KindMap, KindTest, Kinds, TaggedMap};
 use std::alloc::{AllocError, Global};
 
@@ -44,27 +43,14 @@ fn changed_verdicts(
     Ok(marks)
 }
 
-/// Returns who can search down to a class, if the class keeps that.
-fn search_of(classes: &Kinds<PathClass>, number: usize) -> Option<&Searchers>
-    ensures { option_copied result ≡ kept_search (node_at classes.now number) }
-{
-    match classes.get(number) {
-        Some(class) => match &class.search {
-            Some(search) => Some(search),
-            None => None,
-        },
-        None => None,
-    }
-}
-
 /// Tells whether the same users can search down to a class before and after.
 fn has_same_search(before: &Kinds<PathClass>, after: &Kinds<PathClass>, number: usize) -> bool
     ensures { result ≡ true → search_at after.now number ≡ search_at before.now number }
 {
-    let Some(old) = search_of(before, number) else {
-        return search_of(after, number).is_none();
+    let Some(old) = kept_search(before, number) else {
+        return kept_search(after, number).is_none();
     };
-    match search_of(after, number) {
+    match kept_search(after, number) {
         Some(new) => new.is_same(old),
         None => false,
     }
