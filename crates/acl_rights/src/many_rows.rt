@@ -115,30 +115,6 @@ fn row_of_label<J: Judge>(
     Ok(row)
 }
 
-/// Returns the row of a number, if a file has the number.
-fn row_of_number<J: Judge>(
-    alloc: Global,
-    judge: &mut J,
-    users: &Subjects,
-    known: &mut KnownRows,
-    files: &KindMap<Node>,
-    number: usize,
-) -> Result<Option<Rc<LabelRow>>, AllocError>
-    requires room { J.asked_of judge.old + length users.now < 2 ^ 64 }
-    requires known { AreRows J.verdict_of users.now (shared_rows known.old.rows.items) }
-    ensures row { IfOk result (λ some. option_map (λ r. r.value) some ≡ option_map (node_row J.verdict_of users.now) (used_at files.now.0 number)) }
-    ensures known { IfOk result (λ _. AreRows J.verdict_of users.now (shared_rows known.new.rows.items)) }
-    ensures at_most { J.asked_of judge.new ≤ J.asked_of judge.old + length users.now }
-{
-    match files.used(number) {
-        Some(node) => {
-            let row = row_of_label(alloc, judge, users, known, &node.label)?;
-            Ok(Some(row))
-        }
-        None => Ok(None),
-    }
-}
-
 /// Returns for each number its row, if a file has the number.
 fn rows_of_numbers<J: Judge>(
     alloc: Global,
@@ -155,8 +131,12 @@ fn rows_of_numbers<J: Judge>(
     let mut known = known;
     let mut rows = Vec::with_capacity(alloc, files.numbers_len())?;
     for number in 0..files.numbers_len() {
-        let row = row_of_number(alloc, judge, users, &mut known, files, number)?;
-        rows.push(row)?;
+        let Some(node) = files.used(number) else {
+            rows.push(None)?;
+            continue;
+        };
+        let row = row_of_label(alloc, judge, users, &mut known, &node.label)?;
+        rows.push(Some(row))?;
     }
     Ok(rows)
 }
