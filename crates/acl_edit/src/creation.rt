@@ -34,7 +34,19 @@ pub fn create(
     ensures reported { IfErr result (λ fault. fault ≡ EditFault.NoMemory) }
     ensures room { Fits (size_of parent.now.dacl) → IsOk result }
 {
-    let node = inherit(alloc, parent, kind, mode, umask, owner, group)?;
+    let [_setuid, setgid, _sticky] = parent.flags;
+    let dacl = inherited_default(alloc, &parent.dacl, kind)?;
+    let acl = inherited_access(alloc, &parent.dacl, mode, umask)?;
+    let node = Node {
+        kind,
+        label: Label {
+            owner,
+            group: if setgid { parent.label.group } else { group },
+            acl,
+        },
+        flags: [false, setgid && kind == Kind::Directory, false],
+        dacl,
+    };
     node.lists_are_valid();
     Ok(node)
 }
@@ -51,33 +63,6 @@ fn inherited_default(
         Kind::Directory => clone_of(alloc, dacl),
         Kind::Plain => Ok(None),
     }
-}
-
-/// Makes the node that a new file inherits from its directory.
-fn inherit(
-    alloc: Global,
-    parent: &Node,
-    kind: Kind,
-    mode: u16,
-    umask: u16,
-    owner: Id,
-    group: Id,
-) -> Result<Node, AllocError>
-    ensures { MakesIn (Fits (size_of parent.now.dacl)) result (inherit parent.now kind mode umask owner group) }
-{
-    let [_setuid, setgid, _sticky] = parent.flags;
-    let dacl = inherited_default(alloc, &parent.dacl, kind)?;
-    let acl = inherited_access(alloc, &parent.dacl, mode, umask)?;
-    Ok(Node {
-        kind,
-        label: Label {
-            owner,
-            group: if setgid { parent.label.group } else { group },
-            acl,
-        },
-        flags: [false, setgid && kind == Kind::Directory, false],
-        dacl,
-    })
 }
 
 /// Makes the access list under a directory's default list, if it has one.
