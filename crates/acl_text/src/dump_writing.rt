@@ -2,7 +2,6 @@
 
 ghost use Rattle.std.specs.Prelude.{◌≡◌, ◌++◌, ◌∷◌, [], codes};
 ghost use Rattle.acl_entry.specs.Perms as perms;
-ghost use Rattle.std.specs.List.{flat_map};
 ghost use Rattle.acl_names.specs.Appends.{Appends, AppendsWhole};
 ghost use Rattle.acl_text.specs.declared.fault.Which.TheVariants.{Default};
 ghost use Rattle.acl_text.specs.DumpWriting.{is_shown, tab_count, tabs, effective_text, front, shown, entry_line, list_text, default_text};
@@ -112,16 +111,16 @@ pub fn push_line<N: Names>(
 
 fn push_list<N: Names>(
     text: &mut Vec<u8>,
-    how: Effective,
+    acl: &Acl,
     which: Which,
-    mask: &Option<Perm>,
-    entries: &[Entry],
+    how: Effective,
     names: &N,
 ) -> Result<(), AllocError>
-    ensures { Appends result text.old text.new (flat_map (entry_line (N.naming names.now) how which mask.now) entries.now) }
+    ensures { Appends result text.old text.new (list_text (N.naming names.now) how which acl.now) }
 {
-    for entry in entries {
-        push_line(text, how, which, mask, entry, names)?;
+    let mask = acl.get(Key::Mask);
+    for entry in acl.entries() {
+        push_line(text, how, which, &mask, entry, names)?;
     }
     Ok(())
 }
@@ -138,9 +137,8 @@ pub fn append_list<N: Names>(
 ) -> Result<(), AllocError>
     ensures { AppendsWhole result text.old text.new (list_text (N.naming names.now) how which acl.now) }
 {
-    let mask = acl.get(Key::Mask);
     let before = text.len();
-    if let Err(refused) = push_list(text, how, which, &mask, acl.entries(), names) {
+    if let Err(refused) = push_list(text, acl, which, how, names) {
         text.truncate(before);
         return Err(refused);
     }
