@@ -60,6 +60,5 @@ pub use acl_names::{Name, Path, read_name};
 pub use acl_people::{People, UserName};
 pub use acl_text::Spec;
 pub use acl_tree::{
-    Command, DumpRecords, Membership, NewFile, NewUser, Paths, Staged, State, Table,
-    Tree,
+    Command, DumpRecords, Membership, NewFile, NewUser, Paths, Staged, State, Table, Tree,
 };
