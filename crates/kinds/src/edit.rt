@@ -112,7 +112,7 @@ fn edit_entry<'a, N: Drop, E: KindEdit<N>>(
     item: (&'a Path, usize),
     edit: &E,
 ) -> Result<Kinds<N>, Stop<(Path, E::Fault)>>
-    requires { IsNode kinds item.entry.1 }
+    requires { IsNode kinds item.1 }
     ensures made { IfOk result (λ new. EditsOneMore (E.edited edit.now) (seen item.entry) kinds memo.old.met.items (map seen puts.old.items) new memo.new.met.items (map seen puts.new.items)) }
     ensures reported { StopsAt result (edit_each (E.edited edit.now) (entries_by kinds (seen item.entry ∷ []))) }
 {

@@ -15,8 +15,8 @@ pub returns-then-not-keep_places : goal.returns-then-not-keep_places
 returns-then-not-keep_places g c =
     let asked = c.args.verdicts.now in
     let files = rows_in_both g.J.Judge.verdict_of asked.along c.args.loaded.now asked.state.now in
-    subst (λ some. OnOk c.count_within_top.result (HaveChanges some c.args.users.now c.count_within_top.new.users))
-    (within_root c.root.result files c.root.ensures) c.count_within_top.ensures
+    subst (λ some. OnOk c.count_within_top-then-not-keep_places.result (HaveChanges some c.args.users.now c.count_within_top-then-not-keep_places.new.users))
+    (within_root c.root.result files c.root.ensures) c.count_within_top-then-not-keep_places.ensures
 
 pub loop-top-init : goal.loop-top-init
 loop-top-init g c =
