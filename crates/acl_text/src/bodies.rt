@@ -77,24 +77,21 @@ pub(crate) fn mark_of(bytes: &[u8]) -> u64 {
     mark_of_last(mixed(mark, next), bytes)
 }
 
-/// Works the last bytes into a hash.
+/// Works the last eight bytes into a hash, or each byte if they are fewer.
 fn mark_of_last(mark: u64, bytes: &[u8]) -> u64 {
     match bytes {
         [.., a, b, c, d, e, f, g, h] => {
             let word = u64::from_le_bytes([*a, *b, *c, *d, *e, *f, *g, *h]);
             mixed(mark, word)
         }
-        _ => mark_of_few(mark, bytes),
+        _ => {
+            let mut mark = mark;
+            for byte in bytes {
+                mark = mixed(mark, u64::from(*byte));
+            }
+            mark
+        }
     }
-}
-
-/// Works each byte into a hash.
-fn mark_of_few(mark: u64, bytes: &[u8]) -> u64 {
-    let mut mark = mark;
-    for byte in bytes {
-        mark = mixed(mark, u64::from(*byte));
-    }
-    mark
 }
 
 impl<'a> Bodies<'a> {

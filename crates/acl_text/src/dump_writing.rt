@@ -36,7 +36,7 @@ fn tab_count(bytes: usize) -> usize
     4usize.saturating_sub(bytes / 8).max(1)
 }
 
-/// Adds the effective permissions of an entry of `bytes` bytes, if they are shown.
+/// Adds the tabs after an entry of `bytes` bytes and its effective permissions, if they are shown.
 fn push_comment(
     text: &mut Vec<u8>,
     how: Effective,
@@ -52,16 +52,9 @@ fn push_comment(
     if !entry.key.is_class() || !is_shown(how, *mask, entry.perm) {
         return Ok(());
     }
-    push_effective(text, entry.perm.meet(*mask), bytes)
-}
-
-/// Adds the tabs after an entry of this many bytes, and its effective permissions.
-fn push_effective(text: &mut Vec<u8>, perm: Perm, bytes: usize) -> Result<(), AllocError>
-    ensures { Appends result text.old text.new (tabs bytes ++ (codes "#effective:" ++ perms.text perm)) }
-{
     text.extend_from_slice(&TABS[..tab_count(bytes)])?;
     text.extend_from_slice(b"#effective:")?;
-    text.extend_from_slice(&perm.text())?;
+    text.extend_from_slice(&entry.perm.meet(*mask).text())?;
     Ok(())
 }
 

@@ -113,25 +113,17 @@ fn given_perms(takes_x: bool, field: Option<&[u8]>) -> Result<Option<PermSpec>, 
     }
 }
 
-/// Reads no permissions from a field that is absent or empty.
-fn no_perms(field: Option<&[u8]>) -> Result<Option<PermSpec>, FaultKind>
-    ensures { result ≡ no_perms (option_copied field.entry) }
-{
-    match field {
-        None => Ok(None),
-        Some(field) if field.is_empty() => Ok(None),
-        Some(_) => Err(FaultKind::UnwantedPerms),
-    }
-}
-
-/// Reads the permissions of a field by the rules of the use.
+/// Reads the permissions of a field by the rules of the use. If they have none, the field is absent or empty.
 fn wanted_perms(rules: Rules, field: Option<&[u8]>) -> Result<Option<PermSpec>, FaultKind>
     ensures { result ≡ wanted_perms rules (option_copied field.entry) }
 {
     if rules.takes_perms {
-        given_perms(rules.takes_x, field)
-    } else {
-        no_perms(field)
+        return given_perms(rules.takes_x, field);
+    }
+    match field {
+        None => Ok(None),
+        Some(field) if field.is_empty() => Ok(None),
+        Some(_) => Err(FaultKind::UnwantedPerms),
     }
 }
 
