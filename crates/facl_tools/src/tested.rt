@@ -14,9 +14,7 @@ use crate::setfacl::ChangeLine;
 use acl_edit::Edit;
 use acl_names::Path;
 use acl_text::DumpRecord;
-use acl_tree::{
-    Command, DumpRecords, FoundFile, Paths, Selection, Staged, State, each_file_is_edited,
-};
+use acl_tree::{Command, DumpRecords, Paths, Selection, Staged, State, each_file_is_edited};
 use facl_output::{LineFault, append_test_listing};
 use std::alloc::{AllocError, Global};
 
@@ -40,26 +38,13 @@ fn paths_of(alloc: Global, records: &[DumpRecord]) -> Result<Vec<Path>, AllocErr
     Ok(paths)
 }
 
-/// Returns the files that a command leaves, of operands that are recorded after it.
-fn files_after<'a>(
-    alloc: Global,
-    staged: &'a Staged,
-    selection: &Selection<'_>,
-) -> Result<Vec<FoundFile<'a>>, LineFault>
-    requires { first_missing selection.now.operands.now staged.now.state.tree.files ≡ None }
-    ensures { Gives (λ files. files.items) result (Ok
-        (files_found selection.now.recursive selection.now.operands.now staged.now.state.tree.files)) }
-{
-    Ok(staged.tree().files(alloc, selection)?)
-}
-
 /// Prints the lists of the files that a command leaves, of operands that are recorded after it.
 fn listed(alloc: Global, staged: &Staged, selection: &Selection<'_>) -> Result<Vec<u8>, LineFault>
     requires { first_missing selection.now.operands.now staged.now.state.tree.files ≡ None }
     ensures { Gives (λ out. out.items) result (Ok (named_test_listing staged.now.state.people
         (files_found selection.now.recursive selection.now.operands.now staged.now.state.tree.files))) }
 {
-    let files = files_after(alloc, staged, selection)?;
+    let files = staged.tree().files(alloc, selection)?;
     let mut out = Vec::new(alloc);
     append_test_listing(&mut out, staged.people(), &files)?;
     Ok(out)
