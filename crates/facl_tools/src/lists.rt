@@ -2,7 +2,7 @@
 
 ghost use Rattle.std.specs.Prelude.{◌≡◌, IfOk, map};
 ghost use Rattle.facl_tools.specs.Replies.{Gives};
-ghost use Rattle.facl_tools.specs.Lists.{entry_of, list_from, specs_of, list_of_text};
+ghost use Rattle.facl_tools.specs.Lists.{entry_of, list_of_text};
 
 use acl_entry::{Acl, Entry, Perm};
 use acl_people::People;
@@ -34,37 +34,6 @@ fn entries_of(alloc: Global, specs: &[Spec]) -> Result<Vec<Entry>, AllocError>
     Ok(entries)
 }
 
-fn list_from(
-    alloc: Global,
-    source: Source,
-    which: Which,
-    entries: &[Entry],
-) -> Result<Acl, LineFault>
-    ensures { Gives (λ acl. acl) result (list_from source which entries.now) }
-{
-    match Acl::from_entries(alloc, entries) {
-        Ok(acl) => Ok(acl),
-        Err(fault) => {
-            let kind = FaultKind::of_list(which, fault);
-            Err(LineFault::of_text(source, TextFault { kind, at: 0 }))
-        }
-    }
-}
-
-fn specs_of(
-    alloc: Global,
-    people: &People,
-    source: Source,
-    text: &[u8],
-) -> Result<Vec<Spec>, LineFault>
-    ensures { Gives (λ specs. specs.items) result (specs_of people.now source text.now) }
-{
-    match read_entries(alloc, text, Sep::Comma, Want::Plain, people) {
-        Ok(specs) => Ok(specs),
-        Err(fault) => Err(LineFault::of_text(source, fault)),
-    }
-}
-
 /// Reads the list that a text names. A fault of the list as a whole is reported at place 0.
 #[tactic(auto, unfolding(crate::specs::Lists::list_of_text))]
 pub(crate) fn list_of_text(
@@ -76,7 +45,16 @@ pub(crate) fn list_of_text(
 ) -> Result<Acl, LineFault>
     ensures { Gives (λ acl. acl) result (list_of_text people.now source which text.now) }
 {
-    let specs = specs_of(alloc, people, source, text)?;
+    let specs = match read_entries(alloc, text, Sep::Comma, Want::Plain, people) {
+        Ok(specs) => specs,
+        Err(fault) => return Err(LineFault::of_text(source, fault)),
+    };
     let entries = entries_of(alloc, &specs)?;
-    list_from(alloc, source, which, &entries)
+    match Acl::from_entries(alloc, &entries) {
+        Ok(acl) => Ok(acl),
+        Err(fault) => {
+            let kind = FaultKind::of_list(which, fault);
+            Err(LineFault::of_text(source, TextFault { kind, at: 0 }))
+        }
+    }
 }
