@@ -5,11 +5,18 @@ ghost use Rattle.std.specs.Prelude.{◌≡◌, IsTrue};
 ghost use Rattle.facl_tools.specs.Modes.{is_mode, mode_of, permission_mode_of, octal_after};
 ghost use Rattle.acl_names.specs.Names.{is_octal};
 
+/// Tells whether each byte is an octal digit.
+fn are_octal_digits(bytes: &[u8]) -> bool
+    ensures { result ≡ list_all (is_octal 7) bytes.now }
+{
+    bytes.iter().all(|b| b'0' <= *b && *b <= b'7')
+}
+
 /// Tells whether the text is one to four octal digits.
 fn is_mode(text: &[u8]) -> bool
     ensures { result ≡ is_mode text.now }
 {
-    0 < text.len() && text.len() <= 4 && text.iter().all(|b| b'0' <= *b && *b <= b'7')
+    0 < text.len() && text.len() <= 4 && are_octal_digits(text)
 }
 
 /// Reads octal digits.
