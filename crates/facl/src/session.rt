@@ -1,7 +1,7 @@
 //! The session of a script: its states with their indexes, and the output and the message of the last line. Lines are
 //! answered one by one.
 
-ghost use Rattle.std.specs.Prelude.{◌≡◌, ℕ, ◌+◌, ◌≤◌, [], ◌∷◌, true, false, Some, map, string_bytes, IfOk, OnOk, OnErr, if◌then◌else◌};
+ghost use Rattle.std.specs.Prelude.{◌≡◌, ℕ, ◌+◌, ◌≤◌, [], ◌∷◌, true, false, map, string_bytes, IfOk, OnOk, OnErr, if◌then◌else◌};
 ghost use Rattle.facl_script.specs.Units.{ScriptUnit, UnitText};
 ghost use Rattle.facl_script.specs.Held.{IsTextHeld, IsUnitHeld};
 ghost use Rattle.facl_tools.specs.TextWords.{line_asks};
@@ -11,9 +11,8 @@ ghost use Rattle.acl_rights.specs.States.{IsPrepared, from_start};
 ghost use Rattle.facl_output.specs.Messages.{warning};
 ghost use Rattle.facl_tools.specs.Replies.{reply_of};
 ghost use Rattle.facl.specs.Costs.{IsReady, IsReadyAfter};
-ghost use Rattle.facl.specs.Tools.{tool_named};
 ghost use Rattle.facl.specs.Counted.{accepted, refused, answer_of, answer_of_words, answered};
-ghost use Rattle.facl.specs.Units.{words_of_line, reply, tool_reply, tool_word};
+ghost use Rattle.facl.specs.Units.{words_of_line, reply, tool_word};
 ghost use Rattle.facl_script.specs.Run.{IsAnswer};
 ghost use Rattle.facl.specs.Sessions.{states_of, out_of, err_of, ran_out_of_memory, IsQuiet, Answers};
 
@@ -150,34 +149,6 @@ impl<J: Judge> FaclSession<J> {
         }
     }
 
-    /// Answers a line of a tool by the words after the tool's name, and returns whether it is refused.
-    fn answer_tool(
-        &mut self,
-        judge: &mut J,
-        unit: &HeldUnit<'_>,
-        tool: Tool,
-        name: &[u8],
-        words: &[String],
-    ) -> bool
-        requires quiet { IsQuiet self.old }
-        requires ready { IsReady (J.asked_of judge.old) unit.now.number }
-        requires named { tool_named name.now ≡ Some tool }
-        ensures answer { (content : UnitText) → IsTextHeld unit.now.text content
-            → Answers unit.now.number (answer_of unit.now.number name.now (states_of self.old)
-            (tool_reply (judging J.verdict_of J.decider_of) (states_of self.old) content (map string_bytes words.now) tool))
-            self.old self.new (J.asked_of judge.old) (J.asked_of judge.new) result }
-        ensures ready { IsReadyAfter (J.asked_of judge.new) unit.now.number }
-    {
-        match tool_reply(self.alloc, &self.indexed_states, &unit.text, words, tool) {
-            Ok(effect) => self.finish_line(judge, unit.number, tool.loads(), effect),
-            Err(fault) => {
-                self.refuse(unit.number, name, &fault);
-                drop(fault);
-                true
-            }
-        }
-    }
-
     /// Answers a line by the name of its tool and the words after it, and returns whether it is refused.
     fn answer_named(
         &mut self,
@@ -194,10 +165,15 @@ impl<J: Judge> FaclSession<J> {
             self.old self.new (J.asked_of judge.old) (J.asked_of judge.new) result }
         ensures ready { IsReadyAfter (J.asked_of judge.new) unit.now.number }
     {
-        match Tool::named(name) {
-            Some(tool) => self.answer_tool(judge, unit, tool, name.as_bytes(), words),
-            None => {
-                self.refuse(unit.number, name.as_bytes(), &LineFault::UnknownTool);
+        let Some(tool) = Tool::named(name) else {
+            self.refuse(unit.number, name.as_bytes(), &LineFault::UnknownTool);
+            return true;
+        };
+        match tool_reply(self.alloc, &self.indexed_states, &unit.text, words, tool) {
+            Ok(effect) => self.finish_line(judge, unit.number, tool.loads(), effect),
+            Err(fault) => {
+                self.refuse(unit.number, name.as_bytes(), &fault);
+                drop(fault);
                 true
             }
         }
