@@ -1,6 +1,6 @@
 //! The tool setfacl(1): its words, the line that they give, and what it does.
-ghost use Rattle.facl_tools.specs.Replies.{Replies};
-ghost use Rattle.facl_tools.specs.Setfacl.{answered, change_files, change_line, edit_of, restore_line};
+ghost use Rattle.facl_tools.specs.Replies.{Replies, Gives};
+ghost use Rattle.facl_tools.specs.Setfacl.{answered, change_files, change_line, edit_of, records_of, restore_line};
 ghost use Rattle.std.specs.Prelude.{◌≡◌};
 ghost use Rattle.facl_tools.specs.SetfaclLine.{change_of, changes_entries, contradicts_itself, entries_from, flags_of, has_edit_flag, read, read_change, read_restore, replaces_lists};
 
@@ -10,6 +10,7 @@ use crate::setfacl_entries::{ChangeEntries, both_at, drops, entries_of_line};
 use crate::syntax::{any, both, by_name};
 use crate::tested::{edit_or_test, restore_or_test};
 use acl_edit::Edit;
+use acl_people::People;
 use acl_text::{DumpUse, read_dump};
 use acl_tree::{DumpRecords, State};
 use facl_output::{LineFault, Source};
@@ -69,15 +70,22 @@ fn change(
     }
 }
 
-/// Restores the files of a dump.
+/// Reads the records of a dump that is restored.
 #[tactic(auto, unfolding(crate::specs::Setfacl::records_of))]
+fn records_of(alloc: Global, people: &People, dump: &[u8]) -> Result<DumpRecords, LineFault>
+    ensures { Gives (λ records. records) result (records_of people.now dump.now) }
+{
+    match read_dump(alloc, dump, DumpUse::Restore, people) {
+        Ok(records) => Ok(DumpRecords::new(records)),
+        Err(fault) => Err(LineFault::of_text(Source::TextLine, fault)),
+    }
+}
+
+/// Restores the files of a dump.
 fn restore(alloc: Global, state: &State, dump: &[u8], is_test: bool) -> Result<Effect, LineFault>
     ensures { Replies state.now result (restore_line state.now is_test dump.now) }
 {
-    let records = match read_dump(alloc, dump, DumpUse::Restore, state.people()) {
-        Ok(records) => DumpRecords::new(records),
-        Err(fault) => return Err(LineFault::of_text(Source::TextLine, fault)),
-    };
+    let records = records_of(alloc, state.people(), dump)?;
     restore_or_test(alloc, state, records, is_test)
 }
 
