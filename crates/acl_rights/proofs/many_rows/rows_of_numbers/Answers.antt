@@ -38,7 +38,7 @@ loop-number-preserved g c =
     let more = one_more n (length users) in
     let used : Some c.in-Some.node.now ≡ used_at kinds n = sym (ap option_copied c.in-Some.is) ∙ c.used.ensures.exact in
     record {
-      made = numbers_more V users kinds n c.loop-number.rows.items c.push-2.new.self.items (Some c.in_ok-row.row)
+      made = numbers_more V users kinds n c.loop-number.rows.items c.push-in-loop-number.new.self.items (Some c.in_ok-row.row)
           c.in_ok-push-2.ensures.items c.loop-number.invariant.made (ap Some c.in_ok-row.ensures.row ∙ ap (option_map (node_row V users)) used);
       known = c.in_ok-row.ensures.known;
       asked = omega (arith, more, c.loop-number.invariant.asked, c.in_ok-row.ensures.at_most);
