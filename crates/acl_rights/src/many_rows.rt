@@ -1,9 +1,9 @@
 //! Rows of verdicts by kinds after many files changed: one for each number of the files' map. Each distinct label is
 //! judged at most once, unless hashes collide.
 
-ghost use Rattle.std.specs.Prelude.{◌≡◌, ◌+◌, ◌*◌, ◌++◌, ◌∷◌, ◌<◌, ◌≤◌, ◌^◌, [], true, length, option_map, IfOk, IfSome};
+ghost use Rattle.std.specs.Prelude.{◌≡◌, ◌+◌, ◌*◌, ◌++◌, ◌∷◌, ◌<◌, ◌≤◌, ◌^◌, [], true, length, IfOk, IfSome};
 ghost use Rattle.kinds.specs.Numbered.{entries_in};
-ghost use Rattle.kinds.specs.Given.{used_at, shared_nodes, HaveNodes};
+ghost use Rattle.kinds.specs.Given.{shared_nodes, HaveNodes};
 ghost use Rattle.kinds.specs.Placed.{placed};
 ghost use Rattle.kinds.specs.Renewed.{renewed_before};
 ghost use Rattle.path_classes.specs.ClassedRows.{AreCounted};

@@ -1,10 +1,9 @@
 //! Writing the records of a dump (getfacl(1)).
 
-ghost use Rattle.std.specs.Prelude.{◌≡◌, ◌++◌, ◌∷◌, [], codes};
-ghost use Rattle.acl_entry.specs.Perms as perms;
+ghost use Rattle.std.specs.Prelude.{◌≡◌};
 ghost use Rattle.acl_names.specs.Appends.{Appends, AppendsWhole};
 ghost use Rattle.acl_text.specs.declared.fault.Which.TheVariants.{Default};
-ghost use Rattle.acl_text.specs.DumpWriting.{is_shown, tab_count, tabs, effective_text, front, shown, entry_line, list_text, default_text};
+ghost use Rattle.acl_text.specs.DumpWriting.{is_shown, tab_count, effective_text, front, shown, entry_line, list_text, default_text};
 
 use crate::effective::Effective;
 use crate::entries::Form;

@@ -1,7 +1,7 @@
 //! Entries of lists as they are written (setfacl(1), "ACL entries"), and reading them.
 
 ghost use Rattle.std.specs.Prelude.{◌≡◌};
-ghost use Rattle.acl_text.specs.Entries.{rules_of, separator, given_perms, no_perms, wanted_perms, key_of, entry_of, content, one_more, entries_of};
+ghost use Rattle.acl_text.specs.Entries.{rules_of, separator, given_perms, wanted_perms, key_of, entry_of, content, one_more, entries_of};
 ghost use Rattle.std.specs.Option.{option_copied};
 ghost use Rattle.acl_text.specs.InTurn.{Gives, GivesAt, JudgesAt};
 
