@@ -1,7 +1,7 @@
 use Rattle.std.proofs.Common.{◌++◌, ◌∙◌, List, codes, subst₂}
 use Rattle.acl_entry.specs.Perms.{Perms}
 use Rattle.acl_names.specs.Appends.{Appends}
-use Rattle.facl_answers.specs.ChangesText.{change_line, requests_gained}
+use Rattle.facl_answers.specs.ChangesText.{change_line}
 use Rattle.acl_text.proofs.Appending.{appends_both}
 use Rattle.facl_answers.proofs.change_lines.push_user.Goals as goal
 
