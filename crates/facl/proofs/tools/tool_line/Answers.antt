@@ -1,4 +1,4 @@
-use Rattle.std.proofs.Common.{ap, map, string_bytes, subst, sym, ◌∙◌}
+use Rattle.std.proofs.Common.{ap, subst, sym, ◌∙◌}
 use Rattle.acl_rights.specs.States.{loaded_state}
 use Rattle.acl_rights.specs.Deciders.{judging}
 use Rattle.acl_text.specs.Results.{◌>>=◌}
