@@ -11,7 +11,7 @@ mod may;
 mod who;
 mod why;
 
-ghost use Rattle.std.specs.Prelude.{◌≡◌, IfOk, is_some, map, option_map, string_bytes};
+ghost use Rattle.std.specs.Prelude.{◌≡◌, IfOk, map, option_map, string_bytes};
 ghost use Rattle.std.specs.List.{find};
 ghost use Rattle.std.specs.Str.{bytes_eq};
 ghost use Rattle.acl_rights.specs.Deciders.{judging};
@@ -270,13 +270,6 @@ fn line_of(alloc: Global, tool: Tool, words: &Words) -> Result<ToolLine<'_>, Lin
     }
 }
 
-/// Tells whether words are a line of their tool.
-fn is_line(alloc: Global, tool: Tool, words: &Words) -> Result<bool, AllocError>
-    ensures { IfOk result (λ is_line. is_line ≡ is_some (read_line tool words.now)) }
-{
-    Ok(read_line(alloc, tool, words)?.is_some())
-}
-
 /// Reads the words after a tool's name by its syntax.
 #[tactic(auto, unfolding(crate::specs::Tools::row_for, crate::specs::Tools::row_of, crate::specs::Tools::words_of))]
 fn words_of(alloc: Global, tool: Tool, words: &[String]) -> Result<Words, LineFault>
@@ -291,16 +284,12 @@ fn words_of(alloc: Global, tool: Tool, words: &[String]) -> Result<Words, LineFa
 /// # Errors
 ///
 /// `Usage` if `clap` or the tool's own rules refuse the words; `NoMemory` only if memory runs out.
-#[tactic(auto, unfolding(crate::specs::ToolLines::line_of))]
 pub fn read_words(alloc: Global, tool: Tool, words: &[String]) -> Result<Words, LineFault>
     ensures { Gives (λ w. w) result (words_taken tool (map string_bytes words.now)) }
 {
     let words = words_of(alloc, tool, words)?;
-    if is_line(alloc, tool, &words)? {
-        Ok(words)
-    } else {
-        Err(LineFault::Usage)
-    }
+    line_of(alloc, tool, &words)?;
+    Ok(words)
 }
 
 /// Does what a line does at a state. Questions of who may do what are answered from the index of the state.

@@ -1,4 +1,4 @@
-use Rattle.std.proofs.Common.{◌≡◌, [], take}
+use Rattle.std.proofs.Common.{◌≡◌, take}
 use Rattle.std.specs.Prelude.{count_by}
 use Rattle.kinds.specs.Numbered.{entries_in}
 use Rattle.path_classes.specs.FoundClasses.{is_below_some}
