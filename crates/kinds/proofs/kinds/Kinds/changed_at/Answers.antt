@@ -1,4 +1,4 @@
-use Rattle.std.proofs.Common.{ℕ, List, ◌+◌, take, sym, ap, subst, arith}
+use Rattle.std.proofs.Common.{ℕ, List, take, sym, subst, arith}
 use Rattle.std.proofs.lemmas.List.{take_more}
 use Rattle.kinds.specs.Kinds.{kinds_of}
 use Rattle.kinds.specs.Tagged.{ChangesEach, AreNoted}

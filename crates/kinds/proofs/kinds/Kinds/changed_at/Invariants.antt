@@ -1,4 +1,4 @@
-use Rattle.std.proofs.Common.{◌≡◌, ◌+◌, ◌≤◌, take}
+use Rattle.std.proofs.Common.{◌+◌, ◌≤◌, take}
 use Rattle.kinds.specs.Kinds.{kinds_of}
 use Rattle.kinds.specs.Tagged.{ChangesEach, AreNoted}
 use Rattle.kinds.proofs.kinds.Kinds.changed_at.Given as goal
