@@ -47,11 +47,15 @@ def alike_of(files: Files, paths: Iterable[bytes], is_alone: bool) -> List[Alike
     """Some of the files by what they have in common; each file alone, or along its path."""
     chains = Chains(files)
     found: Dict[Tuple[int, File], Alike] = {}
+    above, inside = TOP, None  # The folder of the files that were looked at last.
     for path in paths:
-        above = TOP if is_alone or not path else chains.number(parent_of(path))
-        file = files[path]
-        group = found.get((above, file))
-        if group is None:
-            group = found[above, file] = Alike(file, [])
-        group.paths.append(path)
+        folder = path.rpartition(b"/")[0]
+        if folder != inside or not path:
+            above = TOP if is_alone or not path else chains.number(folder)
+            inside = folder if path else None
+        key = above, files[path]
+        if key in found:
+            found[key].paths.append(path)
+        else:
+            found[key] = Alike(files[path], [path])
     return list(found.values())

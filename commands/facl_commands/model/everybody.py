@@ -16,15 +16,15 @@ from typing import Callable, Iterable, Iterator, List, NamedTuple, Optional, Set
 from ..base.accounts import LAST_ID
 from ..base.folders import Folder, folder_of
 from ..base.messages import Failure
-from ..base.names import read_path, script_word, write_user
+from ..base.names import script_word, write_user
 from ..base.user_tools import User
 from ..program.protocol import FREE_FILE_LINE, LIST, LIST_EFFECTIVE
 from ..program.scripts import Unit
-from ..program.session import OutputSlice, Session
+from ..program.session import Session
 from ..program.tools import ABOUT_ONE, ABOUT_USERS, BY_FILES, path_in, split, user_in
 from .meta import Meta, users_asked_for
 from .people import needed_word, plain_id, rows_of, users_in
-from .records import Listing, list_files, path_of
+from .records import Listing, list_slices, path_of, paths_of
 from .snapshot import NEEDED
 from .sources import DUMP, Source, find_tops, operands_of
 
@@ -32,7 +32,7 @@ SHOWN = b"everybody else"  # The program prints no name of a user with a blank.
 START = b"facl-everybody-else-"  # Of the name in questions.
 WORD = re.compile(b"(" + START + b"[0-9a-f]{8}):([0-9]{10})\\Z")
 IDS = 1_000_000_000, LAST_ID  # Between which the id is.
-FILE_NAME = re.compile(b"^" + FREE_FILE_LINE + b"/$", re.MULTILINE)
+DIRECTORY = re.compile(FREE_FILE_LINE + b"/")
 
 
 class SnapshotTexts(NamedTuple):
@@ -178,17 +178,12 @@ class World(NamedTuple):
 
     def may(self, user: bytes, request: bytes, is_alone: bool) -> Set[bytes]:
         """The paths of the files on which a user is granted a request."""
-        line = b"may %s-- %s %s" % (self.reach(is_alone), self.word_of(user), request)
-        return set(paths_in(self.session.ask_accepted(line)))
+        found = self.session.ask_accepted(b"may %s-- %s %s" % (self.reach(is_alone), self.word_of(user), request))
+        return set(paths_of(found.read().split(b"\n")[:-1]))
 
     def word_of(self, user: bytes) -> bytes:
         """The word of a question that names a user."""
         return needed_word(self.users, user, write_user(user))
-
-
-def paths_in(output: OutputSlice) -> Iterator[bytes]:
-    """The paths of an answer that has one a line."""
-    return map(path_of, output.lines())
 
 
 def texts_with(folder: bytes, passwd: bytes, group: bytes) -> Folder:
@@ -218,14 +213,18 @@ def world_of(program: str, source: Source) -> Iterator[World]:
         yield World(session, texts, everybody, users_in(texts.passwd))
 
 
+def directories_of(dump: bytes) -> Iterator[bytes]:
+    """The paths of the files of a dump whose names end in a slash."""
+    end = dump.find(b"/\n")
+    while end >= 0:
+        match = DIRECTORY.fullmatch(dump, dump.rfind(b"\n", 0, end) + 1, end + 1)
+        if match is not None:
+            yield path_of(match[1])
+        end = dump.find(b"/\n", end + 1)
+
+
 def listing_of(world: World) -> Listing:
     """All files, with what the masks cut; a directory is one by the dump too."""
-    folder = world.session.folder
-    text = b"".join(world.session.ask_accepted(LIST_EFFECTIVE + b" " + b" ".join(words)).read()
-                    for words in operands_of(find_tops(world.session, folder)))
-    listing = list_files(text)
-    for match in FILE_NAME.finditer(folder_of(folder).read(DUMP)):
-        path = read_path(match[1])
-        if path in listing.files:
-            listing.files[path] = listing.files[path]._replace(is_directory=True)
-    return listing
+    session = world.session
+    listings = [session.ask_accepted(b" ".join([LIST_EFFECTIVE, *words])) for words in operands_of(find_tops(session, session.folder))]
+    return list_slices(listings, directories_of(folder_of(session.folder).read(DUMP)))

@@ -6,7 +6,7 @@ from typing import Dict, Iterable, Iterator, List, NamedTuple, Tuple
 from ..base.messages import Failure
 from ..base.names import path_word, read_path, sorting_key, write_name
 from ..program.protocol import DEFAULT_ENTRY, FILE_HEAD, LIST_ALL, ONLY_DIRECTORIES, SET_DEFAULT, has_text, lacks_file
-from ..program.session import OutputSlice, Session
+from ..program.session import OutputSlice, Session, cut
 
 
 class File(NamedTuple):
@@ -88,46 +88,45 @@ def path_of(name: bytes) -> bytes:
 
 def paths_of(names: List[bytes]) -> List[bytes]:
     """The paths that the names in a listing are, of which the first may be the root."""
-    text = b"/" + b"\n/".join(names[1:])
-    if b"\\" in text or b"//" in text or b"/." in text:
+    text = b"/" + b"\n/".join(names[1:]) + b"\n"
+    if any(odd in text for odd in (b"\\", b"//", b"/./", b"/.\n")):
         return [path_of(name) for name in names]
     return [*map(path_of, names[:1]), *[name.strip(b"/") for name in names[1:]]]
 
 
-def read_bodies(text: bytes) -> Tuple[List[bytes], List[bytes]]:
-    """The names in the records of a listing, and their other lines; each different body is there once."""
-    names, bodies = [], []
-    known: Dict[bytes, bytes] = {}
-    for record in text.split(b"\n\n"):
-        if record:
-            name, rest = split_record(record)
-            names.append(name)
-            body = known.get(rest)
-            if body is None:
-                body = known[rest] = rest + b"\n"
-            bodies.append(body)
-    return names, bodies
+def list_pieces(pieces: Iterable[bytes], directories: Iterable[bytes] = ()) -> Listing:
+    """The files of a listing that comes in pieces. A file is a directory by its name, its default entries, or another file below it,
+    or where it is one of `directories`. Files of one kind with the same lines are one value."""
+    names: List[bytes] = []
+    bodies: List[bytes] = []
+    known: Dict[bytes, bytes] = {}  # Each different body once.
+    for records in cut(pieces, b"\n\n"):
+        parts = [record.partition(b"\n") for record in records if record]
+        names += [name[len(FILE_HEAD) :] for name, _, _ in parts]
+        bodies += [known.setdefault(body, body) for _, _, body in parts]
+    paths = paths_of(names)
+    plain = {body: File(DEFAULT_ENTRY in body, body + b"\n") for body in known}
+    found = dict(zip(paths, map(plain.__getitem__, bodies)))
+    folders = {body + b"\n": File(True, body + b"\n") for body in known}
+    slashed = [path for path, name in zip(paths, names) if name[-1:] == b"/"]
+    for path in {b"", *slashed, *directories, *[path.rpartition(b"/")[0] for path in paths]}:
+        if path in found:
+            found[path] = folders[found[path].body]
+    return Listing(found, names)
 
 
 def list_files(text: bytes) -> Listing:
-    """The files of a listing. A file is a directory by its name, its default entries, or another file below it. Files
-    of one kind with the same lines are one value."""
-    names, bodies = read_bodies(text)
-    paths = paths_of(names)
-    parents = {b"", *[path.rpartition(b"/")[0] for path in paths]}
-    known: Tuple[Dict[bytes, File], Dict[bytes, File]] = {}, {}
-    found: Files = {}
-    for path, name, body in zip(paths, names, bodies):
-        is_directory = name[-1:] == b"/" or path in parents
-        file = known[is_directory].get(body)
-        if file is None:
-            file = known[is_directory][body] = File(is_directory or DEFAULT_ENTRY in body, body)
-        found[path] = file
-    return Listing(found, names)
+    """The same of a text."""
+    return list_pieces([text, b"\n\n"])
 
 
 def read_listing(text: bytes) -> Files:
     return list_files(text).files
+
+
+def list_slices(listing: Iterable[OutputSlice], directories: Iterable[bytes] = ()) -> Listing:
+    """The same of what a session printed."""
+    return list_pieces((piece for output in listing for piece in output.pieces()), directories)
 
 
 def list_all(session: Session, top: bytes = b"") -> Listing:

@@ -145,44 +145,12 @@ def rows_of_system(database: str, dump: bytes) -> bytes:
     return text
 
 
-class WithoutRow(NamedTuple):
-    """The users and groups that a dump names, and that have no row; ids need none."""
-
-    names: int
-    line: int  # The first line of the dump that names one of them, from 1 on.
-
-
-def names_without_row(passwd: bytes, group: bytes, dump: bytes) -> WithoutRow:
-    """Their number, and where the first one is. The file may be any: no name is given back."""
-    names, of_them = 0, set()
-    lines = distinct_lines(dump)
-    for database, rows in zip(DATABASES, (passwd, group)):
-        known = {row[0] for row in rows_of(rows)}
-        lacking = {name for name in names_in(database, lines) - known if not name.isdigit()}
-        names += len(lacking)
-        of_them |= {line for line in lines if names_in(database, {line}) & lacking} if lacking else set()
-    return WithoutRow(names, line_of(dump, of_them) if names else 0)
-
-
-def line_of(dump: bytes, wanted: Set[bytes]) -> int:
-    """The number of the first line that is one of some."""
-    number = 0
-    for piece in pieces_of(dump):
-        for line in piece:
-            number += 1
-            if line in wanted:
-                return number
-    return 0
-
-
 def notice(folder: bytes, dump: bytes) -> Optional[bytes]:
     """What a snapshot cannot tell; None where facl-snapshot made it."""
-    found: List[bytes] = []
+    has, found = folder_of(folder).has, []
     if not dump.startswith(LIVE_ROOT) and b"\n" + LIVE_ROOT not in dump:
         found.append(b"the directories above are not recorded, so they are taken as open")
-    unknown = [b"hard links"] if not folder_of(folder).has(b"links") else []
-    if not folder_of(folder).has(beside.NAME):
-        unknown += [b"immutable files", b"read-only file systems"]
+    unknown = [b"hard links"] * (not has(b"links")) + [b"immutable files", b"read-only file systems"] * (not has(beside.NAME))
     if unknown:
         found.append(b" and ".join(filter(None, [b", ".join(unknown[:-1]), unknown[-1]])) + b" are not known")
     return b"; ".join(found) or None

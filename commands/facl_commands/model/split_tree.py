@@ -10,7 +10,7 @@ from typing import Dict, Iterable, Iterator, List, Optional, Set, Tuple
 
 from ..base.folders import folder_of, is_folder
 from ..base.messages import Failure
-from ..base.names import sorting_key, write_name
+from ..base.names import InOrder, sorting_key, write_name
 from ..program.protocol import FILE_HEAD
 from . import meta
 from .snapshot import NEEDED, check_texts, read_links
@@ -65,7 +65,9 @@ class Once:
 
     def of_part(self, paths: Iterable[bytes]) -> List[bytes]:
         """Those of the paths of the next part, which are in path order."""
-        return [path for path in paths if self.is_new(path)]
+        found = InOrder(paths).after(self.last)
+        self.last = sorting_key(found[-1]) if found else self.last
+        return found
 
 
 def recorded_in(parts: Iterable[bytes], paths: Iterable[bytes]) -> Set[bytes]:

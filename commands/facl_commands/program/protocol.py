@@ -92,7 +92,6 @@ FREE_FILE_LINE = rb"[ \t]*#[ \t]*file:[ ]?(.*)"
 DEFAULT_ENTRY = b"\ndefault:"  # In the record of a directory.
 OWNER_ENTRY, EMPTY_MASK = b"\nuser::", b"\nmask::---\n"
 # Patterns of lines of records; with re.MULTILINE.
-EMPTY_MASK_LINE = rb"^mask::---$"
 OPEN_OTHERS_LINE = rb"^other::(?!---)"
 NAMED_LINE = rb"^(?:user|group):[^:\n]+:"
 USER_ID_LINE = rb"^(?:# owner: |(?:default:)?user:)([0-9]+)(?:$|:)"

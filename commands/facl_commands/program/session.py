@@ -2,6 +2,7 @@
 from __future__ import annotations
 
 import contextlib
+import itertools
 import os
 import re
 import subprocess
@@ -21,15 +22,20 @@ LONGEST_CAUSE = 1_000  # Bytes of the last message that are quoted.
 NUMBER = re.compile(rb"\Aline [0-9]+: ")  # The beginning of a message.
 
 
-def lines_of(pieces: Iterable[bytes], end: bytes = b"\n", longest: Optional[int] = None) -> Iterator[bytes]:
-    """The lines of a text that comes in pieces, without their ends; ValueError where more than `longest` bytes have
-    none."""
+def cut(pieces: Iterable[bytes], end: bytes = b"\n", longest: Optional[int] = None) -> Iterator[List[bytes]]:
+    """The lines of a text that comes in pieces, without their ends, those that end in one piece at once; ValueError where more than
+    `longest` bytes have none."""
     rest = b""
     for piece in pieces:
         *whole, rest = (rest + piece).split(end)
-        yield from whole
+        yield whole
         if longest is not None and len(rest) > longest:
             raise ValueError
+
+
+def lines_of(pieces: Iterable[bytes], end: bytes = b"\n", longest: Optional[int] = None) -> Iterator[bytes]:
+    """The same, one by one."""
+    return itertools.chain.from_iterable(cut(pieces, end, longest))
 
 
 class OutputSlice(NamedTuple):
