@@ -17,10 +17,12 @@ from common import COMMANDS, HERE, Case
 sys.path.insert(0, COMMANDS)
 
 from facl_commands.base import names, tables  # noqa: E402
+from facl_commands.base.accounts import is_person  # noqa: E402
 from facl_commands.base.messages import Failure  # noqa: E402
 from facl_commands.base.programs import LINUX  # noqa: E402
 from facl_commands.base.tables import Column  # noqa: E402
 from facl_commands.model import choice  # noqa: E402
+from facl_commands.model.superuser import ids_in  # noqa: E402
 from facl_commands.program.session import Session  # noqa: E402
 
 PASSWD = b"".join(b"%s:x:%d:100::/:\n" % row for row in (
@@ -100,7 +102,8 @@ class Fields(unittest.TestCase):
 
 class Users(unittest.TestCase):
     def test_people(self) -> None:
-        self.assertEqual(choice.people_of(PASSWD), {b"ann", b"bob", b"home", b"dom", b"AD\\eve", b"a b"})
+        people = {name for name, uid in ids_in(PASSWD).items() if is_person(uid)}
+        self.assertEqual(people, {b"ann", b"bob", b"home", b"dom", b"AD\\eve", b"a b"})
 
     def test_who_is_kept(self) -> None:
         users = [b"root", b"daemon", b"ann", b"AD\\134eve", b"a\\040b", b"nobody", b"gone"]

@@ -7,6 +7,7 @@ one that is opened once more has to be the same.
 from __future__ import annotations
 
 import contextlib
+import errno
 import os
 import stat
 from typing import Dict, Iterator, List, NamedTuple, Optional, Tuple
@@ -49,10 +50,15 @@ class OpenText(NamedTuple):
             raise Failure(self.path + b": was changed while it was read: run the command again")
 
     def read(self) -> bytes:
+        """What is in it, which may be much, without a copy."""
+        size, _ = self.content
+        if size > trusted.MOST:
+            raise trusted.too_large(self.path, trusted.MOST)
         try:
-            with open(self.descriptor, "rb", closefd=False) as opened:
-                opened.seek(0)
-                found = trusted.read_all(opened, self.path, trusted.MOST)
+            found = more = os.pread(self.descriptor, size, 0)
+            while more and len(found) < size:
+                more = os.pread(self.descriptor, size - len(found), len(found))
+                found += more
         except OSError as error:  # Of a folder, or of a disk.
             raise Failure(self.path + b": " + reason(error)) from error
         self.check()
@@ -100,9 +106,9 @@ class Folder:
 
     def open_text(self, file: bytes) -> OpenText:
         """Fails where it has no such file, or the file is not trusted."""
-        if file in self.files:
-            return self.files[file]
-        raise Failure(self.faults.get(file) or self.path(file) + b": " + reason(FileNotFoundError(2, os.strerror(2))))
+        if file not in self.files:
+            raise Failure(self.faults.get(file) or self.path(file) + b": " + os.strerror(errno.ENOENT).encode())
+        return self.files[file]
 
     def read(self, file: bytes) -> bytes:
         """What is in a file."""
@@ -141,9 +147,8 @@ def open_files(way: trusted.Way, name: bytes) -> Folder:
         state, made = state_of(folder), Folder(name)
         for file in FILES:
             try:
-                made.add(file, trusted.open_beside(way, file, made.path(file)), made.path(file))
-            except FileNotFoundError:
-                pass
+                with contextlib.suppress(FileNotFoundError):
+                    made.add(file, trusted.open_beside(way, file, made.path(file)), made.path(file))
             except Failure as failure:
                 made.faults[file] = failure.text
         made.parts = [] if made.has(TEXTS[0]) else parts_in(folder)

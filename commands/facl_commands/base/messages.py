@@ -22,10 +22,8 @@ SIGNALS = (signal.SIGHUP, signal.SIGINT, signal.SIGQUIT, signal.SIGUSR1, signal.
 
 def parser_of(name: str, description: str, status: str) -> argparse.ArgumentParser:
     """What reads the words of a command; they may not be cut short."""
-    parser = argparse.ArgumentParser(
-        prog=name, description=description, epilog=status, formatter_class=argparse.RawDescriptionHelpFormatter,
-        allow_abbrev=False,
-    )
+    parser = argparse.ArgumentParser(prog=name, description=description, epilog=status, allow_abbrev=False,
+                                     formatter_class=argparse.RawDescriptionHelpFormatter)
     parser.add_argument("--version", action="version", version="%(prog)s " + VERSION)
     return parser
 
@@ -60,9 +58,7 @@ def reason(error: OSError) -> bytes:
 def named(error: OSError) -> bytes:
     """A failed call, with the name of its file where it has one."""
     name = error.filename
-    if isinstance(name, (str, bytes)):
-        return os.fsencode(name) + b": " + reason(error)
-    return reason(error)
+    return (os.fsencode(name) + b": " if isinstance(name, (str, bytes)) else b"") + reason(error)
 
 
 class Command:
@@ -121,13 +117,9 @@ class Command:
             status = self.result_of(body, words)
         except BrokenPipeError:
             return UNUSABLE if self.goes_on else 128 + signal.SIGPIPE
-        except OSError as error:
+        except (OSError, MemoryError) as error:
             self.goes_on = True
-            self.say(named(error))
-            return UNUSABLE
-        except MemoryError:
-            self.goes_on = True
-            self.say(b"memory ran out")
+            self.say(named(error) if isinstance(error, OSError) else b"memory ran out")
             return UNUSABLE
         except (Interrupted, KeyboardInterrupt) as error:
             return 128 + (error.number if isinstance(error, Interrupted) else signal.SIGINT)
@@ -183,10 +175,8 @@ def open_streams() -> None:
 def end(status: int) -> NoReturn:
     """Ends without a word of Python on streams that cannot be written."""
     for stream in (sys.stdout, sys.stderr):
-        try:
+        with contextlib.suppress(OSError):
             stream.flush()
-        except OSError:
-            pass
     os._exit(status)
 
 

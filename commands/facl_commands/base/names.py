@@ -19,6 +19,7 @@ UNSEEN = re.compile(
     "[\x00-\x08\x0a-\x1f\x7f-\x9f\xad\u034f\u061c\u115f\u1160\u17b4\u17b5\u180b-\u180f\u200b-\u200f\u2028-\u202e\u2060-\u206f"
     "\u2800\u3164\ufe00-\ufe0f\ufeff\uffa0\ufff0-\ufffb\U0001bca0-\U0001bca3\U0001d173-\U0001d17a\U000e0000-\U000e0fff]")
 ESCAPED_IN_NAMES = re.compile(rb"[\\\n\r\t :,#]")  # As the program prints names of users and groups.
+ESCAPED_IN_PATHS, ESCAPED_IN_WORDS = re.compile(rb"[\\\n\r]"), re.compile(rb"[^\x20-\x26\x28-\x7e]")
 LONGEST_ID, ABOVE_ALL_IDS = 10, 1 << 40  # Digits, and a number.
 PLAIN_SHELL_WORD = re.compile(rb"[A-Za-z0-9_./:=@%+,-]+\Z")
 
@@ -28,14 +29,18 @@ def read_name(text: bytes) -> bytes:
     return ESCAPE.sub(lambda found: b"\\" if found[1] == b"\\" else bytes([int(found[1], 8)]), text)
 
 
+def octal(found: Match[bytes]) -> bytes:
+    return b"\\%03o" % found[0][0]
+
+
 def write_name(name: bytes) -> bytes:
     """The text of a file's name: a backslash, a line feed and a carriage return are escapes."""
-    return re.sub(rb"[\\\n\r]", lambda found: b"\\%03o" % found[0][0], name)
+    return ESCAPED_IN_PATHS.sub(octal, name)
 
 
 def write_user(name: bytes) -> bytes:
     """The name of a user or a group as the program prints it."""
-    return ESCAPED_IN_NAMES.sub(lambda found: b"\\%03o" % found[0][0], name)
+    return ESCAPED_IN_NAMES.sub(octal, name)
 
 
 def read_path(text: bytes) -> bytes:
@@ -64,11 +69,8 @@ def parent_of(path: bytes) -> bytes:
 
 def directories_above(path: bytes) -> List[bytes]:
     """The nearest first, and the root last."""
-    found = []
-    while path:
-        path = parent_of(path)
-        found.append(path)
-    return found
+    parts = path.split(b"/") if path else []
+    return [b"/".join(parts[:end]) for end in range(len(parts) - 1, -1, -1)]
 
 
 def is_below(path: bytes, above: bytes) -> bool:
@@ -76,7 +78,7 @@ def is_below(path: bytes, above: bytes) -> bool:
 
 
 def is_at_or_below(path: bytes, tops: Iterable[bytes]) -> bool:
-    return bool(at_or_below([path], tops))
+    return at_or_below([path], tops) != []
 
 
 def at_or_below(paths: Iterable[bytes], tops: Iterable[bytes]) -> List[bytes]:
@@ -139,7 +141,7 @@ def file_name(path: bytes, is_whole: bool) -> bytes:
 
 def script_word(text: bytes) -> bytes:
     """The word of a script that has this text; a byte that is not printable ASCII is an escape."""
-    return b"'" + re.sub(rb"[^\x20-\x26\x28-\x7e]", lambda found: b"\\%03o" % found[0][0], text) + b"'"
+    return b"'" + ESCAPED_IN_WORDS.sub(octal, text) + b"'"
 
 
 def shell_word(word: bytes) -> bytes:

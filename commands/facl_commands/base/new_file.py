@@ -2,6 +2,7 @@
 exactly the lists that the command gives them; and a file that is made whole or not at all."""
 from __future__ import annotations
 
+import contextlib
 import errno
 import os
 import signal
@@ -114,7 +115,5 @@ class NewFile:
             os.unlink(made, dir_fd=self.folder)
 
     def remove(self, made: bytes) -> None:
-        try:
+        with contextlib.suppress(FileNotFoundError):
             os.unlink(made, dir_fd=self.folder)
-        except FileNotFoundError:
-            pass

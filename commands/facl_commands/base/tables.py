@@ -12,6 +12,7 @@ import shutil
 import signal
 import subprocess
 import unicodedata
+from functools import partial
 from typing import Dict, Iterator, List, Mapping, NamedTuple, Optional, Sequence
 
 from .. import VERSION
@@ -57,40 +58,24 @@ def is_terminal() -> bool:
     return os.isatty(1)
 
 
-def size_of_terminal() -> os.terminal_size:
-    return shutil.get_terminal_size()
-
-
 class Paint:
     """Marks texts for a person at a terminal; elsewhere, and where NO_COLOR is set, it leaves them as they are."""
 
     def __init__(self) -> None:
         is_plain = os.environ.get("NO_COLOR") or os.environ.get("TERM", "dumb") == "dumb"
-        self.is_on = is_terminal() and not is_plain
+        is_on = is_terminal() and not is_plain
+        marks = (b"\x1b[%dm%%s\x1b[0m" % code for code in (1, 2, 31, 32, 33))
+        self.bold, self.dim, self.red, self.green, self.yellow = (partial(marked, mark if is_on else b"%s") for mark in marks)
 
-    def marked(self, code: int, text: bytes) -> bytes:
-        return b"\x1b[%dm%s\x1b[0m" % (code, text) if self.is_on and text else text
 
-    def bold(self, text: bytes) -> bytes:
-        return self.marked(1, text)
-
-    def dim(self, text: bytes) -> bytes:
-        return self.marked(2, text)
-
-    def red(self, text: bytes) -> bytes:
-        return self.marked(31, text)
-
-    def green(self, text: bytes) -> bytes:
-        return self.marked(32, text)
-
-    def yellow(self, text: bytes) -> bytes:
-        return self.marked(33, text)
+def marked(mark: bytes, text: bytes) -> bytes:
+    return mark % text if text else text
 
 
 def fitting_line(line: bytes, indent: int = 0) -> bytes:
     """A line that a person reads after some blanks, cut in its middle where a terminal has no room for it."""
     text = shown(line)
-    return b" " * indent + (cut(text.decode(), size_of_terminal().columns - indent).encode() if is_terminal() else text)
+    return b" " * indent + (cut(text.decode(), shutil.get_terminal_size().columns - indent).encode() if is_terminal() else text)
 
 
 # --- tables
@@ -136,9 +121,8 @@ def fitting(widths: List[int], columns: Sequence[Column], room: int) -> List[int
     room -= len(GAP) * (len(widths) - 1) + sum(it for it, column in zip(widths, columns) if column.is_number)
     found = list(widths)
     places = sorted((place for place, column in enumerate(columns) if not column.is_number), key=widths.__getitem__)
-    for number, place in enumerate(places):
-        share = max(room // (len(places) - number), NARROWEST)
-        found[place] = min(widths[place], share)
+    for left, place in zip(range(len(places), 0, -1), places):
+        found[place] = min(widths[place], max(room // left, NARROWEST))
         room -= found[place]
     return found
 
@@ -146,30 +130,23 @@ def fitting(widths: List[int], columns: Sequence[Column], room: int) -> List[int
 def aligned(cells: Sequence[str], columns: Sequence[Column], widths: Sequence[int]) -> str:
     """A row with its cells below each other; no blanks come after the last one."""
     found = []
-    for cell, column, width in zip(cells, columns, widths):
-        text = cut(cell, width)
+    for text, column, width in zip(map(cut, cells, widths), columns, widths):
         blanks = " " * (width - width_of(text))
         found.append(blanks + text if column.is_number else text + blanks)
     return GAP.join(found).rstrip(" ")
 
 
-def lines_of(table: Table) -> List[str]:
-    """Titles and rows below each other; at a terminal each is one line, of which a narrow one has the beginning."""
+def write_rows(command: Command, table: Table) -> None:
+    """Prints titles and rows below each other; at a terminal each is one line, of which a narrow one has the beginning."""
     rows = [[column.title for column in table.columns], *([cell_of(field) for field in row] for row in table.rows)]
     widths = [max(map(width_of, cells)) for cells in zip(*rows)]
-    if not is_terminal():
-        return [aligned(row, table.columns, widths) for row in rows]
-    room = size_of_terminal().columns
-    widths = fitting(widths, table.columns, room)
-    lines = [aligned(row, table.columns, widths) for row in rows]
-    return [line[: start_of(line, room)] for line in lines]
-
-
-def write_rows(command: Command, table: Table) -> None:
-    titles, *rows = lines_of(table)
+    room = shutil.get_terminal_size().columns if is_terminal() else None
+    widths = widths if room is None else fitting(widths, table.columns, room)
+    titles, *lines = (line if room is None else line[: start_of(line, room)]
+                      for line in (aligned(row, table.columns, widths) for row in rows))
     command.write(Paint().bold(titles.encode()) + b"\n")
-    for row in rows:
-        command.write(row.encode() + b"\n")
+    for line in lines:
+        command.write(line.encode() + b"\n")
 
 
 def field_of(text: bytes) -> bytes:
@@ -177,20 +154,15 @@ def field_of(text: bytes) -> bytes:
     return b"'" * bool(COMPUTED.match(text)) + text.replace(b"\t", b"\\011")
 
 
-def write_fields(command: Command, table: Table) -> None:
-    """Rows for a script; at a terminal with escapes of what this obeys."""
+def write_table(command: Command, given: argparse.Namespace, table: Table) -> None:
+    """Prints a table in the form that is asked for; rows for a script at a terminal with escapes of what this obeys."""
+    if not given.tsv:
+        write_rows(command, table)
+        return
     command.write("\t".join(column.title for column in table.columns).encode() + b"\n")
     for row in table.rows:
-        fields = list(map(field_of, row))
+        fields = map(field_of, row)
         command.write(b"\t".join(map(shown, fields) if is_terminal() else fields) + b"\n")
-
-
-def write_table(command: Command, given: argparse.Namespace, table: Table) -> None:
-    """Prints a table in the form that is asked for."""
-    if given.tsv:
-        write_fields(command, table)
-    else:
-        write_rows(command, table)
 
 
 def write_json(command: Command, given: argparse.Namespace, schema: str, fields: Mapping[str, object]) -> None:
@@ -247,14 +219,6 @@ def is_shown_by_pager(text: bytes) -> bool:
     return run.returncode != NOT_FOUND
 
 
-def show(command: Command, text: bytes) -> None:
-    """Writes a text, by the pager where it is longer than the screen."""
-    size = size_of_terminal()
-    if lines_at_terminal(text, size.columns) < size.lines or not is_shown_by_pager(text):
-        command.write(text)
-        command.flush()
-
-
 @contextlib.contextmanager
 def paged(command: Command, is_wanted: bool = True) -> Iterator[None]:
     """What a command writes in it comes at its end, through a pager where it is long; at a terminal alone."""
@@ -270,4 +234,7 @@ def paged(command: Command, is_wanted: bool = True) -> Iterator[None]:
         raise
     finally:
         command.out = stream
-    show(command, kept.getvalue())
+    text, size = kept.getvalue(), shutil.get_terminal_size()
+    if lines_at_terminal(text, size.columns) < size.lines or not is_shown_by_pager(text):
+        command.write(text)
+        command.flush()

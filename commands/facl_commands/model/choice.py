@@ -3,7 +3,7 @@ from __future__ import annotations
 
 import argparse
 import os
-from typing import Callable, Iterable, Iterator, List, Set
+from typing import Callable, Iterable, Iterator, List, Optional, Set
 
 from ..base.accounts import PEOPLE, SUPERUSER, is_person
 from ..base.messages import Failure, counted
@@ -34,11 +34,6 @@ def add_choice(parser: argparse.ArgumentParser, folders: str = "*", default: str
 # --- users
 
 
-def people_of(passwd: bytes) -> Set[bytes]:
-    """The names of the users who are people."""
-    return {name for name, uid in ids_in(passwd).items() if is_person(uid)}
-
-
 def is_chosen(uid: int, given: argparse.Namespace) -> bool:
     if uid == SUPERUSER:
         return bool(given.with_root)
@@ -53,11 +48,8 @@ def kept(users: Iterable[bytes], given: argparse.Namespace, passwd: bytes) -> Li
 
 def notes(left_out: Iterable[bytes], passwd: bytes) -> Iterator[bytes]:
     """What is said of users who have something to be printed, and are left out; root alone needs no word."""
-    superusers = superusers_among(ids_in(passwd).items())
-    accounts: List[bytes] = []
-    roots: List[bytes] = []
-    for user in left_out:
-        (roots if read_name(user) in superusers else accounts).append(user)
+    users, superusers = list(left_out), superusers_among(ids_in(passwd).items())
+    accounts, roots = ([user for user in users if (read_name(user) in superusers) is is_root] for is_root in (False, True))
     if accounts:
         yield b"left out: %s who %s no people (--all-users): %s" % (
             counted(len(accounts), "user"), b"is" if len(accounts) == 1 else b"are", few(accounts))
@@ -105,28 +97,28 @@ def folders_made_of(session: Session) -> List[bytes]:
 
 def folder_of(session: Session, word: bytes) -> bytes:
     """The path of a word of a person."""
-    refuse_empty(word)
-    for path in paths_of(word):
-        if is_recorded(session, path):
-            return path
+    found = recorded_path(word, lambda path: is_recorded(session, path))
+    if found is not None:
+        return found
     folders = folders_made_of(session)
     about = b": the snapshot is of " + few(list(map(live_name, folders))) if folders else b": the snapshot has no files"
     raise Failure(word + b": is not recorded" + about)
 
 
+def recorded_path(word: bytes, is_there: Callable[[bytes], bool]) -> Optional[bytes]:
+    refuse_empty(word)
+    return next(filter(is_there, paths_of(word)), None)
+
+
 def folders_in(words: Iterable[str], recorded_of: Callable[[Set[bytes]], Set[bytes]]) -> List[bytes]:
     """The paths of words of a person, in a snapshot that no session is over: recorded_of has those of some paths that it records."""
     named = [*map(os.fsencode, words)]
-    for word in named:
-        refuse_empty(word)
     recorded = recorded_of({path for word in named for path in paths_of(word)}) if named else set()
-    found = []
-    for word in named:
-        path = next((path for path in paths_of(word) if path in recorded), None)
+    found = [(word, recorded_path(word, recorded.__contains__)) for word in named]
+    for word, path in found:
         if path is None:
             raise Failure(word + b": is not recorded")
-        found.append(path)
-    return found
+    return [path for _, path in found if path is not None]
 
 
 def folders_of(session: Session, words: Iterable[str]) -> List[bytes]:

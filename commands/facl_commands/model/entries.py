@@ -67,12 +67,11 @@ class ReadRecord(NamedTuple):
 
     def has_open_empty_mask(self) -> bool:
         """Whether Linux grants what others have to whom entries name, as the mask is empty."""
-        return self.has_empty_mask() and self.permissions(OTHER) != NOTHING and any(it.is_named() for it in self.access)
+        return self.has_empty_mask() and self.permissions(OTHER) != NOTHING and named(self.access) != {}
 
     def mentioned_groups(self) -> FrozenSet[int]:
         """The ids of the groups that decide on a user: the owning one, and those of entries of the access list."""
-        named_groups = [it.key[1] for it in self.access if it.key[0] == GROUP and it.is_named()]
-        return frozenset(map(int, [self.group, *named_groups]))
+        return frozenset(map(int, [self.group, *(number for tag, number in named(self.access) if tag == GROUP)]))
 
 
 def entries_of(text: bytes, is_default: bool = False) -> Entries:
@@ -110,9 +109,8 @@ class NamesOfIds:
     def __init__(self, passwd: bytes, group: bytes) -> None:
         self.names: Dict[Key, bytes] = {}
         for tag, text in ((USER, passwd), (GROUP, group)):
-            for row in rows_of(text):
-                if len(row) > 2:
-                    self.names.setdefault((tag, plain_id(row[2])), row[0])
+            rows = [row for row in rows_of(text) if len(row) > 2]
+            self.names.update(((tag, plain_id(row[2])), row[0]) for row in rows[::-1])
 
     def has(self, key: Key) -> bool:
         return key in self.names
@@ -124,8 +122,7 @@ class NamesOfIds:
     def word(self, key: Key) -> bytes:
         """The tag and the name of an entry, for a script; the id where a name has to be quoted."""
         name = self.names.get(key, key[1])
-        word = name if PLAIN_NAME.match(name) else key[1]
-        return {USER: b"u:", GROUP: b"g:", MASK: b"m:", OTHER: b"o:"}[key[0]] + word
+        return key[0][:1] + b":" + (name if PLAIN_NAME.match(name) else key[1])
 
     def entry(self, entry: Entry, begin: bytes = b"") -> bytes:
         """A whole entry, for a script."""
@@ -143,11 +140,10 @@ def cut_letters(entry: Entry) -> bytes:
 
 def digits(record: ReadRecord, flags: int) -> bytes:
     """The mode of a record, with other flags, as chmod takes it."""
-    values = [sum((it in permissions) << place for it, place in zip(LETTERS, (2, 1, 0)))
-              for permissions in (record.permissions(USER), record.group_class(), record.permissions(OTHER))]
-    return b"%d%d%d%d" % (flags, *values)
+    values = (record.permissions(USER), record.group_class(), record.permissions(OTHER))
+    return b"%d%d%d%d" % (flags, *map(flag_digit, values))
 
 
 def flag_digit(flags: bytes) -> int:
-    """Flags as the first digit of a mode."""
+    """Flags, or permissions, as a digit of a mode."""
     return sum((it != 0x2D) << place for it, place in zip(flags, (2, 1, 0)))

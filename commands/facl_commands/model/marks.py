@@ -1,6 +1,7 @@
 """The marks of a snapshot: what Linux looks at beside the lists of a file, as facl-snapshot keeps it (base/beside.py)."""
 from __future__ import annotations
 
+from collections import Counter
 from typing import Dict, Iterable, Iterator, List, Optional
 
 from ..base import beside
@@ -19,6 +20,8 @@ TEXTS = {
 }
 NO_WRITING = (beside.IMMUTABLE, beside.READ_ONLY)  # Nobody can write such a file, or make, remove or rename what is in it.
 NO_CHANGE = (*NO_WRITING, beside.APPEND_ONLY)  # Nobody can change the owner, mode and lists of such a file, or remove it.
+COUNTED = {beside.IMMUTABLE: "immutable file", beside.APPEND_ONLY: "append-only file", beside.READ_ONLY: "read-only file system",
+           beside.NOEXEC: "noexec file system"}
 OTHERS = {beside.NFS4_LIST: b"NFSv4", beside.RICH_LIST: b"rich lists", beside.SAMBA_LIST: b"Samba"}  # Lists by kinds.
 
 
@@ -53,11 +56,10 @@ class Marks:
 
     def keeps_name(self, path: bytes) -> Optional[bytes]:
         """The text of why nobody can remove or rename a file: its own mark, or that of the directory above."""
-        above = self.keeps(parent_of(path))
-        if above is not None:
-            return b"the folder above is " + about(above)
-        own = self.keeps(path)
-        return None if own is None else b"it is " + about(own)
+        above, own = self.keeps(parent_of(path)), self.keeps(path)
+        if above is None:
+            return None if own is None else b"it is " + about(own)
+        return b"the folder above is " + about(above)
 
     def keeps_out(self, folder: bytes) -> Optional[bytes]:
         """The text of what a folder is, in which nobody can make a file."""
@@ -101,11 +103,9 @@ def marks_of(folder: bytes) -> Marks:
 
 def alone(marks: Marks) -> Iterator[bytes]:
     """What answers by lists alone leave out of account."""
-    own = [kind for its in marks.own.values() for kind in its]
-    mounts = [kind for word in marks.mounts.values() for kind in beside.of_mount(word)]
-    numbers = ((own.count(beside.IMMUTABLE), "immutable file"), (own.count(beside.APPEND_ONLY), "append-only file"),
-               (mounts.count(beside.READ_ONLY), "read-only file system"), (mounts.count(beside.NOEXEC), "noexec file system"))
-    parts = [counted(number, noun) for number, noun in numbers if number]
+    kinds = Counter(kind for its in marks.own.values() for kind in its)
+    kinds.update(kind for word in marks.mounts.values() for kind in beside.of_mount(word))
+    parts = [counted(kinds[kind], noun) for kind, noun in COUNTED.items() if kinds[kind]]
     if parts:
         yield b", ".join(parts) + b": judged by lists alone, which grant there what nobody can do"
 
@@ -125,9 +125,8 @@ def not_judged(folder: bytes) -> Iterator[bytes]:
 
 def obstacles(marks: Marks, changes: ChangedPaths) -> Dict[bytes, bytes]:
     """The files that nobody can change, make or remove as edits want it, by path, each with why."""
-    changed = {path: marks.keeps(path) for path in changes.changed}
-    made = {path: marks.keeps_out(parent_of(path)) for path in changes.made}
-    removed = {path: marks.keeps_name(path) for path in changes.removed}
-    return {**{path: b"it is " + about(kind) for path, kind in changed.items() if kind is not None},
-            **{path: b"the folder above is " + text for path, text in made.items() if text is not None},
-            **{path: text for path, text in removed.items() if text is not None}}
+    kept = [(path, kind) for path in changes.changed for kind in [marks.keeps(path)] if kind is not None]
+    found = [*((path, b"it is ", about(kind)) for path, kind in kept),
+             *((path, b"the folder above is ", marks.keeps_out(parent_of(path))) for path in changes.made),
+             *((path, b"", marks.keeps_name(path)) for path in changes.removed)]
+    return {path: begin + text for path, begin, text in found if text is not None}

@@ -1,12 +1,12 @@
 """Users and groups, as far as commands that change them have to be written for the live system."""
 from __future__ import annotations
 
-from typing import Callable, Dict, Iterable, List, NamedTuple, Optional, Set
+from typing import Dict, Iterable, List, NamedTuple, Optional, Set, TypeVar
 
 from ..base.messages import Failure
 from ..base.names import number_of, read_name, script_word, write_user
 from ..base.user_tools import ADD_MEMBER, ADD_USER, CHANGE_GROUP, REMOVE_MEMBER, REMOVE_USER, PeopleChange, User
-from ..program.tools import Split, split
+from ..program.tools import split
 
 
 class Group(NamedTuple):
@@ -14,6 +14,8 @@ class Group(NamedTuple):
     gid: int
     members: List[bytes]
 
+
+Row = TypeVar("Row", User, Group)
 
 def rows_of(text: bytes) -> List[List[bytes]]:
     """The fields of the rows of passwd(5) or group(5); the first row of a name counts."""
@@ -39,12 +41,10 @@ def user_word(users: Iterable[User], name: bytes) -> Optional[bytes]:
     first user who has it; None where that is another one, or there is no such user."""
     if not name.isdigit():
         return script_word(write_user(name))
-    first: Dict[int, bytes] = {}
-    for user in users:
-        first.setdefault(user.uid, user.name)
-        if user.name == name:
-            return script_word(b"%d" % user.uid) if first[user.uid] == name else None
-    return None
+    known = list(users)
+    uid = next((user.uid for user in known if user.name == name), None)
+    first = next((user for user in known if user.uid == uid), None)
+    return script_word(b"%d" % first.uid) if first is not None and first.name == name else None
 
 
 def needed_word(users: Iterable[User], name: bytes, said: bytes) -> bytes:
@@ -60,6 +60,12 @@ def is_named(name: bytes, number: int, word: bytes, is_name: bool = False) -> bo
     return number == number_of(word) if word.isdigit() and not is_name else name == word
 
 
+def meant(rows: Iterable[Row], word: bytes) -> Row:
+    """The user or the group whom a word of an accepted line means."""
+    name = read_name(word.strip(b" \t"))
+    return next(it for it in rows if is_named(it[0], it[1], name))
+
+
 class People:
     """The users and groups of a snapshot, and what accepted lines make of them."""
 
@@ -67,48 +73,31 @@ class People:
         self.users = users_in(passwd)
         self.groups = [Group(row[0], int(row[2]), [it for it in row[3].split(b",") if it]) for row in rows_of(group)]
 
-    def user(self, word: bytes) -> User:
-        name = read_name(word.strip(b" \t"))
-        return next(it for it in self.users if is_named(it.name, it.uid, name))
-
-    def group(self, word: bytes) -> Group:
-        name = read_name(word.strip(b" \t"))
-        return next(it for it in self.groups if is_named(it.name, it.gid, name))
-
     def change(self, words: List[bytes]) -> Optional[PeopleChange]:
         """Does what an accepted line does, and returns it; None where nothing changes."""
-        does: Dict[bytes, Callable[[Split], Optional[PeopleChange]]] = {
-            b"gpasswd": self.gpasswd, b"usermod": self.usermod, b"useradd": self.useradd, b"userdel": self.userdel
-        }
-        return does[words[0]](split(words))
+        tool, line = words[0], split(words)
+        if tool == b"gpasswd":
+            return self.change_member(meant(self.users, line.value(b"-a", b"-d")), meant(self.groups, line.operands[0]), line.has(b"-a"))
+        if tool == b"userdel":
+            user = meant(self.users, line.operands[0])
+            self.users.remove(user)
+            for group in self.groups:
+                group.members[:] = [it for it in group.members if it != user.name]
+            return PeopleChange(REMOVE_USER, user, b"", user.gid)
+        group = meant(self.groups, line.value(b"-g"))
+        if tool == b"useradd":
+            user = User(read_name(line.operands[0]), int(line.value(b"-u")), group.gid)
+            self.users.append(user)
+            return PeopleChange(ADD_USER, user, group.name, group.gid)
+        user = meant(self.users, line.operands[0])
+        self.users[self.users.index(user)] = user._replace(gid=group.gid)
+        return PeopleChange(CHANGE_GROUP, user, group.name, group.gid) if user.gid != group.gid else None
 
-    def gpasswd(self, line: Split) -> Optional[PeopleChange]:
-        group, is_added = self.group(line.operands[0]), line.has(b"-a")
-        user = self.user(line.value(b"-a", b"-d"))
+    def change_member(self, user: User, group: Group, is_added: bool) -> Optional[PeopleChange]:
         if (user.name in group.members) == is_added:
             return None
         group.members[:] = [it for it in group.members if it != user.name] + [user.name] * is_added
         return PeopleChange(ADD_MEMBER if is_added else REMOVE_MEMBER, user, group.name, group.gid)
-
-    def usermod(self, line: Split) -> Optional[PeopleChange]:
-        user, group = self.user(line.operands[0]), self.group(line.value(b"-g"))
-        if user.gid == group.gid:
-            return None
-        self.users[self.users.index(user)] = user._replace(gid=group.gid)
-        return PeopleChange(CHANGE_GROUP, user, group.name, group.gid)
-
-    def useradd(self, line: Split) -> PeopleChange:
-        group = self.group(line.value(b"-g"))
-        user = User(read_name(line.operands[0]), int(line.value(b"-u")), group.gid)
-        self.users.append(user)
-        return PeopleChange(ADD_USER, user, group.name, group.gid)
-
-    def userdel(self, line: Split) -> PeopleChange:
-        user = self.user(line.operands[0])
-        self.users.remove(user)
-        for group in self.groups:
-            group.members[:] = [it for it in group.members if it != user.name]
-        return PeopleChange(REMOVE_USER, user, b"", user.gid)
 
 
 # --- who is in a group: by its id, of which several rows may be

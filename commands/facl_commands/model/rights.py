@@ -7,6 +7,7 @@ same users: those who have search on it, and on each recorded directory above.
 """
 from __future__ import annotations
 
+import itertools
 import re
 import struct
 from typing import Collection, Container, Dict, Iterable, Iterator, List, NamedTuple, Optional, Tuple
@@ -29,8 +30,7 @@ class FileAnswers(NamedTuple):
     names: Dict[bytes, bytes]  # By path: the name as the program prints it.
     users: List[bytes]
     alone: Dict[bytes, Vector]  # By path, in path order: on each file alone.
-    reached: Dict[bytes,
-                  bytes]  # By directory, as directory_of has it: for each user 1 who can get to what is in it, else 0.
+    reached: Dict[bytes, bytes]  # By directory, as directory_of has it: for each user 1 who can get to what is in it, else 0.
 
 
 class Difference(NamedTuple):
@@ -73,15 +73,9 @@ def places_in(numbers: bytes) -> Iterator[int]:
 
 def users_of(table: OutputSlice) -> List[bytes]:
     """The users of an index, in their order: those of its first file."""
-    users: List[bytes] = []
-    first = None
-    for line in table.lines():
-        _, user, file = line.split(b" ", 2)
-        if first not in (None, file):
-            break
-        first = file
-        users.append(user)
-    return users
+    words = (line.split(b" ", 2) for line in table.lines())
+    _, its = next(itertools.groupby(words, lambda it: it[2]), (b"", ()))
+    return [user for _, user, _ in its]
 
 
 def read_table(table: OutputSlice, users: List[bytes], listing: Listing) -> Dict[bytes, Vector]:
@@ -114,15 +108,13 @@ def reached_of(paths: Iterable[bytes], vectors: Dict[bytes, Vector], users: int)
     """By directory of some paths: for each user 1 who can get to what is in it, else 0."""
     found = {b"": b"\1" * users}
     known: Dict[Tuple[bytes, Vector], bytes] = {}
-    for path in paths:
-        for directory in directories_to_find(directory_of(path), found):
-            above, vector = found[directory_of(directory[:-1])], vectors.get(directory[:-1])
+    for directory in dict.fromkeys(map(directory_of, paths)):
+        for it in directories_to_find(directory, found):
+            above, vector = found[directory_of(it[:-1])], vectors.get(it[:-1])
             if vector is None:  # It is not recorded, and asks for nothing.
-                found[directory] = above
-                continue
-            if (above, vector) not in known:
-                known[above, vector] = inside(above, vector)
-            found[directory] = known[above, vector]
+                found[it] = above
+            else:
+                found[it] = known[above, vector] = known.get((above, vector)) or inside(above, vector)
     return found
 
 
@@ -151,14 +143,9 @@ def answers_of(listing: Listing, users: List[bytes], of_record: Dict[bytes, Vect
 
 def along_paths_of(alone: Dict[bytes, Vector], reached: Dict[bytes, bytes]) -> Dict[bytes, Vector]:
     """What is granted along paths: the request for nothing alone to those who cannot get there."""
-    known: Dict[Tuple[Vector, bytes], Vector] = {}
-    found = {}
-    for path, vector in alone.items():
-        pair = vector, reached[directory_of(path)]
-        if pair not in known:
-            known[pair] = along_path(*pair)
-        found[path] = known[pair]
-    return found
+    pairs = {path: (vector, reached[directory_of(path)]) for path, vector in alone.items()}
+    known = {pair: along_path(*pair) for pair in set(pairs.values())}
+    return {path: known[pair] for path, pair in pairs.items()}
 
 
 def is_change(old: str, new: str) -> bool:

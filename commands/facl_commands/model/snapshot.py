@@ -36,22 +36,19 @@ def read_inodes(text: bytes) -> Dict[bytes, Identity]:
     return found
 
 
-def check_inodes(folder: bytes, text: bytes, inodes: Dict[bytes, Identity]) -> None:
-    """Fails where the file inodes is cut: it has fewer names than facl-snapshot recorded, or not even its first record."""
+def fault_of_inodes(folder: bytes, text: bytes, inodes: Dict[bytes, Identity]) -> bool:
+    """Whether the file inodes is cut: it has fewer names than facl-snapshot recorded, or not even its first record."""
     recorded = meta.meta_of(folder).numbers.get(meta.FILES, b"0")
-    if not text.startswith(b"boot ") or not recorded.isdigit() or number_of(recorded) > len(inodes):
-        raise Failure(folder + b"/inodes: has fewer names than facl-snapshot recorded: make the snapshot again")
+    return not text.startswith(b"boot ") or not recorded.isdigit() or number_of(recorded) > len(inodes)
 
 
-def check_links(folder: bytes, links: List[List[bytes]], inodes: Dict[bytes, Identity]) -> None:
-    """Fails where links are not the sets of names that are one file by inodes."""
+def fault_of_links(links: List[List[bytes]], inodes: Dict[bytes, Identity]) -> bool:
+    """Whether links are not the sets of names that are one file by inodes."""
     names = [name for its in links for name in its]
     files = [{inodes[name][:2] if name in inodes else None for name in its} for its in links]
     more = len(inodes) - len({it[:2] for it in inodes.values()})  # Names beside the first one of each file.
     is_same = all(len(its) == 1 and None not in its for its in files) and len(set(names)) == len(names)
-    if not is_same or len(names) - len(links) != more:
-        raise Failure(folder + b"/links: has other names of files than inodes, so it is not as facl-snapshot wrote it: make the "
-                      b"snapshot again")
+    return not is_same or len(names) - len(links) != more
 
 
 def nanoseconds(text: bytes) -> int:
@@ -81,11 +78,13 @@ def read_snapshot(folder: bytes, needs_links: bool = True) -> Snapshot:
     links = read_links(found.optional(b"links"))
     text = found.optional(b"inodes")
     boot = text.partition(b"\0")[0].partition(b" ")[2].decode("ascii", "replace") or "-"  # In the first record.
+    again = b": make the snapshot again"
     try:
         inodes = read_inodes(text)
     except ValueError as error:
-        raise Failure(folder + b"/inodes: is not as facl-snapshot wrote it: make the snapshot again") from error
-    if found.has(b"inodes"):
-        check_inodes(folder, text, inodes)
-        check_links(folder, links, inodes)
+        raise Failure(folder + b"/inodes: is not as facl-snapshot wrote it" + again) from error
+    if found.has(b"inodes") and fault_of_inodes(folder, text, inodes):
+        raise Failure(folder + b"/inodes: has fewer names than facl-snapshot recorded" + again)
+    if found.has(b"inodes") and fault_of_links(links, inodes):
+        raise Failure(folder + b"/links: has other names of files than inodes, so it is not as facl-snapshot wrote it" + again)
     return Snapshot(folder, passwd, group, links, boot, inodes)

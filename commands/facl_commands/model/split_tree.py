@@ -6,6 +6,7 @@ too: a file is taken from the first part that has it.
 from __future__ import annotations
 
 import os
+from collections import Counter
 from typing import Dict, Iterable, Iterator, List, Optional, Set, Tuple
 
 from ..base.folders import folder_of, is_folder
@@ -44,10 +45,9 @@ def check_all(folder: bytes) -> List[bytes]:
 def meta_of_all(parts: List[bytes]) -> meta.Meta:
     """What some parts are of, with the numbers that are those of all."""
     found = meta.meta_of(parts[0])
-    numbers = {key: found.numbers[key] for key in (meta.EXCLUDED, meta.ASKED) if key in found.numbers}
     unread = [meta.meta_of(it).numbers.get(meta.UNREAD, b"0") for it in parts]
-    numbers[meta.UNREAD] = b"%d" % sum(int(it) for it in unread if it.isdigit())
-    return found._replace(numbers=numbers)
+    numbers = {key: found.numbers[key] for key in (meta.EXCLUDED, meta.ASKED) if key in found.numbers}
+    return found._replace(numbers={**numbers, meta.UNREAD: b"%d" % sum(int(it) for it in unread if it.isdigit())})
 
 
 class Once:
@@ -58,10 +58,9 @@ class Once:
 
     def is_new(self, path: bytes) -> bool:
         key = sorting_key(path)
-        if self.last is not None and key <= self.last:
-            return False
-        self.last = key
-        return True
+        is_new = self.last is None or key > self.last
+        self.last = key if is_new else self.last
+        return is_new
 
     def of_part(self, paths: Iterable[bytes]) -> List[bytes]:
         """Those of the paths of the next part, which are in path order."""
@@ -96,12 +95,8 @@ def links_in(parts: List[bytes]) -> List[List[bytes]]:
     """The sets of paths that are one file, in parts also those of several parts."""
     if len(parts) == 1:
         return read_links(folder_of(parts[0]).optional(b"links"))
-    known: Set[int] = set()
-    several: Set[int] = set()
-    for folder in parts:
-        for file, _ in files_in(folder):
-            (several if file in known else known).add(file)
-    names: Dict[int, Set[bytes]] = {file: set() for file in sorted(several)}
+    counts = Counter(file for folder in parts for file, _ in files_in(folder))
+    names: Dict[int, Set[bytes]] = {file: set() for file in sorted(file for file, count in counts.items() if count > 1)}
     for folder in parts:
         for file, name in files_in(folder):
             if file in names:

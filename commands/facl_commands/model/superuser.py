@@ -28,17 +28,13 @@ class Superusers:
             if line.has(b"-u") and not line.value(b"-u").strip(b"0") and self.names:
                 self.names.update(map(read_name, line.operands[:1]))
 
-    def is_kept(self, user: bytes) -> bool:
-        is_kept = read_name(user) not in self.names
-        self.has_left_out = self.has_left_out or not is_kept
-        return is_kept
-
     def rest(self, unit: Unit, lines: Iterable[bytes]) -> Iterator[bytes]:
         """The lines of an answer without those about them; a question of one user is answered as it is."""
-        if not self.is_about_people(unit) or not self.names:
-            yield from lines
-        else:
-            yield from (line for line in lines if self.is_kept(user_in(unit.tool(), line)))
+        for line in lines:
+            if self.names and self.is_about_people(unit) and read_name(user_in(unit.tool(), line)) in self.names:
+                self.has_left_out = True
+            else:
+                yield line
 
     def is_about_people(self, unit: Unit) -> bool:
         """Whether its answer has names of users."""

@@ -1,6 +1,7 @@
 """Scripts, cut into lines with their texts, as the section SCRIPTS of the manual page has it."""
 from __future__ import annotations
 
+import itertools
 import os
 import re
 import stat
@@ -39,7 +40,7 @@ class Unit(NamedTuple):
 
     def is_of(self, *tools: bytes) -> bool:
         """Whether its tool is one of these."""
-        return self.words[:1] != [] and self.words[0] in tools
+        return self.tool() in tools
 
 
 def words_of(line: bytes) -> Optional[List[bytes]]:
@@ -55,28 +56,23 @@ def is_empty(line: bytes) -> bool:
 
 
 def takes_text(words: List[bytes]) -> bool:
-    return any(word in LOADERS for word in words[:1]) or any(word in TEXT_WORDS for word in words[1:])
+    return words[:1] != [] and words[0] in LOADERS or not TEXT_WORDS.isdisjoint(words[1:])
 
 
 def read_units(name: bytes, lines: Iterable[bytes]) -> Iterator[Unit]:
     """The units of lines, one by one, without blank lines and comments."""
     rest = iter(lines)
-    count = 0
+    number = 0
     for line in rest:
-        count += 1
-        if len(line) <= LINE_LIMIT and is_empty(line):
-            continue
-        number, text, is_ended = count, [], True
-        words = words_within(line)
-        if takes_text(words):
-            is_ended = False
-            for taken in rest:
+        number += 1
+        if len(line) > LINE_LIMIT or not is_empty(line):
+            words, text = words_within(line), []
+            for taken in rest if takes_text(words) else ():
                 text.append(taken)
-                is_ended = taken == b"."
-                if is_ended:
+                if taken == b".":
                     break
-        count = number + len(text)
-        yield Unit(name, number, words, [line, *text], is_ended)
+            yield Unit(name, number, words, [line, *text], not takes_text(words) or text[-1:] == [b"."])
+            number += len(text)
 
 
 def words_within(line: bytes) -> List[bytes]:
@@ -84,22 +80,20 @@ def words_within(line: bytes) -> List[bytes]:
     return words_of(line) or [] if len(line) <= LINE_LIMIT else []
 
 
-def starts(content: bytes) -> Iterator[int]:
-    """Where the lines begin that are neither blank nor comments, or too long for a script. Comments are passed over by a
-    pattern, since there can be many."""
-    first = FIRST_LINE.match(content)
-    if first is not None:
-        yield 0
-    for found in NEXT_LINE.finditer(content):
-        yield found.start() + 1
+def starts(content: bytes) -> Iterator[Tuple[int, int]]:
+    """The lines of a text that are neither blank nor comments, or too long for a script: their numbers, from 1 on, and where they begin.
+    Comments are passed over by a pattern, since there can be many."""
+    number, place = 1, 0
+    for found in itertools.chain(filter(None, [FIRST_LINE.match(content)]), NEXT_LINE.finditer(content)):
+        start = found.start() + (found.re is NEXT_LINE)
+        number += content.count(b"\n", place, start)
+        place = start
+        yield number, start
 
 
 def lines_with_numbers(content: bytes) -> Iterator[Tuple[int, bytes]]:
     """The lines of a text that are neither blank nor comments, each with its number, from 1 on."""
-    number, place = 1, 0
-    for start in starts(content):
-        number += content.count(b"\n", place, start)
-        place = start
+    for number, start in starts(content):
         end = content.find(b"\n", start)
         line = content[start : end if end >= 0 else len(content)]
         if not is_empty(line):
@@ -109,20 +103,17 @@ def lines_with_numbers(content: bytes) -> Iterator[Tuple[int, bytes]]:
 def read_script(name: bytes, content: bytes) -> List[Unit]:
     """The units of a script."""
     found: List[Unit] = []
-    number, place, after = 1, 0, 0  # What is before `after` is taken.
+    after = 0  # What is before is taken.
     content = content if content.endswith(b"\n") or not content else content + b"\n"
-    for start in starts(content):
-        if start < after:
-            continue
-        number += content.count(b"\n", place, start)
-        place = start
-        after = content.find(b"\n", start) + 1
-        words, is_ended = words_within(content[start : after - 1]), True
-        if takes_text(words):
-            end = content.find(END_OF_TEXT, after - 1)
-            is_ended = end >= 0
-            after = end + len(END_OF_TEXT) if is_ended else len(content)
-        found.append(Unit(name, number, words, content[start : after - 1].split(b"\n"), is_ended))
+    for number, start in starts(content):
+        if start >= after:
+            after = content.find(b"\n", start) + 1
+            words, is_ended = words_within(content[start : after - 1]), True
+            if takes_text(words):
+                end = content.find(END_OF_TEXT, after - 1)
+                is_ended = end >= 0
+                after = end + len(END_OF_TEXT) if is_ended else len(content)
+            found.append(Unit(name, number, words, content[start : after - 1].split(b"\n"), is_ended))
     return found
 
 

@@ -6,8 +6,7 @@ import itertools
 import os
 import re
 import subprocess
-from types import TracebackType
-from typing import IO, Callable, Iterable, Iterator, List, NamedTuple, Optional, Type
+from typing import IO, Callable, Iterable, Iterator, List, NamedTuple, Optional
 
 from ..base import scratch
 from ..base.folders import TEXTS, Folder, folder_of
@@ -93,9 +92,7 @@ class Session:
     def __enter__(self) -> Session:
         return self
 
-    def __exit__(
-        self, kind: Optional[Type[BaseException]], error: Optional[BaseException], trace: Optional[TracebackType]
-    ) -> None:
+    def __exit__(self, *_error: object) -> None:
         end_program(self.pipes)
         self.output.close()
 
@@ -150,5 +147,4 @@ def parts_of(items: Iterable[bytes], room: int = LINE_ROOM, word_of: Callable[[b
             part, size = [], 0
         part.append(item)
         size += length
-    if part:
-        yield part
+    yield from filter(None, [part])

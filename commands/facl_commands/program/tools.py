@@ -120,14 +120,16 @@ def of_kind(*kinds: str) -> Tuple[bytes, ...]:
 
 def options_that(tool: bytes, *meanings: str) -> FrozenSet[bytes]:
     """The names of a tool's options that have one of these meanings."""
-    rows = ALL[tool].options if tool in ALL else ()
-    return frozenset(name for row in rows if row.meaning in meanings for name in row.names)
+    return frozenset(name for row in options_in(tool) for name in row.names if row.meaning in meanings)
 
 
 def options_with(tool: bytes, *kinds: str) -> FrozenSet[bytes]:
     """The names of a tool's options whose values are of one of these kinds."""
-    rows = ALL[tool].options if tool in ALL else ()
-    return frozenset(name for row in rows if row.value in kinds for name in row.names)
+    return frozenset(name for row in options_in(tool) for name in row.names if row.value in kinds)
+
+
+def options_in(tool: bytes) -> Tuple[OptionRow, ...]:
+    return ALL[tool].options if tool in ALL else ()
 
 
 def letters_of(names: Iterable[bytes]) -> bytes:
@@ -137,24 +139,22 @@ def letters_of(names: Iterable[bytes]) -> bytes:
 
 EDITS, CHANGES_OF_PEOPLE = of_kind(EDIT), of_kind(PEOPLE)
 QUESTIONS, TOOLS_OF_PLANS = of_kind(QUESTION), of_kind(OF_PLANS)
-TOOLS = tuple(name for name in ALL if name not in TOOLS_OF_PLANS)
-# They look at files that their words name.
-WITH_FILES = tuple(name for name in TOOLS if "FILE" in ALL[name].operands)
-ABOUT_USERS = tuple(name for name in TOOLS if "USER" in ALL[name].prints.split())  # The names of users are in answers.
-COUNTING = tuple(name for name in TOOLS if "COUNT" in ALL[name].prints.split())  # Their answers count files.
+IN_SCRIPTS = tuple(tool for tool in ROWS if tool.kind != OF_PLANS)
+TOOLS = tuple(tool.name for tool in IN_SCRIPTS)
+WITH_FILES = tuple(tool.name for tool in IN_SCRIPTS if "FILE" in tool.operands)  # They look at files that their words name.
+ABOUT_USERS, COUNTING = (tuple(tool.name for tool in IN_SCRIPTS if word in tool.prints.split())  # The names of users are in answers;
+                         for word in ("USER", "COUNT"))  # answers count files.
 # Their answers go by files, and of each file by users.
 BY_FILES = tuple(name for name in ABOUT_USERS if "PATH" in ALL[name].prints.split() and name not in COUNTING)
 # They are about one user, who is their first operand.
 ABOUT_ONE = tuple(name for name in QUESTIONS if ALL[name].operands.startswith("USER "))
-OF_RECORDS = tuple(name for name in TOOLS if ALL[name].prints == FILE_RECORDS)
-REQUESTS = tuple(name for name in TOOLS if ALL[name].is_request)
-MAKERS, REMOVERS = (tuple(name for name in TOOLS if ALL[name].files == how) for how in (MAKES, REMOVES))
-LOADERS = tuple(name for name in TOOLS if ALL[name].takes_text)
+OF_RECORDS = tuple(tool.name for tool in IN_SCRIPTS if tool.prints == FILE_RECORDS)
+REQUESTS = tuple(tool.name for tool in IN_SCRIPTS if tool.is_request)
+MAKERS, REMOVERS = (tuple(tool.name for tool in IN_SCRIPTS if tool.files == how) for how in (MAKES, REMOVES))
+LOADERS = tuple(tool.name for tool in IN_SCRIPTS if tool.takes_text)
 EMPTY_ANSWERS = {tool.name: tool.empty for tool in ROWS if tool.empty}
 OPTIONS = {tool.name: frozenset(it for row in tool.options for it in row.names) for tool in ROWS}
-LONG_NAMES = {tool.name: {row.names[0]: row.names[1] for row in tool.options if len(row.names) > 1} for tool in ROWS}
 VALUES = {tool.name: {it: row.value for row in tool.options if row.value for it in row.names} for tool in ROWS}
-VALUES_OF_OTHERS = {tool.name: names_in(tool.others) for tool in ROWS}
 HARMLESS = {tool.name: names_in(tool.harmless) for tool in ROWS}
 # How words by which a line gives the records of files begin.
 RESTORING = tuple(sorted(name for tool in ALL for name in options_that(tool, RECORDS)))
@@ -192,7 +192,7 @@ def path_in(tool: bytes, line: bytes) -> bytes:
 def options_of_tool(tool: bytes, has_long: bool = True) -> List[bytes]:
     """Short options first, by their letters, a small one before the capital one; without long names of short ones, or
     with."""
-    names = OPTIONS.get(tool, frozenset()) - (set() if has_long else set(LONG_NAMES.get(tool, {}).values()))
+    names = [name for row in options_in(tool) for name in (row.names if has_long else row.names[:1])]
     return sorted(names, key=lambda name: (len(name) > 2, name.lower(), name.swapcase()))
 
 
@@ -222,7 +222,7 @@ def split(words: List[bytes]) -> Split:
     """The words of a line, of which the first is the tool."""
     found = Split([], [])
     tool, rest = (words[0], words[:0:-1]) if words else (b"", [])
-    values = VALUES_OF_OTHERS.get(tool, frozenset()).union(VALUES.get(tool, ()))
+    values = names_in(ALL[tool].others).union(VALUES[tool]) if tool in ALL else frozenset()
     while rest:
         word = rest.pop()
         if word == b"--":

@@ -38,31 +38,27 @@ def row_of(line: bytes, message: bytes) -> Optional[HintRow]:
 def hint_of(line: bytes, message: bytes) -> Optional[Hint]:
     row = row_of(line, message)
     if row is not None:
-        lines = [] if row.instead is None else row.typed.sub(row.instead, spaced(line)).split(b"\n")
-        return Hint(row.hint, lines)
+        return Hint(row.hint, [] if row.instead is None else row.typed.sub(row.instead, spaced(line)).split(b"\n"))
     words = words_of(line) or line.split()
     if message == message_of(PROGRAM, UNKNOWN_TOOL):
-        return nearest(line, words[0])
+        import difflib  # Few lines need it.
+
+        names = [tool.decode() for tool in sorted(OPTIONS)]
+        found = difflib.get_close_matches(words[0].decode("utf-8", "replace").lower(), names, 1, 0.75)
+        near = [spaced(line).replace(words[0], name.encode(), 1) for name in found]
+        return Hint(b"There is no tool of this name. Nearly so:", near) if near else None
     return of_usage(words) if has_text(message, USAGE) and words[0] in OPTIONS and words[0] not in LOADERS else None
-
-
-def nearest(line: bytes, word: bytes) -> Optional[Hint]:
-    """Returns the hint of a first word that is nearly the name of a tool."""
-    import difflib  # Few lines need it.
-
-    names = [tool.decode() for tool in sorted(OPTIONS)]
-    found = difflib.get_close_matches(word.decode("utf-8", "replace").lower(), names, 1, 0.75)
-    return Hint(b"There is no tool of this name. Nearly so:", [spaced(line).replace(word, found[0].encode(), 1)]) if found else None
 
 
 def synopsis(tool: bytes) -> bytes:
     """Returns how lines of a tool are written, by its record."""
     if tool in SYNOPSES:
         return tool + b" " + SYNOPSES[tool]
-    rows = ALL[tool].options
-    letters = b"".join(row.names[0][1:] for row in rows if len(row.names[0]) == 2 and not row.value)
-    words = [b"[-%s]" % letters] * bool(letters) + [b"[%s]" % row.names[0] for row in rows if len(row.names[0]) > 2 and not row.value]
-    words += [b"[%s %s]" % (row.names[0], b"-" if row.value == TEXT else row.value.upper().encode()) for row in rows if row.value]
+    flags = [row.names[0] for row in ALL[tool].options if not row.value]
+    words = [b"[-%s]" % letters for letters in [b"".join(it[1:] for it in flags if len(it) == 2)] if letters]
+    words += [b"[%s]" % it for it in flags if len(it) > 2]
+    words += [b"[%s %s]" % (row.names[0], b"-" if row.value == TEXT else row.value.upper().encode())
+              for row in ALL[tool].options if row.value]
     return b" ".join([tool, *words, *ALL[tool].operands.encode().split()])
 
 
@@ -111,8 +107,7 @@ def swallowed(unit: Unit) -> List[bytes]:
     is_option = any(it.name in names and it.value == b"-" for it in split(unit.words).given)
     if taken == 0 or unit.is_ended and (is_option or unit.is_of(*LOADERS)):
         return []
-    word = next((word for word in unit.words[1:] if word in TEXT_WORDS), None)
-    which = b"line %d was" % (unit.number + 1) if taken == 1 else b"lines %d to %d were" % (unit.number + 1,
-                                                                                            unit.number + taken)
-    why = b"" if word is None else b", since it has a word " + word
-    return [which + b" taken as the text of line %d" % unit.number + why]
+    why = [b", since it has a word " + word for word in unit.words[1:] if word in TEXT_WORDS][:1]
+    first, last = unit.number + 1, unit.number + taken
+    which = b"line %d was" % first if taken == 1 else b"lines %d to %d were" % (first, last)
+    return [b"".join([which, b" taken as the text of line %d" % unit.number, *why])]
