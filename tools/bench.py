@@ -2,7 +2,7 @@
 """Measures the program and the commands, and prints tables in Markdown.
 
 usage: tools/bench.py MEASUREMENT PROGRAM [FOLDER] [--files N,..] [--users N] [--runs N]
-                      [--beside OTHER] [--only RANGE,..]
+                      [--beside OTHER] [--only RANGE,..] [--clone OTHER]
        tools/bench.py tree [--files N] [--users N]
 
   tools    each tool on the trees of tools/lib/texts.py (10000,100000,1000000 files, 1000 users, 3 runs)
@@ -15,6 +15,8 @@ usage: tools/bench.py MEASUREMENT PROGRAM [FOLDER] [--files N,..] [--users N] [-
            made in FOLDER, which has to take lists (100000 files, 100 users, 3 runs)
   live     as root, facl-snapshot, facl-plan and facl-apply beside getfacl and setfacl on a tree that is made in FOLDER
            (100000 files, 30 users, 3 runs)
+  commands the commands of auditors, facl-report and facl-ask over a snapshot of 2000 lists (1000000 files, 1000 users, one run);
+           with --clone OTHER those of other clones too, in turn, which may be given several times
   tree     commands at the tree and the people alone, below the index and the tools, by a program of its own
            (tree_bench.rt.txt): it is proved and built in a temporary folder, over copies of the crates below acl_tree
            (100000 files, 1000 users, one run; the median of four hundred `creat`, `rm` and `gpasswd`)
@@ -37,11 +39,11 @@ import shutil
 import statistics
 import subprocess
 import tempfile
-import time
 from pathlib import Path
 from typing import Callable, Dict, Iterable, List, Mapping, NamedTuple, Optional, Tuple, Union
 
-from benches import grow
+from benches import commands, grow
+from benches.commands import Spent, spent
 from benches.sessions import (
     LOAD, LOAD_BYTES, MAX_RESTORED, OF_INDEX, OF_LIMITS, OF_LOAD, OF_TOOLS, WHO, Figures, NumberOf, Step, Tree,
     print_table, session_times, steps_of, write_labels,
@@ -120,36 +122,6 @@ def measure_limits(given: Words) -> int:
     columns = columns_of("seconds", [of_limits(best, files) for best in found])
     print_table(f"{files:,} files of {LABELS:,} labels, {users:,} users", {**columns, "aimed at": aims})
     return 0
-
-
-# Other commands.
-
-class Spent(NamedTuple):
-    """What a command took: seconds of the processor and by the clock, and bytes of the largest of its processes."""
-
-    processor: float
-    seconds: float
-    memory: int
-
-
-def spent(words: List[str], folder: str, output: str = os.devnull, **variables: str) -> Spent:
-    """Runs a command in a folder; it has to end with the status 0."""
-    started = time.perf_counter()
-    with open(output, "wb") as out, tempfile.TemporaryFile() as messages:
-        child = subprocess.Popen(words, cwd=folder, env={**os.environ, **variables}, stdout=out, stderr=messages)
-        try:
-            _, status, usage = os.wait4(child.pid, 0)
-        except BaseException:
-            child.kill()
-            child.wait()
-            raise
-        seconds = time.perf_counter() - started
-        child.returncode = os.waitstatus_to_exitcode(status)
-        messages.seek(0)
-        text = messages.read(2_000).decode(errors="replace").strip()
-    if child.returncode != 0:
-        raise Failed(f"{' '.join(words[:4])}: status {child.returncode}: {text}")
-    return Spent(usage.ru_utime + usage.ru_stime, seconds, usage.ru_maxrss * 1024)
 
 
 # The program beside the real tools, by the same lines but one: a call over all files, or a call a file.
@@ -328,6 +300,10 @@ def measure_tree(given: Words) -> int:
     return 0
 
 
+def measure_commands(given: Words) -> int:
+    return commands.measure(given.program, given.files[-1], given.users, given.runs, given.clone)
+
+
 def measure_grow(given: Words) -> int:
     return grow.measure(given.program, given.runs, given.only)
 
@@ -349,6 +325,7 @@ MEASUREMENTS = {
     "grow": Measurement(measure_grow, [grow.FILES], grow.MEMBERS_OF_ALL, 2),
     "real": Measurement(measure_real, [100_000], 100, 3, ("getfacl", "setfacl")),
     "live": Measurement(measure_live, [100_000], 30, 3, ("getfacl", "setfacl")),
+    "commands": Measurement(measure_commands, [1_000_000], 1_000, 1),
     "tree": Measurement(measure_tree, [100_000], 1_000, 1, ("rt",)),
 }
 
@@ -364,6 +341,7 @@ def words() -> Words:
     options.add_argument("--runs", type=int)
     options.add_argument("--beside", type=program_at, metavar="OTHER")
     options.add_argument("--only", type=lambda text: text.split(","), default=[], metavar="RANGE,..")
+    options.add_argument("--clone", action="append", default=[], metavar="OTHER")
     given = options.parse_args()
     kind, chosen = given.measurement, MEASUREMENTS[given.measurement]
     given.files = given.files or chosen.files
@@ -378,6 +356,7 @@ def words() -> Words:
             (len(given.files) > 1 and kind != "tools", "several FILES are of `tools` alone"),
             (given.beside and kind not in BESIDE, "--beside is of tools, index and limits"),
             (kind != "grow" and given.only, "--only is of `grow`"),
+            (kind != "commands" and given.clone, "--clone is of `commands`"),
             (not {*given.only} <= {grown.name for grown in grow.RANGES},
              f"RANGE is one of {', '.join(grown.name for grown in grow.RANGES)}")):
         if is_so:
