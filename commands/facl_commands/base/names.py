@@ -115,7 +115,8 @@ class InOrder:
 def highest(paths: Iterable[bytes]) -> List[bytes]:
     """Paths in path order, each once, without those that another one is above."""
     known = set(paths)
-    return sorted((path for path in known if known.isdisjoint(directories_above(path))), key=sorting_key)
+    tops = [path for path in known if not path or path.rpartition(b"/")[0] not in known]  # Most are in another one of them.
+    return sorted((path for path in tops if known.isdisjoint(directories_above(path))), key=sorting_key)
 
 
 def shown_path(path: bytes) -> bytes:

@@ -4,7 +4,6 @@ The warnings are those of facl-snapshot, as far as the files of the snapshot sho
 """
 from __future__ import annotations
 
-import itertools
 import os
 import re
 from collections import Counter
@@ -15,7 +14,7 @@ from ..base.folders import folder_of
 from ..base.messages import Command, counted
 from ..base.names import live_name
 from ..program.protocol import (
-    EMPTY_MASK, FILE_HEAD, FREE_FILE_LINE, GROUP_ID_LINE, NAMED_LINE, OPEN_OTHERS_LINE, USER_ID_LINE,
+    EMPTY_MASK, FILE_HEAD, GROUP_ID_LINE, NAMED_LINE, OPEN_OTHERS_LINE, USER_ID_LINE,
 )
 from . import marks, meta, split_tree
 from . import sources as source_texts
@@ -23,7 +22,6 @@ from .people import plain_id, rows_of
 from .snapshot import NEEDED, read_links
 from .sources import Source
 
-FILE_NAME = re.compile(b"^" + FREE_FILE_LINE, re.MULTILINE)
 IDS = {b"user": re.compile(USER_ID_LINE), b"group": re.compile(GROUP_ID_LINE)}
 OTHERS_WITH_SOMETHING, NAMED_ENTRY = (re.compile(line, re.MULTILINE) for line in (OPEN_OTHERS_LINE, NAMED_LINE))
 BY_ACL5 = b"judged by the check of acl(5) (--acl5); lists by which Linux grants otherwise, as their mask is empty: %d"
@@ -46,10 +44,9 @@ def read_texts(folder: bytes) -> LoadedTexts:
 
 
 def files_in(dump: bytes) -> int:
-    """How many records a dump has. Where each `file:` begins one, as mostly, a search of bytes says so, which takes a tenth of the time of
-    the pattern."""
+    """How many records a dump has. Where each `file:` begins one as facl-snapshot writes it, two searches of bytes say so."""
     found = dump.count(b"\n" + FILE_HEAD) + dump.startswith(FILE_HEAD)
-    return found if dump.count(b"file:") == found else sum(1 for _ in FILE_NAME.finditer(dump))
+    return found if dump.count(b"file:") == found else sum(1 for _ in source_texts.names_of(dump))
 
 
 def summary(texts: LoadedTexts, name: bytes) -> bytes:
@@ -135,7 +132,7 @@ def names_without_row(folder: bytes, dump: bytes) -> Iterator[bytes]:
         number += len(lacking)
         of_them |= {line for line in lines if source_texts.names_in(database, {line}) & lacking} if lacking else set()
     if number:
-        all_lines = itertools.chain.from_iterable(source_texts.pieces_of(dump))
+        all_lines = (line for piece in source_texts.pieces_of(dump) for line in piece.split(b"\n"))
         yield counted_warning(b"users and groups in the dump without a row, with which the program does not load it", number,
                               b"line %d" % next((place for place, line in enumerate(all_lines, 1) if line in of_them), 0))
 

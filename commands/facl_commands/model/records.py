@@ -129,13 +129,20 @@ def list_slices(listing: Iterable[OutputSlice], directories: Iterable[bytes] = (
     return list_pieces((piece for output in listing for piece in output.pieces()), directories)
 
 
+def list_words(session: Session, words: List[bytes], line: bytes = LIST_ALL) -> List[OutputSlice]:
+    """The listings of some files, by this line, one by one where not all of them are there."""
+    answer = session.ask(b" ".join([line, *words]) + b"\n")
+    if not answer.messages:
+        return [answer.output]
+    if not lacks_file(answer.messages):
+        raise Failure(b"the program refused to list the files: " + answer.messages[0])
+    return [output for word in words for output in list_words(session, [word], line)] if len(words) > 1 else []
+
+
 def list_all(session: Session, top: bytes = b"") -> Listing:
     """The files as they are now, a directory and those below it; none where it is not there, and so where the root was
     removed, which removes all."""
-    answer = session.ask(LIST_ALL + b" " + path_word(top) + b"\n")
-    if answer.messages and not lacks_file(answer.messages):
-        raise Failure(b"the program refused to list the files: " + answer.messages[0])
-    return list_files(answer.output.read())
+    return list_slices(list_words(session, [path_word(top)]))
 
 
 def compare(old: Files, new: Files) -> ChangedPaths:

@@ -17,12 +17,13 @@ from ..base import beside, folders
 from ..base.environment import environment_of_called
 from ..base.folders import Folder, folder_of
 from ..base.messages import Failure, reason
-from ..base.names import highest, path_word, read_name, read_path
+from ..base.names import highest, path_word, read_name
 from ..base.programs import add_program, program_words
 from ..base.trusted import open_file
-from ..program.protocol import FILE_HEAD, FREE_FILE_LINE, LIST, LIST_ALL, lacks_file
+from ..program.protocol import FILE_HEAD, FREE_FILE_LINE, LIST
 from ..program.session import OutputSlice, Session, parts_of
 from .people import rows_of
+from .records import list_words, path_of
 
 DUMP = b"dump"
 DATABASES = ("passwd", "group")
@@ -110,13 +111,13 @@ def getent(words: List[bytes]) -> bytes:
         raise Failure(b"getent: " + reason(error)) from error
 
 
-def pieces_of(dump: bytes) -> Iterator[List[bytes]]:
-    """The lines of a dump, some at once."""
+def pieces_of(dump: bytes) -> Iterator[bytes]:
+    """Whole lines of a dump, some at once, without the end of the last one."""
     place = 0
     while place < len(dump):
         end = dump.find(b"\n", place + PIECE)
         end = end if end >= 0 else len(dump)
-        yield dump[place:end].split(b"\n")
+        yield dump[place:end]
         place = end + 1
 
 
@@ -124,7 +125,7 @@ def distinct_lines(dump: bytes) -> Set[bytes]:
     """The lines of a dump without those of files' names; most of the others are there often."""
     lines: Set[bytes] = set()
     for piece in pieces_of(dump):
-        lines.update(line for line in set(piece) if line[:7] != FILE_HEAD[:7])
+        lines.update(line for line in set(piece.split(b"\n")) if line[:7] != FILE_HEAD[:7])
     return lines
 
 
@@ -157,14 +158,19 @@ def notice(folder: bytes, dump: bytes) -> Optional[bytes]:
 
 
 def names_of(dump: bytes) -> Iterator[bytes]:
-    """The names of its files, as they are written there."""
-    comments = (line for piece in pieces_of(dump) for line in piece if b"#" in line[:9])
-    return (match[1] for match in map(FILE_NAME.match, comments) if match is not None)
+    """The names of its files, as they are written there. Where each `file:` begins a record as facl-snapshot writes it, other lines are
+    not looked at."""
+    for piece in pieces_of(dump):
+        records = (b"\n" + piece).split(b"\n" + FILE_HEAD)[1:]
+        if piece.count(b"file:") == len(records):
+            yield from (record.partition(b"\n")[0] for record in records)
+        else:
+            yield from (match[1] for match in map(FILE_NAME.match, piece.split(b"\n")) if match is not None)
 
 
 def tops_of(dump: bytes) -> List[bytes]:
     """The paths that no recorded directory is above, in path order; the root alone where it is recorded."""
-    return highest(map(read_path, names_of(dump)))
+    return highest(map(path_of, names_of(dump)))
 
 
 def find_tops(session: Session, folder: bytes) -> List[bytes]:
@@ -182,13 +188,3 @@ def operands_of(paths: List[bytes]) -> List[List[bytes]]:
 def list_below(session: Session, tops: List[bytes]) -> List[OutputSlice]:
     """Listings of the files as they are now, in path order, with ids as numbers; a top that is gone has none."""
     return [output for words in operands_of(tops) for output in list_words(session, words)]
-
-
-def list_words(session: Session, words: List[bytes], line: bytes = LIST_ALL) -> List[OutputSlice]:
-    """The listings of some files, by this line, one by one where not all of them are there."""
-    answer = session.ask(b" ".join([line, *words]) + b"\n")
-    if not answer.messages:
-        return [answer.output]
-    if not lacks_file(answer.messages):
-        raise Failure(b"the program refused to list the files: " + answer.messages[0])
-    return [output for word in words for output in list_words(session, [word], line)] if len(words) > 1 else []

@@ -18,7 +18,7 @@ from ..program.protocol import LIST_ALL, LIST_NUMBERS, RESTORE
 from ..program.session import Session, parts_of
 from . import sources
 from .marks import NO_WRITING, Marks
-from .records import File, path_of, records_in, split_record, write_record
+from .records import File, list_words, path_of, records_in, split_record, write_record
 
 WRITES = re.compile(rb"^((?:user|group|mask|other):[0-9]*:[r-])w", re.MULTILINE)  # In a record with ids as numbers.
 ROOM = 1 << 24  # Bytes of records that are given back at once.
@@ -43,7 +43,7 @@ def find_unwritable(session: Session, marks: Marks, folders: List[bytes]) -> Unw
     read_only = highest(marks.mounted(beside.READ_ONLY, folders))
     for line, paths in ((LIST_NUMBERS, marks.immutable(folders)), (LIST_ALL, read_only)):
         for words in sources.operands_of(paths):
-            for name, body in map(split_record, records_in(sources.list_words(session, words, line))):
+            for name, body in map(split_record, records_in(list_words(session, words, line))):
                 path = path_of(name)
                 kind = marks.keeps(path, NO_WRITING)
                 if kind is not None and path not in found.bodies:
