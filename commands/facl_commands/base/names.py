@@ -7,8 +7,7 @@ from __future__ import annotations
 
 import codecs
 import re
-from bisect import bisect_left, bisect_right
-from typing import Iterable, List, Match, Optional, Tuple
+from typing import Iterable, List, Match, Tuple
 
 ESCAPE = re.compile(rb"\\([0-3][0-7][0-7]|\\)")
 SAFE = re.compile(rb"[\x20-\x7e\t]*\Z")
@@ -88,28 +87,6 @@ def at_or_below(paths: Iterable[bytes], tops: Iterable[bytes]) -> List[bytes]:
         return list(paths)
     starts = tuple(top + b"/" for top in known)
     return [path for path in paths if path in known or path.startswith(starts)]
-
-
-class InOrder:
-    """Paths in path order, which has what is below a path right after it: they are found by bisection."""
-
-    def __init__(self, paths: Iterable[bytes]) -> None:
-        self.paths = list(paths)
-
-    def __len__(self) -> int:
-        return len(self.paths)
-
-    def __getitem__(self, place: int) -> bytes:
-        return sorting_key(self.paths[place])
-
-    def at_or_below(self, top: bytes) -> List[bytes]:
-        key = sorting_key(top)
-        start = bisect_left(self, key)
-        return self.paths[start : bisect_left(self, key + b"\1", start)] if top else self.paths
-
-    def after(self, key: Optional[bytes]) -> List[bytes]:
-        """Those whose keys come after a key; all without one."""
-        return self.paths if key is None else self.paths[bisect_right(self, key) :]
 
 
 def highest(paths: Iterable[bytes]) -> List[bytes]:

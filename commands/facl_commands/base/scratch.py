@@ -52,18 +52,15 @@ def place() -> Iterator[int]:
     for name in [given] * given.startswith(b"/") + [*USUAL]:
         try:
             found = open_place(name)
-        except Failure as failure:
-            faults.append(failure.text)
-        except OSError as error:
-            faults.append(name + b": " + reason(error))
-        else:
-            break
-    else:
-        raise Failure(b"no place for files of the command's own: " + b"; ".join(faults))
-    try:
-        yield found
-    finally:
-        os.close(found)
+        except (Failure, OSError) as fault:
+            faults.append(fault.text if isinstance(fault, Failure) else name + b": " + reason(fault))
+            continue
+        try:
+            yield found
+            return
+        finally:
+            os.close(found)
+    raise Failure(b"no place for files of the command's own: " + b"; ".join(faults))
 
 
 def new_file(prefix: str) -> IO[bytes]:

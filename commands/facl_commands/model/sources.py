@@ -94,11 +94,13 @@ def folder_of_files(given: argparse.Namespace, name: bytes) -> Folder:
     dump = found.read(DUMP)
     if dump and HAS_FILE.search(dump) is None:
         raise Failure(file + b": is no dump: it has no line `# file: NAME`")
+    lines: Set[bytes] = set()
     for database, rows in zip(DATABASES, (given.passwd, given.group_file)):
         if rows is not None:
             found.add(database.encode(), open_file(os.fsencode(rows)), os.fsencode(rows))
         else:
-            found.put(database.encode(), rows_of_system(database, dump))
+            lines = lines or distinct_lines(dump)
+            found.put(database.encode(), rows_of_system(database, lines))
     return found
 
 
@@ -134,13 +136,12 @@ def names_in(database: str, lines: Set[bytes]) -> Set[bytes]:
     return {read_name(match[1].strip()) for match in map(NAMED[database].match, lines) if match is not None}
 
 
-def rows_of_system(database: str, dump: bytes) -> bytes:
-    """passwd or group of the system, also the rows that it gives only where it is asked for them by a name or id of the
-    dump."""
+def rows_of_system(database: str, lines: Set[bytes]) -> bytes:
+    """passwd or group of the system, also the rows that it gives only where it is asked for them by a name or id in lines of a dump."""
     word = database.encode()
     text = getent([word])
     known = {field for row in rows_of(text) for field in (row[0], row[2])}
-    lacking = sorted(names_in(database, distinct_lines(dump)) - known)
+    lacking = sorted(names_in(database, lines) - known)
     for start in range(0, len(lacking), KEYS_AT_ONCE):
         text += getent([word, b"--", *lacking[start : start + KEYS_AT_ONCE]])
     return text

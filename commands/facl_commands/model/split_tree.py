@@ -6,12 +6,13 @@ too: a file is taken from the first part that has it.
 from __future__ import annotations
 
 import os
+from bisect import bisect_right
 from collections import Counter
 from typing import Dict, Iterable, Iterator, List, Optional, Set, Tuple
 
 from ..base.folders import folder_of, is_folder
 from ..base.messages import Failure
-from ..base.names import InOrder, sorting_key, write_name
+from ..base.names import sorting_key, write_name
 from ..program.protocol import FILE_HEAD
 from . import meta
 from .snapshot import NEEDED, check_texts, read_links
@@ -64,7 +65,9 @@ class Once:
 
     def of_part(self, paths: Iterable[bytes]) -> List[bytes]:
         """Those of the paths of the next part, which are in path order."""
-        found = InOrder(paths).after(self.last)
+        found = list(paths)
+        if self.last is not None:
+            found = found[bisect_right(list(map(sorting_key, found)), self.last) :]
         self.last = sorting_key(found[-1]) if found else self.last
         return found
 

@@ -39,8 +39,7 @@ def write_messages(command: Command, place: bytes, unit: Unit, messages: List[by
 
 def lines_for_terminal(lines: Iterable[bytes]) -> Iterator[bytes]:
     """The lines of an answer; at a terminal without what this obeys."""
-    is_terminal = os.isatty(1)
-    return (shown(line) if is_terminal else line for line in lines)
+    return map(shown, lines) if os.isatty(1) else iter(lines)
 
 
 # --- answers with the question above each, as facl-plan prints them
@@ -53,11 +52,10 @@ def heading(unit: Unit) -> bytes:
 
 def lines_to_show(unit: Unit, lines: Iterable[bytes], messages: List[bytes]) -> Iterator[bytes]:
     """The lines of an answer as a person reads them; one that says so where a question has an empty answer."""
-    is_empty = True
-    for line in lines:
-        is_empty = False
-        yield shown(line)
-    if is_empty and unit.is_of(*EMPTY_ANSWERS) and not is_refused(messages):
+    first = None
+    for first in map(shown, lines):
+        yield first
+    if first is None and unit.is_of(*EMPTY_ANSWERS) and not is_refused(messages):
         yield NOTHING
 
 
