@@ -13,7 +13,7 @@ import stat
 from typing import Dict, Iterator, List, NamedTuple, Optional, Tuple
 
 from . import beside, scratch, trusted
-from .messages import Failure, reason
+from .messages import Failure, failing
 
 TEXTS = (b"passwd", b"group", b"dump")  # Which the program loads.
 FILES = (*TEXTS, b"links", b"inodes", beside.NAME, b"meta")
@@ -54,13 +54,11 @@ class OpenText(NamedTuple):
         size, _ = self.content
         if size > trusted.MOST:
             raise trusted.too_large(self.path, trusted.MOST)
-        try:
+        with failing(self.path):  # As it is a folder, or the disk is at fault.
             found = more = os.pread(self.descriptor, size, 0)
             while more and len(found) < size:
                 more = os.pread(self.descriptor, size - len(found), len(found))
                 found += more
-        except OSError as error:  # Of a folder, or of a disk.
-            raise Failure(self.path + b": " + reason(error)) from error
         self.check()
         return found
 
@@ -162,12 +160,9 @@ def open_files(way: trusted.Way, name: bytes) -> Folder:
 def open_folder(name: bytes, above: Optional[Folder] = None) -> Folder:
     """Opens a folder by its name, or in an open one that has it as a part; once more where it is replaced meanwhile."""
     for _ in range(TRIES):
-        try:
-            with contextlib.closing(trusted.way_to(name) if above is None or above.way is None else
-                                    above.way.copied().gone_in(os.path.basename(name), name)) as way:
-                made = open_files(way, name)
-        except OSError as error:
-            raise Failure(name + b": " + reason(error)) from error
+        with failing(name), contextlib.closing(trusted.way_to(name) if above is None or above.way is None else
+                                               above.way.copied().gone_in(os.path.basename(name), name)) as way:
+            made = open_files(way, name)
         if made.state:
             return made
     raise Failure(name + b": is replaced again and again")

@@ -7,7 +7,7 @@ from typing import Dict, FrozenSet, Iterable, NamedTuple, Tuple
 
 from ..base.names import write_user
 from ..program.protocol import EFFECTIVE, FLAGS_HEAD, GROUP_HEAD, OWNER_ENTRY, OWNER_HEAD
-from .people import plain_id, rows_of
+from .people import ids_of
 
 LINE = re.compile(rb"^(default:)?(user|group|mask|other):([^:\n]*):([r-][w-][x-])(?:[\t ]+%s(...))?$" % EFFECTIVE, re.MULTILINE)
 HEAD = re.compile(rb"# owner: (.*)\n# group: (.*)\n(?:# flags: ([s-][s-][t-])\n)?")
@@ -109,8 +109,7 @@ class NamesOfIds:
     def __init__(self, passwd: bytes, group: bytes) -> None:
         self.names: Dict[Key, bytes] = {}
         for tag, text in ((USER, passwd), (GROUP, group)):
-            rows = [row for row in rows_of(text) if len(row) > 2]
-            self.names.update(((tag, plain_id(row[2])), row[0]) for row in rows[::-1])
+            self.names.update(((tag, number), name) for number, name in ids_of(text)[::-1])
 
     def has(self, key: Key) -> bool:
         return key in self.names

@@ -23,7 +23,7 @@ from ..program.scripts import Unit
 from ..program.session import Session
 from ..program.tools import ABOUT_ONE, ABOUT_USERS, BY_FILES, path_in, split, user_in
 from .meta import Meta, users_asked_for
-from .people import needed_word, plain_id, rows_of, users_in
+from .people import ids_of, needed_word, users_in
 from .records import Listing, list_slices, path_of, paths_of
 from .snapshot import NEEDED
 from .sources import DUMP, Source, find_tops, operands_of
@@ -114,7 +114,7 @@ def beside_of(number: Optional[int]) -> List[bytes]:
 
 def free_ids(rows: bytes, used: Set[bytes]) -> Iterator[int]:
     """The ids that no row has, and that are not among those that are used, from the greatest one down."""
-    known = used | {plain_id(row[2]) for row in rows_of(rows) if len(row) > 2}
+    known = used.union(number for number, _ in ids_of(rows))
     return (it for it in range(LAST_ID, 0, -1) if b"%d" % it not in known)
 
 

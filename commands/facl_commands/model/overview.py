@@ -18,7 +18,7 @@ from ..program.protocol import (
 )
 from . import marks, meta, split_tree
 from . import sources as source_texts
-from .people import plain_id, rows_of
+from .people import ids_of, rows_of
 from .snapshot import NEEDED, read_links
 from .sources import Source
 
@@ -70,9 +70,8 @@ def ids_without_row(texts: LoadedTexts) -> List[bytes]:
     lines = source_texts.distinct_lines(texts.dump)
     found: List[bytes] = []
     for kind, rows in ((b"user", texts.passwd), (b"group", texts.group)):
-        known = {plain_id(row[2]) for row in rows_of(rows) if len(row) > 2}
         ids = {match[1] for match in map(IDS[kind].match, lines) if match is not None}
-        found += [kind + b" " + it for it in sorted(ids - known, key=int)]
+        found += [kind + b" " + it for it in sorted(ids.difference(uid for uid, _ in ids_of(rows)), key=int)]
     return found
 
 
@@ -83,9 +82,8 @@ def members_without_row(texts: LoadedTexts) -> List[bytes]:
 
 def users_with_one_id(texts: LoadedTexts) -> List[bytes]:
     """The users with the id of another one, as ID NAME."""
-    both = [(plain_id(row[2]), row[0]) for row in rows_of(texts.passwd) if len(row) > 2]
-    counts = Counter(uid for uid, _ in both)
-    return sorted(uid + b" " + name for uid, name in both if counts[uid] > 1)
+    counts = Counter(uid for uid, _ in ids_of(texts.passwd))
+    return sorted(uid + b" " + name for uid, name in ids_of(texts.passwd) if counts[uid] > 1)
 
 
 def counted_warning(text: bytes, number: int, first: bytes) -> bytes:

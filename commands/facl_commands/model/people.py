@@ -1,7 +1,7 @@
 """Users and groups, as far as commands that change them have to be written for the live system."""
 from __future__ import annotations
 
-from typing import Dict, Iterable, List, NamedTuple, Optional, Set, TypeVar
+from typing import Dict, Iterable, List, NamedTuple, Optional, Set, Tuple, TypeVar
 
 from ..base.messages import Failure
 from ..base.names import number_of, read_name, script_word, write_user
@@ -30,6 +30,11 @@ def rows_of(text: bytes) -> List[List[bytes]]:
 def plain_id(field: bytes) -> bytes:
     """An id of a row without the zeros before it, as listings have it."""
     return field.lstrip(b"0") or b"0"
+
+
+def ids_of(text: bytes) -> List[Tuple[bytes, bytes]]:
+    """The ids of the rows that have one, as listings have them, each with the name."""
+    return [(plain_id(row[2]), row[0]) for row in rows_of(text) if len(row) > 2]
 
 
 def users_in(passwd: bytes) -> List[User]:

@@ -16,7 +16,7 @@ from typing import Iterator, List, NamedTuple, Optional, Set
 from ..base import beside, folders
 from ..base.environment import environment_of_called
 from ..base.folders import Folder, folder_of
-from ..base.messages import Failure, reason
+from ..base.messages import Failure, failing
 from ..base.names import highest, path_word, read_name
 from ..base.programs import add_program, program_words
 from ..base.trusted import open_file
@@ -106,11 +106,9 @@ def folder_of_files(given: argparse.Namespace, name: bytes) -> Folder:
 
 def getent(words: List[bytes]) -> bytes:
     """Rows of the system; keys that nobody has give none."""
-    try:
+    with failing(b"getent"):
         return subprocess.run([b"getent", *words], stdin=subprocess.DEVNULL, stdout=subprocess.PIPE, check=False,
                               env=environment_of_called()).stdout
-    except OSError as error:
-        raise Failure(b"getent: " + reason(error)) from error
 
 
 def pieces_of(dump: bytes) -> Iterator[bytes]:

@@ -7,7 +7,7 @@ import re
 import stat
 from typing import IO, Iterable, Iterator, List, NamedTuple, Optional, Tuple
 
-from ..base.messages import Failure, reason
+from ..base.messages import Failure, failing
 from ..base.trusted import MOST_WRITTEN, read_all, too_large
 from .tools import LOADERS, TEXT_WORDS
 
@@ -128,11 +128,8 @@ class Script(NamedTuple):
 def read_text(name: str) -> Script:
     """What is in a script; the name - is standard input."""
     shown = b"standard input" if name == "-" else os.fsencode(name)
-    try:
-        with open(0 if name == "-" else open_script(name), "rb", closefd=name != "-") as file:
-            return Script(shown, read_all(file, shown, MOST_WRITTEN))
-    except OSError as error:
-        raise Failure(shown + b": " + reason(error)) from error
+    with failing(shown), open(0 if name == "-" else open_script(name), "rb", closefd=name != "-") as file:
+        return Script(shown, read_all(file, shown, MOST_WRITTEN))
 
 
 def lines_of_file(file: IO[bytes], shown: bytes) -> Iterator[bytes]:
