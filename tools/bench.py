@@ -39,11 +39,11 @@ import shutil
 import statistics
 import subprocess
 import tempfile
+import time
 from pathlib import Path
 from typing import Callable, Dict, Iterable, List, Mapping, NamedTuple, Optional, Tuple, Union
 
 from benches import commands, grow
-from benches.commands import Spent, spent
 from benches.sessions import (
     LOAD, LOAD_BYTES, MAX_RESTORED, OF_INDEX, OF_LIMITS, OF_LOAD, OF_TOOLS, WHO, Figures, NumberOf, Step, Tree,
     print_table, session_times, steps_of, write_labels,
@@ -122,6 +122,36 @@ def measure_limits(given: Words) -> int:
     columns = columns_of("seconds", [of_limits(best, files) for best in found])
     print_table(f"{files:,} files of {LABELS:,} labels, {users:,} users", {**columns, "aimed at": aims})
     return 0
+
+
+# Other commands.
+
+class Spent(NamedTuple):
+    """What a command took: seconds of the processor and by the clock, and bytes of the largest of its processes."""
+
+    processor: float
+    seconds: float
+    memory: int
+
+
+def spent(words: List[str], folder: str, output: str = os.devnull, most_status: int = 0, **variables: str) -> Spent:
+    """Runs a command in a folder; it has to end with the status 0, or with one up to another."""
+    started = time.perf_counter()
+    with open(output, "wb") as out, tempfile.TemporaryFile() as messages:
+        child = subprocess.Popen(words, cwd=folder, env={**os.environ, **variables}, stdout=out, stderr=messages)
+        try:
+            _, status, usage = os.wait4(child.pid, 0)
+        except BaseException:
+            child.kill()
+            child.wait()
+            raise
+        seconds = time.perf_counter() - started
+        child.returncode = os.waitstatus_to_exitcode(status)
+        messages.seek(0)
+        text = messages.read(2_000).decode(errors="replace").strip()
+    if not 0 <= child.returncode <= most_status:
+        raise Failed(f"{' '.join(words[:4])}: status {child.returncode}: {text}")
+    return Spent(usage.ru_utime + usage.ru_stime, seconds, usage.ru_maxrss * 1024)
 
 
 # The program beside the real tools, by the same lines but one: a call over all files, or a call a file.
@@ -301,7 +331,11 @@ def measure_tree(given: Words) -> int:
 
 
 def measure_commands(given: Words) -> int:
-    return commands.measure(given.program, given.files[-1], given.users, given.runs, given.clone)
+    def taken(words: List[str], folder: str) -> commands.Taken:
+        found = spent(words, folder, most_status=1, FACL=given.program, FACL_LINUX=given.program)
+        return commands.Taken(found.processor, found.memory)
+
+    return commands.measure(taken, given.files[-1], given.users, given.runs, given.clone)
 
 
 def measure_grow(given: Words) -> int:

@@ -3,12 +3,10 @@ has."""
 from __future__ import annotations
 
 import os
-import subprocess
 import tempfile
-import time
-from typing import Dict, Iterator, List, Mapping, NamedTuple, Sequence, Tuple, Union
+from typing import Callable, Dict, Iterator, List, Mapping, NamedTuple, Sequence, Tuple
 
-from lib.script import TOP, Failed, say
+from lib.script import TOP, say
 from lib.texts import PER_DIRECTORY, text_file, write_people
 
 from .sessions import TEXTS, print_table
@@ -17,35 +15,18 @@ LABELS, OF_DIRECTORIES = 2_000, 10  # Different lists of plain files, and of dir
 OPEN = 50  # One of so many lists of plain files grants others something.
 DIFFERING = 1_000  # One of so many files has another list in the second snapshot.
 RULES = 100
-META = "host bench\ndate 2026-01-01T00:00:00Z\nversion 0\nfolder /srv\nexcluded 0\nunread 0\nfiles {}\nlinked-names 0\nmarks 0\nusers {}\ngroups {}\n"
+META = ("host bench\ndate 2026-01-01T00:00:00Z\nversion 0\nfolder /srv\nexcluded 0\nunread 0\nfiles {}\nlinked-names 0\n"
+        "marks 0\nusers {}\ngroups {}\n")
 
 
-class Spent(NamedTuple):
-    """What a command took: seconds of the processor and by the clock, and bytes of the largest of its processes."""
+class Taken(NamedTuple):
+    """What a command took: seconds of the processor, and bytes of the largest of its processes."""
 
     processor: float
-    seconds: float
     memory: int
 
 
-def spent(words: Sequence[str], folder: str, output: str = os.devnull, statuses: Sequence[int] = (0,), **variables: str) -> Spent:
-    """Runs a command in a folder; it has to end with one of the statuses."""
-    started = time.perf_counter()
-    with open(output, "wb") as out, tempfile.TemporaryFile() as messages:
-        child = subprocess.Popen(words, cwd=folder, env={**os.environ, **variables}, stdout=out, stderr=messages)
-        try:
-            _, status, usage = os.wait4(child.pid, 0)
-        except BaseException:
-            child.kill()
-            child.wait()
-            raise
-        seconds = time.perf_counter() - started
-        child.returncode = os.waitstatus_to_exitcode(status)
-        messages.seek(0)
-        text = messages.read(2_000).decode(errors="replace").strip()
-    if child.returncode not in statuses:
-        raise Failed(f"{' '.join(words[:4])}: status {child.returncode}: {text}")
-    return Spent(usage.ru_utime + usage.ru_stime, seconds, usage.ru_maxrss * 1024)
+Run = Callable[[List[str], str], Taken]  # Runs the words of a command in a folder.
 
 
 # --- the snapshots
@@ -107,27 +88,27 @@ def write_words(folder: str, files: int) -> None:
             out.write(text)
 
 
-def run_all(commands: str, program: str, folder: str) -> Dict[str, Spent]:
+def run_all(run: Run, commands: str, folder: str) -> Dict[str, Taken]:
     """Runs the commands of a folder commands/."""
     found = {}
     for name, words in STEPS.items():
-        found[name] = spent([os.path.join(commands, words[0]), *words[1:]], folder, statuses=(0, 1), FACL=program, FACL_LINUX=program)
+        found[name] = run([os.path.join(commands, words[0]), *words[1:]], folder)
         say(f"{commands}: {name}: {found[name].processor:.2f} s, {found[name].memory >> 20} MiB")
     return found
 
 
-def measure(program: str, files: int, users: int, runs: int, others: Sequence[str]) -> int:
+def measure(run: Run, files: int, users: int, runs: int, others: Sequence[str]) -> int:
     """Prints what the commands take, and those of other clones in turn with them."""
     folders = [os.path.join(TOP, "commands"), *(os.path.join(os.path.abspath(it), "commands") for it in others)]
     with tempfile.TemporaryDirectory(prefix="facl-bench.") as room:
         for name in ("before", "after"):
             write_snapshot(os.path.join(room, name), files, users, name == "after")
         write_words(room, files)
-        found = [{commands: run_all(commands, program, room) for commands in folders} for _ in range(runs)]
-    columns: Dict[str, Mapping[str, Union[str, float]]] = {}
+        found = [{commands: run_all(run, commands, room) for commands in folders} for _ in range(runs)]
+    columns: Dict[str, Mapping[str, str]] = {}
     for commands, head in zip(folders, ("", *(it + ": " for it in others))):
-        best = {name: min(run[commands][name].processor for run in found) for name in STEPS}
-        columns[head + "processor"] = {name: f"{seconds:.1f} s" for name, seconds in best.items()}
-        columns[head + "memory"] = {name: f"{min(run[commands][name].memory for run in found) >> 20:,} MiB" for name in STEPS}
+        best = {name: [min(values) for values in zip(*(its[commands][name] for its in found))] for name in STEPS}
+        columns[head + "processor"] = {name: f"{seconds:.1f} s" for name, (seconds, _) in best.items()}
+        columns[head + "memory"] = {name: f"{int(memory) >> 20:,} MiB" for name, (_, memory) in best.items()}
     print_table(f"{files:,} files of {LABELS:,} lists, {users:,} users", columns)
     return 0

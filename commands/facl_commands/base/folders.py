@@ -13,7 +13,8 @@ import stat
 from typing import Dict, Iterator, List, NamedTuple, Optional, Tuple
 
 from . import beside, scratch, trusted
-from .messages import Failure, failing
+from .attempts import failing
+from .messages import Failure
 
 TEXTS = (b"passwd", b"group", b"dump")  # Which the program loads.
 FILES = (*TEXTS, b"links", b"inodes", beside.NAME, b"meta")
@@ -54,7 +55,7 @@ class OpenText(NamedTuple):
         size, _ = self.content
         if size > trusted.MOST:
             raise trusted.too_large(self.path, trusted.MOST)
-        with failing(self.path):  # As it is a folder, or the disk is at fault.
+        with failing(self.path, True):  # As it is a folder, or the disk is at fault.
             found = more = os.pread(self.descriptor, size, 0)
             while more and len(found) < size:
                 more = os.pread(self.descriptor, size - len(found), len(found))
@@ -160,7 +161,7 @@ def open_files(way: trusted.Way, name: bytes) -> Folder:
 def open_folder(name: bytes, above: Optional[Folder] = None) -> Folder:
     """Opens a folder by its name, or in an open one that has it as a part; once more where it is replaced meanwhile."""
     for _ in range(TRIES):
-        with failing(name), contextlib.closing(trusted.way_to(name) if above is None or above.way is None else
+        with failing(name, True), contextlib.closing(trusted.way_to(name) if above is None or above.way is None else
                                                above.way.copied().gone_in(os.path.basename(name), name)) as way:
             made = open_files(way, name)
         if made.state:

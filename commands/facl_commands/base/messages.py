@@ -61,15 +61,6 @@ def named(error: OSError) -> bytes:
     return (os.fsencode(name) + b": " if isinstance(name, (str, bytes)) else b"") + reason(error)
 
 
-@contextlib.contextmanager
-def failing(name: bytes) -> Iterator[None]:
-    """Has a failed call within end the command, with a name."""
-    try:
-        yield
-    except OSError as error:
-        raise Failure(name + b": " + reason(error)) from error
-
-
 class Command:
     """A command by its name, with its two streams.
 

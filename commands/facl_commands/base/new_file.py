@@ -8,7 +8,8 @@ import os
 import signal
 
 from . import acl_bytes, linux, trusted
-from .messages import SIGNALS, Failure, failing, reason
+from .attempts import failing
+from .messages import SIGNALS, Failure, reason
 from .trusted import PRIVATE
 
 DIRECTORY = os.O_RDONLY | os.O_DIRECTORY | os.O_NOFOLLOW | os.O_CLOEXEC
@@ -82,7 +83,7 @@ class NewFile:
         if self.last in (b"", b".", b".."):
             raise Failure(name + b": is no name of a file")
         self.folder = trusted.open_folder(above or b".")
-        with failing(name):
+        with failing(name, True):
             was_there = is_there(self.last, self.folder)
         if was_there:
             raise Failure(name + b": is there already, and is not replaced")

@@ -14,9 +14,10 @@ import subprocess
 from typing import Iterator, List, NamedTuple, Optional, Set
 
 from ..base import beside, folders
+from ..base.attempts import failing
 from ..base.environment import environment_of_called
 from ..base.folders import Folder, folder_of
-from ..base.messages import Failure, failing
+from ..base.messages import Failure
 from ..base.names import highest, path_word, read_name
 from ..base.programs import add_program, program_words
 from ..base.trusted import open_file
@@ -106,7 +107,7 @@ def folder_of_files(given: argparse.Namespace, name: bytes) -> Folder:
 
 def getent(words: List[bytes]) -> bytes:
     """Rows of the system; keys that nobody has give none."""
-    with failing(b"getent"):
+    with failing(b"getent", True):
         return subprocess.run([b"getent", *words], stdin=subprocess.DEVNULL, stdout=subprocess.PIPE, check=False,
                               env=environment_of_called()).stdout
 

@@ -7,7 +7,8 @@ import re
 import stat
 from typing import IO, Iterable, Iterator, List, NamedTuple, Optional, Tuple
 
-from ..base.messages import Failure, failing
+from ..base.attempts import failing
+from ..base.messages import Failure
 from ..base.trusted import MOST_WRITTEN, read_all, too_large
 from .tools import LOADERS, TEXT_WORDS
 
@@ -128,7 +129,7 @@ class Script(NamedTuple):
 def read_text(name: str) -> Script:
     """What is in a script; the name - is standard input."""
     shown = b"standard input" if name == "-" else os.fsencode(name)
-    with failing(shown), open(0 if name == "-" else open_script(name), "rb", closefd=name != "-") as file:
+    with failing(shown, True), open(0 if name == "-" else open_script(name), "rb", closefd=name != "-") as file:
         return Script(shown, read_all(file, shown, MOST_WRITTEN))
 
 
