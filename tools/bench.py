@@ -11,12 +11,12 @@ usage: tools/bench.py MEASUREMENT PROGRAM [FOLDER] [--files N,..] [--users N] [-
            1000 labels (1 run)
   grow     exponents: how the time of lines grows by files, labels, users, operands, depth and the entries of a list, by
            grow.py; with --only RANGE,.. by some of them (2 runs)
+  commands the commands of auditors, facl-report and facl-ask over a snapshot of 2000 lists (1000000 files, 1000 users, one run);
+           with --clone OTHER those of other clones too, in turn, which may be given several times
   real     the program beside getfacl(1), setfacl(1), chmod(1), touch(1) and rm(1) on one tree, whose real files are
            made in FOLDER, which has to take lists (100000 files, 100 users, 3 runs)
   live     as root, facl-snapshot, facl-plan and facl-apply beside getfacl and setfacl on a tree that is made in FOLDER
            (100000 files, 30 users, 3 runs)
-  commands the commands of auditors, facl-report and facl-ask over a snapshot of 2000 lists (1000000 files, 1000 users, one run);
-           with --clone OTHER those of other clones too, in turn, which may be given several times
   tree     commands at the tree and the people alone, below the index and the tools, by a program of its own
            (tree_bench.rt.txt): it is proved and built in a temporary folder, over copies of the crates below acl_tree
            (100000 files, 1000 users, one run; the median of four hundred `creat`, `rm` and `gpasswd`)
@@ -357,9 +357,9 @@ MEASUREMENTS = {
     "index": Measurement(measure_index, [100_000], 1_000, 2),
     "limits": Measurement(measure_limits, [1_048_570], 65_536, 1),
     "grow": Measurement(measure_grow, [grow.FILES], grow.MEMBERS_OF_ALL, 2),
+    "commands": Measurement(measure_commands, [1_000_000], 1_000, 1),
     "real": Measurement(measure_real, [100_000], 100, 3, ("getfacl", "setfacl")),
     "live": Measurement(measure_live, [100_000], 30, 3, ("getfacl", "setfacl")),
-    "commands": Measurement(measure_commands, [1_000_000], 1_000, 1),
     "tree": Measurement(measure_tree, [100_000], 1_000, 1, ("rt",)),
 }
 
