@@ -11,8 +11,8 @@ usage: tools/bench.py MEASUREMENT PROGRAM [FOLDER] [--files N,..] [--users N] [-
            1000 labels (1 run)
   grow     exponents: how the time of lines grows by files, labels, users, operands, depth and the entries of a list, by
            grow.py; with --only RANGE,.. by some of them (2 runs)
-  commands the commands of auditors, facl-report and facl-ask over a snapshot of 2000 lists (1000000 files, 1000 users, one run);
-           with --clone OTHER those of other clones too, in turn, which may be given several times
+  commands the commands of auditors, facl-report and facl-ask over a snapshot of 2000 lists (1000000 files, 1000 users,
+           one run); with --clone OTHER also those of another clone, in turn; it may be given several times
   real     the program beside getfacl(1), setfacl(1), chmod(1), touch(1) and rm(1) on one tree, whose real files are
            made in FOLDER, which has to take lists (100000 files, 100 users, 3 runs)
   live     as root, facl-snapshot, facl-plan and facl-apply beside getfacl and setfacl on a tree that is made in FOLDER

@@ -1,5 +1,5 @@
-"""The commands over a snapshot as facl-snapshot writes it: what each takes of the processor, and how much memory its largest process
-has."""
+"""Commands over a snapshot as facl-snapshot writes it: what each takes of the processor, and the memory of its largest
+process."""
 from __future__ import annotations
 
 import os
@@ -12,11 +12,11 @@ from lib.texts import PER_DIRECTORY, text_file, write_people
 from .sessions import TEXTS, print_table
 
 LABELS, OF_DIRECTORIES = 2_000, 10  # Different lists of plain files, and of directories.
-OPEN = 50  # One of so many lists of plain files grants others something.
-DIFFERING = 1_000  # One of so many files has another list in the second snapshot.
+OPEN = 50  # Each 50th list of plain files grants others something.
+DIFFERING = 1_000  # Each 1,000th file has another list in the second snapshot.
 RULES = 100
-META = ("host bench\ndate 2026-01-01T00:00:00Z\nversion 0\nfolder /srv\nexcluded 0\nunread 0\nfiles {}\nlinked-names 0\n"
-        "marks 0\nusers {}\ngroups {}\n")
+META = ("host bench\ndate 2026-01-01T00:00:00Z\nversion 0\nfolder /srv\nexcluded 0\nunread 0\nfiles {}\n"
+        "linked-names 0\nmarks 0\nusers {}\ngroups {}\n")
 
 
 class Taken(NamedTuple):
@@ -48,7 +48,8 @@ def records(files: int, users: int, is_later: bool) -> Iterator[Tuple[str, str]]
         name = ("/", "/srv/")[n] if n < 2 else f"/srv/d{directory:05}/" + f"f{place:03}" * (not is_directory)
         number = directory % OF_DIRECTORIES if is_directory else (n + (is_later and n % DIFFERING == 0)) % LABELS
         ids = (0, 0) if n < 2 else (1000 + number % users, 5000 + number % max(1, users // 10))
-        yield name, "\n".join([f"# file: {name}", "# owner: %d\n# group: %d" % ids, *entries(number, users, is_directory), "\n"])
+        lines = [f"# file: {name}", "# owner: %d" % ids[0], "# group: %d" % ids[1], *entries(number, users, is_directory)]
+        yield name, "\n".join([*lines, "\n"])
 
 
 def write_snapshot(folder: str, files: int, users: int, is_later: bool = False) -> None:
@@ -83,7 +84,8 @@ def write_words(folder: str, files: int) -> None:
     """Writes the rules, which hold, and the question."""
     last = max(1, (files - 2) // (PER_DIRECTORY + 1))
     rules = [f"never others write /srv/d{k * 37 % last:05}/\n" for k in range(RULES)]
-    for name, text in (("one", "never others write /srv/\n"), ("hundred", "".join(rules)), ("question", "who --reach w srv/d00000/f001\n")):
+    texts = {"one": "never others write /srv/\n", "hundred": "".join(rules), "question": "who --reach w srv/d00000/f001\n"}
+    for name, text in texts.items():
         with text_file(folder, name) as out:
             out.write(text)
 

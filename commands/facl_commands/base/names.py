@@ -92,7 +92,7 @@ def at_or_below(paths: Iterable[bytes], tops: Iterable[bytes]) -> List[bytes]:
 def highest(paths: Iterable[bytes]) -> List[bytes]:
     """Paths in path order, each once, without those that another one is above."""
     known = set(paths)
-    tops = [path for path in known if not path or path.rpartition(b"/")[0] not in known]  # Most are in another one of them.
+    tops = [path for path in known if not path or parent_of(path) not in known]  # Most paths are in another one.
     return sorted((path for path in tops if known.isdisjoint(directories_above(path))), key=sorting_key)
 
 

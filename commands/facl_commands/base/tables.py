@@ -64,8 +64,8 @@ class Paint:
     def __init__(self) -> None:
         is_plain = os.environ.get("NO_COLOR") or os.environ.get("TERM", "dumb") == "dumb"
         is_on = is_terminal() and not is_plain
-        marks = (b"\x1b[%dm%%s\x1b[0m" % code for code in (1, 2, 31, 32, 33))
-        self.bold, self.dim, self.red, self.green, self.yellow = (partial(marked, mark if is_on else b"%s") for mark in marks)
+        marks = (b"\x1b[%dm%%s\x1b[0m" % code if is_on else b"%s" for code in (1, 2, 31, 32, 33))
+        self.bold, self.dim, self.red, self.green, self.yellow = (partial(marked, mark) for mark in marks)
 
 
 def marked(mark: bytes, text: bytes) -> bytes:
@@ -74,8 +74,8 @@ def marked(mark: bytes, text: bytes) -> bytes:
 
 def fitting_line(line: bytes, indent: int = 0) -> bytes:
     """A line that a person reads after some blanks, cut in its middle where a terminal has no room for it."""
-    text = shown(line)
-    return b" " * indent + (cut(text.decode(), shutil.get_terminal_size().columns - indent).encode() if is_terminal() else text)
+    text, room = shown(line), shutil.get_terminal_size().columns - indent
+    return b" " * indent + (cut(text.decode(), room).encode() if is_terminal() else text)
 
 
 # --- tables
@@ -137,7 +137,8 @@ def aligned(cells: Sequence[str], columns: Sequence[Column], widths: Sequence[in
 
 
 def write_rows(command: Command, table: Table) -> None:
-    """Prints titles and rows below each other; at a terminal each is one line, of which a narrow one has the beginning."""
+    """Prints titles and rows below each other; at a terminal each is one line, of which a narrow one has the
+    beginning."""
     rows = [[column.title for column in table.columns], *([cell_of(field) for field in row] for row in table.rows)]
     widths = [max(map(width_of, cells)) for cells in zip(*rows)]
     room = shutil.get_terminal_size().columns if is_terminal() else None
@@ -155,7 +156,7 @@ def field_of(text: bytes) -> bytes:
 
 
 def write_table(command: Command, given: argparse.Namespace, table: Table) -> None:
-    """Prints a table in the form that is asked for; rows for a script at a terminal with escapes of what this obeys."""
+    """Prints a table in the form that was chosen; rows for a script at a terminal with escapes of what this obeys."""
     if not given.tsv:
         write_rows(command, table)
         return

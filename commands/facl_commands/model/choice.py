@@ -49,7 +49,8 @@ def kept(users: Iterable[bytes], given: argparse.Namespace, passwd: bytes) -> Li
 def notes(left_out: Iterable[bytes], passwd: bytes) -> Iterator[bytes]:
     """What is said of users who have something to be printed, and are left out; root alone needs no word."""
     users, superusers = list(left_out), superusers_among(ids_in(passwd).items())
-    accounts, roots = ([user for user in users if (read_name(user) in superusers) is is_root] for is_root in (False, True))
+    roots = [user for user in users if read_name(user) in superusers]
+    accounts = [user for user in users if read_name(user) not in superusers]
     if accounts:
         yield b"left out: %s who %s no people (--all-users): %s" % (
             counted(len(accounts), "user"), b"is" if len(accounts) == 1 else b"are", few(accounts))

@@ -225,6 +225,6 @@ def directories_of(dump: bytes) -> Iterator[bytes]:
 
 def listing_of(world: World) -> Listing:
     """All files, with what the masks cut; a directory is one by the dump too."""
-    session = world.session
-    listings = [session.ask_accepted(b" ".join([LIST_EFFECTIVE, *words])) for words in operands_of(find_tops(session, session.folder))]
-    return list_slices(listings, directories_of(folder_of(session.folder).read(DUMP)))
+    session, folder = world.session, world.session.folder
+    lines = [b" ".join([LIST_EFFECTIVE, *words]) for words in operands_of(find_tops(session, folder))]
+    return list_slices(map(session.ask_accepted, lines), directories_of(folder_of(folder).read(DUMP)))

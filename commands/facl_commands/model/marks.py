@@ -20,8 +20,8 @@ TEXTS = {
 }
 NO_WRITING = (beside.IMMUTABLE, beside.READ_ONLY)  # Nobody can write such a file, or make, remove or rename what is in it.
 NO_CHANGE = (*NO_WRITING, beside.APPEND_ONLY)  # Nobody can change the owner, mode and lists of such a file, or remove it.
-COUNTED = {beside.IMMUTABLE: "immutable file", beside.APPEND_ONLY: "append-only file", beside.READ_ONLY: "read-only file system",
-           beside.NOEXEC: "noexec file system"}
+COUNTED = {beside.IMMUTABLE: "immutable file", beside.APPEND_ONLY: "append-only file",
+           beside.READ_ONLY: "read-only file system", beside.NOEXEC: "noexec file system"}
 OTHERS = {beside.NFS4_LIST: b"NFSv4", beside.RICH_LIST: b"rich lists", beside.SAMBA_LIST: b"Samba"}  # Lists by kinds.
 
 

@@ -7,7 +7,7 @@ from __future__ import annotations
 import os
 import re
 from collections import Counter
-from typing import Dict, Iterator, List, NamedTuple
+from typing import Dict, Iterator, List, NamedTuple, Set
 
 from ..base import beside
 from ..base.folders import folder_of
@@ -44,14 +44,14 @@ def read_texts(folder: bytes) -> LoadedTexts:
 
 
 def files_in(dump: bytes) -> int:
-    """How many records a dump has. Where each `file:` begins one as facl-snapshot writes it, two searches of bytes say so."""
+    """How many records a dump has. Two searches of bytes say so if each `file:` begins one as facl-snapshot writes it."""
     found = dump.count(b"\n" + FILE_HEAD) + dump.startswith(FILE_HEAD)
     return found if dump.count(b"file:") == found else sum(1 for _ in source_texts.names_of(dump))
 
 
 def summary(texts: LoadedTexts, name: bytes) -> bytes:
-    users, groups = (len(rows_of(text)) for text in (texts.passwd, texts.group))
-    return b"%s: %s, %s, %s" % (name, counted(users, "user"), counted(groups, "group"), counted(files_in(texts.dump), "file"))
+    users, groups, files = len(rows_of(texts.passwd)), len(rows_of(texts.group)), files_in(texts.dump)
+    return b"%s: %s, %s, %s" % (name, counted(users, "user"), counted(groups, "group"), counted(files, "file"))
 
 
 def judged_otherwise(dump: bytes) -> Iterator[bytes]:
@@ -121,9 +121,10 @@ def unknown(folder: bytes, dump: bytes) -> Iterator[bytes]:
 
 
 def names_without_row(folder: bytes, dump: bytes) -> Iterator[bytes]:
-    """A warning where a dump names users and groups that have no row, which ids need not, with the first line that does. The file may
-    be any: no name is given back."""
-    number, of_them, lines = 0, set(), source_texts.distinct_lines(dump)
+    """A warning where a dump names users and groups that have no row, which ids need not, with the first line that
+    does. The file may be any: no name is given back."""
+    number, lines = 0, source_texts.distinct_lines(dump)
+    of_them: Set[bytes] = set()
     for database in source_texts.DATABASES:
         known = {row[0] for row in rows_of(folder_of(folder).read(database.encode()))}
         lacking = {name for name in source_texts.names_in(database, lines) - known if not name.isdigit()}
@@ -131,8 +132,9 @@ def names_without_row(folder: bytes, dump: bytes) -> Iterator[bytes]:
         of_them |= {line for line in lines if source_texts.names_in(database, {line}) & lacking} if lacking else set()
     if number:
         all_lines = (line for piece in source_texts.pieces_of(dump) for line in piece.split(b"\n"))
-        yield counted_warning(b"users and groups in the dump without a row, with which the program does not load it", number,
-                              b"line %d" % next((place for place, line in enumerate(all_lines, 1) if line in of_them), 0))
+        first = next((place for place, line in enumerate(all_lines, 1) if line in of_them), 0)
+        yield counted_warning(b"users and groups in the dump without a row, with which the program does not load it",
+                              number, b"line %d" % first)
 
 
 def torn(texts: LoadedTexts) -> Iterator[bytes]:

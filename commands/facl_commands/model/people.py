@@ -82,7 +82,8 @@ class People:
         """Does what an accepted line does, and returns it; None where nothing changes."""
         tool, line = words[0], split(words)
         if tool == b"gpasswd":
-            return self.change_member(meant(self.users, line.value(b"-a", b"-d")), meant(self.groups, line.operands[0]), line.has(b"-a"))
+            user, group = meant(self.users, line.value(b"-a", b"-d")), meant(self.groups, line.operands[0])
+            return self.change_member(user, group, line.has(b"-a"))
         if tool == b"userdel":
             user = meant(self.users, line.operands[0])
             self.users.remove(user)

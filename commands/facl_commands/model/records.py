@@ -1,6 +1,7 @@
 """The records of a listing: what getfacl prints of files, by the program or by the system, with ids as numbers."""
 from __future__ import annotations
 
+import itertools
 from typing import Dict, Iterable, Iterator, List, NamedTuple, Tuple
 
 from ..base.messages import Failure
@@ -95,8 +96,8 @@ def paths_of(names: List[bytes]) -> List[bytes]:
 
 
 def list_pieces(pieces: Iterable[bytes], directories: Iterable[bytes] = ()) -> Listing:
-    """The files of a listing that comes in pieces. A file is a directory by its name, its default entries, or another file below it,
-    or where it is one of `directories`. Files of one kind with the same lines are one value."""
+    """The files of a listing that comes in pieces. A file is a directory by its name, its default entries, or another
+    file below it, or as one of `directories`. Files of one kind with the same lines are one value."""
     names: List[bytes] = []
     bodies: List[bytes] = []
     known: Dict[bytes, bytes] = {}  # Each different body once.
@@ -109,7 +110,8 @@ def list_pieces(pieces: Iterable[bytes], directories: Iterable[bytes] = ()) -> L
     found = dict(zip(paths, map(plain.__getitem__, bodies)))
     folders = {body + b"\n": File(True, body + b"\n") for body in known}
     slashed = [path for path, name in zip(paths, names) if name[-1:] == b"/"]
-    for path in {b"", *slashed, *directories, *[path.rpartition(b"/")[0] for path in paths]}:
+    parents = {path.rpartition(b"/")[0] for path in paths}
+    for path in itertools.chain([b""], parents, slashed, directories):
         if path in found:
             found[path] = folders[found[path].body]
     return Listing(found, names)

@@ -30,7 +30,8 @@ class FileAnswers(NamedTuple):
     names: Dict[bytes, bytes]  # By path: the name as the program prints it.
     users: List[bytes]
     alone: Dict[bytes, Vector]  # By path, in path order: on each file alone.
-    reached: Dict[bytes, bytes]  # By directory, as directory_of has it: for each user 1 who can get to what is in it, else 0.
+    # By directory, as directory_of has it: for each user 1 who can get to what is in it, else 0.
+    reached: Dict[bytes, bytes]
 
 
 class Difference(NamedTuple):

@@ -86,5 +86,6 @@ def read_snapshot(folder: bytes, needs_links: bool = True) -> Snapshot:
     if found.has(b"inodes") and fault_of_inodes(folder, text, inodes):
         raise Failure(folder + b"/inodes: has fewer names than facl-snapshot recorded" + again)
     if found.has(b"inodes") and fault_of_links(links, inodes):
-        raise Failure(folder + b"/links: has other names of files than inodes, so it is not as facl-snapshot wrote it" + again)
+        raise Failure(folder + b"/links: has other names of files than inodes, so it is not as facl-snapshot wrote it"
+                      + again)
     return Snapshot(folder, passwd, group, links, boot, inodes)

@@ -136,7 +136,7 @@ def names_in(database: str, lines: Set[bytes]) -> Set[bytes]:
 
 
 def rows_of_system(database: str, lines: Set[bytes]) -> bytes:
-    """passwd or group of the system, also the rows that it gives only where it is asked for them by a name or id in lines of a dump."""
+    """passwd or group of the system, also the rows that it gives only by a name or id, which lines of a dump have."""
     word = database.encode()
     text = getent([word])
     known = {field for row in rows_of(text) for field in (row[0], row[2])}
@@ -151,15 +151,16 @@ def notice(folder: bytes, dump: bytes) -> Optional[bytes]:
     has, found = folder_of(folder).has, []
     if not dump.startswith(LIVE_ROOT) and b"\n" + LIVE_ROOT not in dump:
         found.append(b"the directories above are not recorded, so they are taken as open")
-    unknown = [b"hard links"] * (not has(b"links")) + [b"immutable files", b"read-only file systems"] * (not has(beside.NAME))
+    unknown = [b"hard links"] * (not has(b"links"))
+    unknown += [b"immutable files", b"read-only file systems"] * (not has(beside.NAME))
     if unknown:
         found.append(b" and ".join(filter(None, [b", ".join(unknown[:-1]), unknown[-1]])) + b" are not known")
     return b"; ".join(found) or None
 
 
 def names_of(dump: bytes) -> Iterator[bytes]:
-    """The names of its files, as they are written there. Where each `file:` begins a record as facl-snapshot writes it, other lines are
-    not looked at."""
+    """The names of its files, as they are written there. No other line is looked at if each `file:` begins a record as
+    facl-snapshot writes it."""
     for piece in pieces_of(dump):
         records = (b"\n" + piece).split(b"\n" + FILE_HEAD)[1:]
         if piece.count(b"file:") == len(records):

@@ -8,7 +8,7 @@ from ..base.names import live_path
 from ..base.user_tools import PeopleChange
 from ..model import people, sources
 from ..model.everybody import ElseAnswers
-from ..model.records import Files, Listing, list_files
+from ..model.records import Files, Listing, list_slices
 from ..model.snapshot import Snapshot
 from ..program.answering import answer_unit
 from ..program.protocol import WARNING, is_refused
@@ -96,4 +96,4 @@ class Replay:
 
 def list_below(session: Session, tops: List[bytes]) -> Listing:
     """The files as they are now, from those on that no recorded directory is above."""
-    return list_files(b"".join(output.read() for output in sources.list_below(session, tops)))
+    return list_slices(sources.list_below(session, tops))

@@ -82,8 +82,8 @@ def words_within(line: bytes) -> List[bytes]:
 
 
 def starts(content: bytes) -> Iterator[Tuple[int, int]]:
-    """The lines of a text that are neither blank nor comments, or too long for a script: their numbers, from 1 on, and where they begin.
-    Comments are passed over by a pattern, since there can be many."""
+    """The lines of a text that are neither blank nor comments, or too long for a script: their numbers, from 1 on, and
+    where they begin. Comments are passed over by a pattern, since there can be many."""
     number, place = 1, 0
     for found in itertools.chain(filter(None, [FIRST_LINE.match(content)]), NEXT_LINE.finditer(content)):
         start = found.start() + (found.re is NEXT_LINE)

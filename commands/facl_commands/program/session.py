@@ -22,8 +22,8 @@ NUMBER = re.compile(rb"\Aline [0-9]+: ")  # The beginning of a message.
 
 
 def cut(pieces: Iterable[bytes], end: bytes = b"\n", longest: Optional[int] = None) -> Iterator[List[bytes]]:
-    """The lines of a text that comes in pieces, without their ends, those that end in one piece at once; ValueError where more than
-    `longest` bytes have none."""
+    """The lines of a text that comes in pieces, without their ends: at once those that end in a piece; ValueError where
+    more than `longest` bytes have none."""
     rest = b""
     for piece in pieces:
         *whole, rest = (rest + piece).split(end)

@@ -141,9 +141,10 @@ EDITS, CHANGES_OF_PEOPLE = of_kind(EDIT), of_kind(PEOPLE)
 QUESTIONS, TOOLS_OF_PLANS = of_kind(QUESTION), of_kind(OF_PLANS)
 IN_SCRIPTS = tuple(tool for tool in ROWS if tool.kind != OF_PLANS)
 TOOLS = tuple(tool.name for tool in IN_SCRIPTS)
-WITH_FILES = tuple(tool.name for tool in IN_SCRIPTS if "FILE" in tool.operands)  # They look at files that their words name.
-ABOUT_USERS, COUNTING = (tuple(tool.name for tool in IN_SCRIPTS if word in tool.prints.split())  # The names of users are in answers;
-                         for word in ("USER", "COUNT"))  # answers count files.
+# They look at files that their words name.
+WITH_FILES = tuple(tool.name for tool in IN_SCRIPTS if "FILE" in tool.operands)
+# The names of users are in their answers; their answers count files.
+ABOUT_USERS, COUNTING = (tuple(tool.name for tool in IN_SCRIPTS if it in tool.prints.split()) for it in ("USER", "COUNT"))
 # Their answers go by files, and of each file by users.
 BY_FILES = tuple(name for name in ABOUT_USERS if "PATH" in ALL[name].prints.split() and name not in COUNTING)
 # They are about one user, who is their first operand.
