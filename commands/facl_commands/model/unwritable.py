@@ -13,12 +13,11 @@ from typing import Callable, Dict, Iterator, List, NamedTuple
 from ..base import beside
 from ..base.messages import counted
 from ..base.names import highest
-from ..base.numbered import Numbered
 from ..program.protocol import LIST_ALL, LIST_NUMBERS, RESTORE
 from ..program.session import Session, parts_of
 from . import sources
 from .marks import NO_WRITING, Marks
-from .records import File, list_words, path_of, records_in, split_record, write_record
+from .records import File, list_slices, list_words, write_record
 
 WRITES = re.compile(rb"^((?:user|group|mask|other):[0-9]*:[r-])w", re.MULTILINE)  # In a record with ids as numbers.
 ROOM = 1 << 24  # Bytes of records that are given back at once.
@@ -39,15 +38,14 @@ class Unwritable(NamedTuple):
 
 def find_unwritable(session: Session, marks: Marks, folders: List[bytes]) -> Unwritable:
     """Those at or below some paths."""
-    found, known = Unwritable({}, dict.fromkeys(NO_WRITING, 0)), Numbered[bytes]()
+    found = Unwritable({}, dict.fromkeys(NO_WRITING, 0))
     read_only = highest(marks.mounted(beside.READ_ONLY, folders))
     for line, paths in ((LIST_NUMBERS, marks.immutable(folders)), (LIST_ALL, read_only)):
         for words in sources.operands_of(paths):
-            for name, body in map(split_record, records_in(list_words(session, words, line))):
-                path = path_of(name)
+            for path, file in list_slices(list_words(session, words, line)).files.items():
                 kind = marks.keeps(path, NO_WRITING)
                 if kind is not None and path not in found.bodies:
-                    found.bodies[path] = known.values[known.number(body + b"\n")]
+                    found.bodies[path] = file.body
                     found.numbers[kind] += 1
     return found
 
