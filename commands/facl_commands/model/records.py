@@ -99,13 +99,15 @@ def list_pieces(pieces: Iterable[bytes], directories: Iterable[bytes] = ()) -> L
     """The files of a listing that comes in pieces. A file is a directory by its name, its default entries, or another
     file below it, or as one of `directories`. Files of one kind with the same lines are one value."""
     names: List[bytes] = []
+    paths: List[bytes] = []
     bodies: List[bytes] = []
     known: Dict[bytes, bytes] = {}  # Each different body once.
     for records in cut(pieces, b"\n\n"):
         parts = [record.partition(b"\n") for record in records if record]
-        names += [name[len(FILE_HEAD) :] for name, _, _ in parts]
+        some = [name[len(FILE_HEAD) :] for name, _, _ in parts]
+        names += some
+        paths += paths_of(some)
         bodies += [known.setdefault(body, body) for _, _, body in parts]
-    paths = paths_of(names)
     plain = {body: File(DEFAULT_ENTRY in body, body + b"\n") for body in known}
     found = dict(zip(paths, map(plain.__getitem__, bodies)))
     folders = {body + b"\n": File(True, body + b"\n") for body in known}
