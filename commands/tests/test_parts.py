@@ -7,6 +7,7 @@ import subprocess
 import sys
 import unittest
 from typing import Dict, List
+from unittest import mock
 
 from common import COMMANDS, HERE, Case
 
@@ -15,7 +16,7 @@ sys.path.insert(0, COMMANDS)
 from facl_commands.base import names, user_tools  # noqa: E402
 from facl_commands.base.messages import Failure  # noqa: E402
 from facl_commands.base.programs import LINUX  # noqa: E402
-from facl_commands.model import entries, people, records, superuser  # noqa: E402
+from facl_commands.model import entries, everybody, overview, people, records, sources, split_tree, superuser  # noqa: E402
 from facl_commands.plan import hard_links  # noqa: E402
 from facl_commands.program import scripts, tools  # noqa: E402
 from facl_commands.program.session import Session  # noqa: E402
@@ -124,6 +125,36 @@ class Records(unittest.TestCase):
         self.assertEqual([path for path, file in files.items() if file.is_directory], [b"", b"a", b"c", b"d"])
         self.assertEqual(records.write_record(b"c", files[b"c"]), self.record(b"/c/", *base))
         self.assertEqual(records.write_record(b"", files[b""]), self.record(b"/", *base))
+
+    def test_a_listing_in_pieces(self) -> None:
+        """Where a piece ends, and names that have to be read, make no difference."""
+        base = (b"user::rwx", b"group::r-x", b"other::---")
+        listing = b"".join(self.record(name, *base) for name in (b".", b".a", b".a/b\\012c/", b"d", b"d/.e", b"d/f:", b"g"))
+        found = records.read_listing(listing)
+        self.assertEqual(list(found), [b"", b".a", b".a/b\nc", b"d", b"d/.e", b"d/f:", b"g"])
+        for size in (1, 7, 60, len(listing)):
+            pieces = [listing[start : start + size] for start in range(0, len(listing), size)]
+            self.assertEqual(records.list_pieces(pieces).files, found)
+        directories = [path for path, file in records.list_pieces([listing], [b"g", b"none"]).files.items() if file.is_directory]
+        self.assertEqual(directories, [b"", b".a", b".a/b\nc", b"d", b"g"])
+
+    def test_names_in_a_dump(self) -> None:
+        """Each line that begins a record counts, and no name with such words in it."""
+        plain = self.record(b"/", b"user::rwx") + self.record(b"/a/", b"user::rwx") + self.record(b"/a/b", b"user::rwx")
+        for more, names_of_more in ((b"", []), (self.record(b"/# file: x/", b"user::rwx"), [b"/# file: x/"]),
+                                    (b"\t#file:y/\nuser::rwx\n\n", [b"y/"]), (b"# no file: z/\nuser::rwx\n", [])):
+            dump, found = plain + more, [b"/", b"/a/", b"/a/b", *names_of_more]
+            self.assertEqual((list(sources.names_of(dump)), overview.files_in(dump)), (found, len(found)))
+            folders = [records.path_of(name) for name in found if name.endswith(b"/")]
+            self.assertEqual(list(everybody.directories_of(dump)), folders)
+            with mock.patch.object(sources, "PIECE", 5):
+                self.assertEqual(list(sources.names_of(dump)), found)
+
+    def test_paths_of_parts(self) -> None:
+        once = split_tree.Once()
+        parts: List[List[bytes]] = [[b"", b"a", b"a/b"], [b"", b"a", b"a/c", b"a b"], [], [b"", b"a", b"a b"]]
+        self.assertEqual([once.of_part(paths) for paths in parts], [parts[0], [b"a/c", b"a b"], [], []])
+        self.assertEqual([once.is_new(path) for path in (b"a", b"a!", b"a!")], [False, True, False])
 
     def test_empty_masks(self) -> None:
         for lines, is_open in (((b"user::rw-", b"user:3:r--", b"group::r--", b"mask::---", b"other::r--"), True),
