@@ -191,7 +191,7 @@ class People(unittest.TestCase):
     def test_first_rows_count(self) -> None:
         found = people.People(b"# no row\nx:x:1:1::/:\n\nx:x:2:2::/:\ny:x:1:1::/:\n", b"g:x:5:y,,x\n")
         self.assertEqual([(user.name, user.uid) for user in found.users], [(b"x", 1), (b"y", 1)])
-        self.assertEqual(found.user(b"1").name, b"x")
+        self.assertEqual(people.meant(found.users, b"1").name, b"x")
         self.assertEqual(found.groups[0].members, [b"y", b"x"])
         self.assertIsNone(found.change([b"gpasswd", b"-a", b"x", b"g"]))
         change = found.change([b"gpasswd", b"-d", b"1", b"5"])
