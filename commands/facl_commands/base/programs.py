@@ -22,11 +22,11 @@ class KnownProgram(NamedTuple):
         wanted = given or os.environ.get(self.variable, "")
         installed = os.path.join(HOME, "..", "..", "bin", self.name)
         built = os.path.join(HOME, "..", "crates", self.name + "_cli", "out", self.name + "_cli")
-        found = next(filter(None, map(shutil.which, [wanted] if wanted else [self.name, installed, built])), None)
-        if found is None:
+        found = [shutil.which(it) or "" for it in ([wanted] if wanted else [self.name, installed, built])]
+        if not any(found):
             raise Failure(os.fsencode(wanted) + b": no such program" if wanted else
                           b"the program %s is not on the path: give it by --program FILE" % self.name.encode() + self.instead)
-        return os.path.abspath(found)
+        return os.path.abspath(next(filter(None, found)))
 
 
 LINUX = KnownProgram("facl_linux", "FACL_LINUX", b", or ask facl by --acl5")

@@ -162,7 +162,7 @@ def write_table(command: Command, given: argparse.Namespace, table: Table) -> No
         return
     command.write("\t".join(column.title for column in table.columns).encode() + b"\n")
     for row in table.rows:
-        fields = map(field_of, row)
+        fields = list(map(field_of, row))
         command.write(b"\t".join(map(shown, fields) if is_terminal() else fields) + b"\n")
 
 

@@ -108,7 +108,7 @@ def folder_of(session: Session, word: bytes) -> bytes:
 
 def recorded_path(word: bytes, is_there: Callable[[bytes], bool]) -> Optional[bytes]:
     refuse_empty(word)
-    return next(filter(is_there, paths_of(word)), None)
+    return next((path for path in paths_of(word) if is_there(path)), None)
 
 
 def folders_in(words: Iterable[str], recorded_of: Callable[[Set[bytes]], Set[bytes]]) -> List[bytes]:

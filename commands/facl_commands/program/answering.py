@@ -39,7 +39,8 @@ def write_messages(command: Command, place: bytes, unit: Unit, messages: List[by
 
 def lines_for_terminal(lines: Iterable[bytes]) -> Iterator[bytes]:
     """The lines of an answer; at a terminal without what this obeys."""
-    return map(shown, lines) if os.isatty(1) else iter(lines)
+    is_terminal = os.isatty(1)
+    return (shown(line) if is_terminal else line for line in lines)
 
 
 # --- answers with the question above each, as facl-plan prints them
