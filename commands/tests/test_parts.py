@@ -141,9 +141,11 @@ class Records(unittest.TestCase):
     def test_names_in_a_dump(self) -> None:
         """Each line that begins a record counts, and no name with such words in it."""
         plain = self.record(b"/", b"user::rwx") + self.record(b"/a/", b"user::rwx") + self.record(b"/a/b", b"user::rwx")
-        for more, names_of_more in ((b"", []), (self.record(b"/# file: x/", b"user::rwx"), [b"/# file: x/"]),
-                                    (b"\t#file:y/\nuser::rwx\n\n", [b"y/"]), (b"# no file: z/\nuser::rwx\n", [])):
-            dump, found = plain + more, [b"/", b"/a/", b"/a/b", *names_of_more]
+        cases: Dict[bytes, List[bytes]] = {
+            b"": [], self.record(b"/# file: x/", b"user::rwx"): [b"/# file: x/"], b"\t#file:y/\nuser::rwx\n\n": [b"y/"],
+            b"# no file: z/\nuser::rwx\n": []}
+        for more, more_names in cases.items():
+            dump, found = plain + more, [b"/", b"/a/", b"/a/b", *more_names]
             self.assertEqual((list(sources.names_of(dump)), overview.files_in(dump)), (found, len(found)))
             folders = [records.path_of(name) for name in found if name.endswith(b"/")]
             self.assertEqual(list(everybody.directories_of(dump)), folders)
