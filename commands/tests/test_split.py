@@ -130,7 +130,7 @@ class SplitCase(Case):
         os.chmod(self.path("rules"), 0o600)
         given = check.parse(["--json", self.path(name), self.path("rules")])
         folder = os.fsencode(self.path(name))
-        found = check.report_of(given, sources.Source(folder, folder, False), LINUX.find())[0]
+        found = check.report_of(given, sources.Source(folder, folder, False), LINUX.find())
         return {key: value for key, value in json_of_rules(found).items() if key != "snapshot"}
 
 

@@ -15,11 +15,10 @@ from ...model.entries import NamesOfIds
 from ...model.everybody import World, listing_of, world_of
 from ...model.meta import Meta, meta_of
 from ...model.sources import Source
-from .accepted import Accepted, Unused, read_accepted, sort_out, why_unused
-from .findings import KINDS, WEIGHTS, Findings, FoundFile, edits_of
-from .lists import of_lists
-from .report import SCHEMA, AuditReport, json_of, lines_of, table_of, table_of_files
-from .rights import Audited, entries_without_effect, of_everybody, of_writers
+from .findings import KINDS, WEIGHTS, Accepted, Findings, FoundFile, edits_of, read_accepted, sort_out, why_unused
+from .lists import Audited, default_not_inherited, of_records
+from .report import SCHEMA, AuditReport, Unused, json_of, lines_of, table_of, table_of_files
+from .rights import of_everybody, of_writers, removable
 
 NONE = "none"
 HELP = """\
@@ -87,51 +86,32 @@ def folders_in_parts(parts: List[bytes], about: Meta, given: argparse.Namespace)
     return found if found and split_tree.recorded_in(parts, found) == {*found} else [b""]
 
 
-# --- hard links
-
-
-def across_folders(sets: List[List[bytes]], paths: List[bytes]) -> List[FoundFile]:
+def across_folders(sets: List[List[bytes]], paths: Set[bytes]) -> List[FoundFile]:
     """Those of some plain files that are in another folder than the first name; a folder that is mounted at two places is
     one folder."""
-    first_of = {name: names[0] for names in sets for name in names}
-    known, found = set(paths), []
+    first_of, found = {name: names[0] for names in sets for name in names}, []
     for names in sets:
         folders = [first_of.get(parent_of(name), parent_of(name)) for name in names]
         found += [FoundFile(name, b"is one file with " + shown_path(names[0]), b"rm")
-                  for name, folder in zip(names, folders) if folder != folders[0] and name in known]
+                  for name, folder in zip(names, folders) if folder != folders[0] and name in paths]
     return found
 
 
-# --- all of it
-
-
-def findings_of(audited: Audited, program: str, links: List[List[bytes]]) -> Findings:
-    found: Findings = {**of_everybody(audited), **of_writers(audited)}
-    for name, look in of_lists(audited.files, audited.paths, audited.ids).items():
-        found[name] = list(look())
-    found["entry-without-effect"] = list(entries_without_effect(audited, program))
-    plain = [path for path in audited.paths if not audited.is_directory(path)]
-    found["links-across-folders"] = across_folders(links, plain)
-    return found
-
-
-def is_about(line: Accepted, folders: List[bytes], recorded: Set[bytes]) -> bool:
-    """Whether a line that accepts nothing is said: it is about what is audited, or its path is not in the snapshot."""
-    path = line.path()
-    if path and path not in recorded:
-        return True
-    return is_at_or_below(path, folders) or line.is_folder() and bool(at_or_below(folders, [path]))
+def findings_of(audited: Audited, links: List[List[bytes]]) -> Findings:
+    plain = {path for path in audited.paths if not audited.files[path].is_directory} if links else set()
+    return {**of_everybody(audited), **of_writers(audited), **of_records(audited, removable(audited)),
+            "default-not-inherited": default_not_inherited(audited), "links-across-folders": across_folders(links, plain)}
 
 
 class AllFindings:
     """What is found in all parts of a snapshot, or in one that has none."""
 
     def __init__(self, given: argparse.Namespace, parts: List[bytes], about: Meta) -> None:
-        self.given = given
+        self.given, self.parts = given, parts
         self.lines = read_accepted(given.accepted) if given.accepted is not None else []
         self.folders = folders_in_parts(parts, about, given) if parts else []
         self.once = split_tree.Once()
-        self.found: Findings = {}
+        self.found: Findings = {kind.name: [] for kind in KINDS}
         self.files = 0  # Those that are audited.
         self.recorded: Set[bytes] = set()  # The paths of lines that are in the snapshot.
         self.is_whole = False
@@ -140,13 +120,18 @@ class AllFindings:
         """Adds what is found in the next part."""
         self.folders = self.folders or audited_folders(world, self.given)
         files = listing_of(world).files
-        paths = at_or_below(self.once.of_part(files), self.folders)
-        audited = Audited(world, self.given, files, paths, NamesOfIds(world.texts.passwd, world.texts.group))
-        for name, found in findings_of(audited, program, links).items():
-            self.found.setdefault(name, []).extend(found)
+        paths = at_or_below(self.once.of_part(files) if self.parts else files, self.folders)
+        audited = Audited(world, self.given, program, files, paths, NamesOfIds(world.texts.passwd, world.texts.group))
+        for name, found in findings_of(audited, links).items():
+            self.found[name] += found
         self.files += len(paths)
-        self.recorded.update(path for path in (line.path() for line in self.lines) if path in files)
+        self.recorded.update(line.path for line in self.lines if line.path in files)
         self.is_whole = sources.find_tops(world.session, world.session.folder) == [b""]
+
+    def is_said(self, line: Accepted) -> bool:
+        """Whether a line that accepts nothing is: it is about what is audited, or its path is not in the snapshot."""
+        return (line.path != b"" and line.path not in self.recorded or is_at_or_below(line.path, self.folders)
+                or line.is_folder and at_or_below(self.folders, [line.path]) != [])
 
 
 def report_of(given: argparse.Namespace, source: Source, program: str) -> AuditReport:
@@ -157,19 +142,19 @@ def report_of(given: argparse.Namespace, source: Source, program: str) -> AuditR
     for folder in parts or [source.folder]:
         with world_of(program, source._replace(folder=folder)) as world:
             found.add(world, program, links)
-    rest = sort_out(found.found, found.lines)
-    unused = [Unused(line, why_unused(line, found.found), line.path() in found.recorded) for line in rest.unused
-              if is_about(line, found.folders, found.recorded)]
+    rest, used = sort_out(found.found, found.lines)
+    unused = [Unused(line, why_unused(line, found.found), line.path in found.recorded) for line in found.lines
+              if line not in used and found.is_said(line)]
+    accepted = sum(map(len, found.found.values())) - sum(map(len, rest.values()))
     of_edits = given if not parts else argparse.Namespace(**{**vars(given), "snapshot": os.fsdecode(parts[0])})
-    return AuditReport(source.shown, about, found.folders, found.files, rest.rest, rest.accepted, unused, found.is_whole,
+    return AuditReport(source.shown, about, found.folders, found.files, rest, accepted, unused, found.is_whole,
                        written(words_again(given)), written(words_again(of_edits)), written(sources.source_words(of_edits)),
                        bool(parts))
 
 
 def words_again(given: argparse.Namespace) -> List[str]:
     """The words that say what the findings are of, for another run."""
-    flags = [name for name, is_given in (("--all-users", given.all_users), ("--with-root", given.with_root),
-                                         ("--file-alone", given.file_alone)) if is_given]
+    flags = ["--all-users"] * given.all_users + ["--with-root"] * given.with_root + ["--file-alone"] * given.file_alone
     accepted = [] if given.accepted is None else ["--accepted", given.accepted]
     return [*flags, *accepted, *sources.source_words(given), *given.folders]
 
@@ -177,17 +162,6 @@ def words_again(given: argparse.Namespace) -> List[str]:
 def written(words: List[str]) -> bytes:
     """Words for a shell."""
     return shown(b" ".join(shell_word(os.fsencode(word)) for word in words))
-
-
-def page_of(given: argparse.Namespace, report: AuditReport, source: Source, program: str) -> Optional[bytes]:
-    """The page, where one is asked for."""
-    if given.page is None:
-        return None
-    if report.is_split:
-        raise Failure(b"--page: a snapshot in parts has none")
-    from .page import page_with  # Few runs need it.
-
-    return page_with(report, source, program, given)
 
 
 def write(command: Command, given: argparse.Namespace, report: AuditReport) -> None:
@@ -206,11 +180,6 @@ def write(command: Command, given: argparse.Namespace, report: AuditReport) -> N
             command.write(line + b"\n")
 
 
-def fails_on(weight: str) -> List[str]:
-    """The weights that make the status 1."""
-    return [] if weight == NONE else list(WEIGHTS[: WEIGHTS.index(weight) + 1])
-
-
 def body(command: Command, words: List[str]) -> int:
     given = parse(words)
     target = NewFile(os.fsencode(given.page)) if given.page is not None else None
@@ -219,7 +188,13 @@ def body(command: Command, words: List[str]) -> int:
         overview.say_notices(command, source, given.acl5)
         program = find_program(given)
         report = report_of(given, source, program)
-        page = page_of(given, report, source, program)
+        page = None
+        if given.page is not None:
+            if report.is_split:
+                raise Failure(b"--page: a snapshot in parts has none")
+            from .page import page_with  # Few runs need it.
+
+            page = page_with(report, source, program, given)
     for it in report.unused:
         command.say(it.said)
     with paged(command, not given.no_pager):
@@ -227,4 +202,5 @@ def body(command: Command, words: List[str]) -> int:
     if target is not None and page is not None:
         target.write(page)
         command.say(target.name + b": is written")
-    return int(report.has(fails_on(given.fail_on)))
+    failing = [] if given.fail_on == NONE else WEIGHTS[: WEIGHTS.index(given.fail_on) + 1]
+    return int(any(kind.weight in failing for kind in report.kinds()))

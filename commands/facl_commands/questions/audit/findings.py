@@ -1,15 +1,25 @@
-"""The findings of facl-audit, a record each; and a file with what is found of it, and the line that mends it."""
+"""The findings of facl-audit, a record each; a file with what is found of it, and the line that mends it; and findings that are
+accepted, each with a reason: the lines of the file of --accepted.
+
+That file may be one that the caller cannot read, as by sudo: messages have no word of a line but the name of a finding.
+"""
 from __future__ import annotations
 
-from typing import Dict, Iterator, List, NamedTuple
+import os
+from typing import Dict, Iterator, List, NamedTuple, Set
 
-from ...base.names import file_word
+from ...base.messages import Failure
+from ...base.names import file_word, is_below, read_path
+from ...base.trusted import read_given
+from ...program.scripts import lines_with_numbers, words_of
 from ...program.session import parts_of
 
 HIGH, MIDDLE, LOW = "high", "middle", "low"
 WEIGHTS = (HIGH, MIDDLE, LOW)
 # A comment of a script. In a shell, chmod and setfacl follow the links that somebody puts in the place of a file.
 FOR_PLAN = b"# for facl-plan, not for a shell"
+FIELDS = 3  # Of a line that accepts: the finding, the path, and the first word of the reason.
+FORM = b"a line is FINDING PATH REASON; words with spaces are in single quotes"
 
 
 class KindOfFinding(NamedTuple):
@@ -69,3 +79,60 @@ def edits_of(found: List[FoundFile], is_whole: bool) -> Iterator[bytes]:
     for edit, words in files.items():
         for part in parts_of(words):
             yield b" ".join([edit, *part])
+
+
+# --- what is accepted
+
+
+class Accepted(NamedTuple):
+    """A line of a file."""
+
+    file: bytes
+    number: int
+    kind: str
+    path: bytes
+    is_folder: bool  # Whether all below is meant too.
+
+    def has(self, path: bytes) -> bool:
+        return path == self.path or self.is_folder and is_below(path, self.path)
+
+
+def read_line(name: bytes, number: int, line: bytes) -> Accepted:
+    words = words_of(line)
+    if words is None or len(words) < FIELDS:
+        raise Failure(b"%s, line %d: %s" % (name, number, b"a quote is open" if words is None else FORM))
+    kind = words[0].decode("utf-8", "replace")
+    if kind not in BY_NAME:
+        raise Failure(b"%s, line %d: word 1: no such finding; facl-audit --help lists them" % (name, number))
+    return Accepted(name, number, kind, read_path(words[1]), words[1].endswith(b"/"))
+
+
+def read_accepted(name: str) -> List[Accepted]:
+    """The lines of a file that nobody else than root and the caller can have written."""
+    shown = os.fsencode(name)
+    return [read_line(shown, number, line) for number, line in lines_with_numbers(read_given(shown))]
+
+
+class Sorted(NamedTuple):
+    """Findings without what is accepted."""
+
+    rest: Findings
+    used: Set[Accepted]  # The lines that some file has.
+
+
+def sort_out(findings: Findings, lines: List[Accepted]) -> Sorted:
+    found = Sorted({}, set())
+    for kind, files in findings.items():
+        its = [line for line in lines if line.kind == kind]
+        accepting = [{line for line in its if line.has(file.path)} for file in files] if its else []
+        found.rest[kind] = [file for file, by in zip(files, accepting) if not by] if its else files
+        found.used.update(*accepting)
+    return found
+
+
+def why_unused(line: Accepted, findings: Findings) -> bytes:
+    """What is said of a line that accepts nothing."""
+    text = b"%s, line %d: %s is not found" % (line.file, line.number, line.kind.encode())
+    if not line.is_folder and any(is_below(it.path, line.path) for it in findings[line.kind]):
+        return text + b" at the path, but below it: end the path with a slash"
+    return text + b" at the path: remove the line"

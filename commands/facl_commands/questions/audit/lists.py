@@ -4,17 +4,18 @@ Nothing is judged here: what a mask takes away is as the program prints it.
 """
 from __future__ import annotations
 
+import argparse
 from functools import partial
-from typing import Callable, Dict, Iterable, Iterator, List, Optional, Tuple
+from typing import Callable, Dict, List, NamedTuple, Optional, Tuple
 
 from ...base import accounts
 from ...base.names import parent_of, shown_path
 from ...model.entries import (
-    GROUP, NOTHING, OTHER, OWNING_GROUP_KEY, USER, Entry, Key, NamesOfIds, ReadRecord, cut_letters, digits, flag_digit, named,
-    read_record,
+    GROUP, NOTHING, OTHER, OWNING_GROUP_KEY, USER, Entry, NamesOfIds, ReadRecord, cut_letters, digits, flag_digit, named, read_record,
 )
+from ...model.everybody import World
 from ...model.records import File, Files
-from .findings import FoundFile
+from .findings import Findings, FoundFile
 
 SET_USER, SET_GROUP = 4, 2  # In the first digit of a mode.
 SUPERUSER = b"%d" % accounts.SUPERUSER
@@ -22,15 +23,22 @@ OfFile = Optional[Tuple[bytes, bytes]]  # What is found of a file, and its edit.
 Look = Callable[[File, ReadRecord, NamesOfIds], OfFile]
 
 
-def set_user_id(file: File, record: ReadRecord, _ids: NamesOfIds) -> OfFile:
-    return without_flag(file, record, SET_USER)
+class Audited(NamedTuple):
+    """What is audited: the files, and whose rights."""
+
+    world: World
+    given: argparse.Namespace
+    program: str
+    files: Files
+    paths: List[bytes]  # Those at or below the folders, in path order.
+    ids: NamesOfIds
+
+    def records(self) -> List[File]:
+        """Each different one of the files, in the order of the first ones that have them."""
+        return list(dict.fromkeys(map(self.files.__getitem__, self.paths)))
 
 
-def set_group_id(file: File, record: ReadRecord, _ids: NamesOfIds) -> OfFile:
-    return without_flag(file, record, SET_GROUP)
-
-
-def without_flag(file: File, record: ReadRecord, flag: int) -> OfFile:
+def without_flag(flag: int, file: File, record: ReadRecord, _ids: NamesOfIds) -> OfFile:
     flags = flag_digit(record.flags)
     if file.is_directory or not flags & flag:
         return None
@@ -96,51 +104,46 @@ def default_differs(_file: File, record: ReadRecord, ids: NamesOfIds) -> OfFile:
 
 
 LOOKS: Dict[str, Look] = {
-    "set-user-id": set_user_id, "set-group-id": set_group_id, "mask-cuts-entry": mask_cuts_entry,
-    "empty-mask": empty_mask, "owner-without-row": owner_without_row, "entry-without-row": entry_without_row,
-    "default-differs": default_differs,
+    "set-user-id": partial(without_flag, SET_USER), "set-group-id": partial(without_flag, SET_GROUP),
+    "mask-cuts-entry": mask_cuts_entry, "empty-mask": empty_mask, "owner-without-row": owner_without_row,
+    "entry-without-row": entry_without_row, "default-differs": default_differs,
 }
 
 
-def found_by(look: Look, files: Files, paths: Iterable[bytes], ids: NamesOfIds) -> Iterator[FoundFile]:
-    """What a look finds; files with one record are looked at once."""
-    known: Dict[File, OfFile] = {}
-    for path in paths:
-        file = files[path]
-        if file not in known:
-            known[file] = look(file, read_record(file.body), ids)
-        found = known[file]
-        if found is not None:
-            yield FoundFile(path, *found)
+def of_records(audited: Audited, removable: Dict[bytes, Tuple[bytes, bytes]]) -> Findings:
+    """What is found of files by their records, each of which is looked at once."""
+    found: Findings = {name: [] for name in (*LOOKS, "entry-without-effect")}
+    known: Dict[File, List[Tuple[str, bytes, bytes]]] = {}
+    for file in audited.records():
+        its = {name: look(file, read_record(file.body), audited.ids) for name, look in LOOKS.items()}
+        its["entry-without-effect"] = removable.get(file.body)
+        known[file] = [(name, *of_file) for name, of_file in its.items() if of_file is not None]
+    for path in audited.paths:
+        for name, detail, edit in known[audited.files[path]]:
+            found[name].append(FoundFile(path, detail, edit))
+    return found
 
 
-def default_not_inherited(files: Files, paths: Iterable[bytes], ids: NamesOfIds) -> Iterator[FoundFile]:
+def default_not_inherited(audited: Audited) -> List[FoundFile]:
     """Directories that lack default entries which the directory above has."""
+    files, ids, found = audited.files, audited.ids, []
     known: Dict[Tuple[bytes, bytes], List[Entry]] = {}
-    for path in paths:
-        above = files.get(parent_of(path)) if path else None
-        if above is None or not files[path].is_directory:
-            continue
-        pair = above.body, files[path].body
-        if pair not in known:
-            known[pair] = lacking_defaults(*map(read_record, pair))
-        if known[pair]:
-            keys = b", ".join(ids.shown(it.key) for it in known[pair] if it.is_named())
-            text = b"lacks %s of %s" % (keys or b"the default list", shown_path(parent_of(path)))
-            yield FoundFile(path, text, b"setfacl -n -m " + b",".join(ids.entry(it, b"d:") for it in known[pair]))
+    for path in audited.paths:
+        above = files.get(parent_of(path)) if path and files[path].is_directory else None
+        if above is not None:
+            pair = above.body, files[path].body
+            if pair not in known:
+                known[pair] = lacking_defaults(*map(read_record, pair))
+            if known[pair]:
+                keys = b", ".join(ids.shown(it.key) for it in known[pair] if it.is_named())
+                text = b"lacks %s of %s" % (keys or b"the default list", shown_path(parent_of(path)))
+                found.append(FoundFile(path, text, b"setfacl -n -m " + b",".join(ids.entry(it, b"d:") for it in known[pair])))
+    return found
 
 
 def lacking_defaults(above: ReadRecord, record: ReadRecord) -> List[Entry]:
     """The named default entries of a directory that one in it lacks; where that has no default list, all."""
     if not record.default:
         return list(above.default)
-    present: Dict[Key, Entry] = named(record.default)
+    present = named(record.default)
     return [it for it in above.default if it.is_named() and it.key not in present]
-
-
-def of_lists(files: Files, paths: List[bytes], ids: NamesOfIds) -> Dict[str, Callable[[], Iterator[FoundFile]]]:
-    """The findings, by their names."""
-    found: Dict[str, Callable[[], Iterator[FoundFile]]] = {
-        name: partial(found_by, look, files, paths, ids) for name, look in LOOKS.items()}
-    found["default-not-inherited"] = partial(default_not_inherited, files, paths, ids)
-    return found

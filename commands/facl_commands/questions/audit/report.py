@@ -1,20 +1,27 @@
 """What facl-audit prints: the findings by weight, or all files of one."""
 from __future__ import annotations
 
-from typing import Callable, Dict, Iterator, List, NamedTuple, Optional
+from typing import Dict, Iterator, List, NamedTuple, Optional
 
 from ...base.messages import counted
 from ...base.names import file_name, json_text, shown, shown_path
 from ...base.tables import Column, Paint, Table, fitting_line
 from ...model.everybody import beside
 from ...model.meta import Meta, fields_of, named
-from .accepted import Unused
-from .findings import HIGH, KINDS, LOW, MIDDLE, OF_EVERYBODY, WEIGHTS, Findings, FoundFile, KindOfFinding
+from .findings import HIGH, KINDS, LOW, MIDDLE, OF_EVERYBODY, WEIGHTS, Accepted, Findings, FoundFile, KindOfFinding
 
 SCHEMA = "facl-audit/1"
 FIRST = 3  # Names of a finding.
 INDENT = 8
 NAME_WIDTH = max(len(kind.name) for kind in KINDS)
+
+
+class Unused(NamedTuple):
+    """A line that accepts nothing."""
+
+    line: Accepted
+    said: bytes
+    is_recorded: bool  # Whether its path is in the snapshot.
 
 
 class AuditReport(NamedTuple):
@@ -38,28 +45,17 @@ class AuditReport(NamedTuple):
         """Those of which something is found, by weight."""
         return [kind for weight in WEIGHTS for kind in KINDS if kind.weight == weight and self.findings.get(kind.name)]
 
-    def has(self, weights: List[str]) -> bool:
-        return any(kind.weight in weights for kind in self.kinds())
-
-
-def first_names(found: List[FoundFile]) -> bytes:
-    names = b", ".join(shown_path(it.path) for it in found[:FIRST])
-    return names + b", .." * (len(found) > FIRST)
-
-
-def painter_of(paint: Paint, weight: str) -> Callable[[bytes], bytes]:
-    return {HIGH: paint.red, MIDDLE: paint.yellow, LOW: paint.dim}[weight]
-
 
 def lines_of_kind(kind: KindOfFinding, found: List[FoundFile], is_whole: bool, paint: Paint) -> Iterator[bytes]:
     """A finding: its number of files, what it is, the first names and the line that mends the first one."""
-    head = "%-7s %-*s  " % (kind.weight, NAME_WIDTH, kind.name)
-    yield painter_of(paint, kind.weight)(head.encode()) + paint.bold(counted(len(found), "file"))
+    painter = {HIGH: paint.red, MIDDLE: paint.yellow, LOW: paint.dim}[kind.weight]
+    yield painter(b"%-7s %-*s  " % (kind.weight.encode(), NAME_WIDTH, kind.name.encode())) + paint.bold(counted(len(found), "file"))
     yield fitting_line(kind.meaning.encode(), INDENT)
     detail = b" (" + found[0].detail + b")" if found[0].detail else b""
-    yield fitting_line(b"first: " + first_names(found[:1]) + detail, INDENT)
+    yield fitting_line(b"first: " + shown_path(found[0].path) + detail, INDENT)
     if len(found) > 1:
-        yield fitting_line(b"then:  " + first_names(found[1:]), INDENT)
+        names = b", ".join(shown_path(it.path) for it in found[1 : FIRST + 1])
+        yield fitting_line(b"then:  " + names + b", .." * (len(found) > FIRST + 1), INDENT)
     yield b" " * INDENT + b"for facl-plan: " + shown(found[0].line(is_whole))  # Whole, to be copied.
 
 
@@ -103,14 +99,10 @@ def table_of_files(found: List[FoundFile], is_whole: bool) -> Table:
     return Table([Column("FILE"), Column("WHAT"), Column("FOR FACL-PLAN")], rows)
 
 
-def json_of_file(found: FoundFile, is_whole: bool) -> Dict[str, str]:
-    return {"path": json_text(shown_path(found.path)), "what": json_text(found.detail),
-            "mend": json_text(found.line(is_whole))}
-
-
 def json_of_kind(kind: KindOfFinding, found: List[FoundFile], has_all: bool, is_whole: bool) -> Dict[str, object]:
-    return {"finding": kind.name, "weight": kind.weight, "meaning": kind.meaning, "count": len(found),
-            "files": [json_of_file(it, is_whole) for it in (found if has_all else found[:FIRST])]}
+    files = [{"path": json_text(shown_path(it.path)), "what": json_text(it.detail), "mend": json_text(it.line(is_whole))}
+             for it in (found if has_all else found[:FIRST])]
+    return {"finding": kind.name, "weight": kind.weight, "meaning": kind.meaning, "count": len(found), "files": files}
 
 
 def json_of(report: AuditReport, only: Optional[str]) -> Dict[str, object]:
@@ -123,6 +115,6 @@ def json_of(report: AuditReport, only: Optional[str]) -> Dict[str, object]:
         "files": report.files,
         "findings": [json_of_kind(kind, report.findings[kind.name], only is not None, report.is_whole) for kind in kinds],
         "accepted": report.accepted,
-        "unused": [{"line": it.number, "finding": it.kind, "path": json_text(shown_path(it.path())) if is_recorded else None}
+        "unused": [{"line": it.number, "finding": it.kind, "path": json_text(shown_path(it.path)) if is_recorded else None}
                    for it, _, is_recorded in report.unused],
     }

@@ -1,176 +1,199 @@
 """Findings of facl-audit that are answers of the program: what everybody else may do, who of the users may, and entries without
-effect."""
+effect. What differs in many files is a few records, so records are asked about, and not files."""
 from __future__ import annotations
 
-import argparse
-from typing import Dict, Iterable, Iterator, List, NamedTuple, Set, Tuple
+from typing import Dict, Iterable, List, NamedTuple, Optional, Tuple
 
 from ...base.messages import Failure
-from ...base.names import directories_above, path_word, read_name, shown_path
+from ...base.names import directories_above, parent_of, path_word, shown_path, write_user
 from ...model.alike import Alike, alike_of
 from ...model.choice import is_chosen
-from ...model.entries import GROUP, OTHER, USER, Key, NamesOfIds, digits, flag_digit, named, read_record, without
-from ...model.everybody import World
-from ...model.people import People, users_by_group
-from ...model.records import Files
-from ...model.rules_of_lists import IN_DIRECTORY, is_sticky, writing
-from ...program.protocol import FILE_HEAD
+from ...model.entries import GROUP, OTHER, USER, Key, digits, flag_digit, named, read_record, without
+from ...model.label_answers import PeopleTexts, ask_vectors
+from ...model.people import People, groups_by_user, users_by_group
+from ...model.records import File
+from ...model.rules_of_lists import HAS_SEARCH, is_sticky, writing
+from ...program.protocol import FILE_HEAD, LIST, WHO
 from ...program.session import LINES_ROOM, parts_of, session_over
 from ...program.tools import path_in
-from .findings import FoundFile
+from .findings import Findings, FoundFile
+from .lists import Audited, OfFile
 
 READ, WRITE, EXECUTE = b"r", b"w", b"x"
+AT_ONCE = 500  # Questions.
 
 
-class Audited(NamedTuple):
-    """What is audited: the files, and whose rights."""
-
-    world: World
-    given: argparse.Namespace
-    files: Files
-    paths: List[bytes]  # Those at or below the folders, in path order.
-    ids: NamesOfIds
-
-    def is_directory(self, path: bytes) -> bool:
-        return self.files[path].is_directory
+def without_entries(audited: Audited, keys: Iterable[Key]) -> Tuple[bytes, bytes]:
+    """Entries that can go, as a person reads them, and the edit that removes them."""
+    known = list(keys)
+    return b", ".join(map(audited.ids.shown, known)), b"setfacl -n -x " + b",".join(map(audited.ids.word, known))
 
 
 # --- everybody else
 
 
-class FilesOfEverybody(NamedTuple):
-    """The files that everybody else may use, along paths and alone."""
+class OpenRight(NamedTuple):
+    """What everybody else may do with a file, if the directories above it let everybody pass."""
 
-    reached: Dict[bytes, Set[bytes]]  # By request.
-    alone: Dict[bytes, Set[bytes]]
-
-
-def ask_everybody(audited: Audited) -> FilesOfEverybody:
-    world, user, is_alone = audited.world, audited.world.everybody.name, audited.given.file_alone
-    requests = (READ, WRITE, EXECUTE, IN_DIRECTORY)
-    alone = {it: world.may(user, it, True) for it in requests}
-    return FilesOfEverybody(alone if is_alone else {it: world.may(user, it, False) for it in requests}, alone)
+    open: str  # The finding where they do,
+    behind: str  # and where they do not; none where it is empty.
+    detail: bytes
+    edit: bytes
 
 
-def writable(audited: Audited, granted: Dict[bytes, Set[bytes]]) -> Iterator[bytes]:
-    """The files that can be written; in a directory, files can be made and removed."""
-    return (path for path in audited.paths if path in granted[WRITE]
-            and (path in granted[IN_DIRECTORY] or not audited.is_directory(path)))
+class EverybodyRights:
+    """What everybody else may do, by the records of files and of the directories above them."""
+
+    def __init__(self, audited: Audited) -> None:
+        self.files, everybody = audited.files, audited.world.everybody
+        people = PeopleTexts(everybody.passwd(), everybody.with_group(audited.world.texts.group), b"")
+        bodies = list(dict.fromkeys(file.body for file in audited.files.values()))
+        self.vectors = ask_vectors(audited.program, people, bodies)[0].of_body
+        self.closed: Dict[bytes, Optional[bytes]] = {}
+
+    def may(self, file: File, letters: bytes) -> bool:
+        request = sum(1 << b"xwr".index(it) for it in letters)
+        return bool(self.vectors[file.body][0] >> request & 1)
+
+    def closed_at(self, directory: bytes) -> Optional[bytes]:
+        """The highest of a directory and those above it that everybody else cannot search."""
+        if directory not in self.closed:
+            for it in [*directories_above(directory)[::-1], directory]:
+                above = self.closed[parent_of(it)] if it else None
+                is_open = it not in self.files or HAS_SEARCH[self.vectors[self.files[it].body][0]]
+                self.closed[it] = it if above is None and not is_open else above
+        return self.closed[directory]
+
+    def of(self, file: File) -> List[OpenRight]:
+        record = read_record(file.body)
+        kept = b"sticky" * (file.is_directory and is_sticky(record.flags))
+        rows = ((WRITE, writing(file.is_directory), "writable-by-everybody", "writable-behind-closed", kept),
+                (READ, READ, "readable-by-everybody", "readable-behind-closed", b""),
+                (EXECUTE, EXECUTE * (not file.is_directory), "execute-for-everybody", "", b""))
+        return [OpenRight(is_open, behind, detail, b"setfacl -n -m o::" + without(record.permissions(OTHER), letter))
+                for letter, request, is_open, behind, detail in rows if request and self.may(file, request)]
 
 
-def less_for_others(audited: Audited, path: bytes, letter: bytes) -> bytes:
-    """The edit that takes a permission from others."""
-    return b"setfacl -n -m o::" + without(read_record(audited.files[path].body).permissions(OTHER), letter)
+def of_everybody(audited: Audited) -> Findings:
+    everybody = EverybodyRights(audited)
+    found: Findings = {}
+    known = {file: everybody.of(file) for file in audited.records()}
+    for path in audited.paths:
+        its = known[audited.files[path]]
+        closed = everybody.closed_at(parent_of(path)) if its and path and not audited.given.file_alone else None
+        for it in its:
+            if closed is None:
+                found.setdefault(it.open, []).append(FoundFile(path, it.detail, it.edit))
+            elif it.behind:
+                found.setdefault(it.behind, []).append(FoundFile(path, b"closed by " + shown_path(closed), it.edit))
+    return found
 
 
-def open_to_everybody(audited: Audited, paths: Iterable[bytes], letter: bytes) -> Iterator[FoundFile]:
-    for path in paths:
-        is_kept = audited.is_directory(path) and is_sticky(read_record(audited.files[path].body).flags)
-        yield FoundFile(path, b"sticky" * (is_kept and letter == WRITE), less_for_others(audited, path, letter))
-
-
-def behind_closed(audited: Audited, everybody: FilesOfEverybody, letter: bytes,
-                  paths: Iterable[bytes]) -> Iterator[FoundFile]:
-    """Files that everybody else may use alone, and not along their paths; with the highest directory that is closed."""
-    for path in paths:
-        if path not in everybody.reached[letter]:
-            above = (it for it in directories_above(path) if it in audited.files)
-            closed = [it for it in above if it not in everybody.alone[EXECUTE]]
-            yield FoundFile(path, b"closed by " + shown_path(closed[-1]) if closed else b"",
-                            less_for_others(audited, path, letter))
-
-
-def of_everybody(audited: Audited) -> Dict[str, List[FoundFile]]:
-    everybody = ask_everybody(audited)
-    reached, alone = everybody.reached, everybody.alone
-    readable = [path for path in audited.paths if path in reached[READ]]
-    plain = [path for path in audited.paths if path in reached[EXECUTE] and not audited.is_directory(path)]
-    readable_alone = (path for path in audited.paths if path in alone[READ])
-    return {
-        "writable-by-everybody": list(open_to_everybody(audited, writable(audited, reached), WRITE)),
-        "readable-by-everybody": list(open_to_everybody(audited, readable, READ)),
-        "execute-for-everybody": list(open_to_everybody(audited, plain, EXECUTE)),
-        "writable-behind-closed": list(behind_closed(audited, everybody, WRITE, writable(audited, alone))),
-        "readable-behind-closed": list(behind_closed(audited, everybody, READ, readable_alone)),
-    }
-
-
-# --- who writes
+# --- who writes: users are bits of numbers
 
 
 class Teams:
-    """The groups of users and the users of groups, of those whom the audit is about."""
+    """The users whom the audit is about, each a bit, and the users of groups."""
 
     def __init__(self, audited: Audited) -> None:
         people = People(audited.world.texts.passwd, audited.world.texts.group)
-        self.users = {user.name for user in people.users if is_chosen(user.uid, audited.given)}
-        # By the id of the group.
-        self.members = {b"%d" % gid: names & self.users for gid, names in users_by_group(people).items()}
+        chosen = dict.fromkeys(user.name for user in people.users if is_chosen(user.uid, audited.given))
+        self.bits = {name: 1 << place for place, name in enumerate(chosen)}
+        self.names, self.groups = users_by_group(people), groups_by_user(people)
+        self.known: Dict[int, int] = {}
 
-    def fellows(self, name: bytes) -> Set[bytes]:
+    def members(self, gid: int) -> int:
+        """The users of a group."""
+        if gid not in self.known:
+            self.known[gid] = sum(self.bits.get(name, 0) for name in self.names.get(gid, ()))
+        return self.known[gid]
+
+    def fellows(self, name: bytes) -> int:
         """The other users of all groups of a user."""
-        return {it for members in self.members.values() if name in members for it in members} - {name}
+        found = 0
+        for gid in self.groups[name]:
+            found |= self.members(gid)
+        return found & ~self.bits[name]
 
 
-def writers_of(audited: Audited, alike: Alike) -> Set[bytes]:
-    """The users who may write files that are judged alike."""
-    line = b"who %s-- %s %s" % (audited.world.reach(audited.given.file_alone), writing(alike.file.is_directory), path_word(alike.first()))
-    return {read_name(name) for name in audited.world.session.ask_accepted(line).lines()}
+class Writers:
+    """The users who may write files that are judged alike: who may by the record, and gets there by those of the directories above."""
+
+    def __init__(self, audited: Audited, teams: Teams, groups: List[Alike]) -> None:
+        self.audited, self.files = audited, audited.files
+        self.bits = {write_user(name): bit for name, bit in teams.bits.items()}
+        first = {it.file: it.first() for it in reversed(groups)}
+        self.alone = self.ask([(writing(file.is_directory), path) for file, path in first.items()])
+        above = {} if audited.given.file_alone else {parent_of(it.first()): None for it in groups if it.first()}
+        known = {path: self.files[path] for it in above for path in (it, *directories_above(it)) if path in self.files}
+        self.search = self.ask([(EXECUTE, path) for path in {file: path for path, file in known.items()}.values()])
+        self.inside: Dict[bytes, int] = {}  # By directory: who gets to what is in it.
+
+    def ask(self, questions: List[Tuple[bytes, bytes]]) -> Dict[File, int]:
+        """Who has a right on each of some files alone, by record. A listing after each answer ends it: no name of a user is its first
+        line."""
+        found: Dict[File, int] = {}
+        for start in range(0, len(questions), AT_ONCE):
+            part = questions[start : start + AT_ONCE]
+            lines = [b"%s -- %s %s\n%s %s" % (WHO, letters, word, LIST, word)
+                     for letters, path in part for word in [path_word(path)]]
+            answers = self.audited.world.session.ask_accepted(b"\n".join(lines)).records()
+            for (_, path), answer in zip(part, answers):
+                users = answer.partition(FILE_HEAD)[0].split(b"\n")
+                found[self.files[path]] = sum(self.bits.get(user, 0) for user in users)
+        return found
+
+    def inside_of(self, directory: bytes) -> int:
+        if directory not in self.inside:
+            for it in [*directories_above(directory)[::-1], directory]:
+                above = self.inside[parent_of(it)] if it else -1
+                self.inside[it] = above & self.search[self.files[it]] if it in self.files else above
+        return self.inside[directory]
+
+    def of(self, alike: Alike) -> int:
+        is_alone = self.audited.given.file_alone or not alike.first()
+        return self.alone[alike.file] & (-1 if is_alone else self.inside_of(parent_of(alike.first())))
 
 
-def writing_teams(alike: Alike, teams: Teams, writers: Set[bytes]) -> List[bytes]:
+def writable_by_teams(audited: Audited, file: File, teams: Teams, writers: int) -> OfFile:
     """The groups whose entries have w, and a member who may write; of those with the same members one."""
-    record = read_record(alike.file.body)
-    found: Dict[frozenset[bytes], bytes] = {}
+    record = read_record(file.body)
+    if not file.is_directory or is_sticky(record.flags):
+        return None
+    found: Dict[int, bytes] = {}
     for entry in record.access:
-        members = teams.members.get(entry.key[1] or record.group, set())
-        if entry.key[0] == GROUP and WRITE in entry.effective and members & writers:
-            found.setdefault(frozenset(members), entry.key[1] or record.group)
-    return list(found.values())
+        gid = entry.key[1] or record.group
+        if entry.key[0] == GROUP and WRITE in entry.effective and teams.members(int(gid)) & writers:
+            found.setdefault(teams.members(int(gid)), gid)
+    text = b", ".join(audited.ids.shown((GROUP, it)) for it in found.values())
+    return (text, b"chmod " + digits(record, flag_digit(record.flags) | 1)) if len(found) > 1 else None
 
 
-def writable_by_teams(audited: Audited, alike: Alike, teams: Teams, writers: Set[bytes]) -> Iterator[FoundFile]:
-    record = read_record(alike.file.body)
-    if alike.file.is_directory and not is_sticky(record.flags):
-        found = writing_teams(alike, teams, writers)
-        if len(found) > 1:
-            text = b", ".join(audited.ids.shown((GROUP, it)) for it in found)
-            yield from (FoundFile(path, text, b"chmod " + sticky_mode(alike)) for path in alike.paths)
-
-
-def sticky_mode(alike: Alike) -> bytes:
-    record = read_record(alike.file.body)
-    return digits(record, flag_digit(record.flags) | 1)
-
-
-def writers_outside(audited: Audited, alike: Alike, teams: Teams, writers: Set[bytes]) -> Iterator[FoundFile]:
+def writers_outside(audited: Audited, file: File, teams: Teams, writers: int) -> OfFile:
     """Users who may write by an entry of their own, where nobody else of their groups may."""
-    record = read_record(alike.file.body)
-    found = []
-    for (tag, number), entry in named(record.access).items():
-        name = audited.ids.names.get((tag, number))
-        if tag == USER and name in teams.users and name in writers and number != record.owner and entry.grants(WRITE):
+    record, found = read_record(file.body), []
+    for key, entry in named(record.access).items():
+        name = audited.ids.names.get(key, b"")
+        if key[0] == USER and teams.bits.get(name, 0) & writers and key[1] != record.owner and entry.grants(WRITE):
             if not teams.fellows(name) & writers:
-                found.append((tag, number))
-    if found:
-        edit = b"setfacl -n -x " + b",".join(map(audited.ids.word, found))
-        text = b", ".join(map(audited.ids.shown, found))
-        yield from (FoundFile(path, text, edit) for path in alike.paths)
+                found.append(key)
+    return without_entries(audited, found) if found else None
 
 
-def may_have_findings(alike: Alike) -> bool:
-    """Whether a record names a user or a group."""
-    return bool(named(read_record(alike.file.body).access))
-
-
-def of_writers(audited: Audited) -> Dict[str, List[FoundFile]]:
+def of_writers(audited: Audited) -> Findings:
+    """Of files whose records name a user or a group."""
     teams = Teams(audited)
-    found: Dict[str, List[FoundFile]] = {"writable-by-teams": [], "writer-outside-groups": []}
-    for alike in alike_of(audited.files, audited.paths, audited.given.file_alone):
-        if may_have_findings(alike):
-            writers = writers_of(audited, alike)
-            found["writable-by-teams"] += writable_by_teams(audited, alike, teams, writers)
-            found["writer-outside-groups"] += writers_outside(audited, alike, teams, writers)
+    naming = {file for file in audited.records() if named(read_record(file.body).access)}
+    groups = alike_of(audited.files, [path for path in audited.paths if audited.files[path] in naming], audited.given.file_alone)
+    writers = Writers(audited, teams, groups)
+    known: Dict[Tuple[File, int], Tuple[OfFile, OfFile]] = {}
+    found: Findings = {"writable-by-teams": [], "writer-outside-groups": []}
+    for alike in groups:
+        key = alike.file, writers.of(alike)
+        if key not in known:
+            known[key] = writable_by_teams(audited, key[0], teams, key[1]), writers_outside(audited, key[0], teams, key[1])
+        for its, of_file in zip(found.values(), known[key]):
+            its += [FoundFile(path, *of_file) for path in alike.paths] if of_file else []
     return found
 
 
@@ -180,21 +203,14 @@ def of_writers(audited: Audited) -> Dict[str, List[FoundFile]]:
 Removal = Tuple[bytes, Tuple[Key, ...]]  # Entries that go out of a record.
 
 
-def single_removals(audited: Audited) -> List[Removal]:
-    """Of each named entry that has a row, of each different record."""
-    bodies = dict.fromkeys(audited.files[path].body for path in audited.paths)
-    return [(body, (key,)) for body in bodies for key in named(read_record(body).access) if audited.ids.has(key)]
-
-
-def without_effect(audited: Audited, program: str, removals: List[Removal]) -> List[Removal]:
+def without_effect(audited: Audited, removals: List[Removal]) -> List[Removal]:
     """Those that change no rights of the snapshot's users: they are done in a session that has a file for each."""
     if not removals:
         return []
     texts = audited.world.texts
     dump = b"".join(FILE_HEAD + b"/%d\n" % place + body + b"\n" for place, (body, _) in enumerate(removals))
-    lines = [b"setfacl -n -x %s %d\n" % (b",".join(map(audited.ids.word, keys)), place)
-             for place, (_, keys) in enumerate(removals)]
-    with session_over(program, texts.passwd, texts.group, dump) as session:
+    lines = [b"%s %d\n" % (without_entries(audited, keys)[1], place) for place, (_, keys) in enumerate(removals)]
+    with session_over(audited.program, texts.passwd, texts.group, dump) as session:
         for part in parts_of(lines, LINES_ROOM):
             messages = session.ask(b"".join(part)).messages
             if messages:
@@ -203,20 +219,12 @@ def without_effect(audited: Audited, program: str, removals: List[Removal]) -> L
     return [removal for place, removal in enumerate(removals) if b"%d" % place not in changed]
 
 
-def removable(audited: Audited, program: str) -> Dict[bytes, Tuple[Key, ...]]:
-    """By record the entries that can go together; where each can go and not all of them, the first."""
+def removable(audited: Audited) -> Dict[bytes, Tuple[bytes, bytes]]:
+    """By record what is found of the entries that can go together; where each can go and not all of them, of the first."""
+    bodies = dict.fromkeys(file.body for file in audited.records())
+    single: List[Removal] = [(body, (key,)) for body in bodies for key in named(read_record(body).access) if audited.ids.has(key)]
     of_body: Dict[bytes, Tuple[Key, ...]] = {}
-    for body, keys in without_effect(audited, program, single_removals(audited)):
+    for body, keys in without_effect(audited, single):
         of_body[body] = of_body.get(body, ()) + keys
-    together = [(body, keys) for body, keys in of_body.items() if len(keys) > 1]
-    agreed = set(without_effect(audited, program, together))
-    return {body: keys if len(keys) == 1 or (body, keys) in agreed else keys[:1] for body, keys in of_body.items()}
-
-
-def entries_without_effect(audited: Audited, program: str) -> Iterator[FoundFile]:
-    of_body = removable(audited, program)
-    for path in audited.paths:
-        keys = of_body.get(audited.files[path].body)
-        if keys:
-            edit = b"setfacl -n -x " + b",".join(map(audited.ids.word, keys))
-            yield FoundFile(path, b", ".join(map(audited.ids.shown, keys)), edit)
+    agreed = {body for body, _ in without_effect(audited, [it for it in of_body.items() if len(it[1]) > 1])}
+    return {body: without_entries(audited, keys if body in agreed else keys[:1]) for body, keys in of_body.items()}

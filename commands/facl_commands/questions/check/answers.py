@@ -1,19 +1,24 @@
-"""Whether rules hold in a snapshot, by the program's answers."""
+"""Whether rules hold in a snapshot, by the program's answers; and those that hold, as a start for a file of them."""
 from __future__ import annotations
 
 import argparse
-from typing import Dict, Iterable, List, NamedTuple, Set, Tuple
+from bisect import bisect_left
+from typing import Dict, Iterator, List, NamedTuple, Set, Tuple
 
-from ...base.names import at_or_below, path_word, read_name, write_user
+from ...base.names import path_word, read_name, shown_path, sorting_key, write_user
 from ...model.choice import is_recorded
 from ...model.entries import Entries, entries_of
 from ...model.everybody import World
+from ...model.people import Group
 from ...model.records import Files, name_of, path_of, records_in
 from ...model.rules_of_lists import grants_search, writing
 from ...model.sources import find_tops
-from .rules import ALWAYS, ENTER, NEVER, ONLY, READ, WRITE, Rule
+from ...program.session import OutputSlice
+from .rules import ALWAYS, ENTER, NEVER, ONLY, OTHERS, PEOPLE, READ, WRITE, Rule, RuleReader, group_word, rule_path, user_word
 
 REQUESTS = {READ: b"r", WRITE: b"w", ENTER: b"x"}
+FEWEST = 2  # Users for whom a group is written.
+NONE = b"# none: others may read some of these files, and write some, and no user may read all or write all"
 
 
 class Block(NamedTuple):
@@ -46,62 +51,77 @@ class RuleOutcome(NamedTuple):
         return RuleOutcome(self.rule, self.files + other.files, [found[place] for place in sorted(found)])
 
 
+class SortingKeys:
+    """What paths in path order are sorted by, each made where it is looked at."""
+
+    def __init__(self, paths: List[bytes]) -> None:
+        self.paths = paths
+
+    def __len__(self) -> int:
+        return len(self.paths)
+
+    def __getitem__(self, place: int) -> bytes:
+        return sorting_key(self.paths[place])
+
+
 class Rights:
     """What users may do, as the program answers."""
 
-    def __init__(self, world: World, given: argparse.Namespace, files: Files, paths: Iterable[bytes], chosen: List[bytes]) -> None:
-        self.world, self.is_alone, self.files, self.chosen = world, bool(given.file_alone), files, chosen
-        self.paths = paths  # The files that are looked at.
-        self.reach = world.reach(self.is_alone)
+    def __init__(self, world: World, given: argparse.Namespace, files: Files, paths: List[bytes], chosen: List[bytes]) -> None:
+        self.world, self.files, self.chosen = world, files, chosen
+        self.paths = paths  # The files that are looked at, in path order.
+        self.users = [world.everybody.name, *chosen]  # Everybody else, and those whom the check is about.
+        self.reach = world.reach(given.file_alone)
         self.left_out: Set[bytes] = set()  # Users who are not chosen, and may what a rule gives to others only.
-        self.below_paths: Dict[bytes, List[bytes]] = {}
+        self.answers: Dict[bytes, OutputSlice] = {}
         self.known: Dict[Tuple[bytes, bytes, bytes], List[bytes]] = {}
 
-    def at_or_below(self, path: bytes) -> List[bytes]:
-        """The files at or below a path, in path order."""
-        if path not in self.below_paths:
-            self.below_paths[path] = at_or_below(self.paths, [path])
-        return self.below_paths[path]
+    def ask(self, tool: bytes, *words: bytes) -> OutputSlice:
+        line = b"%s %s-- %s" % (tool, self.reach, b" ".join(words))
+        if line not in self.answers:
+            self.answers[line] = self.world.session.ask_accepted(line)
+        return self.answers[line]
 
     def asked(self, right: bytes, top: bytes) -> List[bytes]:
-        """The files at or below a path that a right is about: only directories are entered, and a file that is given
-        itself."""
-        paths = self.at_or_below(top)
+        """The files at or below a path that a right is about, in path order: only directories are entered, and a file that is
+        given itself."""
+        keys, key = SortingKeys(self.paths), sorting_key(top)
+        paths = self.paths[bisect_left(keys, key) : bisect_left(keys, key + b"\1")] if top else self.paths
         return [it for it in paths if self.files[it].is_directory or it == top] if right == ENTER else paths
 
-    def operands(self, top: bytes) -> bytes:
-        """A path as words of a question; the root, where it is not recorded, as the tops of the snapshot."""
+    def some(self, right: bytes, top: bytes) -> Dict[bytes, int]:
+        """The users who may at least ask for a right on some file at or below a path, and on how many; of the root, where it is not
+        recorded, below the tops of the snapshot."""
         session = self.world.session
         tops = [top] if top or is_recorded(session, top) else find_tops(session, session.folder)
-        return b" ".join(map(path_word, tops))
+        lines = [line.split(b" ", 2) for line in self.ask(b"below", REQUESTS[right], *map(path_word, tops)).lines()]
+        return {read_name(user): int(count) for count, user, _ in lines}
 
-    def some(self, right: bytes, top: bytes) -> Set[bytes]:
-        """The users who may at least ask for a right on some file at or below a path."""
-        line = b"below %s-- %s %s" % (self.reach, REQUESTS[right], self.operands(top))
-        return {read_name(line.split(b" ", 2)[1]) for line in self.world.session.ask_accepted(line).lines()}
+    def may(self, user: bytes, request: bytes, top: bytes) -> Set[bytes]:
+        """The files at or below a path on which a user is granted a request. They follow each other in the answer, in which no
+        other line begins as theirs."""
+        text = b"\n" + self.ask(b"may", self.world.word_of(user), request).read()
+        if top:
+            starts = (b"\n" + shown_path(top) + b"\n", b"\n" + shown_path(top) + b"/")
+            found = [place for find in (text.find, text.rfind) for start in starts for place in [find(start)] if place >= 0]
+            text = text[min(found) : text.index(b"\n", max(found) + 1)] if found else b""
+        return set(map(path_of, filter(None, text.split(b"\n"))))
 
     def granted(self, user: bytes, right: bytes, top: bytes) -> List[bytes]:
         """The files at or below a path on which a user has a right."""
         key = user, right, top
         if key not in self.known:
-            may = self.world.may(user, REQUESTS[right], self.is_alone)
-            inside = self.world.may(user, writing(is_directory=True), self.is_alone) if right == WRITE and may else may
+            may = self.may(user, REQUESTS[right], top)
+            inside = self.may(user, writing(is_directory=True), top) if right == WRITE and may else may
             self.known[key] = [path for path in self.asked(right, top) if path in may
                                and (path in inside or not self.files[path].is_directory)]
         return self.known[key]
 
-    def request_on(self, path: bytes, right: bytes) -> bytes:
-        return writing(self.files[path].is_directory) if right == WRITE else REQUESTS[right]
-
     def who(self, right: bytes, path: bytes) -> List[bytes]:
-        """Those of the chosen users, and everybody else, who have a right on a file."""
-        line = b"who %s-- %s %s" % (self.reach, self.request_on(path, right), path_word(path))
-        found = {read_name(name) for name in self.world.session.ask_accepted(line).lines()}
-        return [name for name in self.all_users() if name in found]
-
-    def all_users(self) -> List[bytes]:
-        """Everybody else, and those whom the check is about."""
-        return [self.world.everybody.name, *self.chosen]
+        """Those of the users who have a right on a file."""
+        request = writing(self.files[path].is_directory) if right == WRITE else REQUESTS[right]
+        found = set(map(read_name, self.ask(b"who", request, path_word(path)).lines()))
+        return [name for name in self.users if name in found]
 
     def shown(self, user: bytes) -> bytes:
         """What an answer has for a name."""
@@ -109,20 +129,15 @@ class Rights:
 
     def why(self, user: bytes, path: bytes) -> List[Block]:
         """The entries that decide on a user, of the directories above a file and of the file."""
-        line = b"why %s-- %s %s" % (self.reach, self.world.word_of(user), path_word(path))
-        return [Block(path_of(name_of(it)), entries_of(it)) for it in records_in([self.world.session.ask_accepted(line)])]
-
-
-def deciding(blocks: List[Block], is_missing: bool) -> List[Block]:
-    """Those that a person needs to see: where a right is missing, the first that is in the way alone."""
-    if not is_missing:
-        return blocks
-    closed = [block for block in blocks[:-1] if not grants_search(block.entries)]
-    return closed[:1] or blocks[-1:]
+        answer = self.ask(b"why", self.world.word_of(user), path_word(path))
+        return [Block(path_of(name_of(it)), entries_of(it)) for it in records_in([answer])]
 
 
 def violation(rights: Rights, rule: Rule, place: int, user: bytes, paths: List[bytes]) -> Violation:
-    blocks = deciding(rights.why(user, paths[0]), rule.kind == ALWAYS)
+    """It has the entries that a person needs to see: where a right is missing, those of the first file that is in the way alone."""
+    blocks = rights.why(user, paths[0])
+    if rule.kind == ALWAYS:
+        blocks = [block for block in blocks[:-1] if not grants_search(block.entries)][:1] or blocks[-1:]
     others = [rights.shown(name) for name in rights.who(rule.right, paths[0]) if name != user]
     return Violation(place, rights.shown(user), paths, blocks, others)
 
@@ -135,20 +150,61 @@ def subjects(rights: Rights, rule: Rule) -> List[bytes]:
     return [*[everybody] * (not rule.has_others), *(name for name in rights.chosen if name not in rule.users)]
 
 
-def missing(rights: Rights, rule: Rule, user: bytes) -> List[bytes]:
-    granted = set(rights.granted(user, rule.right, rule.path))
-    return [path for path in rights.asked(rule.right, rule.path) if path not in granted]
-
-
 def outcome(rights: Rights, rule: Rule) -> RuleOutcome:
     """Whether a rule holds, and for whom it does not."""
-    users = list(enumerate(subjects(rights, rule)))
-    if rule.kind == ALWAYS:
-        found = [(place, user, missing(rights, rule, user)) for place, user in users]
-    else:
-        some = rights.some(rule.right, rule.path)
-        if rule.kind == ONLY:
-            rights.left_out |= some - rule.users - {*rights.all_users()}
-        found = [(place, user, rights.granted(user, rule.right, rule.path)) for place, user in users if user in some]
-    violations = [violation(rights, rule, place, user, paths) for place, user, paths in found if paths]
-    return RuleOutcome(rule, len(rights.asked(rule.right, rule.path)), violations)
+    asked, some = rights.asked(rule.right, rule.path), rights.some(rule.right, rule.path)
+    if rule.kind == ONLY:
+        rights.left_out |= some.keys() - rule.users - {*rights.users}
+    violations = []
+    for place, user in enumerate(subjects(rights, rule)):
+        if rule.kind == ALWAYS and rule.right == READ and some.get(user) == len(asked):
+            continue  # On all of them.
+        paths = rights.granted(user, rule.right, rule.path) if user in some else []
+        if rule.kind == ALWAYS:  # Those that are missing.
+            known = set(paths)
+            paths = [path for path in asked if path not in known]
+        violations += [violation(rights, rule, place, user, paths)] if paths else []
+    return RuleOutcome(rule, len(asked), violations)
+
+
+# --- the rules that hold
+
+
+def words_of(names: Set[bytes], reader: RuleReader) -> List[bytes]:
+    """Users as words of a rule: first groups all of whose members are among them, the largest first."""
+    rest, found = set(names), []
+    groups: Dict[bytes, Group] = {}
+    for group in reader.people.groups:
+        groups.setdefault(group.name, group)
+    members = {name: reader.members(group) for name, group in groups.items()}
+    for name in sorted(groups, key=lambda it: (-len(members[it]), it)):
+        if len(members[name] & rest) >= FEWEST and members[name] <= names:
+            found.append(group_word(groups[name]))
+            rest -= members[name]
+    return [*found, *map(user_word, sorted(rest))]
+
+
+def rules_of(rights: Rights, reader: RuleReader, right: bytes, top: bytes) -> Iterator[List[bytes]]:
+    """The rules on one right at or below a path, each as its words without right and path."""
+    number, some = len(rights.asked(right, top)), rights.some(right, top)
+    counts = {name: len(rights.granted(name, right, top)) for name in rights.users if name in some}
+    of_others = counts.pop(rights.world.everybody.name, 0)
+    able = {name for name, count in counts.items() if count}
+    full = {name for name, count in counts.items() if count == number}
+    if not of_others:
+        yield [NEVER, OTHERS]
+        yield [ONLY, *words_of(able, reader)] if able else [NEVER, PEOPLE]
+    elif of_others == number:
+        yield [ALWAYS, OTHERS]
+    if full:
+        yield [ALWAYS, *words_of(full, reader)]
+
+
+def rules_that_hold(rights: Rights, reader: RuleReader, tops: List[bytes]) -> Iterator[bytes]:
+    """The lines of the file, with a comment for each path."""
+    for top in tops:
+        word = rule_path(top, rights.files[top].is_directory if top in rights.files else True)
+        yield b"\n# " + word
+        rules = [b" ".join([*words, right, word]) for right in (READ, WRITE)
+                 for words in rules_of(rights, reader, right, top)]
+        yield from rules or [NONE]

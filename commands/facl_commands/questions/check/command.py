@@ -3,7 +3,7 @@ from __future__ import annotations
 
 import argparse
 import os
-from typing import Dict, List, Set, Tuple
+from typing import Dict, List, Optional, Set
 
 from ...base.messages import UNUSABLE, Command, Failure, parser_of
 from ...base.names import shown, write_user
@@ -15,10 +15,9 @@ from ...model.meta import meta_of, named
 from ...model.people import rows_of
 from ...model.sources import Source
 from ...model.superuser import ids_in
-from .answers import Rights, RuleOutcome, outcome
-from .proposal import lines_of as lines_of_rules
+from .answers import Rights, RuleOutcome, outcome, rules_that_hold
 from .report import SCHEMA, CheckReport, json_of, lines_of, table_of
-from .rules import INPUT, Faults, Rule, RuleReader
+from .rules import INPUT, Faults, RuleReader
 
 HELP = """\
 Checks that rules hold in a snapshot. RULES is a file of lines
@@ -69,62 +68,43 @@ def chosen_users(world: World, given: argparse.Namespace) -> List[bytes]:
 def write_rules(command: Command, world: World, given: argparse.Namespace, source: Source) -> int:
     chosen = chosen_users(world, given)
     files = listing_of(world).files
-    rights = Rights(world, given, files, files, chosen)
+    rights = Rights(world, given, files, list(files), chosen)
     tops = choice.folders_of(world.session, given.rules)
     if not given.rules:
         tops = choice.folders_made_of(world.session) or tops
     command.write(b"# These rules hold in %s; see FACL-CHECK of man facl-commands.\n" % shown(
         named(source.shown, meta_of(source.folder))))
-    for line in lines_of_rules(rights, RuleReader(world, set(chosen), given.with_root), tops):
+    for line in rules_that_hold(rights, RuleReader(world, set(chosen), given.with_root), tops):
         command.write(line + b"\n")
     return 0
 
 
-class AllOutcomes:
-    """The rules, and whether they hold in all parts of a snapshot, or in one that has none."""
-
-    def __init__(self, given: argparse.Namespace, parts: List[bytes]) -> None:
-        self.given, self.parts = given, parts
-        self.once = split_tree.Once()
-        self.rules: List[Rule] = []
-        self.notes: List[bytes] = []
-        self.outcomes: Dict[int, RuleOutcome] = {}  # By the number of the line.
-        self.left_out: Set[bytes] = set()
-        self.passwd = b""
-
-    def read(self, world: World, chosen: List[bytes]) -> None:
-        parts = self.parts
-        reader = RuleReader(world, set(chosen), self.given.with_root,
-                            (lambda path: bool(split_tree.recorded_in(parts, [path]))) if parts else None)
-        self.rules, self.notes, self.passwd = reader.read(self.given.rules), reader.notes, world.texts.passwd
-
-    def add(self, world: World) -> None:
-        """Adds what the next part says. A rule on a path that it does not have is not about its files."""
-        chosen = chosen_users(world, self.given)
-        if not self.rules:
-            self.read(world, chosen)
-        files = listing_of(world).files
-        rights = Rights(world, self.given, files, self.once.of_part(files), chosen)
-        for rule in self.rules:
-            if not self.parts or rule.path in files or not rule.path:
-                found = outcome(rights, rule)
-                known = self.outcomes.get(rule.number)
-                self.outcomes[rule.number] = found if known is None else known.joined(found)
-        self.left_out |= rights.left_out
-
-
-def report_of(given: argparse.Namespace, source: Source, program: str) -> Tuple[CheckReport, bytes]:
-    """The report, and the users of the snapshot."""
-    parts = split_tree.parts_in(source.folder)
-    found = AllOutcomes(given, parts)
+def report_of(given: argparse.Namespace, source: Source, program: str) -> CheckReport:
+    """Whether the rules hold in all parts of a snapshot, or in one that has none."""
+    parts, once = split_tree.parts_in(source.folder), split_tree.Once()
+    reader: Optional[RuleReader] = None
+    outcomes: Dict[int, RuleOutcome] = {}  # By the number of the line.
+    left_out: Set[bytes] = set()
     for folder in parts or [source.folder]:
         with world_of(program, source._replace(folder=folder)) as world:
-            found.add(world)
-    left_out = choice.in_order(map(write_user, found.left_out), found.passwd)
+            chosen = chosen_users(world, given)
+            if reader is None:
+                reader = RuleReader(world, set(chosen), given.with_root,
+                                    (lambda path: bool(split_tree.recorded_in(parts, [path]))) if parts else None)
+                rules = reader.read(given.rules)
+            files = listing_of(world).files
+            rights = Rights(world, given, files, once.of_part(files) if parts else list(files), chosen)
+            for rule in rules:
+                if not parts or rule.path in files or not rule.path:  # Else the rule is not about files of the part.
+                    found = outcome(rights, rule)
+                    outcomes[rule.number] = outcomes[rule.number].joined(found) if rule.number in outcomes else found
+            left_out |= rights.left_out
+    assert reader is not None
+    passwd = reader.world.texts.passwd
     name = b"standard input" if given.rules == INPUT else os.fsencode(given.rules)
     about = split_tree.meta_of_all(parts) if parts else meta_of(source.folder)
-    outcomes = [found.outcomes[rule.number] for rule in found.rules]
-    return CheckReport(source.shown, about, name, outcomes, left_out, found.notes), found.passwd
+    return CheckReport(source.shown, about, name, [outcomes[rule.number] for rule in rules],
+                       choice.in_order(map(write_user, left_out), passwd), reader.notes, passwd)
 
 
 def write(command: Command, given: argparse.Namespace, report: CheckReport) -> None:
@@ -153,14 +133,14 @@ def body(command: Command, words: List[str]) -> int:
             with world_of(program, source) as world:
                 return write_rules(command, world, given, source)
         try:
-            report, passwd = report_of(given, source, program)
+            report = report_of(given, source, program)
         except Faults as faults:
-            for text in faults.texts:
+            for text in faults.args[0]:
                 command.say(text)
             return UNUSABLE
     for note in report.notes:
         command.say(b"warning: " + note)
-    for note in () if given.json or given.quiet else choice.notes(report.left_out, passwd):
+    for note in () if given.json or given.quiet else choice.notes(report.left_out, report.passwd):
         command.say(note)
     with paged(command, not given.no_pager):
         write(command, given, report)

@@ -24,6 +24,7 @@ class CheckReport(NamedTuple):
     outcomes: List[RuleOutcome]
     left_out: List[bytes]  # Users who are no people, and may what rules give to others only; as printed.
     notes: List[bytes]  # On groups of whom nobody is checked.
+    passwd: bytes  # The users of the snapshot.
 
     def broken(self) -> List[RuleOutcome]:
         """The rules that do not hold."""
@@ -35,15 +36,6 @@ def names_of(names: List[bytes], most: int) -> bytes:
     return text + (b" and %d more" % (len(names) - most) if len(names) > most else b"")
 
 
-def what_is_wrong(outcome: RuleOutcome, found: Violation) -> bytes:
-    """Who may, or may not, and on how many files."""
-    verb = b"may not " if outcome.rule.kind == ALWAYS else b"may "
-    files = counted(len(found.paths), "file")
-    of_all = b" of %d" % outcome.files if outcome.rule.kind == ALWAYS else b""
-    return b"%s %s%s %s%s, first: %s" % (found.user, verb, outcome.rule.right, files, of_all,
-                                         names_of([shown_path(path) for path in found.paths], FIRST))
-
-
 def entry_text(entry: Entry) -> bytes:
     return entry.text(b" (effective %s)")
 
@@ -53,13 +45,17 @@ def block_text(block: Block) -> bytes:
 
 
 def lines_of_violation(outcome: RuleOutcome, found: Violation) -> Iterator[bytes]:
-    yield b"    " + what_is_wrong(outcome, found)
+    """Who may, or may not, and on how many files; by which entries; and who else may."""
+    verb, of_all = (b"may not", b" of %d" % outcome.files) if outcome.rule.kind == ALWAYS else (b"may", b"")
+    yield b"    %s %s %s %s%s, first: %s" % (found.user, verb, outcome.rule.right, counted(len(found.paths), "file"), of_all,
+                                             names_of(list(map(shown_path, found.paths)), FIRST))
     for place, block in enumerate(found.blocks):
         yield (b"        by  " if place == 0 else b"            ") + block_text(block)
+    others = names_of(found.others, NAMES)
     if outcome.rule.kind == ALWAYS:
-        yield b"        who may: " + (names_of(found.others, NAMES) or b"(nobody)")
-    elif found.others:
-        yield b"        who else may: " + names_of(found.others, NAMES)
+        yield b"        who may: " + (others or b"(nobody)")
+    elif others:
+        yield b"        who else may: " + others
 
 
 def summary(report: CheckReport) -> bytes:
@@ -70,11 +66,6 @@ def summary(report: CheckReport) -> bytes:
     return b"%s: %d of %s %s not hold" % (name, broken, counted(number, "rule"), b"does" if broken == 1 else b"do")
 
 
-def has_everybody(report: CheckReport) -> bool:
-    """Whether everybody else is one of the users in the report."""
-    return any(SHOWN in (found.user, *found.others) for outcome in report.broken() for found in outcome.violations)
-
-
 def lines_of(report: CheckReport) -> Iterator[bytes]:
     paint = Paint()
     for outcome in report.broken():
@@ -83,7 +74,7 @@ def lines_of(report: CheckReport) -> Iterator[bytes]:
         for found in outcome.violations:
             for line in lines_of_violation(outcome, found):
                 yield fitting_line(line)
-    if has_everybody(report):
+    if any(SHOWN in (found.user, *found.others) for outcome in report.broken() for found in outcome.violations):
         yield from map(fitting_line, beside(report.meta))
     text = fitting_line(summary(report))
     yield paint.bold(text) if report.broken() else paint.green(text)
@@ -100,14 +91,11 @@ def table_of(report: CheckReport) -> Table:
 
 
 def json_of_violation(found: Violation) -> Dict[str, object]:
-    return {
-        "user": json_text(found.user),
-        "count": len(found.paths),
-        "files": [json_text(shown_path(path)) for path in found.paths[:FIRST]],
-        "entries": [{"path": json_text(shown_path(block.path)), "entries": [json_text(entry_text(it)) for it in
-                                                                            block.entries]} for block in found.blocks],
-        "who_else": list(map(json_text, found.others)),
-    }
+    blocks = [{"path": json_text(shown_path(it.path)), "entries": [json_text(entry_text(entry)) for entry in it.entries]}
+              for it in found.blocks]
+    return {"user": json_text(found.user), "count": len(found.paths),
+            "files": [json_text(shown_path(path)) for path in found.paths[:FIRST]], "entries": blocks,
+            "who_else": list(map(json_text, found.others))}
 
 
 def json_of(report: CheckReport) -> Dict[str, object]:

@@ -4,6 +4,7 @@ The file may be one that the caller cannot read, as by sudo: what is said of a l
 """
 from __future__ import annotations
 
+import itertools
 import os
 import re
 from typing import Callable, List, NamedTuple, Optional, Set, Tuple
@@ -11,7 +12,6 @@ from typing import Callable, List, NamedTuple, Optional, Set, Tuple
 from ...base.messages import Failure
 from ...base.names import plain_word, read_name, read_path, shown_path, write_name
 from ...base.trusted import read_given
-from ...base.user_tools import User
 from ...model.choice import is_recorded
 from ...model.everybody import World
 from ...model.people import Group, People, is_named, users_by_group
@@ -49,35 +49,20 @@ class Rule(NamedTuple):
 
 
 class Faults(Exception):
-    """What is wrong with lines of a file of rules, one text each."""
-
-    def __init__(self, texts: List[bytes]) -> None:
-        super().__init__(texts)
-        self.texts = texts
+    """What is wrong with lines of a file of rules, a list of texts."""
 
 
 class BadRule(Exception):
-    """What is wrong with a line, or with one of its words."""
-
-    def __init__(self, text: bytes) -> None:
-        super().__init__(text)
-        self.text = text
+    """What is wrong with a line, or with one of its words: a text."""
 
 
 def raw_words(line: bytes) -> List[bytes]:
     """The words of a line with their quotes, up to a comment."""
-    if words_of(line) is None:
-        starts = (match.start() for match in COMMENT.finditer(line))  # A quote in a comment is no quote.
-        before = next((line[:start] for start in starts if words_of(line[:start]) is not None), None)
-        if before is None:
-            raise BadRule(b"a single quote is open: in a name write it as \\047")
-        line = before
-    found: List[bytes] = []
-    for word in WORD.findall(line):
-        if word.startswith(b"#"):
-            break
-        found.append(word)
-    return found
+    ends = [len(line), *(match.start() for match in COMMENT.finditer(line))]  # A quote in a comment is no quote.
+    end = next((it for it in ends if words_of(line[:it]) is not None), None)
+    if end is None:
+        raise BadRule(b"a single quote is open: in a name write it as \\047")
+    return list(itertools.takewhile(lambda word: not word.startswith(b"#"), WORD.findall(line[:end])))
 
 
 class RuleReader:
@@ -96,36 +81,24 @@ class RuleReader:
         """The users of a group, without those of uid 0."""
         return self.members_of.get(group.gid, set()) - self.roots
 
-    def members_asked(self, place: int, group: Group) -> Set[bytes]:
-        """The users of a group that a word of a rule names, with a note where there are none."""
-        found = self.members(group)
-        if not found:
-            self.notes.append(of_word(place, NO_MEMBERS + b" but users of the uid 0" * self.has_roots(group)))
-        return found
-
-    def has_roots(self, group: Group) -> bool:
-        return not self.roots.isdisjoint(self.members_of.get(group.gid, set()))
-
     def who(self, place: int, raw: bytes) -> Tuple[Set[bytes], bool]:
         """The users that a word means, and whether it means everybody else too."""
         if raw in (OTHERS, PEOPLE, EVERYBODY):
             return set() if raw == OTHERS else set(self.chosen), raw != PEOPLE
-        word = raw.replace(b"'", b"")
-        if raw.startswith(IN_GROUP):
-            return self.members_asked(place, self.group(place, word[1:], b"'" in raw)), False
-        return {self.user(place, word, b"'" in raw)}, False
-
-    def group(self, place: int, word: bytes, is_quoted: bool) -> Group:
-        name = read_name(word)
-        found = next((it for it in self.people.groups if is_named(it.name, it.gid, name, is_quoted)), None)
-        if found is None:
+        word, is_quoted = raw.replace(b"'", b""), b"'" in raw
+        if not raw.startswith(IN_GROUP):
+            return {self.user(place, word, is_quoted)}, False
+        group = next((it for it in self.people.groups if is_named(it.name, it.gid, read_name(word[1:]), is_quoted)), None)
+        if group is None:
             raise BadRule(of_word(place, b"no such group in the snapshot"))
-        return found
+        found = self.members(group)
+        if not found:
+            self.notes.append(of_word(place, NO_MEMBERS + b" but users of the uid 0" * (group.gid in self.members_of)))
+        return found, False
 
     def user(self, place: int, word: bytes, is_quoted: bool) -> bytes:
         name = read_name(word)
-        found: Optional[User] = next(
-            (it for it in self.people.users if is_named(it.name, it.uid, name, is_quoted)), None)
+        found = next((it for it in self.people.users if is_named(it.name, it.uid, name, is_quoted)), None)
         if found is None:
             is_group = any(it.name == name for it in self.people.groups)
             more = b", but a group: write @ before it" if is_group else b""
@@ -148,14 +121,8 @@ class RuleReader:
         """A line that has words."""
         if len(raw) < LEAST or raw[0] not in KINDS or raw[-2] not in RIGHTS:
             raise BadRule(FORM)
-        users: Set[bytes] = set()
-        has_others = False
-        for place, word in enumerate(raw[1:-2], 2):
-            names, is_others = self.who(place, word)
-            users |= names
-            has_others = has_others or is_others
-        return Rule(number, raw, raw[0], users, has_others, raw[-2],
-                    self.path(len(raw), raw[-1].replace(b"'", b"")))
+        users, others = zip(*(self.who(place, word) for place, word in enumerate(raw[1:-2], 2)))
+        return Rule(number, raw, raw[0], set().union(*users), any(others), raw[-2], self.path(len(raw), raw[-1].replace(b"'", b"")))
 
     def read(self, name: str) -> List[Rule]:
         """The rules of a file; fails with what is wrong in all of its lines."""
@@ -170,7 +137,7 @@ class RuleReader:
                 found += [self.rule(number, words)] if words else []
                 self.notes[known:] = [b"%s, line %d: %s" % (shown, number, it) for it in self.notes[known:]]
             except BadRule as error:
-                faults.append(b"%s, line %d: %s" % (shown, number, error.text))
+                faults.append(b"%s, line %d: %s" % (shown, number, error.args[0]))
         if faults:
             raise Faults(faults)
         if not found:
@@ -198,5 +165,5 @@ def group_word(group: Group) -> bytes:
     return word if not word.startswith(b"'") else IN_GROUP + b"'" + word[2:]
 
 
-def path_word(path: bytes, is_directory: bool) -> bytes:
+def rule_path(path: bytes, is_directory: bool) -> bytes:
     return plain_word(b"/" if not path else shown_path(path) + b"/" * is_directory)

@@ -1,61 +1,67 @@
-"""What the commands of auditors ask the program: rights as words, on how many files users have them, by which entries, and
-the names of files as on the live system."""
+"""What facl-who asks the program: rights as words, the users whom words mean, and by which entries users have rights; and what an
+answer of it is: a table, the same for JSON, and what is said where it is empty."""
 from __future__ import annotations
 
 import argparse
 import contextlib
+import difflib
 import re
 from typing import Dict, Iterable, Iterator, List, NamedTuple, Optional, Sequence, Tuple
 
 from ...base.messages import Failure
-from ...base.names import file_name, highest, path_word, read_name, read_path
+from ...base.names import file_name, number_of, path_word, read_name, write_user
+from ...base.tables import Table
 from ...model import meta, sources
-from ...model.entries import OTHER_KEY, OWNER_KEY, OWNING_GROUP_KEY, Entries, Entry, entries_of, read_record
+from ...model.entries import OTHER_KEY, OWNER_KEY, OWNING_GROUP_KEY, Entry, entries_of, read_record
 from ...model.everybody import SHOWN, World, beside
 from ...model.label_answers import ask_records
 from ...model.marks import NO_MARKS, marks_of
-from ...model.people import needed_word, user_word
-from ...model.rights import REQUESTS
+from ...model.people import is_named, needed_word, user_word
 from ...model.unwritable import Unwritable, find_unwritable, without_write
-from ...program.protocol import BELOW, EFFECTIVE, ENTRIES_OF, LIST_NAMES
+from ...program.protocol import EFFECTIVE, ENTRIES_OF, LIST_NAMES
 from ...program.tools import REACH
 
-WORDS = {"read": 4, "write": 2, "enter": 1}
+WORDS = {"read": b"r", "write": b"w", "enter": b"x"}
 LETTERS = re.compile(r"[rwx-]*[rwx][rwx-]*\Z")
 AT_ONCE = 1_000  # Questions that the program is asked at once.
+Pair = Tuple[bytes, bytes]  # A user, as the program prints the name, and a path.
 
 
 class Right(NamedTuple):
     """What is asked of a file: a request of one letter or of several at once."""
 
     word: str
-    request: int
-
-    def letters(self) -> bytes:
-        return REQUESTS[self.request].replace("-", "").encode()
-
-
-class FoundRight(NamedTuple):
-    """On how many files a user has a right, and the first of them, by its path."""
-
-    files: int
-    first: bytes
+    letters: bytes
 
 
 def read_right(text: str) -> Right:
     """A right as a person writes it: a word, or letters."""
-    if text in WORDS:
-        return Right(text, WORDS[text])
-    if not LETTERS.match(text):
+    if text not in WORDS and not LETTERS.match(text):
         raise Failure(b"%s: is no right: read, write, enter, or letters of rwx, with commas between several"
                       % text.encode("utf-8", "surrogateescape"))
-    request = sum(bit for letter, bit in zip("rwx", WORDS.values()) if letter in text)
-    word = next((word for word, bit in WORDS.items() if bit == request), REQUESTS[request])
-    return Right(word, request)
+    letters = WORDS.get(text) or "".join(it for it in "rwx" if it in text).encode()
+    word = "".join(it if it in letters.decode() else "-" for it in "rwx")
+    return Right({its: known for known, its in WORDS.items()}.get(letters, word), letters)
 
 
 def read_rights(text: str) -> List[Right]:
     return list(dict.fromkeys(map(read_right, text.split(","))))
+
+
+class WhoAnswer(NamedTuple):
+    question: str  # Its name in JSON.
+    table: Table
+    fields: Dict[str, object]  # Those of JSON beside the ones that all answers have.
+    empty: bytes  # The line in the place of an empty table.
+    left_out: List[bytes] = []  # Users who would have a row, as the program prints their names.
+    after: Tuple[bytes, ...] = ()  # Lines after the table, for a person.
+
+
+class NamedUser(NamedTuple):
+    """A user whom a person names."""
+
+    shown: bytes  # As the program prints the name; the id where there is no row.
+    uid: int
 
 
 class Asker:
@@ -85,6 +91,11 @@ class Asker:
         """The name of a file on the live system, where the snapshot starts at the root; with the program's escapes."""
         return file_name(path, self.is_whole)
 
+    def spoken(self, folders: List[bytes]) -> bytes:
+        """Some folders in a message."""
+        names = list(map(self.name_of, folders[:3]))
+        return b"at or below " + b", ".join(names) + (b" and %d more" % (len(folders) - 3) if len(folders) > 3 else b"")
+
     def line(self, tool: bytes, *words: bytes) -> bytes:
         """A question along paths, unless each file is to be judged alone."""
         return b" ".join([tool, *([] if self.given.file_alone else [REACH]), b"--", *words])
@@ -104,71 +115,62 @@ class Asker:
         """The lines of its answer."""
         return self.session.ask_accepted(self.line(tool, *words)).lines()
 
-    def word_of(self, user: bytes) -> bytes:
-        """The word of a user, by the name that the program prints."""
-        return needed_word(self.users, read_name(user), user)
-
     def records(self, lines: Sequence[bytes]) -> List[bytes]:
         """The record that each of some lines prints, without the name of its file."""
         return [record for start in range(0, len(lines), AT_ONCE)
                 for record in ask_records(self.session, lines[start : start + AT_ONCE])]
 
+    # --- users
 
-def ask_below(asker: Asker, right: Right, folders: Iterable[bytes]) -> Dict[bytes, FoundRight]:
-    """By user, as the program prints the name: those who have a right on a file at or below some paths."""
-    found: Dict[bytes, FoundRight] = {}
-    with asker.without_unwritable(right.letters(), folders):
-        for words in sources.operands_of(highest(folders)):
-            for line in asker.lines_of(BELOW, right.letters(), *words):
-                count, user, name = line.split(b" ", 2)
-                before = found.get(user)
-                found[user] = (FoundRight(int(count), read_path(name)) if before is None
-                               else FoundRight(before.files + int(count), before.first))
-    return found
+    def word_of(self, user: bytes) -> bytes:
+        """The word of a user, by the name that the program prints."""
+        return needed_word(self.users, read_name(user), user)
 
+    def user_of(self, word: bytes, has_row: bool = False) -> NamedUser:
+        """The user whom the program takes a word for: digits alone are an id, which is that of the first user who has it. Where a
+        row is needed, the program can be asked about the user."""
+        for name in (word, read_name(word)):
+            for user in self.users:
+                if is_named(user.name, user.uid, name, is_name=not word.isdigit()):
+                    if has_row:
+                        needed_word(self.users, user.name, word)
+                    return NamedUser(write_user(user.name), user.uid)
+        if word.isdigit() and not has_row:
+            return NamedUser(word, number_of(word))
+        if word.isdigit():
+            raise Failure(word + b": is the id of no user of the snapshot")
+        near = difflib.get_close_matches(word.decode("latin-1"), [user.name.decode("latin-1") for user in self.users])
+        names = b", ".join(write_user(name.encode("latin-1")) for name in near)
+        raise Failure(word + b": is no user of the snapshot" + (b": there is " + names if near else b""))
 
-# --- by which entries
-
-
-Pair = Tuple[bytes, bytes]  # A user, as the program prints the name, and a path.
-
-
-def ask_entries(asker: Asker, pairs: Iterable[Pair]) -> Dict[Pair, Entries]:
-    """The entries by which users are judged on files; none of a user whom no word names."""
-    words = {pair: user_word(asker.users, read_name(pair[0])) for pair in pairs}
-    lines = {pair: b" ".join([ENTRIES_OF, word, path_word(pair[1])])
-             for pair, word in words.items() if word is not None}
-    records = asker.records(list(lines.values()))
-    return {pair: entries_of(record) for pair, record in zip(lines, records)}
-
-
-def ask_owning_groups(asker: Asker, paths: Iterable[bytes]) -> Dict[bytes, bytes]:
-    """By path: the file's group, as the program prints its name."""
-    known = list(dict.fromkeys(paths))
-    records = asker.records([LIST_NAMES + b" " + path_word(path) for path in known])
-    return {path: read_record(record).group for path, record in zip(known, records)}
+    def anybody(self, word: bytes) -> NamedUser:
+        """A user whom the program can be asked about, or everybody else."""
+        if word == SHOWN and all(user.name != SHOWN for user in self.users):
+            return NamedUser(self.world.everybody.name, self.world.everybody.number)
+        return self.user_of(word, has_row=True)
 
 
 class Reasons:
     """By which entries users are judged on files: of some pairs of both."""
 
     def __init__(self, asker: Asker, pairs: Iterable[Pair]) -> None:
-        self.entries = ask_entries(asker, pairs)
-        self.groups = ask_owning_groups(asker, [path for (_, path), entries in self.entries.items()
-                                                if any(it.key == OWNING_GROUP_KEY for it in entries)])
+        words = {pair: user_word(asker.users, read_name(pair[0])) for pair in pairs}  # None of a user whom no word names.
+        lines = {pair: b" ".join([ENTRIES_OF, word, path_word(pair[1])]) for pair, word in words.items() if word is not None}
+        self.entries = dict(zip(lines, map(entries_of, asker.records(list(lines.values())))))
+        # By path: the file's group, as the program prints its name.
+        paths = list(dict.fromkeys(path for (_, path), entries in self.entries.items()
+                                   if any(it.key == OWNING_GROUP_KEY for it in entries)))
+        records = asker.records([LIST_NAMES + b" " + path_word(path) for path in paths])
+        self.groups = {path: read_record(record).group for path, record in zip(paths, records)}
 
     def granting(self, pair: Pair, right: Right) -> List[Entry]:
         """The entries that grant a right."""
-        return [it for it in self.entries.get(pair, ()) if it.grants(right.letters())]
+        return [it for it in self.entries.get(pair, ()) if it.grants(right.letters)]
 
     def text(self, pair: Pair, right: Right) -> bytes:
         """The same for a table: the entry of the owner, the owning group or others by its name."""
-        return b", ".join(self.written(entry, pair[1]) for entry in self.granting(pair, right))
-
-    def written(self, entry: Entry, path: bytes) -> bytes:
-        if entry.key == OWNING_GROUP_KEY:
-            return b"group " + self.groups[path]
-        return {OWNER_KEY: b"owner", OTHER_KEY: b"other"}.get(entry.key) or plain_entry(entry)
+        names = {OWNER_KEY: b"owner", OTHER_KEY: b"other", OWNING_GROUP_KEY: b"group " + self.groups.get(pair[1], b"")}
+        return b", ".join(names.get(it.key) or plain_entry(it) for it in self.granting(pair, right))
 
 
 def plain_entry(entry: Entry) -> bytes:

@@ -17,9 +17,8 @@ from ...model import choice, meta, overview, sources
 from ...model.everybody import world_of
 from ...model.snapshot import NEEDED, check_texts
 from ...model.sources import Source
-from . import of_files, of_folder, of_rights, of_user
-from .answers import WhoAnswer, anybody, user_of, user_with_row
-from .asking import Asker, read_rights
+from . import of_files, of_folder, of_user
+from .asking import Asker, WhoAnswer, read_rights
 
 SCHEMA = "facl-who/1"
 SOMEBODY, NOBODY = 0, 1
@@ -130,15 +129,15 @@ def answer_of(asker: Asker) -> WhoAnswer:
     if given.new_file is not None:
         folder, user = map(os.fsencode, given.new_file)
         asker.named = [choice.folder_of(session, folder)]
-        return of_folder.answer_new_file(asker, asker.named[0], user_with_row(asker, user))
+        return of_folder.answer_new_file(asker, asker.named[0], asker.user_of(user, has_row=True))
     folders = choice.folders_of(session, given.folders) if given.folders else choice.folders_made_of(session)
     asker.folders, asker.named = folders, folders if given.folders else []
     if given.user is not None:
-        return of_user.answer(asker, anybody(asker, os.fsencode(given.user)), folders)
+        return of_user.answer(asker, asker.anybody(os.fsencode(given.user)), folders)
     for question, word in (("owner", given.owner), ("names", given.names)):
         if word is not None:
-            return of_files.answer(asker, question, user_of(asker, os.fsencode(word)), folders)
-    return of_rights.answer(asker, read_rights(given.perms), folders)
+            return of_files.of_user(asker, question, asker.user_of(os.fsencode(word)), folders)
+    return of_files.of_rights(asker, read_rights(given.perms), folders)
 
 
 def write_answer(command: Command, asker: Asker, answer: WhoAnswer) -> None:
@@ -173,7 +172,7 @@ def notes_beside_lists(asker: Asker) -> Iterator[bytes]:
     given = asker.given
     if asker.unwritable is not None:
         yield b"left out, as nobody can write them: " + asker.unwritable.text() + b" (--lists-alone)"
-    asks_for_x = given.user is not None or not given.question and any(it.request & 1 for it in read_rights(given.perms))
+    asks_for_x = given.user is not None or not given.question and any(b"x" in it.letters for it in read_rights(given.perms))
     noexec = asker.judged_by.mounted(NOEXEC, asker.folders) if asks_for_x else []
     if noexec:
         yield b"on a noexec file system, where x of a file grants no execution: " + choice.few(list(map(asker.name_of, noexec)))
@@ -196,7 +195,7 @@ def body(command: Command, words: List[str]) -> int:
             command.say(note)
         for note in () if given.json else notes_beside_lists(asker):
             command.say(note)
-        if given.user is not None and not given.with_root and anybody(asker, os.fsencode(given.user)).uid == SUPERUSER:
+        if given.user is not None and not given.with_root and asker.anybody(os.fsencode(given.user)).uid == SUPERUSER:
             command.say(os.fsencode(given.user) + b": has the uid 0, to which the kernel grants nearly everything; "
                         b"this is what lists grant it")
     return SOMEBODY if answer.table.rows else NOBODY

@@ -1,6 +1,7 @@
 """facl-who --remove: who can remove a file; and --new-file: the lists that a new file and a new folder of a user would get."""
 from __future__ import annotations
 
+import itertools
 import os
 from typing import Dict, List, NamedTuple, Optional
 
@@ -13,31 +14,13 @@ from ...model.records import asks_as_directory
 from ...model.rules_of_lists import is_sticky, remover, writing
 from ...model.superuser import ids_in
 from ...program.protocol import CAN, LIST_BELOW, LIST_NAMED, LIST_NUMBERS, MAKE_DIRECTORY, MAKE_FILE, WHO
-from .answers import NamedUser, WhoAnswer
-from .asking import Asker, Reasons, plain_entry, read_right
+from .asking import Asker, NamedUser, Reasons, WhoAnswer, plain_entry, read_right
 
 CHANGE = read_right(writing(is_directory=True).decode())  # Of the folder above, to make or remove a file.
 KINDS = {"file": (MAKE_FILE, b"0666"), "folder": (MAKE_DIRECTORY, b"0777")}
 
 
 # --- who can remove a file
-
-
-class Removed(NamedTuple):
-    """A file and the folder above it, as far as their owners and the sticky bit decide who may remove the file."""
-
-    owner: int
-    folder_owner: int
-    is_sticky: bool
-    is_full: bool  # Whether something is recorded below the file.
-
-
-def ask_removed(asker: Asker, path: bytes) -> Removed:
-    lines = [LIST_NUMBERS + b" " + path_word(it) for it in (path, parent_of(path))]
-    file, folder = map(read_record, asker.records(lines))
-    below = asker.session.ask_accepted(LIST_BELOW + b" " + path_word(path)).records()
-    is_full = sum(1 for _, _ in zip(below, range(2))) > 1
-    return Removed(int(file.owner), int(folder.owner), is_sticky(folder.flags), is_full)
 
 
 def removed_path(asker: Asker, word: str) -> bytes:
@@ -52,26 +35,26 @@ def removed_path(asker: Asker, word: str) -> bytes:
 
 
 def answer_remove(asker: Asker, path: bytes) -> WhoAnswer:
-    folder = parent_of(path)
-    removed, ids = ask_removed(asker, path), ids_in(asker.passwd)
-    why = asker.judged_by.keeps_name(path)
-    may = asker.lines_of(WHO, CHANGE.letters(), path_word(folder)) if why is None else ()
-    users = choice.in_order(may, asker.passwd)
-    roles = {user: remover(ids[read_name(user)], removed.owner, removed.folder_owner, removed.is_sticky) for user in users}
-    users = [user for user in users if roles[user] is not None]
+    above, ids, why = parent_of(path), ids_in(asker.passwd), asker.judged_by.keeps_name(path)
+    file, folder = map(read_record, asker.records([LIST_NUMBERS + b" " + path_word(it) for it in (path, above)]))
+    below = asker.session.ask_accepted(LIST_BELOW + b" " + path_word(path)).records()
+    is_full, is_kept = len(list(itertools.islice(below, 2))) > 1, is_sticky(folder.flags)  # Something is recorded below the file.
+    may = asker.lines_of(WHO, CHANGE.letters, path_word(above)) if why is None else ()
+    roles = {user: remover(ids[read_name(user)], int(file.owner), int(folder.owner), is_kept)
+             for user in choice.in_order(may, asker.passwd)}
+    users = {user: role for user, role in roles.items() if role is not None}
     kept = choice.kept(users, asker.given, asker.passwd)
-    reasons = Reasons(asker, [(user, folder) for user in kept])
-    rows = [[asker.shown(user), reasons.text((user, folder), CHANGE), *filter(None, [roles[user]])] for user in kept]
-    columns = [Column("USER"), Column("BY"), *[Column("AS")] * removed.is_sticky]
+    reasons = Reasons(asker, [(user, above) for user in kept])
+    rows = [[asker.shown(user), reasons.text((user, above), CHANGE), *filter(None, [users[user]])] for user in kept]
     name = asker.name_of(path)
-    notes = [name + b": is not empty, so what is in it has to be removed before"] if removed.is_full else []
-    notes += [asker.name_of(folder) + b": is sticky, so only the owners of the file and of the folder may"] * removed.is_sticky
+    notes = [name + b": is not empty, so what is in it has to be removed before"] * is_full
+    notes += [asker.name_of(above) + b": is sticky, so only the owners of the file and of the folder may"] * is_kept
     notes += asker.beside(row[0] for row in rows)
     return WhoAnswer(
-        "remove", Table(columns, rows),
-        {"file": json_text(name), "sticky": removed.is_sticky, "empty": not removed.is_full, "since": json_text(why or b"") or None,
-         "users": [{"user": json_text(asker.shown(user)), "as": json_text(roles[user] or b"") or None,
-                    "by": [json_text(plain_entry(it)) for it in reasons.granting((user, folder), CHANGE)]} for user in kept]},
+        "remove", Table([Column("USER"), Column("BY"), *[Column("AS")] * is_kept], rows),
+        {"file": json_text(name), "sticky": is_kept, "empty": not is_full, "since": json_text(why or b"") or None,
+         "users": [{"user": json_text(asker.shown(user)), "as": json_text(users[user]) or None,
+                    "by": [json_text(plain_entry(it)) for it in reasons.granting((user, above), CHANGE)]} for user in kept]},
         b"nobody may remove " + name + since(why), [it for it in users if it not in kept], tuple(notes))
 
 
@@ -92,13 +75,12 @@ class Made(NamedTuple):
     writers: List[bytes]
     left_out: List[bytes]  # Others who may.
 
-    def lines(self) -> List[bytes]:
-        """Its record for a person."""
-        owner, group, flags = self.record[:3]
-        return [*head_lines(owner, group, flags).splitlines(), *self.entries()]
-
     def entries(self) -> List[bytes]:
         return [*map(plain_entry, self.record.access), *(b"default:" + plain_entry(it) for it in self.record.default)]
+
+    def lines(self) -> List[bytes]:
+        """Its record for a person."""
+        return [*head_lines(*self.record[:3]).splitlines(), *self.entries()]
 
     def as_object(self) -> Dict[str, object]:
         owner, group, flags = self.record[:3]
@@ -124,27 +106,18 @@ def make(asker: Asker, folder: bytes, user: bytes, kind: str) -> Made:
     return Made(kind, record, list(map(asker.shown, kept[0])), list(map(asker.shown, kept[1])), left_out)
 
 
-def has_default_list(asker: Asker, folder: bytes) -> bool:
-    return bool(read_record(asker.records([LIST_NUMBERS + b" " + path_word(folder)])[0]).default)
-
-
-def check_folder(asker: Asker, folder: bytes) -> None:
-    if not asks_as_directory(asker.session, folder):
-        raise Failure(asker.name_of(folder) + b": is no folder")
-
-
 def answer_new_file(asker: Asker, folder: bytes, user: NamedUser) -> WhoAnswer:
-    check_folder(asker, folder)
-    word = asker.word_of(user.shown)
-    name = asker.name_of(folder)
+    word, name = asker.word_of(user.shown), asker.name_of(folder)
+    if not asks_as_directory(asker.session, folder):
+        raise Failure(name + b": is no folder")
     granted = b"".join(asker.lines_of(CAN, word, path_word(folder))).split(b" ")
     kept_out = asker.judged_by.keeps_out(folder)
     why = None if kept_out is None else b"it is " + kept_out
     is_allowed = CHANGE.word.encode() in granted and why is None
     made = [make(asker, folder, word, kind) for kind in KINDS] if is_allowed else []
-    umask = asker.given.umask.encode()
-    origin = (b"by the default list of " + name if has_default_list(asker, folder)
-              else name + b" has no default list, so the umask counts, taken as " + umask)
+    default = read_record(asker.records([LIST_NUMBERS + b" " + path_word(folder)])[0]).default
+    origin = (b"by the default list of " + name if default
+              else name + b" has no default list, so the umask counts, taken as " + asker.given.umask.encode())
     rows = [[it.kind.encode(), line] for it in made for line in it.lines()]
     left_out = list(dict.fromkeys(user for it in made for user in it.left_out))
     notes = [it.summary() for it in made] + asker.beside(user for it in made for user in it.readers + it.writers)

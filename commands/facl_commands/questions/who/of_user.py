@@ -3,44 +3,31 @@ from __future__ import annotations
 
 import re
 from collections import Counter
-from typing import Dict, Iterator, List, NamedTuple, Set
+from typing import Dict, Iterable, Iterator, List, Set
 
 from ...base.folders import folder_of
-from ...base.names import highest, json_text, path_order, path_word, read_path, sorting_key
+from ...base.names import highest, json_text, path_order, path_word, sorting_key
 from ...base.tables import Column, Table
 from ...model import sources
-from ...model.records import list_files
+from ...model.everybody import paths_in
+from ...model.records import list_files, path_of
 from ...model.rights import GRANTED, REQUESTS
-from ...program.protocol import CAN, DEFAULT_ENTRY, MAY
+from ...program.protocol import CAN, DEFAULT_ENTRY, FILE_HEAD, MAY
 from ...program.session import LINES_ROOM, parts_of
-from .answers import NamedUser, WhoAnswer, spoken_folders
-from .asking import WORDS, Asker, Right
+from .asking import WORDS, Asker, NamedUser, WhoAnswer
 
-RIGHTS = [Right(word, request) for word, request in WORDS.items()]
 HIGHEST_FIRST = ["write", "read", "enter"]
 COLUMNS = [Column("FOLDER"), Column("HERE"), Column("HIGHEST"),
-           *(Column(right.word.upper(), True) for right in RIGHTS), Column("FILES", True)]
+           *(Column(word.upper(), True) for word in WORDS), Column("FILES", True)]
 DEFAULT_LINE = re.compile(rb"^[ \t]*d(?:efault)?:", re.MULTILINE)
 
 
-class FolderRow(NamedTuple):
-    path: bytes
-    here: str  # The greatest requests on the folder itself.
-    counts: List[int]  # Of files at or below it, by RIGHTS.
-    files: int
-
-    def highest(self) -> str:
-        """The highest right on a file at or below the folder."""
-        known = dict(zip(WORDS, self.counts))
-        return next(word for word in HIGHEST_FIRST if known[word])
-
-    def fields(self, asker: Asker) -> List[bytes]:
-        numbers = [b"%d" % it for it in (*self.counts, self.files)]
-        return [asker.name_of(self.path), self.here.encode(), self.highest().encode(), *numbers]
-
-    def as_object(self, asker: Asker) -> Dict[str, object]:
-        return {"folder": json_text(asker.name_of(self.path)), "here": self.here, "highest": self.highest(),
-                **dict(zip(WORDS, self.counts)), "files": self.files}
+def names_in(dump: bytes) -> List[bytes]:
+    """The names of its files. Where each `file:` is as facl-snapshot writes it, no other line is looked at."""
+    parts = (b"\n" + dump).split(b"\n" + FILE_HEAD)
+    if dump.count(b"file:") != len(parts) - 1:
+        return list(sources.names_of(dump))
+    return [part.partition(b"\n")[0] for part in parts[1:]]
 
 
 class Folders:
@@ -49,26 +36,33 @@ class Folders:
 
     def __init__(self, tops: List[bytes], depth: int, dump: bytes, directories: Set[bytes]) -> None:
         self.tops, self.depth = set(tops), depth
-        self.files: Counter[bytes] = Counter()
-        recorded: Set[bytes] = set()
-        folders = set(tops) | directories
-        for name in sources.names_of(dump):
-            path = read_path(name)
-            levels = list(self.levels(path))
-            self.files.update(levels)
-            recorded.update(level for level in levels[-1:] if level == path)
-            folders.update(level for level in levels if level != path or name.endswith(b"/"))
-        self.paths = sorted(folders & recorded, key=sorting_key)
+        self.paths: List[bytes] = []
+        names = names_in(dump)
+        recorded = list(map(path_of, names))
+        inside = {level for folder in files_by_folder(recorded) for level in self.levels(folder)}
+        slashes = {path for path, name in zip(recorded, names) if name[-1:] == b"/"}
+        known = (inside | slashes | self.tops | directories) & set(recorded)
+        self.paths = sorted((it for it in known if it in self.levels(it)), key=sorting_key)
+        self.files = self.count(recorded)
 
-    def levels(self, path: bytes) -> Iterator[bytes]:
+    def levels(self, path: bytes) -> List[bytes]:
         """The folders of which a file counts: from a top down to the depth, or to the file."""
         parts = path_order(path)
         length = next((it for it in range(len(parts) + 1) if b"/".join(parts[:it]) in self.tops), len(parts) + 1)
-        return (b"/".join(parts[:it]) for it in range(length, min(length + self.depth, len(parts)) + 1))
+        return [b"/".join(parts[:it]) for it in range(length, min(length + self.depth, len(parts)) + 1)]
 
-    def count(self, paths: Iterator[bytes]) -> Counter[bytes]:
+    def count(self, paths: List[bytes]) -> Counter[bytes]:
         """By folder: how many of some files are at or below it."""
-        return Counter(level for path in paths for level in self.levels(path))
+        found: Counter[bytes] = Counter(set(self.paths) & set(paths))  # Each is below all those of the folder that it is in.
+        for folder, number in files_by_folder(paths).items():
+            for level in self.levels(folder):
+                found[level] += number
+        return found
+
+
+def files_by_folder(paths: Iterable[bytes]) -> Counter[bytes]:
+    """How many of some paths are in each folder; the root is in none."""
+    return Counter(path.rpartition(b"/")[0] for path in paths if path)
 
 
 def greatest(requests: bytes) -> str:
@@ -88,21 +82,25 @@ def with_default_entries(asker: Asker, dump: bytes) -> Set[bytes]:
     of their names, as facl-snapshot writes them."""
     if sources.LIVE_ROOT in dump or DEFAULT_LINE.search(dump) is None:
         return set()
-    listing = list_files(b"".join(it.read() for it in sources.list_below(asker.session, sources.find_tops(asker.session, asker.session.folder))))
+    tops = sources.find_tops(asker.session, asker.session.folder)
+    listing = list_files(b"".join(it.read() for it in sources.list_below(asker.session, tops)))
     return {path for path, file in listing.files.items() if DEFAULT_ENTRY in file.body}
 
 
 def answer(asker: Asker, user: NamedUser, folders: List[bytes]) -> WhoAnswer:
     dump = folder_of(asker.session.folder).read(sources.DUMP)
     found = Folders(highest(folders), asker.given.depth, dump, with_default_entries(asker, dump))
-    word = asker.word_of(user.shown)
+    word, name = asker.word_of(user.shown), asker.shown(user.shown)
+    rows: List[List[bytes]] = []
+    objects: List[Dict[str, object]] = []
     with asker.without_unwritable(b"w", folders):
-        counts = [found.count(map(read_path, asker.lines_of(MAY, word, right.letters()))) for right in RIGHTS]
-        paths = [path for path in found.paths if any(its[path] for its in counts)]
-        rows = [FolderRow(path, here, [its[path] for its in counts], found.files[path])
-                for path, here in zip(paths, ask_here(asker, word, paths))]
-    name = asker.shown(user.shown)
-    return WhoAnswer(
-        "user", Table(COLUMNS, [row.fields(asker) for row in rows]),
-        {"user": json_text(name), "depth": asker.given.depth, "folders": [row.as_object(asker) for row in rows]},
-        name + b" may read, write and enter nothing " + spoken_folders(asker, folders), after=tuple(asker.beside([name])))
+        counts = {right: found.count(list(paths_in(asker.session.ask_accepted(asker.line(MAY, word, letters)))))
+                  for right, letters in WORDS.items()}
+        paths = [path for path in found.paths if any(its[path] for its in counts.values())]
+        for path, here in zip(paths, ask_here(asker, word, paths)):
+            numbers = {right: its[path] for right, its in counts.items()}
+            most = next(it for it in HIGHEST_FIRST if numbers[it])  # On a file at or below the folder.
+            rows.append([asker.name_of(path), here.encode(), most.encode(), *(b"%d" % it for it in (*numbers.values(), found.files[path]))])
+            objects.append({"folder": json_text(rows[-1][0]), "here": here, "highest": most, **numbers, "files": found.files[path]})
+    return WhoAnswer("user", Table(COLUMNS, rows), {"user": json_text(name), "depth": asker.given.depth, "folders": objects},
+                     name + b" may read, write and enter nothing " + asker.spoken(folders), after=tuple(asker.beside([name])))
