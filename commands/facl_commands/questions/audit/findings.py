@@ -1,5 +1,5 @@
-"""The findings of facl-audit, a record each; a file with what is found of it, and the line that mends it; and findings that are
-accepted, each with a reason: the lines of the file of --accepted.
+"""The findings of facl-audit, a record each; a file with what is found of it, and the line that mends it; and findings
+that are accepted, each with a reason: the lines of the file of --accepted.
 
 That file may be one that the caller cannot read, as by sudo: messages have no word of a line but the name of a finding.
 """

@@ -11,7 +11,8 @@ from typing import Callable, Dict, List, NamedTuple, Optional, Tuple
 from ...base import accounts
 from ...base.names import parent_of, shown_path
 from ...model.entries import (
-    GROUP, NOTHING, OTHER, OWNING_GROUP_KEY, USER, Entry, NamesOfIds, ReadRecord, cut_letters, digits, flag_digit, named, read_record,
+    GROUP, NOTHING, OTHER, OWNING_GROUP_KEY, USER, Entry, NamesOfIds, ReadRecord, cut_letters, digits, flag_digit, named,
+    read_record,
 )
 from ...model.everybody import World
 from ...model.records import File, Files
@@ -45,11 +46,16 @@ def without_flag(flag: int, file: File, record: ReadRecord, _ids: NamesOfIds) ->
     return b"", b"chmod " + digits(record, flags & ~flag)
 
 
+def named_entries(record: ReadRecord) -> List[Tuple[Entry, bytes]]:
+    """Those of both lists, with what is before each in a script."""
+    lists = (b"", record.access), (b"d:", record.default)
+    return [(it, begin) for begin, entries in lists for it in entries if it.is_named()]
+
+
 def mask_cuts_entry(_file: File, record: ReadRecord, ids: NamesOfIds) -> OfFile:
     """Entries of users and groups of which r or w is cut; the edit says what they grant, and grants nobody more."""
-    access = () if record.has_open_empty_mask() else record.access  # Of which empty_mask says what the entries do.
-    cut = [(it, begin) for begin, entries in ((b"", access), (b"d:", record.default)) for it in entries
-           if it.is_named() and cut_letters(it).strip(b"x")]
+    cut = [(it, begin) for it, begin in named_entries(record) if cut_letters(it).strip(b"x")
+           and (begin or not record.has_open_empty_mask())]  # Of which empty_mask says what the entries do.
     if not cut:
         return None
     text = b", ".join(b"default " * (begin != b"") + b"%s: %s is %s" % (
@@ -82,8 +88,7 @@ def owner_without_row(_file: File, record: ReadRecord, ids: NamesOfIds) -> OfFil
 
 
 def entry_without_row(_file: File, record: ReadRecord, ids: NamesOfIds) -> OfFile:
-    lacking = [(it.key, begin) for begin, entries in ((b"", record.access), (b"d:", record.default))
-               for it in entries if it.is_named() and not ids.has(it.key)]
+    lacking = [(it.key, begin) for it, begin in named_entries(record) if not ids.has(it.key)]
     if not lacking:
         return None
     text = b", ".join(b"default " * (begin != b"") + ids.shown(key) for key, begin in lacking)
@@ -137,7 +142,8 @@ def default_not_inherited(audited: Audited) -> List[FoundFile]:
             if known[pair]:
                 keys = b", ".join(ids.shown(it.key) for it in known[pair] if it.is_named())
                 text = b"lacks %s of %s" % (keys or b"the default list", shown_path(parent_of(path)))
-                found.append(FoundFile(path, text, b"setfacl -n -m " + b",".join(ids.entry(it, b"d:") for it in known[pair])))
+                words = b",".join(ids.entry(it, b"d:") for it in known[pair])
+                found.append(FoundFile(path, text, b"setfacl -n -m " + words))
     return found
 
 

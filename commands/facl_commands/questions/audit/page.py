@@ -19,17 +19,10 @@ from .report import AuditReport
 MOST = 1_000  # Files of a finding that the page has.
 
 
-def text_of(text: bytes) -> str:
-    return shown(text).decode()
-
-
-def path_on_page(path: bytes) -> str:
-    """A path as the page has it: each with a slash at its start."""
-    return "/" + text_of(shown_path(path)) if path else "/"
-
-
 def fields_of(kind: KindOfFinding, found: List[FoundFile], is_whole: bool) -> Dict[str, object]:
-    files = [[path_on_page(it.path), text_of(it.detail), text_of(it.line(is_whole))] for it in found[:MOST]]
+    """A finding as the page has it, where each path has a slash at its start."""
+    rows = [(b"/" + shown_path(it.path) if it.path else b"/", it.detail, it.line(is_whole)) for it in found[:MOST]]
+    files = [[shown(text).decode() for text in row] for row in rows]
     return {"name": kind.name, "weight": kind.weight, "meaning": kind.meaning, "count": len(found), "files": files}
 
 

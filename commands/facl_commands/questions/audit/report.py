@@ -1,14 +1,21 @@
 """What facl-audit prints: the findings by weight, or all files of one."""
 from __future__ import annotations
 
-from typing import Dict, Iterator, List, NamedTuple, Optional
+import argparse
+import os
+from typing import Dict, Iterator, List, Optional, Set
 
 from ...base.messages import counted
-from ...base.names import file_name, json_text, shown, shown_path
+from ...base.names import at_or_below, file_name, is_at_or_below, json_text, shell_word, shown, shown_path
 from ...base.tables import Column, Paint, Table, fitting_line
+from ...model import sources, split_tree
 from ...model.everybody import beside
-from ...model.meta import Meta, fields_of, named
-from .findings import HIGH, KINDS, LOW, MIDDLE, OF_EVERYBODY, WEIGHTS, Accepted, Findings, FoundFile, KindOfFinding
+from ...model.meta import fields_of, meta_of, named
+from ...model.sources import Source
+from .findings import (
+    HIGH, KINDS, LOW, MIDDLE, OF_EVERYBODY, WEIGHTS, Accepted, Findings, FoundFile, KindOfFinding, read_accepted, sort_out,
+    why_unused,
+)
 
 SCHEMA = "facl-audit/1"
 FIRST = 3  # Names of a finding.
@@ -16,27 +23,31 @@ INDENT = 8
 NAME_WIDTH = max(len(kind.name) for kind in KINDS)
 
 
-class Unused(NamedTuple):
-    """A line that accepts nothing."""
+class AuditReport:
+    """What is found in a snapshot or in all of its parts, without what is accepted."""
 
-    line: Accepted
-    said: bytes
-    is_recorded: bool  # Whether its path is in the snapshot.
+    def __init__(self, given: argparse.Namespace, source: Source) -> None:
+        self.given, self.source, self.parts = given, source, split_tree.parts_in(source.folder)
+        self.meta = split_tree.meta_of_all(self.parts) if self.parts else meta_of(source.folder)
+        self.folders: List[bytes] = []
+        self.files = 0  # At or below these.
+        self.findings: Findings = {kind.name: [] for kind in KINDS}
+        self.accepted = 0  # Files.
+        self.lines = read_accepted(given.accepted) if given.accepted is not None else []
+        self.recorded: Set[bytes] = set()  # The paths of lines that are in the snapshot.
+        self.unused: Dict[Accepted, bytes] = {}  # The lines that accept nothing, with what is said of them.
+        self.is_whole = False  # Whether paths start at the root of the file system.
 
-
-class AuditReport(NamedTuple):
-    snapshot: bytes  # As it was given.
-    meta: Meta
-    folders: List[bytes]
-    files: int  # At or below these.
-    findings: Findings  # Without what is accepted.
-    accepted: int  # Files.
-    unused: List[Unused]
-    is_whole: bool  # Whether paths start at the root of the file system.
-    words: bytes  # Those of facl-audit about the same files and users,
-    words_of_edits: bytes  # the same for --edits, of the first part of a snapshot in parts,
-    source: bytes  # and those of a command over the same snapshot or part.
-    is_split: bool  # Whether the snapshot is in parts.
+    def accept(self) -> None:
+        """Takes out what lines accept. A line that accepts nothing is said where it is about what is audited, or its path is
+        not in the snapshot."""
+        rest, used = sort_out(self.findings, self.lines)
+        for line in [line for line in self.lines if line not in used]:
+            if (line.path != b"" and line.path not in self.recorded or is_at_or_below(line.path, self.folders)
+                    or line.is_folder and at_or_below(self.folders, [line.path])):
+                self.unused[line] = why_unused(line, self.findings)
+        self.accepted = sum(map(len, self.findings.values())) - sum(map(len, rest.values()))
+        self.findings = rest
 
     def name_of(self, path: bytes) -> bytes:
         return file_name(path, self.is_whole)
@@ -49,7 +60,8 @@ class AuditReport(NamedTuple):
 def lines_of_kind(kind: KindOfFinding, found: List[FoundFile], is_whole: bool, paint: Paint) -> Iterator[bytes]:
     """A finding: its number of files, what it is, the first names and the line that mends the first one."""
     painter = {HIGH: paint.red, MIDDLE: paint.yellow, LOW: paint.dim}[kind.weight]
-    yield painter(b"%-7s %-*s  " % (kind.weight.encode(), NAME_WIDTH, kind.name.encode())) + paint.bold(counted(len(found), "file"))
+    head = "%-7s %-*s  " % (kind.weight, NAME_WIDTH, kind.name)
+    yield painter(head.encode()) + paint.bold(counted(len(found), "file"))
     yield fitting_line(kind.meaning.encode(), INDENT)
     detail = b" (" + found[0].detail + b")" if found[0].detail else b""
     yield fitting_line(b"first: " + shown_path(found[0].path) + detail, INDENT)
@@ -68,7 +80,7 @@ def summary(report: AuditReport) -> bytes:
 
 def lines_of(report: AuditReport) -> Iterator[bytes]:
     folders = b", ".join(map(report.name_of, report.folders))
-    head = b"%s: %s at or below %s" % (named(report.snapshot, report.meta), counted(report.files, "file"), folders)
+    head = b"%s: %s at or below %s" % (named(report.source.shown, report.meta), counted(report.files, "file"), folders)
     yield fitting_line(head)
     paint = Paint()
     for kind in report.kinds():
@@ -77,11 +89,25 @@ def lines_of(report: AuditReport) -> Iterator[bytes]:
         yield from map(fitting_line, beside(report.meta))
     yield summary(report)
     if report.kinds():
-        name = report.kinds()[0].name.encode()
-        yield b"all files of one: facl-audit --list %s %s" % (name, report.words)
-        of_part = b", of the first part" * report.is_split
+        name, of_edits = report.kinds()[0].name.encode(), report.given
+        if report.parts:
+            of_edits = argparse.Namespace(**{**vars(report.given), "snapshot": os.fsdecode(report.parts[0])})
+        yield b"all files of one: facl-audit --list %s %s" % (name, written(words_again(report.given)))
         yield b"all lines of one%s: facl-audit --edits %s %s >edits; facl-plan %s edits" % (
-            of_part, name, report.words_of_edits, report.source)
+            b", of the first part" * bool(report.parts), name, written(words_again(of_edits)),
+            written(sources.source_words(of_edits)))
+
+
+def words_again(given: argparse.Namespace) -> List[str]:
+    """The words that say what the findings are of, for another run."""
+    flags = ["--all-users"] * given.all_users + ["--with-root"] * given.with_root + ["--file-alone"] * given.file_alone
+    accepted = [] if given.accepted is None else ["--accepted", given.accepted]
+    return [*flags, *accepted, *sources.source_words(given), *given.folders]
+
+
+def written(words: List[str]) -> bytes:
+    """Words for a shell."""
+    return shown(b" ".join(shell_word(os.fsencode(word)) for word in words))
 
 
 def table_of(report: AuditReport) -> Table:
@@ -100,21 +126,21 @@ def table_of_files(found: List[FoundFile], is_whole: bool) -> Table:
 
 
 def json_of_kind(kind: KindOfFinding, found: List[FoundFile], has_all: bool, is_whole: bool) -> Dict[str, object]:
-    files = [{"path": json_text(shown_path(it.path)), "what": json_text(it.detail), "mend": json_text(it.line(is_whole))}
-             for it in (found if has_all else found[:FIRST])]
+    texts = [(shown_path(it.path), it.detail, it.line(is_whole)) for it in (found if has_all else found[:FIRST])]
+    files = [dict(zip(("path", "what", "mend"), map(json_text, its))) for its in texts]
     return {"finding": kind.name, "weight": kind.weight, "meaning": kind.meaning, "count": len(found), "files": files}
 
 
 def json_of(report: AuditReport, only: Optional[str]) -> Dict[str, object]:
     """The report, with all files of one finding where only that is asked for."""
     kinds = [kind for kind in report.kinds() if only in (None, kind.name)]
-    snapshot: Dict[str, object] = {"name": json_text(report.snapshot), **fields_of(report.meta)}
+    snapshot: Dict[str, object] = {"name": json_text(report.source.shown), **fields_of(report.meta)}
     return {
         "snapshot": snapshot,
         "folders": [json_text(report.name_of(path)) for path in report.folders],
         "files": report.files,
         "findings": [json_of_kind(kind, report.findings[kind.name], only is not None, report.is_whole) for kind in kinds],
         "accepted": report.accepted,
-        "unused": [{"line": it.number, "finding": it.kind, "path": json_text(shown_path(it.path)) if is_recorded else None}
-                   for it, _, is_recorded in report.unused],
+        "unused": [{"line": it.number, "finding": it.kind,
+                    "path": json_text(shown_path(it.path)) if it.path in report.recorded else None} for it in report.unused],
     }

@@ -1,5 +1,5 @@
-"""Findings of facl-audit that are answers of the program: what everybody else may do, who of the users may, and entries without
-effect. What differs in many files is a few records, so records are asked about, and not files."""
+"""Findings of facl-audit that are answers of the program: what everybody else may do, who of the users may write, and
+entries without effect. Many files have few different records, so records are asked about, and not files."""
 from __future__ import annotations
 
 from typing import Dict, Iterable, List, NamedTuple, Optional, Tuple
@@ -117,7 +117,8 @@ class Teams:
 
 
 class Writers:
-    """The users who may write files that are judged alike: who may by the record, and gets there by those of the directories above."""
+    """The users who may write files that are judged alike: who may by the record, and by those of the directories above
+    can search all of these, as path_resolution(7) asks."""
 
     def __init__(self, audited: Audited, teams: Teams, groups: List[Alike]) -> None:
         self.audited, self.files = audited, audited.files
@@ -130,8 +131,8 @@ class Writers:
         self.inside: Dict[bytes, int] = {}  # By directory: who gets to what is in it.
 
     def ask(self, questions: List[Tuple[bytes, bytes]]) -> Dict[File, int]:
-        """Who has a right on each of some files alone, by record. A listing after each answer ends it: no name of a user is its first
-        line."""
+        """Who has a right on each of some files alone, by record. A listing ends each answer: no name of a user is its
+        first line."""
         found: Dict[File, int] = {}
         for start in range(0, len(questions), AT_ONCE):
             part = questions[start : start + AT_ONCE]
@@ -155,7 +156,7 @@ class Writers:
         return self.alone[alike.file] & (-1 if is_alone else self.inside_of(parent_of(alike.first())))
 
 
-def writable_by_teams(audited: Audited, file: File, teams: Teams, writers: int) -> OfFile:
+def writable_by_teams(audited: Audited, teams: Teams, file: File, writers: int) -> OfFile:
     """The groups whose entries have w, and a member who may write; of those with the same members one."""
     record = read_record(file.body)
     if not file.is_directory or is_sticky(record.flags):
@@ -169,7 +170,7 @@ def writable_by_teams(audited: Audited, file: File, teams: Teams, writers: int) 
     return (text, b"chmod " + digits(record, flag_digit(record.flags) | 1)) if len(found) > 1 else None
 
 
-def writers_outside(audited: Audited, file: File, teams: Teams, writers: int) -> OfFile:
+def writers_outside(audited: Audited, teams: Teams, file: File, writers: int) -> OfFile:
     """Users who may write by an entry of their own, where nobody else of their groups may."""
     record, found = read_record(file.body), []
     for key, entry in named(record.access).items():
@@ -184,14 +185,15 @@ def of_writers(audited: Audited) -> Findings:
     """Of files whose records name a user or a group."""
     teams = Teams(audited)
     naming = {file for file in audited.records() if named(read_record(file.body).access)}
-    groups = alike_of(audited.files, [path for path in audited.paths if audited.files[path] in naming], audited.given.file_alone)
+    paths = [path for path in audited.paths if audited.files[path] in naming]
+    groups = alike_of(audited.files, paths, audited.given.file_alone)
     writers = Writers(audited, teams, groups)
     known: Dict[Tuple[File, int], Tuple[OfFile, OfFile]] = {}
     found: Findings = {"writable-by-teams": [], "writer-outside-groups": []}
     for alike in groups:
         key = alike.file, writers.of(alike)
         if key not in known:
-            known[key] = writable_by_teams(audited, key[0], teams, key[1]), writers_outside(audited, key[0], teams, key[1])
+            known[key] = writable_by_teams(audited, teams, *key), writers_outside(audited, teams, *key)
         for its, of_file in zip(found.values(), known[key]):
             its += [FoundFile(path, *of_file) for path in alike.paths] if of_file else []
     return found
@@ -222,7 +224,8 @@ def without_effect(audited: Audited, removals: List[Removal]) -> List[Removal]:
 def removable(audited: Audited) -> Dict[bytes, Tuple[bytes, bytes]]:
     """By record what is found of the entries that can go together; where each can go and not all of them, of the first."""
     bodies = dict.fromkeys(file.body for file in audited.records())
-    single: List[Removal] = [(body, (key,)) for body in bodies for key in named(read_record(body).access) if audited.ids.has(key)]
+    single: List[Removal] = [(body, (key,)) for body in bodies for key in named(read_record(body).access)
+                             if audited.ids.has(key)]
     of_body: Dict[bytes, Tuple[Key, ...]] = {}
     for body, keys in without_effect(audited, single):
         of_body[body] = of_body.get(body, ()) + keys

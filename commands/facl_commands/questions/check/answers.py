@@ -1,8 +1,6 @@
 """Whether rules hold in a snapshot, by the program's answers; and those that hold, as a start for a file of them."""
 from __future__ import annotations
 
-import argparse
-from bisect import bisect_left
 from typing import Dict, Iterator, List, NamedTuple, Set, Tuple
 
 from ...base.names import path_word, read_name, shown_path, sorting_key, write_user
@@ -14,7 +12,9 @@ from ...model.records import Files, name_of, path_of, records_in
 from ...model.rules_of_lists import grants_search, writing
 from ...model.sources import find_tops
 from ...program.session import OutputSlice
-from .rules import ALWAYS, ENTER, NEVER, ONLY, OTHERS, PEOPLE, READ, WRITE, Rule, RuleReader, group_word, rule_path, user_word
+from .rules import (
+    ALWAYS, ENTER, NEVER, ONLY, OTHERS, PEOPLE, READ, WRITE, Rule, RuleReader, group_word, rule_path, user_word,
+)
 
 REQUESTS = {READ: b"r", WRITE: b"w", ENTER: b"x"}
 FEWEST = 2  # Users for whom a group is written.
@@ -51,27 +51,23 @@ class RuleOutcome(NamedTuple):
         return RuleOutcome(self.rule, self.files + other.files, [found[place] for place in sorted(found)])
 
 
-class SortingKeys:
-    """What paths in path order are sorted by, each made where it is looked at."""
-
-    def __init__(self, paths: List[bytes]) -> None:
-        self.paths = paths
-
-    def __len__(self) -> int:
-        return len(self.paths)
-
-    def __getitem__(self, place: int) -> bytes:
-        return sorting_key(self.paths[place])
+def place_of(paths: List[bytes], key: bytes) -> int:
+    """How many of some paths in path order come before a key of their order."""
+    first, last = 0, len(paths)
+    while first < last:
+        middle = (first + last) // 2
+        first, last = (middle + 1, last) if sorting_key(paths[middle]) < key else (first, middle)
+    return first
 
 
 class Rights:
     """What users may do, as the program answers."""
 
-    def __init__(self, world: World, given: argparse.Namespace, files: Files, paths: List[bytes], chosen: List[bytes]) -> None:
+    def __init__(self, world: World, is_alone: bool, files: Files, paths: List[bytes], chosen: List[bytes]) -> None:
         self.world, self.files, self.chosen = world, files, chosen
         self.paths = paths  # The files that are looked at, in path order.
         self.users = [world.everybody.name, *chosen]  # Everybody else, and those whom the check is about.
-        self.reach = world.reach(given.file_alone)
+        self.reach = world.reach(is_alone)
         self.left_out: Set[bytes] = set()  # Users who are not chosen, and may what a rule gives to others only.
         self.answers: Dict[bytes, OutputSlice] = {}
         self.known: Dict[Tuple[bytes, bytes, bytes], List[bytes]] = {}
@@ -83,27 +79,28 @@ class Rights:
         return self.answers[line]
 
     def asked(self, right: bytes, top: bytes) -> List[bytes]:
-        """The files at or below a path that a right is about, in path order: only directories are entered, and a file that is
-        given itself."""
-        keys, key = SortingKeys(self.paths), sorting_key(top)
-        paths = self.paths[bisect_left(keys, key) : bisect_left(keys, key + b"\1")] if top else self.paths
+        """The files at or below a path that a right is about, in path order: only directories are entered, and a file
+        that is given itself."""
+        key = sorting_key(top)
+        paths = self.paths[place_of(self.paths, key) : place_of(self.paths, key + b"\1")] if top else self.paths
         return [it for it in paths if self.files[it].is_directory or it == top] if right == ENTER else paths
 
     def some(self, right: bytes, top: bytes) -> Dict[bytes, int]:
-        """The users who may at least ask for a right on some file at or below a path, and on how many; of the root, where it is not
-        recorded, below the tops of the snapshot."""
+        """The users who may at least ask for a right on some file at or below a path, and on how many; of the root, where
+        it is not recorded, below the tops of the snapshot."""
         session = self.world.session
         tops = [top] if top or is_recorded(session, top) else find_tops(session, session.folder)
         lines = [line.split(b" ", 2) for line in self.ask(b"below", REQUESTS[right], *map(path_word, tops)).lines()]
         return {read_name(user): int(count) for count, user, _ in lines}
 
     def may(self, user: bytes, request: bytes, top: bytes) -> Set[bytes]:
-        """The files at or below a path on which a user is granted a request. They follow each other in the answer, in which no
-        other line begins as theirs."""
+        """The files at or below a path on which a user is granted a request. They follow each other in the answer, in
+        which no other line begins as theirs."""
         text = b"\n" + self.ask(b"may", self.world.word_of(user), request).read()
         if top:
             starts = (b"\n" + shown_path(top) + b"\n", b"\n" + shown_path(top) + b"/")
-            found = [place for find in (text.find, text.rfind) for start in starts for place in [find(start)] if place >= 0]
+            places = [find(start) for find in (text.find, text.rfind) for start in starts]
+            found = [place for place in places if place >= 0]
             text = text[min(found) : text.index(b"\n", max(found) + 1)] if found else b""
         return set(map(path_of, filter(None, text.split(b"\n"))))
 
@@ -134,7 +131,8 @@ class Rights:
 
 
 def violation(rights: Rights, rule: Rule, place: int, user: bytes, paths: List[bytes]) -> Violation:
-    """It has the entries that a person needs to see: where a right is missing, those of the first file that is in the way alone."""
+    """It has the entries that a person needs to see: where a right is missing, those of the first file that is in the
+    way alone."""
     blocks = rights.why(user, paths[0])
     if rule.kind == ALWAYS:
         blocks = [block for block in blocks[:-1] if not grants_search(block.entries)][:1] or blocks[-1:]

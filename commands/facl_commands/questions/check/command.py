@@ -68,7 +68,7 @@ def chosen_users(world: World, given: argparse.Namespace) -> List[bytes]:
 def write_rules(command: Command, world: World, given: argparse.Namespace, source: Source) -> int:
     chosen = chosen_users(world, given)
     files = listing_of(world).files
-    rights = Rights(world, given, files, list(files), chosen)
+    rights = Rights(world, given.file_alone, files, list(files), chosen)
     tops = choice.folders_of(world.session, given.rules)
     if not given.rules:
         tops = choice.folders_made_of(world.session) or tops
@@ -93,7 +93,8 @@ def report_of(given: argparse.Namespace, source: Source, program: str) -> CheckR
                                     (lambda path: bool(split_tree.recorded_in(parts, [path]))) if parts else None)
                 rules = reader.read(given.rules)
             files = listing_of(world).files
-            rights = Rights(world, given, files, once.of_part(files) if parts else list(files), chosen)
+            paths = once.of_part(files) if parts else list(files)
+            rights = Rights(world, given.file_alone, files, paths, chosen)
             for rule in rules:
                 if not parts or rule.path in files or not rule.path:  # Else the rule is not about files of the part.
                     found = outcome(rights, rule)

@@ -31,9 +31,9 @@ class CheckReport(NamedTuple):
         return [it for it in self.outcomes if it.violations]
 
 
-def names_of(names: List[bytes], most: int) -> bytes:
-    text = b", ".join(names[:most])
-    return text + (b" and %d more" % (len(names) - most) if len(names) > most else b"")
+def first_of(names: List[bytes], number: int) -> bytes:
+    """The first ones of a number of names."""
+    return b", ".join(names) + (b" and %d more" % (number - len(names)) if number > len(names) else b"")
 
 
 def entry_text(entry: Entry) -> bytes:
@@ -47,11 +47,12 @@ def block_text(block: Block) -> bytes:
 def lines_of_violation(outcome: RuleOutcome, found: Violation) -> Iterator[bytes]:
     """Who may, or may not, and on how many files; by which entries; and who else may."""
     verb, of_all = (b"may not", b" of %d" % outcome.files) if outcome.rule.kind == ALWAYS else (b"may", b"")
-    yield b"    %s %s %s %s%s, first: %s" % (found.user, verb, outcome.rule.right, counted(len(found.paths), "file"), of_all,
-                                             names_of(list(map(shown_path, found.paths)), FIRST))
+    files = counted(len(found.paths), "file")
+    yield b"    %s %s %s %s%s, first: %s" % (found.user, verb, outcome.rule.right, files, of_all,
+                                             first_of(list(map(shown_path, found.paths[:FIRST])), len(found.paths)))
     for place, block in enumerate(found.blocks):
         yield (b"        by  " if place == 0 else b"            ") + block_text(block)
-    others = names_of(found.others, NAMES)
+    others = first_of(found.others[:NAMES], len(found.others))
     if outcome.rule.kind == ALWAYS:
         yield b"        who may: " + (others or b"(nobody)")
     elif others:

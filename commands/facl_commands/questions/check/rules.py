@@ -88,7 +88,8 @@ class RuleReader:
         word, is_quoted = raw.replace(b"'", b""), b"'" in raw
         if not raw.startswith(IN_GROUP):
             return {self.user(place, word, is_quoted)}, False
-        group = next((it for it in self.people.groups if is_named(it.name, it.gid, read_name(word[1:]), is_quoted)), None)
+        name = read_name(word[1:])
+        group = next((it for it in self.people.groups if is_named(it.name, it.gid, name, is_quoted)), None)
         if group is None:
             raise BadRule(of_word(place, b"no such group in the snapshot"))
         found = self.members(group)
@@ -122,7 +123,8 @@ class RuleReader:
         if len(raw) < LEAST or raw[0] not in KINDS or raw[-2] not in RIGHTS:
             raise BadRule(FORM)
         users, others = zip(*(self.who(place, word) for place, word in enumerate(raw[1:-2], 2)))
-        return Rule(number, raw, raw[0], set().union(*users), any(others), raw[-2], self.path(len(raw), raw[-1].replace(b"'", b"")))
+        path = self.path(len(raw), raw[-1].replace(b"'", b""))
+        return Rule(number, raw, raw[0], set().union(*users), any(others), raw[-2], path)
 
     def read(self, name: str) -> List[Rule]:
         """The rules of a file; fails with what is wrong in all of its lines."""

@@ -87,7 +87,8 @@ class Comparison:
 
     def by_labels(self) -> Compared:
         shapes = Shapes(*self.files, self.folders or [b""])
-        return self.compared(BY_INDEX, LabelDifferences(self.program, self.states, shapes, self.given.file_alone).gains())
+        differences = LabelDifferences(self.program, self.states, shapes, self.given.file_alone)
+        return self.compared(BY_INDEX, differences.gains())
 
     def compared(self, way: str, found: List[Gain]) -> Compared:
         old, new = self.plain

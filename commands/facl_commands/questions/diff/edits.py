@@ -82,7 +82,8 @@ class Edits:
 
     def make_people(self) -> None:
         wanted = self.wanted
-        for name in [user.name for user in self.now.users if user.name not in wanted or wanted[user.name].uid != user.uid]:
+        uids = {name: member.uid for name, member in wanted.items()}
+        for name in [user.name for user in self.now.users if uids.get(user.name) != user.uid]:
             self.add(b"userdel -- " + word_of_user(self.now, name))
         known = {user.name for user in self.now.users}
         for name, member in wanted.items():
@@ -94,7 +95,8 @@ class Edits:
         for name, groups in groups_by_user(self.now).items():
             for gid in sorted(wanted[name].groups - groups):
                 self.add(b"gpasswd -a=%s -- %d" % (word_of_user(self.now, name), gid))
-            for row in [row for row in self.now.groups if row.gid in groups - wanted[name].groups and name in row.members]:
+            left = groups - wanted[name].groups
+            for row in [row for row in self.now.groups if row.gid in left and name in row.members]:
                 self.add(b"gpasswd -d=%s -- %s" % (word_of_user(self.now, name), row_word(self.now, row.gid, row.name)))
 
     def line_of_new(self, name: bytes, member: Member) -> bytes:
@@ -115,7 +117,8 @@ class Edits:
 
 
 def file_lines(new: Files, changes: ChangedPaths, users: List[User]) -> Iterator[bytes]:
-    """Lines that remove what is gone, also what is of another kind, with what is below it; and lines that make what is new."""
+    """Lines that remove what is gone, also what is of another kind, with what is below it; and lines that make what is
+    new."""
     for words in parts_of(map(path_word, highest(changes.removed))):
         yield b"rm -r -- " + b" ".join(words)
     for path in changes.made:

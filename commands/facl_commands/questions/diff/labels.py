@@ -97,7 +97,8 @@ class Shapes:
         return sorted(found - {GONE})
 
 
-def ask_vectors(program: str, state: State, names: Set[bytes], users: List[bytes], bodies: List[bytes]) -> Dict[bytes, bytes]:
+def ask_vectors(program: str, state: State, names: Set[bytes], users: List[bytes],
+                bodies: List[bytes]) -> Dict[bytes, bytes]:
     """For each body a byte of `index` for each user, 0 for one who is not there."""
     passwd = b"".join(b":".join(row) + b"\n" for row in rows_of(state.passwd) if row[0] in names)
     count = passwd.count(b"\n")
@@ -174,16 +175,17 @@ class LabelDifferences:
             return
         users = [write_user(name) for name in names]
         bodies = [self.shapes.bodies.values[number] for number in self.shapes.records(shapes)]
-        old, new = (SideRights(self.shapes, ask_vectors(self.program, state, set(names), users, bodies), len(users), self.is_alone)
-                    for state in self.states)
+        vectors = (ask_vectors(self.program, state, set(names), users, bodies) for state in self.states)
+        old, new = (SideRights(self.shapes, its, len(users), self.is_alone) for its in vectors)
         found: Dict[Change, Counted] = {}
         known: Dict[Tuple[bytes, bytes], List[Change]] = {}
         for shape in shapes:
+            its = self.shapes.counted[shape]
             pair = old.granted(shape.old, shape.old_above), new.granted(shape.new, shape.new_above)
             if pair not in known:
                 known[pair] = list(changes_of(*pair))
             for change in known[pair]:
-                found.setdefault(change, Counted(self.shapes.counted[shape].first)).files += self.shapes.counted[shape].files
+                found.setdefault(change, Counted(its.first)).files += its.files
         for (place, before, after), files in found.items():
             yield Gain(users[place], before, after, files.files, shown_path(files.first))
 

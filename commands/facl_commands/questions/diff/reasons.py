@@ -7,10 +7,12 @@ another list; where both are so, nothing is said.
 """
 from __future__ import annotations
 
-from typing import Dict, FrozenSet, Iterable, List, NamedTuple, Tuple
+from typing import Dict, Iterable, List, NamedTuple, Tuple
 
 from ...base.names import directories_above, file_name, path_word, read_name, write_user
-from ...model.entries import OTHER_KEY, OWNER_KEY, OWNING_GROUP_KEY, USER, Entry, Key, ReadRecord, entries_of, named, read_record
+from ...model.entries import (
+    GROUP, OTHER_KEY, OWNER_KEY, OWNING_GROUP_KEY, USER, Entry, Key, ReadRecord, entries_of, named, read_record,
+)
 from ...model.gains import Gain
 from ...model.people import People, listed_by_group, user_word
 from ...model.records import Files, path_of, write_records
@@ -54,7 +56,8 @@ class Time:
 
     def ask(self, questions: List[Question]) -> None:
         # Groups whose names are their ids, so that entries have these: a row for each id, with all its members.
-        group = b"".join(b"%d:x:%d:%s\n" % (gid, gid, b",".join(names)) for gid, names in listed_by_group(self.people).items())
+        groups = listed_by_group(self.people)
+        group = b"".join(b"%d:x:%d:%s\n" % (gid, gid, b",".join(names)) for gid, names in groups.items())
         with session_over(self.program, self.passwd, group, write_records(self.files, self.files)) as session:
             for start in range(0, len(questions), AT_ONCE):
                 part = questions[start : start + AT_ONCE]
@@ -70,11 +73,6 @@ def decided_by(answer: bytes) -> Decided:
 
 
 # --- the words
-
-
-def and_more(names: List[bytes]) -> bytes:
-    rest = len(names) - MOST_NAMES
-    return b", ".join(names[:MOST_NAMES]) + (b" and %d more" % rest if rest > 0 else b"")
 
 
 def is_by_mask(labels: Tuple[ReadRecord, ReadRecord], point: Point, uid: int) -> bool:
@@ -166,50 +164,43 @@ class ChangeReasons:
 
     def of_directories(self, name: bytes, points: List[Point]) -> bytes:
         """What opened or closed directories; where their lists did, the first of them is named."""
-        if not all(self.is_by_list(name, point) for point in points):
+        if not all(self.differs(name, point.path) == (True, False, False) for point in points):
             words = {self.of_point(name, point) for point in points}
             return words.pop() if len(words) == 1 else b""
         verb = b" opened" if grants_search(points[0].new.values()) else b" closed"
         rest = b" and %d more" % (len(points) - 1) if len(points) > 1 else b""
         return self.name_of(points[0].path) + rest + verb
 
-    def groups(self, name: bytes, path: bytes) -> Tuple[FrozenSet[int], FrozenSet[int]]:
-        """The groups of a user that a file mentions, before and after."""
-        mentioned = self.before.labels[path].mentioned_groups() | self.after.labels[path].mentioned_groups()
-        old, new = (time.members[name].groups & mentioned for time in (self.before, self.after))
-        return old, new
-
-    def is_same_user(self, name: bytes) -> bool:
-        return self.before.members[name].uid == self.after.members[name].uid
-
-    def is_by_list(self, name: bytes, point: Point) -> bool:
-        """Whether the owner, the group or the list is another one, and the user the same."""
-        old, new = self.groups(name, point.path)
-        is_other = self.before.labels[point.path] != self.after.labels[point.path]
-        return is_other and old == new and self.is_same_user(name)
+    def differs(self, name: bytes, path: bytes) -> Tuple[bool, bool, bool]:
+        """Whether a user is judged by another list, other groups that the file mentions, or another id than before."""
+        old, new = self.before.labels[path], self.after.labels[path]
+        mentioned = old.mentioned_groups() | new.mentioned_groups()
+        before, after = self.before.members[name], self.after.members[name]
+        return old != new, before.groups & mentioned != after.groups & mentioned, before.uid != after.uid
 
     def of_point(self, name: bytes, point: Point) -> bytes:
         """The words for one file or directory; empty where two things could be the reason."""
-        labels = self.before.labels[point.path], self.after.labels[point.path]
-        old, new = self.groups(name, point.path)
-        differs = labels[0] != labels[1], old != new, not self.is_same_user(name)
-        if sum(differs) != 1:
+        by_list, by_groups, by_id = self.differs(name, point.path)
+        if by_list + by_groups + by_id != 1:
             return b""
-        if differs[0]:
-            is_of_other_group = labels[0].group != labels[1].group
-            if is_by_mask(labels, point, self.before.members[name].uid):
-                return b"mask changed" * (not is_of_other_group)
-            return words_of_list(point.old, point.new, is_of_other_group)
-        return self.of_groups(point, new - old, old - new, labels[0].group) if differs[1] else b"other user id"
+        if not by_list:
+            return self.of_groups(name, point) if by_groups else b"other user id"
+        labels = self.before.labels[point.path], self.after.labels[point.path]
+        is_of_other_group = labels[0].group != labels[1].group
+        if is_by_mask(labels, point, self.before.members[name].uid):
+            return b"mask changed" * (not is_of_other_group)
+        return words_of_list(point.old, point.new, is_of_other_group)
 
-    def of_groups(self, point: Point, joined: FrozenSet[int], left: FrozenSet[int], owning: bytes) -> bytes:
+    def of_groups(self, name: bytes, point: Point) -> bytes:
         """The groups that a user is in by now, or no longer, as far as their entries decide."""
-        ids = [{int(name or owning) for tag, name in entries if tag == b"group"} for entries in (point.old, point.new)]
-        words = []
-        for text, groups, people in ((b"no longer member of ", left & ids[0], self.before.people),
-                                     (b"new member of ", joined & ids[1], self.after.people)):
-            if groups:
-                words.append(text + and_more([group_name(people, gid) for gid in sorted(groups)]))
+        words, owning = [], self.before.labels[point.path].group
+        for text, time, other, decided in ((b"no longer member of ", self.before, self.after, point.old),
+                                           (b"new member of ", self.after, self.before, point.new)):
+            deciding = {int(group or owning) for tag, group in decided if tag == GROUP}
+            groups = sorted((time.members[name].groups - other.members[name].groups) & deciding)
+            names = b", ".join(group_name(time.people, gid) for gid in groups[:MOST_NAMES])
+            more = b" and %d more" % (len(groups) - MOST_NAMES) if len(groups) > MOST_NAMES else b""
+            words += [text + names + more] if groups else []
         return b", ".join(words)
 
 

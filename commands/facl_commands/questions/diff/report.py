@@ -1,5 +1,5 @@
-"""What facl-diff prints: a table for a person, rows for a script, or one object. Changes of several people are one row, in the order
-of what a person is to see first."""
+"""What facl-diff prints: a table for a person, rows for a script, or one object. Changes of several people are one row,
+in the order of what a person is to see first."""
 from __future__ import annotations
 
 from typing import Callable, Dict, Iterable, Iterator, List, NamedTuple, Sequence, Set, Tuple
@@ -136,8 +136,11 @@ def shown_users(compared: Compared, row: ChangeRow) -> List[bytes]:
 
 def table_of(compared: Compared, is_for_script: bool) -> Table:
     """A row for each change; for a script for each user of it."""
-    rows = [[row.old.encode(), row.new.encode(), who, b"%d" % row.files, compared.first_of(row), row.why] for row in compared.rows
-            for who in (shown_users(compared, row) if is_for_script else [who_of(row, compared.everybody)])]
+    rows = []
+    for row in compared.rows:
+        users = shown_users(compared, row) if is_for_script else [who_of(row, compared.everybody)]
+        fields = [b"%d" % row.files, compared.first_of(row), row.why]
+        rows += [[row.old.encode(), row.new.encode(), who, *fields] for who in users]
     return Table(COLUMNS, rows)
 
 
@@ -172,15 +175,17 @@ def texts(names: Iterable[bytes], write: Callable[[bytes], bytes] = bytes) -> Li
 
 def object_of(compared: Compared) -> Dict[str, object]:
     """The object of --json, whose schema is in the manual page."""
-    people = compared.people
-    before, after = ({"snapshot": json_text(it.folder), **fields_of(it.about)} for it in (compared.old, compared.new))
+    files, people = compared.files, compared.people
+    sides: List[Dict[str, object]] = [
+        {"snapshot": json_text(it.folder), **fields_of(it.about)} for it in (compared.old, compared.new)]
     changes = [{"before": row.old, "after": row.new, "users": texts(shown_users(compared, row)), "files": row.files,
                 "first": json_text(compared.first_of(row)), "why": json_text(row.why) or None} for row in compared.rows]
     moved = [dict(zip(("from", "to"), texts(it, compared.name_of))) for it in compared.moved]
     return {
-        "before": before, "after": after, "folders": texts(compared.folders, compared.name_of),
-        "along_paths": not compared.is_alone, "answered_by": compared.by, "changes": changes, "left_out": texts(compared.left_out),
-        "files": {**{name: len(paths) for name, paths in zip(("changed", "new", "removed"), compared.files)}, "moved": moved},
+        "before": sides[0], "after": sides[1], "folders": texts(compared.folders, compared.name_of),
+        "along_paths": not compared.is_alone, "answered_by": compared.by, "changes": changes,
+        "left_out": texts(compared.left_out),
+        "files": {"changed": len(files.changed), "new": len(files.made), "removed": len(files.removed), "moved": moved},
         "users": {"new": texts(people.made, write_user), "removed": texts(people.removed, write_user),
                   "other_id": texts(people.renumbered, write_user)},
         "memberships": {"new": people.joined, "removed": people.left},
@@ -195,6 +200,7 @@ SCOPES: List[Tuple[bytes, Callable[[Meta], List[bytes]]]] = [
     (b"left out of %s alone by --exclude" + MAY, lambda about: about.excludes),
     (b"left out of %s alone as another file system" + MAY, lambda about: about.mounts),
 ]
+IS_PART = b"warning: %s: is part %s, so files of the other parts are not looked at"
 NOT_READ = b"warning: %s lacks what could not be read (unread %s in its meta)" + MAY[:-2]
 
 
@@ -211,8 +217,8 @@ def scope_warnings(text: bytes, states: Tuple[State, State], names: Callable[[Me
 
 
 def warnings(*states: State) -> Iterator[bytes]:
-    """What is likely not meant: snapshots in the wrong order, of other folders, what only one of them could read, and parts of
-    several ones."""
+    """What is likely not meant: snapshots in the wrong order, of other folders, what only one of them could read, and
+    parts of several ones."""
     old, new = states
     if old.about.date and new.about.date and new.about.date < old.about.date:
         yield b"warning: the second snapshot is older than the first one: " + new.named()
@@ -225,4 +231,4 @@ def warnings(*states: State) -> Iterator[bytes]:
             yield NOT_READ % (state.folder, count)
     for state in states:
         if PART in state.about.numbers:
-            yield b"warning: %s: is part %s, so files of the other parts are not looked at" % (state.folder, state.about.numbers[PART])
+            yield IS_PART % (state.folder, state.about.numbers[PART])

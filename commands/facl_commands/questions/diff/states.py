@@ -1,5 +1,5 @@
-"""Two snapshots for facl-diff: their files by their records, their users and groups, what differs between them, and files that have
-another path than before: by device, inode and time of birth, as the snapshots have them."""
+"""Two snapshots for facl-diff: their files by their records, their users and groups, what differs between them, and files
+that have another path than before: by device, inode and time of birth, as the snapshots have them."""
 from __future__ import annotations
 
 import itertools

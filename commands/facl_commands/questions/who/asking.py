@@ -1,5 +1,5 @@
-"""What facl-who asks the program: rights as words, the users whom words mean, and by which entries users have rights; and what an
-answer of it is: a table, the same for JSON, and what is said where it is empty."""
+"""What facl-who asks the program: rights as words, the users whom words mean, and by which entries users have rights; and
+what an answer of it is: a table, the same for JSON, and what is said where it is empty."""
 from __future__ import annotations
 
 import argparse
@@ -127,8 +127,8 @@ class Asker:
         return needed_word(self.users, read_name(user), user)
 
     def user_of(self, word: bytes, has_row: bool = False) -> NamedUser:
-        """The user whom the program takes a word for: digits alone are an id, which is that of the first user who has it. Where a
-        row is needed, the program can be asked about the user."""
+        """The user whom the program takes a word for: digits alone are an id, which is that of the first user who has it.
+        Where a row is needed, the program can be asked about the user."""
         for name in (word, read_name(word)):
             for user in self.users:
                 if is_named(user.name, user.uid, name, is_name=not word.isdigit()):
@@ -154,8 +154,9 @@ class Reasons:
     """By which entries users are judged on files: of some pairs of both."""
 
     def __init__(self, asker: Asker, pairs: Iterable[Pair]) -> None:
-        words = {pair: user_word(asker.users, read_name(pair[0])) for pair in pairs}  # None of a user whom no word names.
-        lines = {pair: b" ".join([ENTRIES_OF, word, path_word(pair[1])]) for pair, word in words.items() if word is not None}
+        words = {pair: user_word(asker.users, read_name(pair[0])) for pair in pairs}
+        lines = {pair: b" ".join([ENTRIES_OF, word, path_word(pair[1])])
+                 for pair, word in words.items() if word is not None}  # A user whom no word names has no entries here.
         self.entries = dict(zip(lines, map(entries_of, asker.records(list(lines.values())))))
         # By path: the file's group, as the program prints its name.
         paths = list(dict.fromkeys(path for (_, path), entries in self.entries.items()

@@ -17,7 +17,7 @@ from ...model import choice, meta, overview, sources
 from ...model.everybody import world_of
 from ...model.snapshot import NEEDED, check_texts
 from ...model.sources import Source
-from . import of_files, of_folder, of_user
+from . import of_files, of_folder
 from .asking import Asker, WhoAnswer, read_rights
 
 SCHEMA = "facl-who/1"
@@ -133,25 +133,34 @@ def answer_of(asker: Asker) -> WhoAnswer:
     folders = choice.folders_of(session, given.folders) if given.folders else choice.folders_made_of(session)
     asker.folders, asker.named = folders, folders if given.folders else []
     if given.user is not None:
-        return of_user.answer(asker, asker.anybody(os.fsencode(given.user)), folders)
+        return of_files.of_user(asker, asker.anybody(os.fsencode(given.user)), folders)
     for question, word in (("owner", given.owner), ("names", given.names)):
         if word is not None:
-            return of_files.of_user(asker, question, asker.user_of(os.fsencode(word)), folders)
+            return of_files.files_of_user(asker, question, asker.user_of(os.fsencode(word)), folders)
     return of_files.of_rights(asker, read_rights(given.perms), folders)
+
+
+def object_of(asker: Asker, answer: WhoAnswer) -> Dict[str, object]:
+    """With what Linux looks at beside lists: the marks of files that a person names, and how many were left out."""
+    marked = [{"file": json_text(asker.name_of(path)), "marks": list(map(json_text, asker.marks.of(path)))}
+              for path in asker.named]
+    left_out = {} if asker.unwritable is None else asker.unwritable.numbers
+    return {"snapshot": meta.fields_of(meta.meta_of(asker.session.folder)), "question": answer.question,
+            "along_paths": not asker.given.file_alone, **answer.fields, "left_out": list(map(json_text, answer.left_out)),
+            "marked": [it for it in marked if it["marks"]],
+            "unwritable": {json_text(kind): number for kind, number in left_out.items() if number}}
 
 
 def write_answer(command: Command, asker: Asker, answer: WhoAnswer) -> None:
     given = asker.given
     if given.json:
-        about = meta.fields_of(meta.meta_of(asker.session.folder))
-        tables.write_json(command, given, SCHEMA, {
-            "snapshot": about, "question": answer.question, "along_paths": not given.file_alone, **answer.fields,
-            "left_out": list(map(json_text, answer.left_out)), **beside_lists(asker)})
-    elif given.tsv or answer.table.rows:
+        tables.write_json(command, given, SCHEMA, object_of(asker, answer))
+        return
+    if given.tsv or answer.table.rows:
         tables.write_table(command, given, answer.table)
     else:
         command.tell(answer.empty)
-    if not given.json and not given.tsv:
+    if not given.tsv:
         for line in answer.after if answer.table.rows else ():
             command.tell(line)
         for path in asker.named:
@@ -159,17 +168,10 @@ def write_answer(command: Command, asker: Asker, answer: WhoAnswer) -> None:
                 command.tell(asker.name_of(path) + b": " + text)
 
 
-def beside_lists(asker: Asker) -> Dict[str, object]:
-    """What Linux looks at beside lists, for JSON: the marks of files that a person names, and how many were left out."""
-    marked = [{"file": json_text(asker.name_of(path)), "marks": list(map(json_text, asker.marks.of(path)))} for path in asker.named]
-    left_out = {} if asker.unwritable is None else asker.unwritable.numbers
-    return {"marked": [it for it in marked if it["marks"]],
-            "unwritable": {json_text(kind): number for kind, number in left_out.items() if number}}
-
-
-def notes_beside_lists(asker: Asker) -> Iterator[bytes]:
-    """What is said where lists do not decide alone."""
+def notes(asker: Asker, answer: WhoAnswer) -> Iterator[bytes]:
+    """What is said of users who are left out, and where lists do not decide alone."""
     given = asker.given
+    yield from choice.notes(answer.left_out, asker.passwd)
     if asker.unwritable is not None:
         yield b"left out, as nobody can write them: " + asker.unwritable.text() + b" (--lists-alone)"
     asks_for_x = given.user is not None or not given.question and any(b"x" in it.letters for it in read_rights(given.perms))
@@ -191,9 +193,7 @@ def body(command: Command, words: List[str]) -> int:
             answer = answer_of(asker)
             with tables.paged(command, not given.no_pager):
                 write_answer(command, asker, answer)
-        for note in () if given.json else choice.notes(answer.left_out, asker.passwd):
-            command.say(note)
-        for note in () if given.json else notes_beside_lists(asker):
+        for note in () if given.json else notes(asker, answer):
             command.say(note)
         if given.user is not None and not given.with_root and asker.anybody(os.fsencode(given.user)).uid == SUPERUSER:
             command.say(os.fsencode(given.user) + b": has the uid 0, to which the kernel grants nearly everything; "

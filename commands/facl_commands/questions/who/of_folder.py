@@ -38,7 +38,8 @@ def answer_remove(asker: Asker, path: bytes) -> WhoAnswer:
     above, ids, why = parent_of(path), ids_in(asker.passwd), asker.judged_by.keeps_name(path)
     file, folder = map(read_record, asker.records([LIST_NUMBERS + b" " + path_word(it) for it in (path, above)]))
     below = asker.session.ask_accepted(LIST_BELOW + b" " + path_word(path)).records()
-    is_full, is_kept = len(list(itertools.islice(below, 2))) > 1, is_sticky(folder.flags)  # Something is recorded below the file.
+    is_full = len(list(itertools.islice(below, 2))) > 1  # Something is recorded below the file.
+    is_kept = is_sticky(folder.flags)
     may = asker.lines_of(WHO, CHANGE.letters, path_word(above)) if why is None else ()
     roles = {user: remover(ids[read_name(user)], int(file.owner), int(folder.owner), is_kept)
              for user in choice.in_order(may, asker.passwd)}
