@@ -47,14 +47,10 @@ not; 2 where the words, the snapshot or FILE cannot be used.
 """
 
 
-def help_text() -> str:
-    width = max(len(kind.name) for kind in KINDS)
-    return HELP + "".join("    %-6s  %-*s  %s\n" % (kind.weight, width, kind.name, kind.meaning) for kind in KINDS)
-
-
 def parse(words: List[str]) -> argparse.Namespace:
-    parser = parser_of("facl-audit", help_text(), STATUS)
     names = [kind.name for kind in KINDS]
+    rows = ("    %-6s  %-*s  %s\n" % (kind.weight, max(map(len, names)), kind.name, kind.meaning) for kind in KINDS)
+    parser = parser_of("facl-audit", HELP + "".join(rows), STATUS)
     one = parser.add_mutually_exclusive_group()
     one.add_argument("--list", metavar="FINDING", choices=names, help="print all files of one finding")
     one.add_argument("--edits", metavar="FINDING", choices=names,
@@ -111,8 +107,9 @@ def report_of(given: argparse.Namespace, source: Source, program: str) -> AuditR
             report.folders = report.folders or folders_in(world, given.folders)
             files = listing_of(world).files
             paths = at_or_below(once.of_part(files) if report.parts else files, report.folders)
+            records = list(dict.fromkeys(map(files.__getitem__, paths)))
             ids = NamesOfIds(world.texts.passwd, world.texts.group)
-            for name, found in findings_of(Audited(world, given, program, files, paths, ids), links).items():
+            for name, found in findings_of(Audited(world, given, program, files, paths, records, ids), links).items():
                 report.findings[name] += found
             report.files += len(paths)
             report.recorded.update(line.path for line in report.lines if line.path in files)

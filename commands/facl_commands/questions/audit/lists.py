@@ -32,11 +32,8 @@ class Audited(NamedTuple):
     program: str
     files: Files
     paths: List[bytes]  # Those at or below the folders, in path order.
+    records: List[File]  # Each different one of their files.
     ids: NamesOfIds
-
-    def records(self) -> List[File]:
-        """Each different one of the files, in the order of the first ones that have them."""
-        return list(dict.fromkeys(map(self.files.__getitem__, self.paths)))
 
 
 def without_flag(flag: int, file: File, record: ReadRecord, _ids: NamesOfIds) -> OfFile:
@@ -119,7 +116,7 @@ def of_records(audited: Audited, removable: Dict[bytes, Tuple[bytes, bytes]]) ->
     """What is found of files by their records, each of which is looked at once."""
     found: Findings = {name: [] for name in (*LOOKS, "entry-without-effect")}
     known: Dict[File, List[Tuple[str, bytes, bytes]]] = {}
-    for file in audited.records():
+    for file in audited.records:
         its = {name: look(file, read_record(file.body), audited.ids) for name, look in LOOKS.items()}
         its["entry-without-effect"] = removable.get(file.body)
         known[file] = [(name, *of_file) for name, of_file in its.items() if of_file is not None]

@@ -77,7 +77,7 @@ class EverybodyRights:
 def of_everybody(audited: Audited) -> Findings:
     everybody = EverybodyRights(audited)
     found: Findings = {}
-    known = {file: everybody.of(file) for file in audited.records()}
+    known = {file: everybody.of(file) for file in audited.records}
     for path in audited.paths:
         its = known[audited.files[path]]
         closed = everybody.closed_at(parent_of(path)) if its and path and not audited.given.file_alone else None
@@ -184,7 +184,7 @@ def writers_outside(audited: Audited, teams: Teams, file: File, writers: int) ->
 def of_writers(audited: Audited) -> Findings:
     """Of files whose records name a user or a group."""
     teams = Teams(audited)
-    naming = {file for file in audited.records() if named(read_record(file.body).access)}
+    naming = {file for file in audited.records if named(read_record(file.body).access)}
     paths = [path for path in audited.paths if audited.files[path] in naming]
     groups = alike_of(audited.files, paths, audited.given.file_alone)
     writers = Writers(audited, teams, groups)
@@ -223,7 +223,7 @@ def without_effect(audited: Audited, removals: List[Removal]) -> List[Removal]:
 
 def removable(audited: Audited) -> Dict[bytes, Tuple[bytes, bytes]]:
     """By record what is found of the entries that can go together; where each can go and not all of them, of the first."""
-    bodies = dict.fromkeys(file.body for file in audited.records())
+    bodies = dict.fromkeys(file.body for file in audited.records)
     single: List[Removal] = [(body, (key,)) for body in bodies for key in named(read_record(body).access)
                              if audited.ids.has(key)]
     of_body: Dict[bytes, Tuple[Key, ...]] = {}

@@ -8,7 +8,7 @@ from ...model.choice import is_recorded
 from ...model.entries import Entries, entries_of
 from ...model.everybody import World
 from ...model.people import Group
-from ...model.records import Files, name_of, path_of, records_in
+from ...model.records import Files, name_of, path_of, paths_of, records_in
 from ...model.rules_of_lists import grants_search, writing
 from ...model.sources import find_tops
 from ...program.session import OutputSlice
@@ -102,7 +102,7 @@ class Rights:
             places = [find(start) for find in (text.find, text.rfind) for start in starts]
             found = [place for place in places if place >= 0]
             text = text[min(found) : text.index(b"\n", max(found) + 1)] if found else b""
-        return set(map(path_of, filter(None, text.split(b"\n"))))
+        return set(paths_of(list(filter(None, text.split(b"\n")))))
 
     def granted(self, user: bytes, right: bytes, top: bytes) -> List[bytes]:
         """The files at or below a path on which a user has a right."""

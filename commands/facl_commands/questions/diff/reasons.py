@@ -14,7 +14,7 @@ from ...model.entries import (
     GROUP, OTHER_KEY, OWNER_KEY, OWNING_GROUP_KEY, USER, Entry, Key, ReadRecord, entries_of, named, read_record,
 )
 from ...model.gains import Gain
-from ...model.people import People, listed_by_group, user_word
+from ...model.people import listed_by_group, user_word
 from ...model.records import Files, path_of, write_records
 from ...model.rules_of_lists import grants_search
 from ...program.protocol import ENTRIES_ALONG_PATH, ENTRIES_OF
@@ -198,14 +198,11 @@ class ChangeReasons:
                                            (b"new member of ", self.after, self.before, point.new)):
             deciding = {int(group or owning) for tag, group in decided if tag == GROUP}
             groups = sorted((time.members[name].groups - other.members[name].groups) & deciding)
-            names = b", ".join(group_name(time.people, gid) for gid in groups[:MOST_NAMES])
+            known = {it.gid: write_user(it.name) for it in reversed(time.people.groups)}
+            names = b", ".join(known.get(gid, b"group %d" % gid) for gid in groups[:MOST_NAMES])
             more = b" and %d more" % (len(groups) - MOST_NAMES) if len(groups) > MOST_NAMES else b""
             words += [text + names + more] if groups else []
         return b", ".join(words)
-
-
-def group_name(people: People, gid: int) -> bytes:
-    return next((write_user(it.name) for it in people.groups if it.gid == gid), b"group %d" % gid)
 
 
 def reasons_of(program: str, states: Tuple[State, State], files: Tuple[Files, Files], gains: List[Gain], moved: List[Moved],

@@ -12,8 +12,7 @@ from ...base.names import highest, json_text, path_order, path_word, read_path, 
 from ...base.tables import Column, Table
 from ...model import choice, sources
 from ...model.entries import OWNER_KEY, USER, ReadRecord, read_record
-from ...model.everybody import paths_in
-from ...model.records import list_files, path_of, split_record
+from ...model.records import list_files, path_of, paths_of, split_record
 from ...model.rights import GRANTED, REQUESTS
 from ...program.protocol import BELOW, CAN, DEFAULT_ENTRY, FILE_HEAD, LIST_EFFECTIVE, MAY
 from ...program.session import LINES_ROOM, parts_of
@@ -174,8 +173,8 @@ def of_user(asker: Asker, user: NamedUser, folders: List[bytes]) -> WhoAnswer:
     rows: List[List[bytes]] = []
     objects: List[Dict[str, object]] = []
     with asker.without_unwritable(b"w", folders):
-        counts = {right: found.count(list(paths_in(asker.session.ask_accepted(asker.line(MAY, word, letters)))))
-                  for right, letters in WORDS.items()}
+        answers = {right: asker.session.ask_accepted(asker.line(MAY, word, letters)) for right, letters in WORDS.items()}
+        counts = {right: found.count(paths_of(its.read().split(b"\n")[:-1])) for right, its in answers.items()}
         paths = [path for path in found.paths if any(its[path] for its in counts.values())]
         for path, here in zip(paths, ask_here(asker, word, paths)):
             numbers = {right: its[path] for right, its in counts.items()}
