@@ -180,6 +180,20 @@ class EachFinding(Audits):
         self.assertEqual([row[4:] for row in found], [[b"group law", b"setfacl -n -x g:law /srv/hr/new"]])
 
 
+    def test_one_record_in_several_directories(self) -> None:
+        """Files of one record are found where the directories above let the user or everybody through."""
+        named, reaching = with_entries(PLAIN, b"user:1009:rw-"), with_entries(FOLDER, b"user:1009:--x")
+        self.take({b"/srv/hr/": reaching, b"/srv/hr/a/": FOLDER, b"/srv/hr/a/in/": reaching, b"/srv/hr/a/in/f": named,
+                   b"/srv/hr/b/": reaching, b"/srv/hr/b/f": named, b"/srv/hr/b/in/": reaching, b"/srv/hr/b/in/f": named, FILE: named})
+        lines = self.audit("--list", "writer-outside-groups", "--tsv").out.splitlines()[1:]
+        self.assertEqual(sorted(line.split(b"\t")[0] for line in lines), [b"srv/hr/b/f", b"srv/hr/b/in/f", b"srv/hr/new"])
+        open_file = PLAIN.replace(b"other::---", b"other::r--")
+        self.take({b"/srv/hr/": OPEN, b"/srv/hr/a/": FOLDER, b"/srv/hr/a/in/": OPEN, b"/srv/hr/a/in/f": open_file, b"/srv/hr/b": open_file})
+        self.assertEqual([row[1:5] for row in self.rows()], [
+            [b"readable-by-everybody", b"1", b"srv/hr/b", b""],
+            [b"readable-behind-closed", b"1", b"srv/hr/a/in/f", b"closed by srv/hr/a"]])
+
+
 class EverybodyElse(Audits):
     BESIDE = b"everybody else: users whom the snapshot does not have; it has 13 of a directory service\n"
 

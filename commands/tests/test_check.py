@@ -77,6 +77,15 @@ class Forms(Checks):
         self.assertEqual(self.broken(b"never others write /"), [])
         self.assertEqual(self.broken(b"never others read /"), [b"everybody else 2 ."])
 
+    def test_names_that_begin_alike(self) -> None:
+        """What is at or below a path, and nothing beside it that comes before or after in the order of bytes."""
+        beside = dict.fromkeys((b"/srv/hr/a!", b"/srv/hr/a b", b"/srv/hr/a-/", b"/srv/hr/a0", b"/srv/hr/A"), FILE % b"rw-")
+        self.take({**TREE, **beside, b"/srv/hr/a/": FOLDER % b"r-x", b"/srv/hr/a/in": FILE % b"rw-", b"/srv/hr/a/a/": FOLDER % b"r-x"})
+        self.assertEqual(self.broken(b"never xaver read srv/hr/a/"), [b"xaver 3 srv/hr/a"])
+        self.assertEqual(self.broken(b"always xaver read srv/hr/a/"), [])
+        for name in (b"a!", b"a b", b"a-", b"a0", b"A"):
+            self.assertEqual(self.broken(b"never xaver read 'srv/hr/%s'" % name), [b"xaver 1 srv/hr/" + name])
+
     def test_everybody_are_people_and_others(self) -> None:
         self.take({})  # What is in srv/hr is closed to all but hr.
         self.assertEqual(self.broken(b"never everybody read /")[:1], [b"everybody else 2 ."])
