@@ -17,7 +17,7 @@ from ...program.protocol import FILE_HEAD, LIST, WHO
 from ...program.session import LINES_ROOM, parts_of, session_over
 from ...program.tools import path_in
 from .findings import Findings, FoundFile
-from .lists import Audited, OfFile
+from .lists import Audited
 
 READ, WRITE, EXECUTE = b"r", b"w", b"x"
 AT_ONCE = 500  # Questions.
@@ -156,46 +156,44 @@ class Writers:
         return self.alone[alike.file] & (-1 if is_alone else self.inside_of(parent_of(alike.first())))
 
 
-def writable_by_teams(audited: Audited, teams: Teams, file: File, writers: int) -> OfFile:
-    """The groups whose entries have w, and a member who may write; of those with the same members one."""
-    record = read_record(file.body)
-    if not file.is_directory or is_sticky(record.flags):
-        return None
-    found: Dict[int, bytes] = {}
-    for entry in record.access:
-        gid = entry.key[1] or record.group
-        if entry.key[0] == GROUP and WRITE in entry.effective and teams.members(int(gid)) & writers:
-            found.setdefault(teams.members(int(gid)), gid)
-    text = b", ".join(audited.ids.shown((GROUP, it)) for it in found.values())
-    return (text, b"chmod " + digits(record, flag_digit(record.flags) | 1)) if len(found) > 1 else None
+class WritingEntries(NamedTuple):
+    """The entries of a record that have w."""
+
+    users: List[Tuple[Key, int, int]]  # Of users who are no owners, each with the user, and the others of the user's groups.
+    teams: Dict[int, bytes]  # Groups by their members, where these can remove each other's files; one of those with the same.
 
 
-def writers_outside(audited: Audited, teams: Teams, file: File, writers: int) -> OfFile:
-    """Users who may write by an entry of their own, where nobody else of their groups may."""
-    record, found = read_record(file.body), []
-    for key, entry in named(record.access).items():
-        name = audited.ids.names.get(key, b"")
-        if key[0] == USER and teams.bits.get(name, 0) & writers and key[1] != record.owner and entry.grants(WRITE):
-            if not teams.fellows(name) & writers:
-                found.append(key)
-    return without_entries(audited, found) if found else None
+def writing_entries(audited: Audited, teams: Teams, file: File) -> WritingEntries:
+    record, found = read_record(file.body), WritingEntries([], {})
+    for (tag, number), entry in ((it.key, it) for it in record.access if it.grants(WRITE)):
+        name = audited.ids.names.get((tag, number), b"")
+        if tag == USER and number not in (b"", record.owner) and name in teams.bits:
+            found.users.append(((tag, number), teams.bits[name], teams.fellows(name)))
+        elif tag == GROUP and file.is_directory and not is_sticky(record.flags):
+            found.teams.setdefault(teams.members(int(number or record.group)), number or record.group)
+    return found
 
 
 def of_writers(audited: Audited) -> Findings:
-    """Of files whose records name a user or a group."""
+    """Of files whose records name a user or a group: users who may write where nobody else of their groups may, and several groups
+    that may write in a directory."""
     teams = Teams(audited)
-    naming = {file for file in audited.records if named(read_record(file.body).access)}
-    paths = [path for path in audited.paths if audited.files[path] in naming]
+    entries = {file: writing_entries(audited, teams, file) for file in audited.records if named(read_record(file.body).access)}
+    paths = [path for path in audited.paths if audited.files[path] in entries]
     groups = alike_of(audited.files, paths, audited.given.file_alone)
     writers = Writers(audited, teams, groups)
-    known: Dict[Tuple[File, int], Tuple[OfFile, OfFile]] = {}
     found: Findings = {"writable-by-teams": [], "writer-outside-groups": []}
     for alike in groups:
-        key = alike.file, writers.of(alike)
-        if key not in known:
-            known[key] = writable_by_teams(audited, teams, *key), writers_outside(audited, teams, *key)
-        for its, of_file in zip(found.values(), known[key]):
-            its += [FoundFile(path, *of_file) for path in alike.paths] if of_file else []
+        may, its = writers.of(alike), entries[alike.file]
+        gids = [gid for members, gid in its.teams.items() if members & may]
+        if len(gids) > 1:
+            text, record = b", ".join(audited.ids.shown((GROUP, it)) for it in gids), read_record(alike.file.body)
+            edit = b"chmod " + digits(record, flag_digit(record.flags) | 1)
+            found["writable-by-teams"] += [FoundFile(path, text, edit) for path in alike.paths]
+        keys = [key for key, user, fellows in its.users if user & may and not fellows & may]
+        if keys:
+            text, edit = without_entries(audited, keys)
+            found["writer-outside-groups"] += [FoundFile(path, text, edit) for path in alike.paths]
     return found
 
 
