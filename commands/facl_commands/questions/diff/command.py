@@ -63,13 +63,6 @@ def parse(words: List[str]) -> argparse.Namespace:
     return given
 
 
-def check_hosts(old: State, new: State, given: argparse.Namespace) -> None:
-    hosts = old.about.host, new.about.host
-    if all(hosts) and hosts[0] != hosts[1] and not given.any_host:
-        raise Failure(b"%s is of %s, and %s of %s: --any-host compares them" % (old.folder, hosts[0], new.folder,
-                                                                             hosts[1]))
-
-
 class Comparison:
     """Two snapshots by their files, with everybody else among the users of both."""
 
@@ -161,7 +154,9 @@ def compare(command: Command, given: argparse.Namespace) -> Tuple[Compared, Opti
     """What differs, and the page where one is asked for."""
     program = find_program(given)
     old, new = read_state(os.fsencode(given.before)), read_state(os.fsencode(given.after))
-    check_hosts(old, new, given)
+    hosts = old.about.host, new.about.host
+    if all(hosts) and hosts[0] != hosts[1] and not given.any_host:
+        raise Failure(b"%s is of %s, and %s of %s: --any-host compares them" % (old.folder, hosts[0], new.folder, hosts[1]))
     for text in report.warnings(old, new):
         command.say(text)
     beside = [list(alone(marks_of(state.folder))) for state in (old, new)]

@@ -125,15 +125,8 @@ class Moved(NamedTuple):
     new: bytes
 
 
-class Inodes(NamedTuple):
-    """Which files some paths are, by the file `inodes` of a snapshot."""
-
-    boot: bytes
-    files: Dict[bytes, Identity]
-
-
-def read_inodes(state: State, paths: Set[bytes]) -> Inodes:
-    """What is known of some paths by all parts of a snapshot; nothing where it has no inodes."""
+def read_inodes(state: State, paths: Set[bytes]) -> Tuple[bytes, Dict[bytes, Identity]]:
+    """When the system was started, and which files some paths are, by all parts of a snapshot; nothing where it has no inodes."""
     texts = [folder_of(folder).optional(b"inodes").split(b"\0") for folder in state.folders]
     found: Dict[bytes, Identity] = {}
     for record in itertools.chain(*(records[1:-1] for records in texts)):
@@ -141,14 +134,14 @@ def read_inodes(state: State, paths: Set[bytes]) -> Inodes:
         path = fields[-1].strip(b"/")
         if path in paths and len(fields) == 4 and fields[0].isdigit() and fields[1].isdigit():
             found.setdefault(path, Identity(int(fields[0]), int(fields[1]), nanoseconds(fields[2])))
-    return Inodes(texts[0][0].partition(b" ")[2] or NO_BOOT, found)
+    return texts[0][0].partition(b" ")[2] or NO_BOOT, found
 
 
-def by_file(inodes: Inodes, with_device: bool) -> Dict[Tuple[int, ...], List[bytes]]:
+def by_file(inodes: Dict[bytes, Identity], with_device: bool) -> Dict[Tuple[int, ...], List[bytes]]:
     """The paths of each file. One whose time of birth is not known can have the inode of another one that is gone, and
     is left out."""
     found: Dict[Tuple[int, ...], List[bytes]] = {}
-    for path, it in inodes.files.items():
+    for path, it in inodes.items():
         if it.birth:
             found.setdefault(tuple(it) if with_device else (it.inode, it.birth), []).append(path)
     return found
@@ -160,8 +153,8 @@ def find_moved(old: State, new: State, files: Tuple[Files, Files], changes: Chan
     made = [path for path in changes.made if path not in files[0]]
     if not gone or not made:
         return []
-    before, after = read_inodes(old, set(gone)), read_inodes(new, set(made))
-    with_device = before.boot == after.boot != NO_BOOT
+    (old_boot, before), (new_boot, after) = read_inodes(old, set(gone)), read_inodes(new, set(made))
+    with_device = old_boot == new_boot != NO_BOOT
     several = {path for state in (old, new) for names in split_tree.links_in(state.folders) for path in names}
     places, found = by_file(after, with_device), []
     for identity, names in by_file(before, with_device).items():

@@ -9,7 +9,7 @@ from ...base.messages import Failure
 from ...base.names import json_text, parent_of, path_word, read_name
 from ...base.tables import Column, Table
 from ...model import choice
-from ...model.entries import NOTHING, ReadRecord, head_lines, read_record
+from ...model.entries import NOTHING, head_lines, read_record
 from ...model.records import asks_as_directory
 from ...model.rules_of_lists import is_sticky, remover, writing
 from ...model.superuser import ids_in
@@ -68,30 +68,14 @@ def since(why: Optional[bytes]) -> bytes:
 
 
 class Made(NamedTuple):
-    """A file that a user would make, with its record, and who may read and write it."""
+    """A file that a user would make."""
 
-    kind: str
-    record: ReadRecord
-    readers: List[bytes]  # As an answer has them.
-    writers: List[bytes]
+    kind: bytes
+    lines: List[bytes]  # Its record, for a person,
+    fields: Dict[str, object]  # and for JSON.
+    summary: bytes
+    users: List[bytes]  # Who may read or write it, as an answer has them.
     left_out: List[bytes]  # Others who may.
-
-    def entries(self) -> List[bytes]:
-        return [*map(plain_entry, self.record.access), *(b"default:" + plain_entry(it) for it in self.record.default)]
-
-    def lines(self) -> List[bytes]:
-        """Its record for a person."""
-        return [*head_lines(*self.record[:3]).splitlines(), *self.entries()]
-
-    def as_object(self) -> Dict[str, object]:
-        owner, group, flags = self.record[:3]
-        return {"kind": self.kind, "owner": json_text(owner), "group": json_text(group),
-                "flags": json_text(flags) if flags != NOTHING else None, "entries": list(map(json_text, self.entries())),
-                "readers": list(map(json_text, self.readers)), "writers": list(map(json_text, self.writers))}
-
-    def summary(self) -> bytes:
-        users = [b", ".join(its) or b"nobody" for its in (self.readers, self.writers)]
-        return b"the new %s may be read by %s, and written by %s" % (self.kind.encode(), *users)
 
 
 def make(asker: Asker, folder: bytes, user: bytes, kind: str) -> Made:
@@ -101,10 +85,18 @@ def make(asker: Asker, folder: bytes, user: bytes, kind: str) -> Made:
     word = path_word(path)
     asker.session.ask_accepted(line % (user, mode, asker.given.umask.encode()) + b" " + word)
     record = read_record(asker.records([LIST_NAMED + b" " + word])[0])
+    entries = [*map(plain_entry, record.access), *(b"default:" + plain_entry(it) for it in record.default)]
     who = [choice.in_order(asker.lines_of(WHO, letter, word), asker.passwd) for letter in (b"r", b"w")]
     kept = [choice.kept(users, asker.given, asker.passwd) for users in who]
-    left_out = [user for user in who[0] + who[1] if user not in kept[0] + kept[1]]
-    return Made(kind, record, list(map(asker.shown, kept[0])), list(map(asker.shown, kept[1])), left_out)
+    readers, writers = (list(map(asker.shown, users)) for users in kept)
+    owner, group, flags = record[:3]
+    fields = {"kind": kind, "owner": json_text(owner), "group": json_text(group),
+              "flags": json_text(flags) if flags != NOTHING else None, "entries": list(map(json_text, entries)),
+              "readers": list(map(json_text, readers)), "writers": list(map(json_text, writers))}
+    summary = b"the new %s may be read by %s, and written by %s" % (
+        kind.encode(), b", ".join(readers) or b"nobody", b", ".join(writers) or b"nobody")
+    return Made(kind.encode(), [*head_lines(owner, group, flags).splitlines(), *entries], fields, summary, readers + writers,
+                [user for user in who[0] + who[1] if user not in kept[0] + kept[1]])
 
 
 def answer_new_file(asker: Asker, folder: bytes, user: NamedUser) -> WhoAnswer:
@@ -119,11 +111,11 @@ def answer_new_file(asker: Asker, folder: bytes, user: NamedUser) -> WhoAnswer:
     default = read_record(asker.records([LIST_NUMBERS + b" " + path_word(folder)])[0]).default
     origin = (b"by the default list of " + name if default
               else name + b" has no default list, so the umask counts, taken as " + asker.given.umask.encode())
-    rows = [[it.kind.encode(), line] for it in made for line in it.lines()]
+    rows = [[it.kind, line] for it in made for line in it.lines]
     left_out = list(dict.fromkeys(user for it in made for user in it.left_out))
-    notes = [it.summary() for it in made] + asker.beside(user for it in made for user in it.readers + it.writers)
+    notes = [it.summary for it in made] + asker.beside(user for it in made for user in it.users)
     return WhoAnswer(
         "new-file", Table([Column("NEW"), Column("LIST")], rows),
         {"folder": json_text(name), "user": json_text(user.shown), "since": json_text(why or b"") or None,
-         "new": [it.as_object() for it in made]},
+         "new": [it.fields for it in made]},
         user.shown + b" may make no file in " + name + since(why), left_out, (origin, *notes))
