@@ -17,7 +17,7 @@ from common import COMMANDS, Case, Done, restore_signals
 
 sys.path.insert(0, COMMANDS)
 
-from facl_commands.model.records import Files, compare  # noqa: E402
+from facl_commands.model import records  # noqa: E402
 from facl_commands.program.session import OutputSlice  # noqa: E402
 from facl_commands.questions.diff.reasons import decided_by, words_of_list  # noqa: E402
 from facl_commands.questions.diff.states import read_files  # noqa: E402
@@ -525,7 +525,7 @@ facl-diff: warning: left out of before alone as another file system, so what is 
 class Records(unittest.TestCase):
     """Listings are compared by the paths of their files."""
 
-    def files(self, *names: bytes) -> Files:
+    def files(self, *names: bytes) -> records.Files:
         text = b"".join(b"# file: " + name + b"\n" + NEW_FILE for name in names)
         with tempfile.TemporaryFile() as file:
             file.write(text)
@@ -536,8 +536,8 @@ class Records(unittest.TestCase):
         # A file with another one below it is a directory, also if what is between them is not recorded.
         old = self.files(b".", b"a", b"a/b", b"a b", b"c", b"e", b"e/f", b"e/f/g")
         new = self.files(b".", b"a/", b"a b", b"c", b"c/d/e", b"e", b"e/f/g")
-        self.assertEqual(compare(old, new), ([], [b"c", b"c/d/e"], [b"a/b", b"c", b"e/f"]))
-        self.assertEqual(compare(old, old), ([], [], []))
+        self.assertEqual(records.compare(old, new), ([], [b"c", b"c/d/e"], [b"a/b", b"c", b"e/f"]))
+        self.assertEqual(records.compare(old, old), ([], [], []))
 
 
 if __name__ == "__main__":
