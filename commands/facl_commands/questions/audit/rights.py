@@ -12,7 +12,7 @@ from ...model.entries import GROUP, OTHER, USER, Key, digits, flag_digit, named,
 from ...model.label_answers import PeopleTexts, ask_vectors
 from ...model.people import People, groups_by_user, users_by_group
 from ...model.records import File
-from ...model.rules_of_lists import HAS_SEARCH, is_sticky, writing
+from ...model.rules_of_lists import inside, is_sticky, writing
 from ...program.protocol import FILE_HEAD, LIST, WHO
 from ...program.session import LINES_ROOM, parts_of, session_over
 from ...program.tools import path_in
@@ -60,7 +60,7 @@ class EverybodyRights:
         if directory not in self.closed:
             for it in [*directories_above(directory)[::-1], directory]:
                 above = self.closed[parent_of(it)] if it else None
-                is_open = it not in self.files or HAS_SEARCH[self.vectors[self.files[it].body][0]]
+                is_open = it not in self.files or inside(b"\1", self.vectors[self.files[it].body]) != b"\0"
                 self.closed[it] = it if above is None and not is_open else above
         return self.closed[directory]
 

@@ -19,7 +19,7 @@ from ...model.records import ChangedPaths, Files, compare as compare_files
 from ...program.session import OutputSlice, Session
 from . import report
 from .edits import CannotLead, Edits, group_text
-from .labels import LabelDifferences, Shapes
+from .labels import Shapes, gains_by_labels
 from .reasons import reasons_of
 from .report import AllUsers, Compared, rows_of
 from .states import State, files_in_parts, find_moved, members_of, people_counts, read_files, read_state
@@ -80,8 +80,7 @@ class Comparison:
 
     def by_labels(self) -> Compared:
         shapes = Shapes(*self.files, self.folders or [b""])
-        differences = LabelDifferences(self.program, self.states, shapes, self.given.file_alone)
-        return self.compared(BY_INDEX, differences.gains())
+        return self.compared(BY_INDEX, gains_by_labels(self.program, self.states, shapes, self.given.file_alone))
 
     def compared(self, way: str, found: List[Gain]) -> Compared:
         old, new = self.plain

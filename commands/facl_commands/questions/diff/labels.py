@@ -146,48 +146,40 @@ class SideRights:
         return vector if self.is_alone else along_path(vector, self.reach(way))
 
 
-class LabelDifferences:
+def gains_by_labels(program: str, states: Tuple[State, State], shapes: Shapes, is_alone: bool) -> List[Gain]:
     """What differs between two snapshots, by the records of their files."""
+    before, after = (members_of(it.people()) for it in states)
+    names = list({**before, **after})
+    others = [name for name in names if before.get(name) != after.get(name)]
+    same = [name for name in names if before.get(name) == after.get(name)]
+    asked = (others, list(shapes.counted)), (same, [shape for shape in shapes.counted if shape.is_touched()])
+    if sum(2 * len(users) * len(shapes.records(its)) for users, its in asked) > MOST_CELLS:
+        raise Failure(b"too many different records for so many users: compare FOLDERs one by one")
+    found: List[Gain] = []
+    for users, its in asked:
+        if users and its:
+            bodies = [shapes.bodies.values[number] for number in shapes.records(its)]
+            shown = list(map(write_user, users))
+            vectors = (ask_vectors(program, state, set(users), shown, bodies) for state in states)
+            old, new = (SideRights(shapes, of_body, len(users), is_alone) for of_body in vectors)
+            found += tally(shapes, its, shown, old, new)
+    place = {write_user(name): number for number, name in enumerate(names)}
+    return sorted(found, key=lambda gain: place[gain.user])
 
-    def __init__(self, program: str, states: Tuple[State, State], shapes: Shapes, is_alone: bool) -> None:
-        self.program, self.states, self.shapes, self.is_alone = program, states, shapes, is_alone
 
-    def gains(self) -> List[Gain]:
-        before, after = (members_of(it.people()) for it in self.states)
-        names = list({**before, **after})
-        others = [name for name in names if before.get(name) != after.get(name)]
-        same = [name for name in names if before.get(name) == after.get(name)]
-        shapes = list(self.shapes.counted)
-        touched = [shape for shape in shapes if shape.is_touched()]
-        self.check_size(((others, shapes), (same, touched)))
-        found = [*self.tally(others, shapes), *self.tally(same, touched)]
-        place = {write_user(name): number for number, name in enumerate(names)}
-        return sorted(found, key=lambda gain: place[gain.user])
-
-    def check_size(self, asked: Iterable[Tuple[List[bytes], List[Shape]]]) -> None:
-        cells = sum(2 * len(names) * len(self.shapes.records(shapes)) for names, shapes in asked)
-        if cells > MOST_CELLS:
-            raise Failure(b"too many different records for so many users: compare FOLDERs one by one")
-
-    def tally(self, names: List[bytes], shapes: List[Shape]) -> Iterator[Gain]:
-        """The changes of some users, on files of some shapes, which are in path order by their first files."""
-        if not names or not shapes:
-            return
-        users = [write_user(name) for name in names]
-        bodies = [self.shapes.bodies.values[number] for number in self.shapes.records(shapes)]
-        vectors = (ask_vectors(self.program, state, set(names), users, bodies) for state in self.states)
-        old, new = (SideRights(self.shapes, its, len(users), self.is_alone) for its in vectors)
-        found: Dict[Change, Counted] = {}
-        known: Dict[Tuple[bytes, bytes], List[Change]] = {}
-        for shape in shapes:
-            its = self.shapes.counted[shape]
-            pair = old.granted(shape.old, shape.old_above), new.granted(shape.new, shape.new_above)
-            if pair not in known:
-                known[pair] = list(changes_of(*pair))
-            for change in known[pair]:
-                found.setdefault(change, Counted(its.first)).files += its.files
-        for (place, before, after), files in found.items():
-            yield Gain(users[place], before, after, files.files, shown_path(files.first))
+def tally(shapes: Shapes, asked: List[Shape], users: List[bytes], old: SideRights, new: SideRights) -> Iterator[Gain]:
+    """The changes of some users, on files of some shapes, which are in path order by their first files."""
+    found: Dict[Change, Counted] = {}
+    known: Dict[Tuple[bytes, bytes], List[Change]] = {}
+    for shape in asked:
+        its = shapes.counted[shape]
+        pair = old.granted(shape.old, shape.old_above), new.granted(shape.new, shape.new_above)
+        if pair not in known:
+            known[pair] = list(changes_of(*pair))
+        for change in known[pair]:
+            found.setdefault(change, Counted(its.first)).files += its.files
+    for (place, before, after), files in found.items():
+        yield Gain(users[place], before, after, files.files, shown_path(files.first))
 
 
 def changes_of(old: bytes, new: bytes) -> Iterator[Change]:
