@@ -153,10 +153,10 @@ def outcome(rights: Rights, rule: Rule) -> RuleOutcome:
     asked, some = rights.asked(rule.right, rule.path), rights.some(rule.right, rule.path)
     if rule.kind == ONLY:
         rights.left_out |= some.keys() - rule.users - {*rights.users}
-    violations = []
+    is_all, violations = len(rights.paths) == len(rights.files), []  # Whether `below` counts no other files.
     for place, user in enumerate(subjects(rights, rule)):
-        if rule.kind == ALWAYS and rule.right == READ and some.get(user) == len(asked):
-            continue  # On all of them.
+        if rule.kind == ALWAYS and rule.right == READ and is_all and some.get(user) == len(asked):
+            continue  # It is so on all files.
         paths = rights.granted(user, rule.right, rule.path) if user in some else []
         if rule.kind == ALWAYS:  # Those that are missing.
             known = set(paths)

@@ -90,9 +90,10 @@ def make(asker: Asker, folder: bytes, user: bytes, kind: str) -> Made:
     kept = [choice.kept(users, asker.given, asker.passwd) for users in who]
     readers, writers = (list(map(asker.shown, users)) for users in kept)
     owner, group, flags = record[:3]
-    fields = {"kind": kind, "owner": json_text(owner), "group": json_text(group),
-              "flags": json_text(flags) if flags != NOTHING else None, "entries": list(map(json_text, entries)),
-              "readers": list(map(json_text, readers)), "writers": list(map(json_text, writers))}
+    fields: Dict[str, object] = {
+        "kind": kind, "owner": json_text(owner), "group": json_text(group),
+        "flags": json_text(flags) if flags != NOTHING else None, "entries": list(map(json_text, entries)),
+        "readers": list(map(json_text, readers)), "writers": list(map(json_text, writers))}
     summary = b"the new %s may be read by %s, and written by %s" % (
         kind.encode(), b", ".join(readers) or b"nobody", b", ".join(writers) or b"nobody")
     return Made(kind.encode(), [*head_lines(owner, group, flags).splitlines(), *entries], fields, summary, readers + writers,
