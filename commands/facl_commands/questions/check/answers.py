@@ -153,7 +153,8 @@ def outcome(rights: Rights, rule: Rule) -> RuleOutcome:
     asked, some = rights.asked(rule.right, rule.path), rights.some(rule.right, rule.path)
     if rule.kind == ONLY:
         rights.left_out |= some.keys() - rule.users - {*rights.users}
-    is_all, violations = len(rights.paths) == len(rights.files), []  # Whether `below` counts no other files.
+    is_all = len(rights.paths) == len(rights.files)  # Whether `below` counts no other files.
+    violations: List[Violation] = []
     for place, user in enumerate(subjects(rights, rule)):
         if rule.kind == ALWAYS and rule.right == READ and is_all and some.get(user) == len(asked):
             continue  # It is so on all files.
