@@ -17,7 +17,7 @@ from ...model import choice, meta, overview, sources
 from ...model.everybody import world_of
 from ...model.snapshot import NEEDED, check_texts
 from ...model.sources import Source
-from . import of_files, of_folder
+from . import answers, of_folder
 from .asking import Asker, WhoAnswer, read_rights
 
 SCHEMA = "facl-who/1"
@@ -133,11 +133,11 @@ def answer_of(asker: Asker) -> WhoAnswer:
     folders = choice.folders_of(session, given.folders) if given.folders else choice.folders_made_of(session)
     asker.folders, asker.named = folders, folders if given.folders else []
     if given.user is not None:
-        return of_files.of_user(asker, asker.anybody(os.fsencode(given.user)), folders)
+        return answers.of_user(asker, asker.anybody(os.fsencode(given.user)), folders)
     for question, word in (("owner", given.owner), ("names", given.names)):
         if word is not None:
-            return of_files.files_of_user(asker, question, asker.user_of(os.fsencode(word)), folders)
-    return of_files.of_rights(asker, read_rights(given.perms), folders)
+            return answers.files_of_user(asker, question, asker.user_of(os.fsencode(word)), folders)
+    return answers.of_rights(asker, read_rights(given.perms), folders)
 
 
 def object_of(asker: Asker, answer: WhoAnswer) -> Dict[str, object]:
