@@ -29,8 +29,9 @@ def send(file: IO[bytes], what: Any) -> None:
 def receive(file: IO[bytes]) -> Optional[object]:
     """What the other process sent; None where it ended."""
     head = file.read(SIZE.size)
-    text = file.read(SIZE.unpack(head)[0]) if len(head) == SIZE.size else b""
-    return marshal.loads(text) if text else None
+    size = SIZE.unpack(head)[0] if len(head) == SIZE.size else 0
+    text = file.read(size)
+    return marshal.loads(text) if size and len(text) == size else None  # type: ignore[no-any-return]
 
 
 class Stop:
@@ -50,36 +51,35 @@ class Helper:
     """A process that does a part of the work; it ends where the first one ends."""
 
     def __init__(self, work: Work, keeps_signals: bool) -> None:
+        self.work = work
         reader, writer = os.pipe()
         parent = os.getpid()
         self.process = os.fork()
         if self.process == 0:
-            self.work(work, writer, parent, keeps_signals)
+            self.run(writer, parent, keeps_signals)
         os.close(writer)
         self.reader = open(reader, "rb")
 
-    def work(self, work: Work, writer: int, parent: int, keeps_signals: bool) -> None:
-        """Ends this process, which writes what came of the work."""
-        status = 1
+    def run(self, writer: int, parent: int, keeps_signals: bool) -> None:
+        """Ends this process, which sends what came of the work."""
         try:
             linux.end_with(parent)
             for number in SIGNALS if not keeps_signals else ():
                 signal.signal(number, signal.SIG_DFL)
             with open(writer, "wb") as file:
-                file.write(marshal.dumps(work()))
-            status = 0
+                self.answer(file)
         finally:
-            os._exit(status)
+            os._exit(1)
+
+    def answer(self, file: IO[bytes]) -> None:
+        send(file, self.work())
 
     def has_result(self) -> bool:
         return bool(select.select([self.reader], [], [], OFTEN)[0])
 
     def result(self) -> Optional[object]:
         """What came of the work; None where the process ended before."""
-        try:
-            return marshal.loads(self.reader.read())  # type: ignore[no-any-return]
-        except (EOFError, ValueError, TypeError):
-            return None
+        return receive(self.reader)
 
     def end(self) -> None:
         self.reader.close()

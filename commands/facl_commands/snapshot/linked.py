@@ -2,7 +2,8 @@
 from __future__ import annotations
 
 from array import array
-from typing import IO, Dict, Iterator, List, NamedTuple, Set
+from itertools import compress
+from typing import IO, Dict, Iterator, List, NamedTuple, Set, Tuple
 
 from .runs import SEVERAL, Run
 
@@ -23,38 +24,38 @@ class Linker:
     """Sees the files of a snapshot as they are written, and in the end reads their names."""
 
     def __init__(self) -> None:
-        self.marks = bytearray(ROOM)
-        self.again: Set[int] = set()  # Files whose mark was there already: each of several names, and some others.
-        self.several = array("I")  # The places of plain files that have other names somewhere.
-        self.number = 0
+        self.keys = array("Q")
+        self.several = bytearray()  # Whether it is a plain file that has other names somewhere.
 
     def add(self, run: Run) -> None:
-        marks = self.marks
-        for file in run.files:
-            place = (file ^ file >> 59) % ROOM
-            if marks[place]:
-                self.again.add(file)
-            marks[place] = 1
-        self.several.extend(self.number + place for place, bits in enumerate(run.bits) if bits & SEVERAL)
-        self.number += len(run.bits)
+        self.keys.frombytes(run.keys)
+        self.several.extend(bits & SEVERAL > 0 for bits in run.bits)
+
+    def repeated(self) -> Set[int]:
+        """Keys whose mark another file has too: of all that have several names, and of some others."""
+        marks, found = bytearray(ROOM), set()
+        for key in self.keys:
+            if marks[key % ROOM]:
+                found.add(key)
+            marks[key % ROOM] = 1
+        return found
 
     def names(self, inodes: IO[bytes]) -> LinkedNames:
-        """Reads the file inodes of the snapshot, where a file may have several names."""
-        found: Dict[int, List[bytes]] = {}
-        alone: Dict[int, bytes] = {}  # Plain files with other names somewhere, by the first one here.
-        several = iter(self.several)
-        following = next(several, None)
-        for place, record in enumerate(records_in(inodes) if self.again or self.several else ()):
+        """Reads the names in the file inodes of the snapshot that may be of one file."""
+        repeated = self.repeated()
+        wanted = bytearray(several or key in repeated for several, key in zip(self.several, self.keys))
+        found: Dict[Tuple[int, int], List[bytes]] = {}
+        alone: List[Tuple[int, int]] = []
+        records = compress(records_in(inodes), wanted) if any(wanted) else iter(())
+        for record, several in zip(records, compress(self.several, wanted)):
             device, inode, _, name = record.split(b" ", 3)
-            file = int(device) << 64 | int(inode)
-            if file in self.again:
-                found.setdefault(file, []).append(name)
-            if place == following:
-                following = next(several, None)
-                alone.setdefault(file, name)
+            file = int(device), int(inode)
+            found.setdefault(file, []).append(name)
+            alone += [file] * several
         sets = {file: names for file, names in found.items() if len(names) > 1}
-        first, outside = next(iter(sets.values()), [b""])[0], [name for file, name in alone.items() if file not in sets]
-        return LinkedNames([sets[file] for file in sorted(sets)], first, len(outside), outside[0] if outside else b"")
+        outside = [found[file][0] for file in alone if file not in sets]
+        return LinkedNames([sets[file] for file in sorted(sets)], next(iter(sets.values()), [b""])[0], len(outside),
+                           outside[0] if outside else b"")
 
 
 def records_in(inodes: IO[bytes]) -> Iterator[bytes]:

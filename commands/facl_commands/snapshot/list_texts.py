@@ -9,11 +9,12 @@ from __future__ import annotations
 import re
 import stat
 import struct
-from typing import Dict, FrozenSet, NamedTuple, Optional, Tuple, TypeVar
+from functools import partial
+from typing import Any, Callable, Dict, FrozenSet, NamedTuple, Optional, Tuple
 
 from ..base import acl_bytes, linux
 from ..base.acl_bytes import ENTRY, GROUP, GROUP_CLASS, GROUP_OBJ, HEAD, MASK, NAMED, NO_ID, OTHER, USER, USER_OBJ
-from .runs import REPEATED, Whom
+from ..base.live import MINIMAL
 
 MOST_ENTRIES = 4096  # Of a list, which the program takes.
 MOST_KEPT = 1 << 19  # Bytes of the texts that are kept.
@@ -22,6 +23,9 @@ PERMISSIONS = [b"".join(letter if bits >> place & 1 else b"-" for letter, place 
 TAGS = {USER_OBJ: b"user:", USER: b"user:", GROUP_OBJ: b"group:", GROUP: b"group:", MASK: b"mask:", OTHER: b"other:"}
 ESCAPES = {b"\\": b"\\\\", b"\n": b"\\012", b"\r": b"\\015"}
 FLAGS = ((stat.S_ISUID, b"s"), (stat.S_ISGID, b"s"), (stat.S_ISVTX, b"t"))
+# The bytes of the owner, group and mode of a file, as a status has them, and those of its lists.
+Label = Tuple[bytes, Optional[bytes], Optional[bytes]]
+Whom = Tuple[int, int, FrozenSet[int], FrozenSet[int]]  # Owner and group of a file, and whom its lists name.
 
 
 class NoList(Exception):
@@ -39,6 +43,31 @@ class ListText(NamedTuple):
     users: FrozenSet[int]
     groups: FrozenSet[int]
     is_repeated: bool  # Whether it has several entries of one user or group.
+
+
+class LabelText(NamedTuple):
+    """The record of a file after its name, and whom it names."""
+
+    lines: bytes
+    whom: Whom
+    is_repeated: bool  # Of one of its lists.
+
+
+class Known(Dict[Any, Any]):
+    """Texts that came last, by what they are made of: not many of long ones, which anybody can write."""
+
+    def __init__(self, make: Callable[[Any], Any]) -> None:
+        super().__init__()
+        self.make, self.size = make, 0
+
+    def __missing__(self, key: Any) -> Any:
+        text = self.make(key)
+        self.size += len(text.lines)
+        if self.size > MOST_KEPT:
+            self.clear()
+            self.size = len(text.lines)
+        self[key] = text
+        return text
 
 
 def shown_name(name: bytes) -> bytes:
@@ -65,7 +94,7 @@ def entries_of(data: bytes) -> Tuple[acl_bytes.Entries, bool]:
     return found, len(found) != (len(data) - len(HEAD)) // ENTRY.size
 
 
-def text_of(data: bytes, prefix: bytes) -> ListText:
+def text_of(prefix: bytes, data: bytes) -> ListText:
     """The text of a list; NoList where there can be none."""
     entries, is_repeated = entries_of(data)
     mask = entries.get((MASK, NO_ID), 7)
@@ -77,71 +106,18 @@ def text_of(data: bytes, prefix: bytes) -> ListText:
     return ListText(b"\n".join(lines) + b"\n", users, groups, is_repeated)
 
 
-Bytes = TypeVar("Bytes")
-Text = TypeVar("Text")
-
-
-class Known(Dict[Bytes, Text]):
-    """Texts that came last, by the bytes that they are made of: not many of long ones, which anybody can write."""
-
-    size = 0
-
-    def made(self, data: Bytes) -> Tuple[Text, int]:
-        """The text and its size."""
-        raise NotImplementedError
-
-    def __missing__(self, data: Bytes) -> Text:
-        text, size = self.made(data)
-        self.size += size
-        if self.size > MOST_KEPT:
-            self.clear()
-            self.size = size
-        self[data] = text
-        return text
-
-
-class KnownTexts(Known[bytes, ListText]):
-    """The texts of lists."""
-
-    def __init__(self, prefix: bytes) -> None:
-        super().__init__()
-        self.prefix = prefix
-
-    def made(self, data: bytes) -> Tuple[ListText, int]:
-        text = text_of(data, self.prefix)
-        return text, len(text.lines)
-
-
-ACCESS_TEXTS, DEFAULT_TEXTS = KnownTexts(b""), KnownTexts(b"default:")
-NO_LIST = ListText(b"", frozenset(), frozenset(), False)
-MINIMAL = [acl_bytes.minimal(mode) for mode in range(0o1000)]
-# The bytes of the owner, group and mode of a file, as a status has them, and those of its lists.
-Label = Tuple[bytes, Optional[bytes], Optional[bytes]]
-
-
-class LabelText(NamedTuple):
-    """The record of a file after its name, its bits, and whom it names."""
-
-    text: bytes
-    bits: int
-    whom: Whom
-
-
-class KnownLabels(Known[Label, LabelText]):
-    """The texts of labels."""
-
-    def made(self, data: Label) -> Tuple[LabelText, int]:
-        text = label_text(data)
-        return text, len(text.text)
-
-
 def label_text(label: Label) -> LabelText:
     """The text of a label; without an access list its mode has the entries."""
     its, access, default = label
     owner, group, mode = linux.LABEL.unpack(its)
     flags = b"# flags: " + b"".join(letter if mode & bit else b"-" for bit, letter in FLAGS) + b"\n" if mode & 0o7000 else b""
-    first = ACCESS_TEXTS[MINIMAL[mode & 0o777] if access is None else access]
-    second = DEFAULT_TEXTS[default] if default else NO_LIST
+    first: ListText = ACCESS_TEXTS[MINIMAL[mode & 0o777] if access is None else access]
+    second: ListText = DEFAULT_TEXTS[default] if default else NO_LIST
     text = b"".join((b"\n# owner: %d\n# group: %d\n" % (owner, group), flags, first.lines, second.lines, b"\n"))
-    bits = REPEATED * (first.is_repeated or second.is_repeated)
-    return LabelText(text, bits, (owner, group, first.users | second.users, first.groups | second.groups))
+    return LabelText(text, (owner, group, first.users | second.users, first.groups | second.groups),
+                     first.is_repeated or second.is_repeated)
+
+
+ACCESS_TEXTS, DEFAULT_TEXTS = (Known(partial(text_of, prefix)) for prefix in (b"", b"default:"))
+LABEL_TEXTS = Known(label_text)
+NO_LIST = ListText(b"", frozenset(), frozenset(), False)

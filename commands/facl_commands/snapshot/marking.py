@@ -7,7 +7,7 @@ from __future__ import annotations
 
 import os
 import stat
-from typing import Dict, List, NamedTuple, Optional
+from typing import Dict, List, NamedTuple, Optional, Tuple
 
 from ..base import beside
 from ..base.linux import OF_KERNEL, TMPFS, UNKNOWN, Mount, file_system_of
@@ -28,8 +28,6 @@ SAID = {
     beside.RICH_LIST: b"files with a rich list (system.richacl), which facl does not judge",
     beside.SAMBA_LIST: b"files with a list of Samba (security.NTACL), by which Samba judges too, and facl does not",
 }
-
-
 # File systems that list the attributes of lists, where a file has them: ext4, xfs, btrfs, tmpfs. Others may have lists all the same.
 LISTING = (0xEF53, 0x58465342, 0x9123683E, TMPFS)
 
@@ -56,32 +54,19 @@ class KnownMounts(Dict[Mount, KnownMount]):
         return self[mount]
 
 
-class Marked(NamedTuple):
-    """What counts beside the lists of a file."""
-
-    word: bytes  # How it is mounted.
-    lines: bytes  # Of the file marks.
-    bits: int
-
-
-def marked(name: bytes, mode: int, attributes: int, known: KnownMount, above: bytes) -> Marked:
-    """What counts beside lists of a file with these attributes, where the directory above is mounted by the word `above`. A
-    device, a FIFO and a socket can be written on a read-only file system too."""
-    word, bits, lines = known.word, known.bits, b""
+def marked(name: bytes, mode: int, attributes: int, known: KnownMount, above: bytes) -> Tuple[bytes, bytes, int]:
+    """What counts beside lists of a file with these attributes, where the directory above is mounted by the word `above`: how it
+    is mounted, its lines of the file marks, and its bits. A device, a FIFO and a socket can be written on a read-only file system
+    too."""
+    word, bits = known.word, known.bits
     if bits and not stat.S_ISREG(mode) and not stat.S_ISDIR(mode):
         word, bits = beside.PLAIN, 0
-    if word != above:
-        lines = line_of(word, name)
-    if attributes == UNKNOWN:
-        return Marked(word, lines, bits if known.has_no_attributes else bits | BITS[beside.ATTRIBUTES_UNKNOWN])
-    for bit, kind in beside.ATTRIBUTES if attributes else ():
-        if attributes & bit:
-            lines, bits = lines + line_of(kind, name), bits | BITS[kind]
-    return Marked(word, lines, bits)
-
-
-def line_of(kind: bytes, name: bytes) -> bytes:
-    return kind + b" " + shown_name(name) + b"\n"
+    kinds = [kind for bit, kind in beside.ATTRIBUTES if attributes & bit]  # UNKNOWN is none of these bits.
+    bits |= sum(BITS[kind] for kind in kinds)
+    if attributes == UNKNOWN and not known.has_no_attributes:
+        bits |= BITS[beside.ATTRIBUTES_UNKNOWN]
+    lines = [*[word] * (word != above), *kinds]
+    return word, b"".join(kind + b" " + shown_name(name) + b"\n" for kind in lines), bits
 
 
 def numbers_of(sums: Sums) -> bytes:
@@ -100,11 +85,10 @@ def attributes_of(place: bytes) -> Optional[List[str]]:
 
 def other_lists(place: bytes, names: Optional[List[str]]) -> int:
     """The bits of lists that an open file with these attributes has beside those of acl(5)."""
-    if names is None:
-        names = [it for it in LISTS if has_attribute(place, it)]
     bits = 0
-    for it in names:
-        bits |= LISTS.get(it, 0)
+    for it in LISTS if names is None else names:
+        if it in LISTS and (names is not None or has_attribute(place, it)):
+            bits |= LISTS[it]
     return bits
 
 

@@ -2,11 +2,11 @@
 from __future__ import annotations
 
 import os
-from typing import Iterable, Iterator, List, NamedTuple, Optional
+from typing import IO, Any, Callable, Iterable, Iterator, List, Optional
 
 from ..base import beside, linux
-from ..base.messages import Failure
-from ..base.new_file import make_directory
+from ..base.messages import Failure, reason
+from ..base.new_file import create, make_directory
 from . import scope as scopes
 from .linked import LinkedNames, Linker
 from .list_texts import shown_name
@@ -14,17 +14,73 @@ from .marking import SAID, numbers_of
 from .runs import BITS, IS_FOLDER, REPEATED, UNREAD, LeftOut, Run, Sums
 from .scope import MOST_BYTES
 from .walking import Walked
-from .written import Written, write_file
 
 
-class RecordedFiles(NamedTuple):
-    """What is recorded of the files of a snapshot."""
+class Written:
+    """A new file of a snapshot, of the caller alone, that is written from its start to its end; Failure where that cannot be."""
 
-    name: bytes  # Of the folder of a part; empty for one snapshot.
-    sums: Sums
-    unread: int
-    first_unread: bytes
+    def __init__(self, folder: int, name: bytes) -> None:
+        self.name, self.size = name, 0
+        self.file: IO[bytes] = open(self.tried(create, name, folder), "w+b")
+
+    def tried(self, call: Callable[..., Any], *words: object) -> Any:
+        try:
+            return call(*words)
+        except OSError as error:
+            raise Failure(b"cannot write " + self.name + b": " + reason(error)) from error
+
+    def write(self, text: bytes) -> None:
+        self.size += len(text)
+        self.tried(self.file.write, text)
+
+    def flush(self) -> None:
+        self.tried(self.file.flush)
+
+    def close(self) -> None:
+        self.tried(self.file.close)
+
+
+def write_file(folder: int, name: bytes, text: bytes) -> None:
+    file = Written(folder, name)
+    file.write(text)
+    file.close()
+
+
+class Recording:
+    """A snapshot, or a part with this name, which is written in a folder; and what is recorded of its files."""
+
     linked: LinkedNames
+
+    def __init__(self, folder: int, name: bytes = b"") -> None:
+        self.folder, self.name = folder, name
+        self.dump, self.inodes, self.marks = (Written(folder, it) for it in (b"dump", b"inodes", beside.NAME))
+        self.inodes.write(b"boot " + linux.boot().encode() + b"\0")
+        self.sums, self.linker = Sums(), Linker()
+        self.unread, self.first_unread = 0, b""
+
+    def add(self, run: Run) -> None:
+        self.dump.write(run.dump)
+        self.inodes.write(run.inodes)
+        self.marks.write(b"".join([lines for _, lines in run.marks]))
+        self.sums.add_run(run)
+        self.linker.add(run)
+
+    def complain(self, left_out: LeftOut) -> None:
+        """Counts what could not be read."""
+        self.first_unread = self.first_unread or left_out.first.get(UNREAD, b"")
+        self.unread += left_out.numbers[UNREAD]
+
+    def finish(self) -> None:
+        """Writes links, which needs all names, and closes its files."""
+        if not self.sums.files:
+            raise Failure(b"no file could be read: " + self.first_unread)
+        self.inodes.flush()
+        self.linked = self.linker.names(self.inodes.file)
+        del self.linker
+        for file in (self.dump, self.inodes, self.marks):
+            file.close()
+        sets = [b"".join(shown_name(name) + b"\n" for name in names) for names in self.linked.sets]
+        write_file(self.folder, b"links", b"\n".join(sets))
 
     def said(self) -> List[bytes]:
         """What is warned of."""
@@ -42,60 +98,6 @@ class RecordedFiles(NamedTuple):
         return b"files %d\nlinked-names %d\n" % (self.sums.files, sum(map(len, self.linked.sets))) + numbers_of(self.sums)
 
 
-class Recording:
-    """A snapshot that is being written."""
-
-    def __init__(self, folder: int, name: bytes = b"") -> None:
-        self.folder, self.name = folder, name
-        self.dump, self.inodes, self.marks = (Written(folder, name) for name in (b"dump", b"inodes", beside.NAME))
-        self.inodes.write(b"boot " + linux.boot().encode() + b"\0")
-        self.sums, self.linker = Sums(), Linker()
-        self.unread, self.first_unread = 0, b""
-
-    def has_room(self, number: int, size: int, most: int) -> bool:
-        """Whether so many more files, of so many bytes of the dump, fit."""
-        return self.sums.files + number <= most and self.dump.size + size <= MOST_BYTES
-
-    def add(self, run: Run) -> None:
-        self.dump.write(b"".join(run.dump))
-        self.inodes.write(b"".join(run.inodes))
-        self.marks.write(b"".join(run.marks))
-        self.sums.add(run)
-        self.linker.add(run)
-
-    def complain(self, left_out: LeftOut) -> None:
-        """Counts what could not be read."""
-        self.first_unread = self.first_unread or left_out.first[UNREAD]
-        self.unread += left_out.numbers[UNREAD]
-
-    def finish(self) -> RecordedFiles:
-        """Writes links, which needs all names, and closes its files."""
-        if not self.sums.files:
-            raise Failure(b"no file could be read: " + self.first_unread)
-        self.inodes.flush()
-        linked = self.linker.names(self.inodes.file)
-        for file in (self.dump, self.inodes, self.marks):
-            file.close()
-        write_file(self.folder, b"links", b"\n".join(b"".join(shown_name(name) + b"\n" for name in names) for names in linked.sets))
-        return RecordedFiles(self.name, self.sums, self.unread, self.first_unread, linked)
-
-
-def too_large() -> Failure:
-    return Failure(b"the dump has more than %s bytes, which facl does not take: name fewer FOLDERs, or take several snapshots "
-                   b"by --split COUNT" % format(MOST_BYTES, ",").encode())
-
-
-def record_whole(found: Iterable[Walked], made: int) -> List[RecordedFiles]:
-    """Writes one snapshot."""
-    recording = Recording(made)
-    for walked in found:
-        recording.complain(walked.left_out)
-        recording.add(walked.run)
-        if recording.dump.size > MOST_BYTES:
-            raise too_large()
-    return [recording.finish()]
-
-
 class Parts:
     """Snapshots of at most `count` files each: as many as fit, in the order of paths, and the directories above them. A directory
     at the end is left to the next one, where the following name is in it."""
@@ -104,9 +106,13 @@ class Parts:
         self.made, self.count = made, count
         self.above: List[Run] = []  # The directories above the last file, and that where it is one.
         self.held = 0  # The last ones of them that are not written yet.
-        self.recording: Optional[Recording] = None
-        self.own = 0  # Files of the part that are not only above others.
-        self.done: List[RecordedFiles] = []
+        self.own = 0  # Files of the last part that are not only above others.
+        self.parts: List[Recording] = []
+        self.begin()
+
+    def begin(self) -> None:
+        name = b"%03d" % (len(self.parts) + 1)
+        self.parts.append(Recording(make_directory(name, self.made), name))
 
     def add(self, run: Run) -> None:
         """Adds a file."""
@@ -116,62 +122,42 @@ class Parts:
             self.above.pop()
         if not self.has_room_for(run):
             self.begin_next(run)
-        if run.bits[0] & IS_FOLDER:
-            self.above.append(run)
-            self.held += 1
-        else:
+        self.held += 1
+        self.above.append(run)
+        if not run.bits[0] & IS_FOLDER:
             self.write_held()
-            self.write(run)
-            self.own += 1
+            self.above.pop()
 
     def has_room_for(self, run: Run) -> bool:
-        held = [*self.above[len(self.above) - self.held :], run]
-        return self.current().has_room(len(held), sum(len(it.dump[0]) for it in held), self.count)
+        last, more = self.parts[-1], [*self.unwritten(), run]
+        return last.sums.files + len(more) <= self.count and last.dump.size + sum(len(it.dump) for it in more) <= MOST_BYTES
 
-    def current(self) -> Recording:
-        if self.recording is None:
-            name = b"%03d" % (len(self.done) + 1)
-            self.recording = Recording(make_directory(name, self.made), name)
-        return self.recording
-
-    def write(self, run: Run) -> None:
-        self.current().add(run)
+    def unwritten(self) -> List[Run]:
+        return self.above[len(self.above) - self.held :]
 
     def write_held(self) -> None:
-        """Writes the directories at the end: they are of this part."""
-        for run in self.above[len(self.above) - self.held :] if self.held else ():
-            self.write(run)
-            self.own += 1
+        """Writes what is held: it is of this part."""
+        for run in self.unwritten():
+            self.parts[-1].add(run)
+        self.own += self.held
         self.held = 0
 
     def begin_next(self, following: Run) -> None:
         """Begins a part with the directories above a file."""
         if self.own:
             self.end()
-            self.own = 0
+            self.begin()
             for run in self.above[: len(self.above) - self.held]:
-                self.write(run)
+                self.parts[-1].add(run)
         if not self.has_room_for(following):
             name = shown_name(following.name(0))
             raise Failure(b"--split %d: is too few for the directories above %s" % (self.count, name))
 
     def end(self) -> None:
-        if self.recording is not None:
-            self.done.append(self.recording.finish())
-            os.close(self.recording.folder)
-        self.recording = None
-
-
-def record_parts(found: Iterable[Walked], made: int, count: int) -> List[RecordedFiles]:
-    """Writes several snapshots."""
-    parts = Parts(made, count)
-    for walked in found:
-        parts.current().complain(walked.left_out)
-        for place in range(len(walked.run.bits)):
-            parts.add(walked.run.part(place, place + 1))
-    parts.write_held()
-    parts.end()
-    return parts.done
+        """Ends the last part."""
+        self.parts[-1].finish()
+        os.close(self.parts[-1].folder)
+        self.own = 0
 
 
 def limited(found: Iterable[Walked], left_out: LeftOut, most: int) -> Iterator[Walked]:
@@ -185,8 +171,23 @@ def limited(found: Iterable[Walked], left_out: LeftOut, most: int) -> Iterator[W
         yield walked
 
 
-def record(found: Iterable[Walked], made: int, count: Optional[int], left_out: LeftOut) -> List[RecordedFiles]:
+def record(found: Iterable[Walked], made: int, count: Optional[int], left_out: LeftOut) -> List[Recording]:
     """Writes one snapshot, or several of so many files each; counts what is left out of all."""
     if count is None:
-        return record_whole(limited(found, left_out, scopes.MOST_FILES), made)
-    return record_parts(limited(found, left_out, scopes.MOST_NAMES), made, count)
+        whole = Recording(made)
+        for walked in limited(found, left_out, scopes.MOST_FILES):
+            whole.complain(walked.left_out)
+            whole.add(walked.run)
+            if whole.dump.size > MOST_BYTES:
+                raise Failure(b"the dump has more than %s bytes, which facl does not take: name fewer FOLDERs, or take several "
+                              b"snapshots by --split COUNT" % format(MOST_BYTES, ",").encode())
+        whole.finish()
+        return [whole]
+    parts = Parts(made, count)
+    for walked in limited(found, left_out, scopes.MOST_NAMES):
+        parts.parts[-1].complain(walked.left_out)
+        for run in walked.run.files():
+            parts.add(run)
+    parts.write_held()
+    parts.end()
+    return parts.parts

@@ -1,10 +1,12 @@
 """What is found of files that follow each other in the order of paths, as processes send it to each other, and its sums."""
 from __future__ import annotations
 
+from array import array
 from collections import Counter
-from typing import Dict, FrozenSet, List, NamedTuple, Set, Tuple
+from typing import Dict, Iterator, List, NamedTuple, Set, Tuple
 
 from ..base import beside
+from .list_texts import LABEL_TEXTS, Label, LabelText, Whom, shown_name
 
 MOST_IDS = 262_144  # Of users, and of groups, whose names are read: the program takes a quarter of them.
 # What is counted of recorded files: bits, of which those of KINDS are the first ones.
@@ -13,84 +15,144 @@ SEVERAL, REPEATED, IS_FOLDER = (1 << place for place in range(len(beside.KINDS),
 ALL_BITS = (*BITS.values(), SEVERAL, REPEATED)
 # Why a name is left out: a symbolic link, by --exclude, another file system, too long; and why it could not be read.
 LINK, EXCLUDED, OTHER_SYSTEM, LONG, UNREAD = range(5)
-Whom = Tuple[int, int, FrozenSet[int], FrozenSet[int]]  # Owner and group of a file, and whom its lists name.
+FILE = b"# file: "  # Where a record begins, and nowhere else, after the end of a line.
+KEY_BITS = (1 << 64) - 1
 
 
 class Run(NamedTuple):
-    """Recorded files: a row of each of these for each of them."""
+    """Recorded files: texts of all of them, and a row of each list for each of them."""
 
-    dump: List[bytes]
-    inodes: List[bytes]
-    marks: List[bytes]
-    files: List[int]  # Which file it is.
+    dump: bytes
+    inodes: bytes
+    marks: List[Tuple[int, bytes]]  # Of those that have lines there, with their places.
+    keys: bytes  # A number of eight bytes each, which is the same for names of one file, and seldom else.
     bits: List[int]
     whom: List[int]  # Places in `named`.
     named: List[Whom]
 
-    def part(self, start: int, end: int) -> Run:
-        return Run(self.dump[start:end], self.inodes[start:end], self.marks[start:end], self.files[start:end], self.bits[start:end],
-                   self.whom[start:end], self.named)
-
     def name(self, place: int) -> bytes:
-        return self.inodes[place].split(b" ", 3)[3][:-1]
+        return self.inodes.split(b"\0", place + 1)[place].split(b" ", 3)[3]
+
+    def files(self) -> Iterator[Run]:
+        """Each file alone."""
+        marks = dict(self.marks)
+        records = (b"\n" + self.dump)[:-1].split(b"\n" + FILE)[1:]
+        for place, (record, inode) in enumerate(zip(records, self.inodes.split(b"\0"))):
+            yield Run(FILE + record + b"\n", inode + b"\0", [(0, marks[place])] if place in marks else [],
+                      self.keys[8 * place : 8 * place + 8], self.bits[place : place + 1], self.whom[place : place + 1], self.named)
 
 
-class LeftOut:
-    """Names that are not recorded: by the reason, how many there are, and the first of them; and how many are recorded."""
+Text = Tuple[bytes, int, int]  # The record of a file after its name, its bits, and the place in `named`.
+Row = Tuple[bytes, Text, int, int, int, int]  # A file: its name, text, inode, birth in seconds and nanoseconds, and more bits.
+
+
+class RunLabels(Dict[Label, Text]):
+    """The labels of the files of a run."""
 
     def __init__(self) -> None:
+        super().__init__()
+        self.named: List[Whom] = []
+
+    def __missing__(self, label: Label) -> Text:
+        text: LabelText = LABEL_TEXTS[label]
+        self[label] = text.lines, REPEATED * text.is_repeated, len(self.named)
+        self.named.append(text.whom)
+        return self[label]
+
+
+class Draft:
+    """A run to which files are added."""
+
+    def __init__(self) -> None:
+        self.dump: List[bytes] = []
+        self.inodes: List[bytes] = []
+        self.marks: List[Tuple[int, bytes]] = []
+        self.keys = array("Q")
+        self.bits: List[int] = []
+        self.whom: List[int] = []
+        self.labels = RunLabels()
+        self.size = 0  # Of the records, without their names.
+
+    def add(self, folder: bytes, device: int, rows: List[Row]) -> None:
+        """Adds files of a folder and of a device. It is quicker for many at once, between which nothing else is done."""
+        start, of_device = FILE + shown_name(folder), hash((device,)) & KEY_BITS
+        names = shown_name(b"\0".join([name for name, _, _, _, _, _ in rows])).split(b"\0")
+        self.dump += [b"%s%s%s" % (start, name, text) for name, (_, (text, _, _), _, _, _, _) in zip(names, rows)]
+        self.inodes += [b"%d %d %d.%09d %s%s\0" % (device, inode, seconds, nanoseconds, folder, name)
+                        for name, _, inode, seconds, nanoseconds, _ in rows]
+        self.keys.extend([inode ^ of_device for _, _, inode, _, _, _ in rows])
+        self.bits += [bits | more for _, (_, bits, _), _, _, _, more in rows]
+        self.whom += [at for _, (_, _, at), _, _, _, _ in rows]
+        self.size += sum([len(text) for _, (text, _, _), _, _, _, _ in rows])
+
+    def run(self) -> Run:
+        return Run(b"".join(self.dump), b"".join(self.inodes), self.marks, self.keys.tobytes(), self.bits, self.whom,
+                   self.labels.named)
+
+
+class Tally:
+    """How many names there are of each kind, and the first of them."""
+
+    def __init__(self) -> None:
+        self.numbers: Dict[int, int] = Counter()
+        self.first: Dict[int, bytes] = {}
+
+    def add(self, kind: int, name: bytes, number: int = 1) -> None:
+        self.numbers[kind] += number
+        self.first.setdefault(kind, name)
+
+
+LeftOutRow = Tuple[List[Tuple[int, bytes, int]], List[bytes]]
+
+
+class LeftOut(Tally):
+    """Names that are not recorded, by the reason; and how many are recorded."""
+
+    def __init__(self) -> None:
+        super().__init__()
         self.recorded = 0
-        self.numbers = [0] * 5
-        self.first = [b""] * 5
         self.mounts: List[bytes] = []  # Those of other file systems, which meta has.
 
-    def add(self, why: int, text: bytes, number: int = 1) -> None:
-        if not self.numbers[why]:
-            self.first[why] = text
-        self.numbers[why] += number
-        if why == OTHER_SYSTEM:
-            self.mounts.append(text)
+    def add_mount(self, name: bytes) -> None:
+        self.add(OTHER_SYSTEM, name)
+        self.mounts.append(name)
 
-    def row(self) -> Tuple[List[int], List[bytes], List[bytes]]:
+    def row(self) -> LeftOutRow:
         """As it is sent."""
-        return self.numbers, self.first, self.mounts
+        return [(why, self.first[why], number) for why, number in self.numbers.items()], self.mounts
 
-    def join(self, row: Tuple[List[int], List[bytes], List[bytes]]) -> None:
+    def join(self, row: LeftOutRow) -> None:
         """Adds what comes after it."""
-        numbers, first, mounts = row
-        for why in range(5):
-            if numbers[why] and not self.numbers[why]:
-                self.first[why] = first[why]
-            self.numbers[why] += numbers[why]
-        self.mounts += mounts
+        for reason in row[0]:
+            self.add(*reason)
+        self.mounts += row[1]
 
     def total(self) -> int:
-        return sum(self.numbers)
+        return sum(self.numbers.values())
 
 
-class Sums:
-    """What is counted of the files of a snapshot, and whom they name."""
+class Sums(Tally):
+    """What is counted of the files of a snapshot, by bit, and whom they name."""
 
     def __init__(self) -> None:
+        super().__init__()
         self.files = 0
         self.lines = 0  # Of marks.
-        self.numbers = dict.fromkeys(ALL_BITS, 0)
-        self.first: Dict[int, bytes] = {}  # By bit: the name of the first file.
         self.owners: Set[int] = set()
         self.owning_groups: Set[int] = set()
         self.users: Set[int] = set()  # Owners too.
         self.groups: Set[int] = set()
         self.has_too_many_ids = False  # So that some are not in these.
 
-    def add(self, run: Run) -> None:
+    def add_run(self, run: Run) -> None:
         self.files += len(run.bits)
-        self.lines += sum(it.count(b"\n") for it in run.marks if it)
+        self.lines += sum(lines.count(b"\n") for _, lines in run.marks)
         counted = Counter(run.bits)
         for value in sorted((it for it in counted if it & ~IS_FOLDER), key=run.bits.index):
+            name = run.name(run.bits.index(value))
             for bit in ALL_BITS:
                 if value & bit:
-                    self.numbers[bit] += counted[value]
-                    self.first.setdefault(bit, run.name(run.bits.index(value)))
+                    self.add(bit, name, counted[value])
         for place in {*run.whom}:
             owner, group, users, groups = run.named[place]
             for ids, more in ((self.owners, {owner}), (self.owning_groups, {group}), (self.users, users | {owner}),

@@ -15,13 +15,12 @@ from . import asking
 from .in_order import SharedWalk
 from .list_texts import shown_name
 from .people import PeopleOfSystem, Warned, strangers, warned_of, why_incomplete
-from .recording import RecordedFiles, record
+from .recording import Recording, record, write_file
 from .runs import EXCLUDED, LINK, LONG, MOST_IDS, UNREAD, LeftOut
 from .scope import Scope
 from .target import NewSnapshot
 from .walking import Walker
 from .words import SnapshotWords
-from .written import write_file
 
 SERVICES = (b": name those of a directory service by --users FILE, or have it list them (enumerate = true of sssd, winbind enum "
             b"users = yes of Samba)")
@@ -72,7 +71,7 @@ class Taking:
         self.lacks |= self.left_out.numbers[UNREAD] + self.left_out.numbers[LONG] > 0
         self.warn_of_unasked()
 
-    def folders(self) -> Iterator["tuple[RecordedFiles, int]"]:
+    def folders(self) -> Iterator["tuple[Recording, int]"]:
         """The parts with their folders, open."""
         for part in self.parts:
             folder = os.open(part.name or b".", DIRECTORY, dir_fd=self.new.made)
@@ -101,7 +100,7 @@ class Taking:
         text, names = warned
         self.warn(text, len(names), names[0] if names else b"")
 
-    def warn_of_all(self, part: RecordedFiles) -> None:
+    def warn_of_all(self, part: Recording) -> None:
         """Of a part; of users and groups with the first one."""
         self.warn(b"files or folders that could not be read, so that the dump lacks them or what is in them", part.unread,
                   part.first_unread, True)
@@ -117,7 +116,7 @@ class Taking:
             self.has_said_why = self.lacks = True
         if part is self.parts[0]:
             self.warn(b"names of more than 4,095 bytes, which are not recorded", self.left_out.numbers[LONG],
-                      self.left_out.first[LONG] + b"..", True)
+                      self.left_out.first.get(LONG, b"") + b"..", True)
             for warned in warned_of(self.people):
                 self.warn_of(warned)
             if not self.people.users.all and not self.quiet:
@@ -150,7 +149,7 @@ class Taking:
 
     # --- what it is of
 
-    def meta_of(self, part: RecordedFiles) -> bytes:
+    def meta_of(self, part: Recording) -> bytes:
         words, left_out = self.given.words, self.left_out
         lines = [b"host " + os.fsencode(os.uname().nodename), b"date " + self.date.encode(), b"version " + VERSION.encode(),
                  *(b"folder " + it for it in self.given.folders), *(b"exclude " + it for it in words.globs)]

@@ -18,11 +18,11 @@ from ..base.beside import PLAIN
 from ..base.linux import ATTRIBUTES, STATX_BTIME
 from ..base.live import NotFound, Opener
 from ..base.messages import Failure, reason
-from .list_texts import KnownLabels, Label, NoList, shown_name
+from . import scope as scopes
+from .list_texts import NoList, shown_name
 from .long_names import EXCHANGED, START, LongNames
 from .marking import KnownMount, KnownMounts, attributes_of, marked, other_lists
-from .runs import EXCLUDED, IS_FOLDER, LINK, LONG, OTHER_SYSTEM, SEVERAL, UNREAD, LeftOut, Run
-from . import scope as scopes
+from .runs import EXCLUDED, IS_FOLDER, LINK, LONG, SEVERAL, UNREAD, Draft, LeftOut, Row, Run
 from .scope import LONGEST_NAME, MOST_BYTES, Scope, of_folder
 
 MANY = 1000  # Names that a process takes before it gives back the rest,
@@ -33,7 +33,7 @@ SECOND = 1_000_000_000  # Nanoseconds.
 LONGEST_PART = 255  # Bytes of a name in a directory.
 PROC = b"/proc/self/fd/"
 PLAIN_FILE = stat.S_IFREG >> 8  # In the last byte of a label.
-ACCESS_ALONE = [acl_bytes.ACCESS.decode()]  # The attributes of a file that has an access list and nothing else.
+ACCESS, DEFAULT = acl_bytes.ACCESS.decode(), acl_bytes.DEFAULT.decode()
 NAME = attrgetter("name")
 
 
@@ -48,18 +48,18 @@ class Rest(NamedTuple):
     names: bytes  # With a NUL byte between each two.
     number: int  # Of the names.
     weight: int = 1  # How many files were below each name so far.
+    start: int = 0  # Where the names begin that no process has.
+
+    def cut(self, number: int) -> Tuple[Rest, Rest]:
+        """The first names, and the others, which are in the same text."""
+        end = self.start
+        for _ in range(number):
+            end = self.names.find(b"\0", end) + 1 or len(self.names) + 1
+        return (self._replace(names=self.names[self.start : end - 1], number=number, start=0),
+                self._replace(number=self.number - number, start=end))
 
 
 START_OF_ALL = Rest(b"", 0, 0, PLAIN, False, b"/", 1)
-
-
-class Common(NamedTuple):
-    """What most files of a directory have in common."""
-
-    mount: bytes  # As a status has it.
-    bits: int
-    device: int
-    keeps_birth: bool
 
 
 class Walked(NamedTuple):
@@ -70,20 +70,20 @@ class Walked(NamedTuple):
     rests: List[Rest]
 
 
-class Level:
-    """A directory whose names are looked at, one after another."""
+class Common(NamedTuple):
+    """What most files of a directory have in common."""
 
-    def __init__(self, rest: Rest, descriptor: int, before: int) -> None:
-        self.rest, self.descriptor, self.before = rest, descriptor, before
-        self.names = rest.names.split(b"\0") if rest.names else []
-        self.place = 0
-        self.common: Optional[Common] = None  # Where all in it is recorded.
+    mount: bytes  # As a status has it.
+    bits: int
+    keeps_birth: bool
 
-    def unfinished(self, files: int) -> Rest:
-        """The names that were not looked at."""
-        names = self.names[self.place :]
-        weight = (files - self.before) // self.place if self.place else self.rest.weight
-        return self.rest._replace(names=b"\0".join(names), number=len(names), weight=max(1, weight))
+
+class Level(NamedTuple):
+    """An open directory whose names are looked at."""
+
+    rest: Rest
+    descriptor: int
+    common: Optional[Common]  # Where all in it is recorded.
 
 
 def sorted_names(folder: bytes) -> Tuple[bytes, int]:
@@ -114,9 +114,8 @@ def merged(parts: List[bytes]) -> Iterator[bytes]:
 
 def lists_of(place: bytes, is_folder: bool, names: Optional[List[str]]) -> Tuple[Optional[bytes], Optional[bytes]]:
     """The lists of an open file, as its attributes have them; `names` are those of all its attributes where they are known."""
-    access = live.attribute(place, acl_bytes.ACCESS) if names is None or ACCESS_ALONE[0] in names else None
-    has_default = is_folder and (names is None or acl_bytes.DEFAULT.decode() in names)
-    return access, live.attribute(place, acl_bytes.DEFAULT) if has_default else None
+    access = live.attribute(place, acl_bytes.ACCESS) if names is None or ACCESS in names else None
+    return access, live.attribute(place, acl_bytes.DEFAULT) if is_folder and (names is None or DEFAULT in names) else None
 
 
 def raw_status(descriptor: int, device: int) -> linux.Raw:
@@ -134,9 +133,7 @@ def raw_status(descriptor: int, device: int) -> linux.Raw:
 class Places(Dict[int, bytes]):
     """The names of open files, by their descriptors."""
 
-    def __init__(self, start: bytes) -> None:
-        super().__init__()
-        self.start = start
+    start = PROC
 
     def __missing__(self, descriptor: int) -> bytes:
         self[descriptor] = self.start + b"%d" % descriptor
@@ -147,66 +144,64 @@ class Walker:
     """Walks through what a scope has."""
 
     def __init__(self, scope: Scope) -> None:
-        self.scope, self.opener = scope, Opener()
-        self.mounts, self.labels, self.places = KnownMounts(), KnownLabels(), Places(PROC)
-        self.levels: List[Level] = []
+        self.scope, self.opener, self.mounts, self.places = scope, Opener(), KnownMounts(), Places()
 
     def has_own_process(self) -> None:
         """Finds open files by shorter names, from the folder of them."""
         os.chdir(PROC)
-        self.places = Places(b"")
+        self.places.clear()
+        self.places.start = b""
 
     def walk(self, rests: List[Rest]) -> Walked:
         """Looks at the names of some directories, and at what is below them, until there are many."""
-        self.run, self.left_out = Run([], [], [], [], [], [], []), LeftOut()
-        self.named: Dict[Label, int] = {}  # Places in `named` of the run.
-        self.size = 0  # Of the records.
-        rests = rests[::-1]
-        while rests and self.taken() < MANY:
-            self.start(rests.pop())
-            self.go_on()
-            unfinished = [it.unfinished(len(self.run.bits)) for it in self.levels if it.place < len(it.names)]
-            rests += unfinished
-            while self.levels:
-                os.close(self.levels.pop().descriptor)
-            if unfinished:
-                break
-        return Walked(self.run, self.left_out, rests[::-1])
+        self.draft, self.left_out = Draft(), LeftOut()
+        self.rests: List[Rest] = []  # Once there is one, all that follows is one.
+        for rest in rests:
+            if self.rests or self.room() <= 0:
+                self.rests.append(rest)
+            else:
+                self.begin(rest)
+        return Walked(self.draft.run(), self.left_out, self.rests)
 
-    def taken(self) -> int:
-        return len(self.run.bits) + self.left_out.total() if self.size < MOST_TEXT else MANY
+    def room(self) -> int:
+        """How many names are looked at yet."""
+        return MANY - len(self.draft.bits) - self.left_out.total() if self.draft.size < MOST_TEXT else 0
 
-    def start(self, rest: Rest) -> None:
+    def begin(self, rest: Rest) -> None:
         """Opens the directory, which has to be the one that was recorded."""
         try:
             folder = self.opener.folder(rest.path.strip(b"/"))
             raw = linux.statx(folder)
             if rest.path and linux.read_status(raw)[0][4:6] != (rest.device, rest.inode):
                 raise NotFound(EXCHANGED)
-            self.push(rest, os.dup(folder), raw)
+            level = self.level(rest, os.dup(folder), raw)
         except (OSError, NotFound) as error:
             self.complain(rest.path, error, b"cannot be opened: ")
+        else:
+            self.go_through(level, 1)
 
-    def push(self, rest: Rest, descriptor: int, raw: linux.Raw) -> None:
-        """Has the names of an open directory looked at next."""
-        level, known = Level(rest, descriptor, len(self.run.bits)), self.mounts.of(linux.read_status(raw)[1][1], descriptor)
+    def level(self, rest: Rest, descriptor: int, raw: linux.Raw) -> Level:
+        known, common = self.mounts.of(linux.read_status(raw)[1][1], descriptor), None
         is_whole = rest.is_inside and not self.scope.globs and not self.scope.leading(rest.path)
         if is_whole and known.lists_all and known.word == rest.mount and len(rest.path) + LONGEST_PART <= LONGEST_NAME:
-            level.common = Common(raw[8], known.bits, rest.device, linux.keeps_birth(raw))
-        self.levels.append(level)
+            common = Common(raw[8], known.bits, linux.keeps_birth(raw))
+        return Level(rest, descriptor, common)
 
-    def go_on(self) -> None:
-        while self.levels:
-            level, most = self.levels[-1], MANY - self.taken()
-            if level.place == len(level.names):
-                os.close(self.levels.pop().descriptor)
-            elif most > 0 and len(self.levels) < DEEPEST:
-                for name in level.names[level.place : level.place + most]:
-                    level.place += 1
-                    if self.look(level, name) or self.size >= MOST_TEXT:
-                        break
-            else:
-                return
+    def go_through(self, level: Level, depth: int) -> None:
+        """Looks at the names in an open directory and at what is below them, one after another, as long as there is room."""
+        rest, before, place = level.rest, len(self.draft.bits), 0
+        names = rest.names.split(b"\0") if rest.names else []
+        try:
+            while place < len(names) and depth < DEEPEST and not self.rests and self.room() > 0:
+                number, below = self.look(level, names[place : place + self.room()])
+                place += number
+                if below is not None:
+                    self.go_through(below, depth + 1)
+        finally:
+            os.close(level.descriptor)
+        if place < len(names):
+            weight = (len(self.draft.bits) - before) // place if place else rest.weight
+            self.rests.append(rest._replace(names=b"\0".join(names[place:]), number=len(names) - place, weight=max(1, weight)))
 
     def complain(self, path: bytes, error: Exception, what: bytes = b"cannot be looked at: ") -> None:
         """Counts a name that could not be read; `what` failed."""
@@ -215,72 +210,90 @@ class Walker:
             text = what + reason(error)
         self.left_out.add(UNREAD, shown_name(path) + b": " + text)
 
-    def look(self, level: Level, name: bytes) -> bool:
-        """Takes a name of a directory; returns whether it is one of a directory whose names are looked at next."""
-        path, is_inside, is_top, common = level.rest.path + name, True, False, level.common
-        if common is None:
-            leads = name in self.scope.leading(level.rest.path)
-            is_top = leads and path in self.scope.tops
-            is_inside = level.rest.is_inside or is_top
-            if is_inside and self.scope.globs and self.scope.leaves_out(path):
-                is_inside = is_top = False
-                if not self.scope.leading(of_folder(path)):
-                    self.left_out.add(EXCLUDED, shown_name(path))
-                    return False
+    def place_of(self, rest: Rest, path: bytes) -> Optional[Tuple[bool, bool]]:
+        """Whether a name is in a FOLDER or is one, and whether it is one; None where it is left out."""
+        is_top = path in self.scope.tops
+        is_inside = rest.is_inside or is_top
+        if not is_inside or not self.scope.leaves_out(path):
+            return is_inside, is_top
+        if self.scope.leading(of_folder(path)):
+            return False, False
+        self.left_out.add(EXCLUDED, shown_name(path))
+        return None
+
+    def look(self, level: Level, names: List[bytes]) -> Tuple[int, Optional[Level]]:
+        """Looks at some names of a directory, at most at one that is no plain file; how many these are, and the directory of that
+        name if there are names in it."""
+        number = self.record_plain(level, level.common, names) if level.common is not None else 0
+        if number == len(names) or self.draft.size >= MOST_TEXT:
+            return number, None
+        name, below = names[number], None
+        path = level.rest.path + name
+        where = self.place_of(level.rest, path)
+        if where is None:
+            return number + 1, None
         try:
             descriptor = os.open(name, live.PATH, dir_fd=level.descriptor)
         except OSError as error:
             self.complain(path, error, b"cannot be opened: ")
-            return False
-        is_kept = False
+            return number + 1, None
         try:
-            raw = raw_status(descriptor, level.rest.device)
-            if common is None or not self.is_recorded(common, path, descriptor, raw):
-                is_kept = self.take(level, path, descriptor, raw, is_inside, is_top)
+            below = self.take(level.rest, path, descriptor, raw_status(descriptor, level.rest.device), *where)
         except (OSError, NotFound, NoList) as error:
             self.complain(path, error)
-        if not is_kept:
+        if below is None:
             os.close(descriptor)
-        return is_kept
+        return number + 1, below
 
-    def is_recorded(self, common: Common, path: bytes, descriptor: int, raw: linux.Raw) -> bool:
-        """Records a plain file of the mount of its directory that has no attribute but an access list; False where `take` has to
-        look at it."""
-        known, its, links, label, inode, says, seconds, nanoseconds, mount = raw
-        if mount != common.mount or label[9] & 0xF0 != PLAIN_FILE or its & ATTRIBUTES or says & ATTRIBUTES != ATTRIBUTES:
-            return False
-        place, access = self.places[descriptor], None
-        try:
-            names = os.listxattr(place)
-        except OSError:
-            return False
-        if names:
-            if names != ACCESS_ALONE:
-                return False
-            access = live.attribute(place, acl_bytes.ACCESS)
-        if not common.keeps_birth or not known & STATX_BTIME:
-            seconds = nanoseconds = 0
-        self.add((label, access, None), path, (common.device, inode, seconds, nanoseconds), b"",
-                 common.bits | (SEVERAL if links > 1 else 0))
-        return True
+    def record_plain(self, level: Level, common: Common, names: List[bytes]) -> int:
+        """Records plain files of the mount of their directory, up to a name of something else, or of which something cannot be read;
+        returns how many these are."""
+        rows: List[Row] = []
+        places, labels, room, folder = self.places, self.draft.labels, MOST_TEXT - self.draft.size, level.descriptor
+        for name in names:
+            try:
+                descriptor = os.open(name, live.PATH, dir_fd=folder)
+            except OSError:
+                break
+            try:
+                known, its, links, label, inode, says, seconds, nanoseconds, mount = linux.statx(descriptor, b"", linux.AS_KNOWN)
+                if mount != common.mount or label[9] & 0xF0 != PLAIN_FILE or its & ATTRIBUTES or says & ATTRIBUTES != ATTRIBUTES:
+                    break
+                bits, access, attributes = common.bits, None, os.listxattr(places[descriptor])
+                if attributes:
+                    bits |= other_lists(b"", attributes)
+                    access = live.attribute(places[descriptor], acl_bytes.ACCESS) if ACCESS in attributes else None
+                text = labels[label, access, None]
+            except (OSError, NoList):
+                break
+            finally:
+                os.close(descriptor)
+            if not (known & STATX_BTIME and common.keeps_birth):
+                seconds = nanoseconds = 0
+            rows.append((name, text, inode, seconds, nanoseconds, bits | SEVERAL if links > 1 else bits))
+            room -= len(text[0])
+            if room <= 0:
+                break
+        self.draft.add(level.rest.path, level.rest.device, rows)
+        return len(rows)
 
-    def take(self, level: Level, path: bytes, descriptor: int, raw: linux.Raw, is_inside: bool, is_top: bool) -> bool:
-        """Takes an open file; returns whether it is a directory in which there are names."""
+    def take(self, rest: Rest, path: bytes, descriptor: int, raw: linux.Raw, is_inside: bool, is_top: bool) -> Optional[Level]:
+        """Takes an open file; returns it where it is a directory in which there are names."""
         status, beside = linux.read_status(raw)
         if stat.S_ISLNK(status[0]):
-            if not level.rest.is_inside or is_top:
+            if not rest.is_inside or is_top:
                 raise NotFound(EXCHANGED)
             self.left_out.add(LINK, shown_name(path))
-            return False
+            return None
         is_folder = stat.S_ISDIR(status[0])
         whole = of_folder(path) if is_folder else path
         if status[4:6] == self.scope.work:
-            return False
-        is_other = self.mounts.of(beside[1], descriptor).is_of_kernel if self.scope.crosses else status[4] != level.rest.device
+            return None
+        is_other = self.mounts.of(beside[1], descriptor).is_of_kernel if self.scope.crosses else status[4] != rest.device
         if is_inside and is_other and not is_top:
             if not self.scope.leading(whole):
-                self.left_out.add(OTHER_SYSTEM, shown_name(whole))
-                return False
+                self.left_out.add_mount(shown_name(whole))
+                return None
             is_inside = False
         known = self.mounts.of(beside[1], descriptor)
         if not known.lists_all:
@@ -289,55 +302,38 @@ class Walker:
         if len(whole) > LONGEST_NAME:
             self.left_out.add(LONG, shown_name(path[:START]))
             if is_folder:
-                LongNames(self.scope, self.mounts, self.left_out).count(path, descriptor)
-            return False
-        mount = self.record(level, whole, descriptor, raw, known)
-        if is_folder:
-            self.push(self.rest_of(whole, descriptor, status, mount, is_inside), descriptor, raw)
-        return is_folder
+                LongNames(self.scope, self.mounts, self.left_out, path).count(descriptor)
+            return None
+        mount = self.record(rest, whole, descriptor, raw, known)
+        below = self.names_in(Rest(whole, *status[4:6], mount, is_inside, b"", 0), descriptor) if is_folder else None
+        return self.level(below, descriptor, raw) if below and below.number else None
 
-    def record(self, level: Level, name: bytes, descriptor: int, raw: linux.Raw, known: KnownMount) -> bytes:
+    def record(self, rest: Rest, name: bytes, descriptor: int, raw: linux.Raw, known: KnownMount) -> bytes:
         """Records an open file, and returns how it is mounted; without a list that can be recorded it is not."""
         (mode, _, _, links, device, inode, birth), (attributes, _) = linux.read_status(raw)
         place, is_folder = self.places[descriptor], stat.S_ISDIR(mode)
-        its = marked(name, mode, attributes, known, level.rest.mount)
+        word, lines, bits = marked(name, mode, attributes, known, rest.mount)
         names = attributes_of(place)
+        bits |= (other_lists(place, names) if names != [] else 0) | (IS_FOLDER if is_folder else SEVERAL if links > 1 else 0)
         try:
-            bits = its.bits | (other_lists(place, names) if names != [] else 0)
-            lists = lists_of(place, is_folder, names if known.lists_all else None)
-            self.add((raw[3], *lists), name, (device, inode, *divmod(birth, SECOND)), its.lines,
-                     bits | (IS_FOLDER if is_folder else SEVERAL if links > 1 else 0))
+            text = self.draft.labels[(raw[3], *lists_of(place, is_folder, names if known.lists_all else None))]
         except (OSError, NoList) as error:
             self.complain(name, error)
-            return level.rest.mount
-        return its.word
+            return rest.mount
+        if lines:
+            self.draft.marks.append((len(self.draft.bits), lines))
+        self.draft.add(b"", device, [(name, text, inode, *divmod(birth, SECOND), bits)])
+        return word
 
-    def add(self, label: Label, name: bytes, which: Tuple[int, int, int, int], marks: bytes, bits: int) -> None:
-        """Adds a file to the run: its device, inode and birth in seconds and nanoseconds are `which`; NoList where its bytes are
-        no list."""
-        text, run = self.labels[label], self.run
-        record = b"# file: " + shown_name(name) + text.text
-        self.size += len(record)
-        run.dump.append(record)
-        run.inodes.append(b"%d %d %d.%09d %s\0" % (*which, name))
-        run.marks.append(marks)
-        run.files.append(which[0] << 64 | which[1])
-        run.bits.append(text.bits | bits)
-        at = self.named.setdefault(label, len(run.named))
-        if at == len(run.named):
-            run.named.append(text.whom)
-        run.whom.append(at)
-
-    def rest_of(self, name: bytes, descriptor: int, status: linux.Status, mount: bytes, is_inside: bool) -> Rest:
+    def names_in(self, rest: Rest, descriptor: int) -> Rest:
         """The names in an open directory that are to be looked at."""
-        names, number = b"", 0
-        leading = {*self.scope.leading(name)}
-        if is_inside:
+        names, number, leading = b"", 0, self.scope.leading(rest.path)
+        if rest.is_inside:
             try:
                 names, number = sorted_names(self.places[descriptor])
             except OSError as error:
-                self.complain(name, error, b"cannot be read: ")
+                self.complain(rest.path, error, b"cannot be read: ")
         if leading:
             listed = {*names.split(b"\0")} - {b""} | leading
             names, number = b"\0".join(sorted(listed)), len(listed)
-        return Rest(name, status[4], status[5], mount, is_inside, names, number)
+        return rest._replace(names=names, number=number)
