@@ -13,6 +13,7 @@ import stat
 import subprocess
 import sys
 import time
+from functools import partial
 from typing import List, Optional, Set, Tuple
 
 from common import COMMANDS, Case, Done, restore_signals
@@ -179,7 +180,7 @@ ln -sf kept 'l\nf'; rm folder gone; mkdir folder; mv d1 d && mv d2 d1 && mv d d2
         walker = walking.Walker(scope.Scope([top], [], False, (0, 0)))
         self.assertEqual([walker.walk([rest]).run.name(place) for place in (0, 1)], [top + b"/a/1", top + b"/a/2"])
         found = walker.walk([rest._replace(inode=rest.inode + 1)])
-        self.assertEqual((found.run.dump, found.left_out.first[-1]), ([], top + b"/a/: was exchanged for another file, or removed, meanwhile"))
+        self.assertEqual((found.run.dump, found.left_out.first[runs.UNREAD]), (b"", top + b"/a/: was exchanged for another file, or removed, meanwhile"))
 
     def test_a_link_above_the_folder(self) -> None:
         """A user who owns a directory above the FOLDER puts a link in its place."""
@@ -231,10 +232,10 @@ ln -sf kept 'l\nf'; rm folder gone; mkdir folder; mv d1 d && mv d2 d1 && mv d d2
         """Each name once, in order."""
         names = [b"%d" % number for number in range(3000)]
         for weight in (1, 30, 5000):
-            whole = in_order.Unwalked(walking.START_OF_ALL._replace(names=b"\0".join(names), number=len(names), weight=weight))
+            whole = walking.START_OF_ALL._replace(names=b"\0".join(names), number=len(names), weight=weight)
             found: List[bytes] = []
-            while whole.left:
-                piece = whole.cut(4)
+            while whole.number:
+                piece, whole = whole.cut(in_order.cut_size(whole, 4))
                 self.assertEqual(piece.number, piece.names.count(b"\0") + 1)
                 self.assertLessEqual(piece.number * weight, max(weight, walking.MANY))
                 found += piece.names.split(b"\0")
@@ -389,7 +390,7 @@ ln -sf kept 'l\nf'; rm folder gone; mkdir folder; mv d1 d && mv d2 d1 && mv d d2
 
     def test_texts_that_are_kept(self) -> None:
         """Whoever writes long lists does not fill the memory with them."""
-        texts = list_texts.KnownTexts(b"")
+        texts = list_texts.Known(partial(list_texts.text_of, b""))
         for number in range(40):
             entries: acl_bytes.Entries = {(acl_bytes.USER, 100_000 * number + it): 4 for it in range(4000)}
             self.assertEqual(len(texts[acl_bytes.bytes_of(entries)].users), 4000)
@@ -401,7 +402,7 @@ ln -sf kept 'l\nf'; rm folder gone; mkdir folder; mv d1 d && mv d2 d1 && mv d d2
         sums = runs.Sums()
         for number in range(3):
             ids = frozenset(range(10 ** 6 * number, 10 ** 6 * number + 200_000))
-            sums.add(runs.Run([b""], [b"1 1 0.0 /%d\0" % number], [b""], [1], [0], [0], [(number, number, ids, ids)]))
+            sums.add_run(runs.Run(b"", b"1 1 0.0 /%d\0" % number, [], bytes(8), [0], [0], [(number, number, ids, ids)]))
         self.assertEqual((sums.owners, sums.owning_groups, len(sums.users), len(sums.groups), sums.has_too_many_ids),
                          ({0, 1, 2}, {0, 1, 2}, 400_000, 400_000, True))
 
@@ -410,8 +411,9 @@ ln -sf kept 'l\nf'; rm folder gone; mkdir folder; mv d1 d && mv d2 d1 && mv d d2
         old = self.read("new/dump")
         self.add_code("""
 from . import walking
-def look(self, level, name):
-    self.complain(level.rest.path + name, PermissionError(13, "no"))
+def look(self, level, names):
+    self.complain(level.rest.path + names[0], PermissionError(13, "no"))
+    return 1, None
 walking.Walker.look = look
 """)
         for name in ("new", "third"):

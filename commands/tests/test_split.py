@@ -73,10 +73,10 @@ class World:
         """All files, as facl-snapshot finds them."""
         files = [(b"/" + path + b"/" * (it.is_folder and path != b""), it)
                  for path, it in sorted(self.files.items(), key=lambda its: sorting_key(its[0]))]
-        return Run([b"# file: %s\n%s\n" % (shown_name(name), it.body) for name, it in files],
-                   [b"1 %d %d.000000001 %s\0" % (it.inode, it.inode, name) for name, it in files], [b""] * len(files),
-                   [1 << 64 | it.inode for _, it in files], [IS_FOLDER * it.is_folder for _, it in files], [0] * len(files),
-                   [(0, 0, frozenset(), frozenset())])
+        return Run(b"".join(b"# file: %s\n%s\n" % (shown_name(name), it.body) for name, it in files),
+                   b"".join(b"1 %d %d.000000001 %s\0" % (it.inode, it.inode, name) for name, it in files), [],
+                   b"".join(it.inode.to_bytes(8, "little") for _, it in files), [IS_FOLDER * it.is_folder for _, it in files],
+                   [0] * len(files), [(0, 0, frozenset(), frozenset())])
 
     def write(self, folder: str, count: Optional[int] = None) -> None:
         """Writes a snapshot, or its parts."""

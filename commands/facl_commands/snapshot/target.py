@@ -11,17 +11,19 @@ import secrets
 import signal
 import stat
 import string
-from typing import Callable, Dict, Iterator, NamedTuple, Optional, Tuple
+from contextlib import closing
+from typing import Callable, Dict, NamedTuple, Optional
 
-from ..base import acl_bytes, beside, live, new_file, trusted
+from ..base import acl_bytes, live, new_file, trusted
+from ..base.attempts import failing, held
+from ..base.folders import FILES
 from ..base.messages import SIGNALS, Failure, signals_wait
 from ..base.new_file import DIRECTORY
 
-FILES = (b"passwd", b"group", b"dump", b"links", b"inodes", beside.NAME, b"meta")
 LETTERS = string.ascii_letters + string.digits
+READ = os.O_RDONLY | os.O_NOFOLLOW | os.O_CLOEXEC
 MADE, OLD = b"made", b"old"  # In the folder beside DIR: the new snapshot, and what was replaced.
-Say = Callable[[bytes], None]
-Entry = Tuple[bytes, os.stat_result]
+Looks = Dict[bytes, os.stat_result]
 
 
 class TargetWay(trusted.Way):
@@ -33,10 +35,8 @@ class TargetWay(trusted.Way):
         check_doubt(self.place(), look, trusted.doubt_of(descriptor, look))
 
     def ends_before(self, part: bytes) -> bool:
-        if new_file.is_there(part, self.open[-1]):
-            return False
-        self.missing = part
-        return True
+        self.missing = None if new_file.is_there(part, self.open[-1]) else part
+        return self.missing is not None
 
 
 def check_doubt(place: bytes, look: os.stat_result, doubt: Optional[int]) -> None:
@@ -65,69 +65,60 @@ def opened(descriptor: int) -> int:
 
 def place_of(given: bytes) -> SnapshotPlace:
     """Looks at DIR; fails where somebody else can write there, or where it is anything but what may be replaced."""
-    way = TargetWay(given)
-    try:
-        if not given.startswith(b"/"):
-            trusted.Way.go(way, os.getcwdb())
-        way.go(given)
-        if way.missing is not None:
-            return SnapshotPlace(given, os.path.join(way.place(), way.missing), opened(way.open[-1]), way.missing, None)
-        if not stat.S_ISDIR(os.fstat(way.open[-1]).st_mode):
-            raise Failure(given + b": is there, and is no folder")
-        old = opened(way.open[-1])
-        check_replaced(given, way.place(), old)
-        return SnapshotPlace(given, way.place(), opened(way.open[max(0, len(way.open) - 2)]), way.shown[-1], old)
-    except (FileNotFoundError, NotADirectoryError) as error:
-        raise Failure(given + b": the folder that it is to be in is not there") from error
-    except OSError as error:
-        text = b"has too many symbolic links" if error.errno == errno.ELOOP else b"cannot be looked at"
-        raise Failure(given + b": " + text) from error
-    finally:
-        way.close()
+    with closing(TargetWay(given)) as way:
+        try:
+            if not given.startswith(b"/"):
+                trusted.Way.go(way, os.getcwdb())
+            way.go(given)
+            if way.missing is not None:
+                return SnapshotPlace(given, os.path.join(way.place(), way.missing), opened(way.open[-1]), way.missing, None)
+            if not stat.S_ISDIR(os.fstat(way.open[-1]).st_mode):
+                raise Failure(given + b": is there, and is no folder")
+            old = opened(way.open[-1])
+            check_replaced(given, way.place(), old)
+            return SnapshotPlace(given, way.place(), opened(way.open[max(0, len(way.open) - 2)]), way.shown[-1], old)
+        except (FileNotFoundError, NotADirectoryError) as error:
+            raise Failure(given + b": the folder that it is to be in is not there") from error
+        except OSError as error:
+            text = b"has too many symbolic links" if error.errno == errno.ELOOP else b"cannot be looked at"
+            raise Failure(given + b": " + text) from error
 
 
 def check_replaced(given: bytes, path: bytes, old: int) -> None:
     """Fails where a folder that is there is anything but a snapshot of the caller, or empty."""
     look = os.fstat(old)
     check_doubt(path, look, trusted.doubt_of(old, look, may_be_sticky=False))
-    other = other_file(old)
+    looks = looks_in(old)
+    other = other_file(looks)
     if other is not None:
         raise Failure(given + b": is there, and is no snapshot of yours, or has other files too: " + other)
-    names = {name for name, _ in entries_of(old)}
-    if names and b"001/dump" not in names and not names >= {b"passwd", b"group", b"dump"}:
+    if len(looks) > 1 and b"001/dump" not in looks and not {*looks} >= {b"passwd", b"group", b"dump"}:
         raise Failure(given + b": is there, and is no snapshot")
 
 
-def entries_of(folder: int, above: bytes = b"") -> Iterator[Entry]:
-    """What is in the folder of a snapshot, and in the folders of its parts, sorted; names begin with the one of a part."""
+def looks_in(folder: int, part: bytes = b"") -> Looks:
+    """The folder of a snapshot, by an empty name, and what is in it and in the folders of its parts, sorted; names there begin with
+    the one of the part."""
+    looks = {part: os.fstat(folder)}
     for name in sorted(map(os.fsencode, os.listdir(folder))):
-        look = os.stat(name, dir_fd=folder, follow_symlinks=False)
-        yield above + name, look
-        if not above and name.isdigit() and stat.S_ISDIR(look.st_mode):
-            part = os.open(name, DIRECTORY, dir_fd=folder)
-            try:
-                yield from entries_of(part, name + b"/")
-            finally:
-                os.close(part)
+        whole = os.path.join(part, name)
+        looks[whole] = os.stat(name, dir_fd=folder, follow_symlinks=False)
+        if not part and name.isdigit() and stat.S_ISDIR(looks[whole].st_mode):
+            with held(os.open(name, DIRECTORY, dir_fd=folder)) as inner:
+                looks.update(looks_in(inner, name))
+    return looks
 
 
-def other_file(folder: int) -> Optional[bytes]:
+def other_file(looks: Looks) -> Optional[bytes]:
     """The first file that is none of a snapshot, or is another user's."""
-    entries = [*entries_of(folder)]
-    has_parts = any(name == b"001" and stat.S_ISDIR(look.st_mode) for name, look in entries)
-    for name, look in entries:
+    has_parts = b"001" in looks and stat.S_ISDIR(looks[b"001"].st_mode)
+    for name, look in looks.items():
         above, _, last = name.rpartition(b"/")
         is_part = has_parts and name.isdigit() and stat.S_ISDIR(look.st_mode)
         is_known = last in FILES and stat.S_ISREG(look.st_mode) and bool(above) == has_parts
-        if not (is_part or is_known) or look.st_uid not in (0, os.geteuid()):
+        if name and (not (is_part or is_known) or look.st_uid not in (0, os.geteuid())):
             return name
     return None
-
-
-def files_in(folder: int) -> Dict[bytes, Tuple[int, int]]:
-    """Which file each name in a folder is; that of the folder is empty."""
-    looks = [(b"", os.fstat(folder)), *entries_of(folder)]
-    return {name: (look.st_dev, look.st_ino) for name, look in looks}
 
 
 def remove_known(folder: int) -> None:
@@ -137,9 +128,8 @@ def remove_known(folder: int) -> None:
             if name in FILES:
                 os.unlink(name, dir_fd=folder)
             elif name.isdigit():
-                part = os.open(name, DIRECTORY, dir_fd=folder)
-                remove_known(part)
-                os.close(part)
+                with held(os.open(name, DIRECTORY, dir_fd=folder)) as part:
+                    remove_known(part)
                 os.rmdir(name, dir_fd=folder)
         except OSError:
             pass  # It is no file of a snapshot, or no longer there.
@@ -148,20 +138,20 @@ def remove_known(folder: int) -> None:
 class NewSnapshot:
     """The folder beside DIR, in which the snapshot is made; it goes at the end."""
 
-    def __init__(self, place: SnapshotPlace, say: Say) -> None:
+    def __init__(self, place: SnapshotPlace, say: Callable[[bytes], None]) -> None:
         self.place, self.say, self.is_in_place = place, say, False
         self.name = place.name + b"." + "".join(secrets.choice(LETTERS) for _ in range(6)).encode()
-        self.was_there = {} if place.old is None else files_in(place.old)
+        self.was_there = {} if place.old is None else looks_in(place.old)
         self.work = self.made = -1
 
     def __enter__(self) -> NewSnapshot:
         try:
-            with signals_wait():
+            with failing(self.place.given + b": cannot make a folder beside it"), signals_wait():
                 self.work = new_file.make_directory(self.name, self.place.above)
                 self.made = new_file.make_directory(MADE, self.work)
-        except OSError as error:
+        except Failure:
             self.remove()
-            raise Failure(self.place.given + b": cannot make a folder beside it") from error
+            raise
         return self
 
     def __exit__(self, *_error: object) -> None:
@@ -176,35 +166,24 @@ class NewSnapshot:
             self.remove_folder(MADE, self.made)
         if self.is_in_place and self.place.old is not None and not self.remove_folder(OLD, self.place.old):
             self.say(b"warning: files that came into the replaced snapshot meanwhile are in " + self.path(OLD))
-        try:
-            os.rmdir(self.name, dir_fd=self.place.above)
-        except OSError:
-            pass
+        is_removed(self.name, self.place.above)
 
     def remove_folder(self, name: bytes, folder: int) -> bool:
         remove_known(folder)
-        try:
-            os.rmdir(name, dir_fd=self.work)
-        except OSError:
-            return False
-        return True
+        return is_removed(name, self.work)
 
     def path(self, name: bytes) -> bytes:
         return os.path.join(os.path.dirname(self.place.path), self.name, name)
 
     def put_in_place(self, group: Optional[int]) -> None:
         """By one rename, and one before it where a snapshot is replaced; no signal comes between them, nor after them."""
-        try:
+        with failing(b"cannot give the new snapshot its owner, group and list"):
             self.share(group)
-        except OSError as error:
-            raise Failure(b"cannot give the new snapshot its owner, group and list") from error
         for number in SIGNALS:
             signal.signal(number, signal.SIG_IGN)
         if self.place.old is not None:
-            try:
+            with failing(b"cannot replace the snapshot that is there"):
                 os.rename(self.place.name, OLD, src_dir_fd=self.place.above, dst_dir_fd=self.work)
-            except OSError as error:
-                raise Failure(b"cannot replace the snapshot that is there") from error
             self.look_again()
         try:
             os.rename(MADE, self.place.name, src_dir_fd=self.work, dst_dir_fd=self.place.above)
@@ -216,12 +195,12 @@ class NewSnapshot:
     def look_again(self) -> None:
         """Puts back what was there where somebody else put something into it, or in its place."""
         try:
-            old = os.open(OLD, DIRECTORY, dir_fd=self.work)
-            found = files_in(old)
-            came = min((name for name, file in found.items() if self.was_there.get(name) != file), default=other_file(old))
-            os.close(old)
+            with held(os.open(OLD, DIRECTORY, dir_fd=self.work)) as old:
+                looks = looks_in(old)
         except OSError as error:
             raise self.put_back(b"cannot look at what was there") from error
+        came = min((name for name, look in looks.items() if name not in self.was_there or not os.path.samestat(
+            look, self.was_there[name])), default=other_file(looks))
         if came is not None:
             raise self.put_back(self.place.path + b"/" + came + b" came there meanwhile")
 
@@ -237,17 +216,17 @@ class NewSnapshot:
         """Gives its folders the owner, group and list of what is replaced, and its files those of its dump; and then all to the
         group that reads it."""
         folder, file = (None, None) if self.place.old is None else (self.place.old, dump_of(self.place.old))
-        for name, look in [*entries_of(self.made), (b".", os.fstat(self.made))]:
-            descriptor = os.open(name, os.O_RDONLY | os.O_NOFOLLOW | os.O_CLOEXEC, dir_fd=self.made)
+        looks = looks_in(self.made)
+        for name, look in [*[*looks.items()][1:], (b".", looks[b""])]:
             is_folder = stat.S_ISDIR(look.st_mode)
             like = folder if is_folder else file
-            if like is not None:
-                take_look(descriptor, like)
-            if not is_folder:
-                os.fchmod(descriptor, os.fstat(descriptor).st_mode & 0o7777 & ~0o022)
-            if group is not None:
-                new_file.share(descriptor, group, 0o750 if is_folder else 0o640)
-            os.close(descriptor)
+            with held(os.open(name, READ, dir_fd=self.made)) as descriptor:
+                if like is not None:
+                    take_look(descriptor, like)
+                if not is_folder:
+                    os.fchmod(descriptor, os.fstat(descriptor).st_mode & 0o7777 & ~0o022)
+                if group is not None:
+                    new_file.share(descriptor, group, 0o750 if is_folder else 0o640)
         if file is not None:
             os.close(file)
 
@@ -256,10 +235,19 @@ def dump_of(folder: int) -> Optional[int]:
     """The open dump of a snapshot, or of its first part; None where it has none."""
     for name in (b"dump", b"001/dump"):
         try:
-            return os.open(name, os.O_RDONLY | os.O_NOFOLLOW | os.O_CLOEXEC, dir_fd=folder)
+            return os.open(name, READ, dir_fd=folder)
         except FileNotFoundError:
             pass
     return None
+
+
+def is_removed(name: bytes, above: int) -> bool:
+    """Removes a folder where nothing is in it."""
+    try:
+        os.rmdir(name, dir_fd=above)
+    except OSError:
+        return False
+    return True
 
 
 def take_look(descriptor: int, like: int) -> None:
