@@ -31,7 +31,7 @@ def receive(file: IO[bytes]) -> Optional[object]:
     head = file.read(SIZE.size)
     size = SIZE.unpack(head)[0] if len(head) == SIZE.size else 0
     text = file.read(size)
-    return marshal.loads(text) if size and len(text) == size else None  # type: ignore[no-any-return]
+    return marshal.loads(text) if size and len(text) == size else None
 
 
 class Stop:

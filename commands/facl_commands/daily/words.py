@@ -6,6 +6,7 @@ import re
 from typing import List, NamedTuple
 
 from ..base.messages import Failure
+from ..base.option_words import NO_OPTION, read_options
 
 USAGE = """\
 usage: facl-daily [--folder DIR] [--keep COUNT] [--rules FILE] [--accepted FILE] [--fail-on WEIGHT] [--mail ADDRESS]
@@ -48,9 +49,10 @@ something could not be asked or sent; that is said too. A signal gives 128 and i
 """
 OPTIONS = ("--folder", "--keep", "--rules", "--accepted", "--fail-on", "--mail", "--split", "--snapshot")
 ACL5 = "--acl5"
+DEFAULTS = {"--folder": "/var/lib/facl", "--keep": "30", "--fail-on": "high"}
 WEIGHTS = ("high", "middle", "low", "none")
 ADDRESS = re.compile(r"[A-Za-z0-9@._+][A-Za-z0-9@._+-]*")
-HINT = b"; facl-daily --help prints the options"
+HINT = "; facl-daily --help prints the options"
 
 
 class Words(NamedTuple):
@@ -71,58 +73,39 @@ def address_of(words: List[str]) -> str:
     return next((it for option, it in reversed(pairs) if option == "--mail" and ADDRESS.fullmatch(it)), "")
 
 
-def read_options(words: List[str]) -> "tuple[dict[str, str], list[str]]":
-    """The values of options by their names, and the other words."""
-    values = {"--folder": "/var/lib/facl", "--keep": "30", "--fail-on": "high"}
-    rest = list(words)
-    while rest and rest[0].startswith("-"):
-        option, sign, value = rest.pop(0).partition("=")
-        if option == "--" and not sign:
-            break
-        if option == ACL5 and not sign:
-            values[ACL5] = ACL5
-            continue
-        if option not in OPTIONS:
-            raise Failure(os.fsencode(option) + b": is no option" + HINT)
-        if not sign:
-            if not rest:
-                raise Failure(os.fsencode(option) + b": takes a word" + HINT)
-            value = rest.pop(0)
-        values[option] = value
-    return values, rest
-
-
 def whole(name: str) -> str:
     """A name of a file from the root on, as the commands that read it are not in the caller's folder."""
     return os.path.join(os.getcwd(), name) if name else ""
 
 
-def check(values: "dict[str, str]", folders: List[str]) -> None:
-    keep, weight, address = (values.get(it, "") for it in ("--keep", "--fail-on", "--mail"))
-    fault = ""
-    if not folders:
-        fault = "a FOLDER is missing, as in: facl-daily /srv/project"
-    elif not values["--folder"]:
-        fault = "--folder: takes a word"
-    elif not re.fullmatch("[1-9][0-9]{0,8}", keep):
-        fault = f"--keep {keep}: is no number of snapshots"
-    elif weight not in WEIGHTS:
-        fault = f"--fail-on {weight}: give high, middle, low or none"
-    elif "--split" in values and not re.fullmatch("[1-9][0-9]{0,6}", values["--split"]):
-        fault = f"--split {values['--split']}: is no number from 1 to 9999999"
-    elif address and not ADDRESS.fullmatch(address):
-        fault = f"--mail {address}: is no address"
-    if fault:
-        raise Failure(os.fsencode(fault))
-    for name in folders:
-        if not name.startswith("/"):
-            raise Failure(os.fsencode(name) + b": give a FOLDER from the root on")
+def fault_of(last: "dict[str, str]", is_split: bool, folders: List[str]) -> str:
+    """What is wrong with the values of options or with the FOLDERs; empty where they are right."""
+    for is_wrong, text in (
+            (not folders, "a FOLDER is missing, as in: facl-daily /srv/project"),
+            (not last["--folder"], "--folder: takes a word"),
+            (not re.fullmatch("[1-9][0-9]{0,8}", last["--keep"]), f"--keep {last['--keep']}: is no number of snapshots"),
+            (last["--fail-on"] not in WEIGHTS, f"--fail-on {last['--fail-on']}: give high, middle, low or none"),
+            (is_split and not re.fullmatch("[1-9][0-9]{0,6}", last["--split"]),
+             f"--split {last['--split']}: is no number from 1 to 9999999"),
+            (last["--mail"] and not ADDRESS.fullmatch(last["--mail"]), f"--mail {last['--mail']}: is no address"),
+            *((not it.startswith("/"), it + ": give a FOLDER from the root on") for it in folders)):
+        if is_wrong:
+            return text
+    return ""
+
+
+def fail(word: str, fault: str) -> Failure:
+    return Failure(os.fsencode(word.partition("=")[0] + fault + HINT))
 
 
 def read_words(words: List[str]) -> Words:
-    values, folders = read_options(words)
-    check(values, folders)
-    rules, accepted = (whole(values.get(it, "")) for it in ("--rules", "--accepted"))
-    options = [*values.get("--snapshot", "").split(), *(["--split", values["--split"]] if "--split" in values else [])]
-    return Words(whole(values["--folder"]), int(values["--keep"]), rules, accepted, values["--fail-on"],
-                 values.get("--mail", ""), options, folders, [ACL5] * (ACL5 in values))
+    values, folders = read_options(words, OPTIONS, (ACL5,), fail)
+    if folders[:1] == ["-"] and words[: -len(folders)][-1:] != ["--"]:
+        raise fail("-", NO_OPTION)
+    last = {**dict.fromkeys(OPTIONS, ""), **DEFAULTS, **{option: its[-1] for option, its in values.items() if its}}
+    fault = fault_of(last, bool(values["--split"]), folders)
+    if fault:
+        raise Failure(os.fsencode(fault))
+    options = [*last["--snapshot"].split(), *["--split", last["--split"]] * bool(values["--split"])]
+    return Words(whole(last["--folder"]), int(last["--keep"]), whole(last["--rules"]), whole(last["--accepted"]), last["--fail-on"],
+                 last["--mail"], options, folders, [ACL5] * bool(values[ACL5]))

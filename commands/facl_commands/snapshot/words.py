@@ -3,9 +3,10 @@ from __future__ import annotations
 
 import os
 import re
-from typing import Callable, Dict, List, NamedTuple, Optional, Tuple
+from typing import List, NamedTuple, Optional
 
 from ..base.messages import Command, Failure
+from ..base.option_words import TAKES_A_WORD, read_options
 
 USAGE = """\
 usage: facl-snapshot [--quiet] [--cross-file-systems] [--exclude GLOB].. [--split COUNT] [--readers GROUP]
@@ -92,52 +93,30 @@ class SnapshotWords(NamedTuple):
     folders: List[bytes]
 
 
-def value_fault(option: str, value: str) -> str:
+def fault_of(option: str, value: str) -> str:
     """What is wrong with the word after an option; empty where it is right."""
-    if option == "--program":
-        return ""
-    if not value:
-        return option + ": takes a word"
+    if option in TAKING and option != "--program" and not value:
+        return TAKES_A_WORD
     if option == "--exclude" and value == "/":
-        return "--exclude /: leaves out all"
+        return " /: leaves out all"
     if option == "--split" and not MOST_IN_PART.fullmatch(value):
-        return f"--split {value}: is no number from 1 to 9999999"
+        return f" {value}: is no number from 1 to 9999999"
     return ""
-
-
-def split_words(words: List[str], fail: Callable[[str], Failure]) -> Tuple[Dict[str, List[str]], List[str]]:
-    """The words of options by their names, and those after the options."""
-    found: Dict[str, List[str]] = {option: [] for option in (*TAKING, "--quiet", "--cross-file-systems")}
-    rest = list(words)
-    while rest and len(rest[0]) > 1 and rest[0].startswith("-"):
-        option, sign, value = rest.pop(0).partition("=")
-        if option == "--" and not sign:
-            break
-        if option not in found or sign and option not in TAKING:
-            raise fail(f"{option}{sign}{value}: is no option")
-        if option in TAKING and not sign:
-            if not rest:
-                raise fail(option + ": takes a word")
-            value = rest.pop(0)
-        fault = value_fault(option, value) if option in TAKING else ""
-        if fault:
-            raise fail(fault)
-        found[option].append(value)
-    if len(rest) < 2:
-        raise fail("a FOLDER is missing, as in: facl-snapshot before /srv/project")
-    return found, rest
 
 
 def read_words(command: Command, words: List[str]) -> SnapshotWords:
     """Fails below the usage where they are wrong."""
-    def fail(text: str) -> Failure:
+    def fail(word: str, fault: str) -> Failure:
         command.put(command.messages, USAGE.encode())
-        return Failure(os.fsencode(text))
+        return Failure(os.fsencode(word + fault))
 
-    options, (target, *folders) = split_words(words, fail)
+    options, rest = read_options(words, TAKING, ("--quiet", "--cross-file-systems"), fail, fault_of)
+    if len(rest) < 2:
+        raise fail("a FOLDER is missing", ", as in: facl-snapshot before /srv/project")
+    target, *folders = map(os.fsencode, rest)
     last = {option: values[-1] if values else None for option, values in options.items()}
     globs = [os.fsencode(it[:-1] if it.endswith("/") else it) for it in options["--exclude"]]
     users, most = last["--users"], last["--split"]
     return SnapshotWords(
         bool(options["--quiet"]), bool(options["--cross-file-systems"]), globs, None if users is None else os.fsencode(users),
-        last["--program"], last["--readers"], None if most is None else int(most), os.fsencode(target), [*map(os.fsencode, folders)])
+        last["--program"], last["--readers"], None if most is None else int(most), target, folders)
