@@ -40,26 +40,20 @@ class Account(NamedTuple):
                 and b"\n" not in row and row.count(b":") == COLONS[self.kind])
 
 
-def texts(*fields: Optional[str]) -> List[bytes]:
-    return [os.fsencode(it or "") for it in fields]
-
-
-def ids_of(*numbers: int) -> Tuple[int, ...]:
-    """Ids as the kernel has them: Python makes -1 of the last one."""
-    return tuple(it & 0xFFFFFFFF for it in numbers)
+def account_of(kind: bytes, fields: Sequence[Optional[str]], numbers: Tuple[int, ...], members: Iterable[str] = ()) -> Account:
+    """An account of the texts of its row but the numbers, which follow the first two. Python makes -1 of the last id."""
+    texts = [os.fsencode(it or "") for it in fields]
+    ids = tuple(it & 0xFFFFFFFF for it in numbers)
+    return Account(kind, b":".join([*texts[:2], *(b"%d" % it for it in ids), *texts[2:]]), texts[0], ids, tuple(map(os.fsencode, members)))
 
 
 def user_of(it: pwd.struct_passwd) -> Account:
-    name, word, about, home, shell = texts(it.pw_name, it.pw_passwd, it.pw_gecos, it.pw_dir, it.pw_shell)
-    ids = ids_of(it.pw_uid, it.pw_gid)
-    about = about.replace(b":", b" ").replace(b"\n", b" ")
-    return Account(b"passwd", b"%s:%s:%d:%d:%s:%s:%s" % (name, word, ids[0], ids[1], about, home, shell), name, ids, ())
+    about = (it.pw_gecos or "").replace(":", " ").replace("\n", " ")
+    return account_of(b"passwd", (it.pw_name, it.pw_passwd, about, it.pw_dir, it.pw_shell), (it.pw_uid, it.pw_gid))
 
 
 def group_of(it: grp.struct_group) -> Account:
-    name, word, *members = texts(it.gr_name, it.gr_passwd, *it.gr_mem)
-    ids = ids_of(it.gr_gid)
-    return Account(b"group", b"%s:%s:%d:" % (name, word, ids[0]), name, ids, tuple(members))
+    return account_of(b"group", (it.gr_name, it.gr_passwd, ""), (it.gr_gid,), it.gr_mem)
 
 
 def user_by(key: Key) -> Account:

@@ -11,6 +11,7 @@ from typing import List, Optional
 
 from .. import VERSION
 from ..base import linux, live
+from ..base.attempts import failing, held
 from ..base.messages import NOT_SAID, Command, Failure
 from ..base.names import number_of
 from .runs import EXCLUDED, LINK, OTHER_SYSTEM
@@ -42,12 +43,8 @@ def group_of(word: str) -> int:
 
 def folder_of(name: bytes) -> bytes:
     """The name of a FOLDER, from the root and without symbolic links."""
-    try:
-        descriptor = os.open(name, os.O_PATH | os.O_CLOEXEC)
-    except OSError as error:
-        raise Failure(name + b": no such file") from error
-    system = linux.file_system_of(descriptor)
-    os.close(descriptor)
+    with failing(name + b": no such file"), held(os.open(name, os.O_PATH | os.O_CLOEXEC)) as descriptor:
+        system = linux.file_system_of(descriptor)
     path = os.path.realpath(name)
     if path in NEVER or path.startswith(tuple(it + b"/" for it in NEVER)):
         raise Failure(name + b": is never recorded")

@@ -2,10 +2,12 @@
 from __future__ import annotations
 
 import os
-from typing import IO, Any, Callable, Iterable, Iterator, List, Optional
+from functools import partial
+from typing import IO, Iterable, Iterator, List, Optional
 
 from ..base import beside, linux
-from ..base.messages import Failure, reason
+from ..base.attempts import failing
+from ..base.messages import Failure
 from ..base.new_file import create, make_directory
 from . import scope as scopes
 from .linked import LinkedNames, Linker
@@ -20,24 +22,22 @@ class Written:
     """A new file of a snapshot, of the caller alone, that is written from its start to its end; Failure where that cannot be."""
 
     def __init__(self, folder: int, name: bytes) -> None:
-        self.name, self.size = name, 0
-        self.file: IO[bytes] = open(self.tried(create, name, folder), "w+b")
-
-    def tried(self, call: Callable[..., Any], *words: object) -> Any:
-        try:
-            return call(*words)
-        except OSError as error:
-            raise Failure(b"cannot write " + self.name + b": " + reason(error)) from error
+        self.size, self.failing = 0, partial(failing, b"cannot write " + name, True)
+        with self.failing():
+            self.file: IO[bytes] = open(create(name, folder), "w+b")
 
     def write(self, text: bytes) -> None:
         self.size += len(text)
-        self.tried(self.file.write, text)
+        with self.failing():
+            self.file.write(text)
 
     def flush(self) -> None:
-        self.tried(self.file.flush)
+        with self.failing():
+            self.file.flush()
 
     def close(self) -> None:
-        self.tried(self.file.close)
+        with self.failing():
+            self.file.close()
 
 
 def write_file(folder: int, name: bytes, text: bytes) -> None:

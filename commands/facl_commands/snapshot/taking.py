@@ -2,12 +2,14 @@
 of them."""
 from __future__ import annotations
 
+import contextlib
 import os
 import subprocess
 import time
 from typing import Iterator, List, NamedTuple, Optional
 
 from .. import VERSION
+from ..base.attempts import failing, held
 from ..base.environment import environment_of_called
 from ..base.messages import Command, Failure, counted
 from ..base.new_file import DIRECTORY
@@ -74,19 +76,14 @@ class Taking:
     def folders(self) -> Iterator["tuple[Recording, int]"]:
         """The parts with their folders, open."""
         for part in self.parts:
-            folder = os.open(part.name or b".", DIRECTORY, dir_fd=self.new.made)
-            try:
+            with held(os.open(part.name or b".", DIRECTORY, dir_fd=self.new.made)) as folder:
                 yield part, folder
-            finally:
-                os.close(folder)
 
     def write_people(self, folder: int) -> None:
         """Writes passwd and group, also once more."""
         for name, accounts in ((b"passwd", self.people.users), (b"group", self.people.groups)):
-            try:
+            with contextlib.suppress(FileNotFoundError):
                 os.unlink(name, dir_fd=folder)
-            except FileNotFoundError:
-                pass
             write_file(folder, name, accounts.text())
 
     # --- what is said
@@ -136,11 +133,9 @@ class Taking:
                 self.command.say(b"whether facl loads it was not checked: facl is not on the path (--program)")
             return
         words = [program.path, "--passwd", "passwd", "--group", "group", "--dump", "dump"]
-        try:
+        with failing(program.shown, True):
             done = subprocess.run(words, cwd=b"/proc/self/fd/%d" % folder, env=environment_of_called(), stdin=subprocess.DEVNULL,
                                   stdout=subprocess.DEVNULL, stderr=subprocess.PIPE, check=False)
-        except OSError as error:
-            raise Failure(program.shown + b": " + (error.strerror or "").encode()) from error
         if done.returncode != 0:
             self.lacks = True
             self.command.say(program.shown + b" does not load it: " + (done.stderr.splitlines() or [b""])[-1])
