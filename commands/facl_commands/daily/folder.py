@@ -15,6 +15,7 @@ may be killed between any two of them:
 """
 from __future__ import annotations
 
+import contextlib
 import fcntl
 import os
 import re
@@ -24,7 +25,9 @@ import stat
 from typing import List, Optional
 
 from ..base import new_file, trusted
-from ..base.messages import Failure, reason
+from ..base.attempts import failing, held
+from ..base.folders import FILES
+from ..base.messages import Failure
 from ..base.new_file import DIRECTORY, create, give_mode, is_there, make_directory
 from ..base.trusted import PRIVATE
 
@@ -33,7 +36,7 @@ NEW, NEXT, BEGUN = b"new", b"made", b"begun"  # In the work folder.
 WORK = re.compile(rb"\.work\.[0-9A-Za-z]{10}")
 NAME = re.compile(rb"[0-9]{4,}-[0-9]{2}-[0-9]{2}(?:\.([0-9]{1,9}))?")
 PART = re.compile(rb"[0-9]{3,7}")  # The folder of a part of a snapshot (--split).
-TEXTS = (b"passwd", b"group", b"dump", b"links", b"inodes", b"marks", b"meta")
+READ = os.O_RDONLY | os.O_NOFOLLOW | os.O_NONBLOCK | os.O_CLOEXEC
 LIST_LIMIT = 1 << 20  # Bytes of the list.
 
 
@@ -41,9 +44,8 @@ def open_folder(name: bytes) -> int:
     """Opens DIR, which is made where it is not there; fails where somebody else could write there or exchange it."""
     if not os.path.lexists(name):
         above, _, last = name.rstrip(b"/").rpartition(b"/")
-        parent = trusted.open_folder(above or b"/")
-        os.close(make_directory(last, parent))
-        os.close(parent)
+        with held(trusted.open_folder(above or b"/")) as parent:
+            os.close(make_directory(last, parent))
     descriptor = trusted.open_folder(name)
     look = os.fstat(descriptor)
     if look.st_uid != os.geteuid() or look.st_mode & 0o022:
@@ -63,19 +65,12 @@ class DailyFolder:
         self.inside = -1  # The work folder.
         self.lock_file = self.lock()
 
-    def open_own(self, name: bytes, above: Optional[int] = None) -> int:
-        """Opens a file that facl-daily made, and fails if it is another one."""
-        return trusted.open_mark(self.descriptor if above is None else above, self.name, name)
-
-    def fault(self, name: bytes, text: bytes) -> Failure:
-        return trusted.mark_failure(self.name, name, text)
-
     def lock(self) -> int:
         """Takes the lock, which nobody else can open, until the descriptor is closed here and in all commands that have it."""
         try:
             descriptor = create(LOCK, self.descriptor)
         except FileExistsError:
-            descriptor = self.open_own(LOCK)
+            descriptor = trusted.open_mark(self.descriptor, self.name, LOCK)
             give_mode(descriptor, PRIVATE)  # The run that made it may have been killed before it did this.
         try:
             fcntl.flock(descriptor, fcntl.LOCK_EX | fcntl.LOCK_NB)
@@ -83,31 +78,26 @@ class DailyFolder:
             raise Failure(self.name + b": another facl-daily is at work there, or a command of one that was killed") from error
         return descriptor
 
-    def is_snapshot(self, name: bytes) -> bool:
-        """Whether a name of the list is that of a folder of the caller."""
-        try:
+    def own_folder(self, name: bytes) -> Optional[os.stat_result]:
+        """The look of a folder of the caller; None where the name is that of something else, or of nothing."""
+        with contextlib.suppress(FileNotFoundError):
             look = os.stat(name, dir_fd=self.descriptor, follow_symlinks=False)
-        except FileNotFoundError:
-            return False
-        return stat.S_ISDIR(look.st_mode) and look.st_uid == os.geteuid()
+            return look if stat.S_ISDIR(look.st_mode) and look.st_uid == os.geteuid() else None
+        return None
 
     def made(self) -> List[bytes]:
         """The snapshots that were kept and are there, the oldest first."""
         if not is_there(MADE, self.descriptor):
             return []
-        with open(self.open_own(MADE), "rb") as file:
-            if trusted.has_list(file.fileno()):
-                raise self.fault(MADE, b"has an access list")
-            text = file.read(LIST_LIMIT + 1)
-        if len(text) > LIST_LIMIT:
-            raise self.fault(MADE, b"is too large")
-        lines = text.split(b"\n")
-        for number, line in enumerate(lines[:-1], 1):
-            if not NAME.fullmatch(line):
-                raise self.fault(MADE, b"line %d is no name of a snapshot" % number)
-        if lines[-1]:
-            raise self.fault(MADE, b"its last line has no end")
-        return [it for it in dict.fromkeys(lines[:-1]) if self.is_snapshot(it)]
+        with open(trusted.open_mark(self.descriptor, self.name, MADE), "rb") as file:
+            has_list, text = trusted.has_list(file.fileno()), file.read(LIST_LIMIT + 1)
+        *lines, last = text.split(b"\n")
+        wrong = next((number for number, line in enumerate(lines, 1) if not NAME.fullmatch(line)), 0)
+        for is_fault, fault in ((has_list, b"has an access list"), (len(text) > LIST_LIMIT, b"is too large"),
+                                (wrong, b"line %d is no name of a snapshot" % wrong), (last, b"its last line has no end")):
+            if is_fault:
+                raise trusted.mark_failure(self.name, MADE, fault)
+        return [it for it in dict.fromkeys(lines) if self.own_folder(it) is not None]
 
     def new_name(self, day: bytes, names: List[bytes]) -> bytes:
         """The day, with a number from its second snapshot on."""
@@ -117,30 +107,23 @@ class DailyFolder:
             number += 1
         return day if number == 1 else day + b".%d" % number
 
-    def remains(self) -> List[bytes]:
-        """The work folders of runs that were killed."""
-        found = []
-        for name in sorted(it for it in os.listdir(b".") if WORK.fullmatch(it)):
-            look = os.stat(name, follow_symlinks=False)
-            if stat.S_ISDIR(look.st_mode) and look.st_uid == os.geteuid() and stat.S_IMODE(look.st_mode) == 0o700:
-                found.append(name)
-        return found
-
     def remove_remains(self) -> bool:
         """Removes the work folders of runs that were killed; whether there was one."""
-        found = self.remains()
-        for name in found:
-            inside = os.open(name, DIRECTORY)
-            self.settle(inside)
-            os.close(inside)
-            shutil.rmtree(name)
-        return bool(found)
+        found = False
+        for name in sorted(it for it in os.listdir(b".") if WORK.fullmatch(it)):
+            look = self.own_folder(name)
+            if look is not None and stat.S_IMODE(look.st_mode) == 0o700:
+                found = True
+                with held(os.open(name, DIRECTORY)) as inside:
+                    self.settle(inside)
+                shutil.rmtree(name)
+        return found
 
     def settle(self, inside: int) -> None:
         """Puts the next list of a work folder in place where its snapshot has its name already; else drops it, before the
         snapshot goes."""
         if is_there(NEXT, inside) and not is_there(NEW, inside):
-            os.close(self.open_own(NEXT, inside))
+            os.close(trusted.open_mark(inside, self.name, NEXT))
             os.rename(NEXT, MADE, src_dir_fd=inside, dst_dir_fd=self.descriptor)
         elif is_there(NEXT, inside):
             os.unlink(NEXT, dir_fd=inside)
@@ -148,17 +131,14 @@ class DailyFolder:
     def begin(self) -> None:
         """Makes the work folder."""
         work = b".work." + secrets.token_hex(5).encode()
-        try:
+        with failing(self.name + b": cannot be written", True):
             self.inside = make_directory(work, self.descriptor)
-        except OSError as error:
-            raise Failure(self.name + b": cannot be written: " + reason(error)) from error
         self.work = work
 
     def keep(self, name: bytes, names: List[bytes]) -> None:
         """Gives the new snapshot its name, and adds it to the list; on the disk each step comes after the one before."""
-        new = os.open(NEW, DIRECTORY, dir_fd=self.inside)
-        sync_all(new)
-        os.close(new)
+        with held(os.open(NEW, DIRECTORY, dir_fd=self.inside)) as new:
+            sync_all(new)
         self.write_next([*names, name])
         os.rename(NEW, name, src_dir_fd=self.inside, dst_dir_fd=self.descriptor)
         os.fsync(self.descriptor)
@@ -179,15 +159,11 @@ class DailyFolder:
         """Removes the older snapshots of those that were kept; returns those that stay, since other files are in them."""
         names = self.made()
         old = names[:-count]
-        left = [it for it in old if not self.remove_snapshot(it)]
+        left = [it for it in old if not remove_known(it, self.descriptor, has_parts=True)]
         if old:
             self.write_next(names[-count:])
             self.put_list()
         return left
-
-    def remove_snapshot(self, name: bytes) -> bool:
-        """Removes the known files of a snapshot and of its parts, and its folder where nothing else is in it."""
-        return remove_known(name, self.descriptor, has_parts=True)
 
     def end(self) -> None:
         """Removes the work folder."""
@@ -198,39 +174,27 @@ class DailyFolder:
 
 
 def remove_known(name: bytes, above: int, has_parts: bool) -> bool:
-    """Removes the known files in a folder, the parts where it may have some, and the folder where nothing else is in it; whether
-    the folder is gone."""
-    folder = os.open(name, DIRECTORY, dir_fd=above)
-    for text in TEXTS:
-        try:
-            os.unlink(text, dir_fd=folder)
-        except (FileNotFoundError, IsADirectoryError):
-            pass
-    for part in sorted(map(os.fsencode, os.listdir(folder))) if has_parts else ():
-        if PART.fullmatch(part) and stat.S_ISDIR(os.stat(part, dir_fd=folder, follow_symlinks=False).st_mode):
-            remove_known(part, folder, has_parts=False)
-    os.close(folder)
-    try:
+    """Removes the known files in the folder of a snapshot, the parts where it may have some, and the folder where nothing else is in
+    it; whether the folder is gone."""
+    with held(os.open(name, DIRECTORY, dir_fd=above)) as folder:
+        for file in FILES:
+            with contextlib.suppress(FileNotFoundError, IsADirectoryError):
+                os.unlink(file, dir_fd=folder)
+        for part in sorted(map(os.fsencode, os.listdir(folder))) if has_parts else ():
+            if PART.fullmatch(part) and stat.S_ISDIR(os.stat(part, dir_fd=folder, follow_symlinks=False).st_mode):
+                remove_known(part, folder, has_parts=False)
+    with contextlib.suppress(OSError):
         os.rmdir(name, dir_fd=above)
-    except OSError:
-        return False
-    return True
+        return True
+    return False
 
 
 def sync_all(folder: int) -> None:
     """Waits until what is in the folder of a snapshot is on the disk, and in the folders of its parts."""
-    for name in os.listdir(folder):
-        if PART.fullmatch(os.fsencode(name)):
-            part = os.open(name, DIRECTORY, dir_fd=folder)
-            sync_all(part)
-            os.close(part)
-        else:
-            sync(name, folder)
+    for name in map(os.fsencode, os.listdir(folder)):
+        with held(os.open(name, READ, dir_fd=folder)) as inner:
+            if PART.fullmatch(name):
+                sync_all(inner)
+            else:
+                os.fsync(inner)
     os.fsync(folder)
-
-
-def sync(name: str, folder: int) -> None:
-    """Waits until a file is on the disk."""
-    descriptor = os.open(name, os.O_RDONLY | os.O_NOFOLLOW | os.O_NONBLOCK | os.O_CLOEXEC, dir_fd=folder)
-    os.fsync(descriptor)
-    os.close(descriptor)
