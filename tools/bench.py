@@ -17,6 +17,8 @@ usage: tools/bench.py MEASUREMENT PROGRAM [FOLDER] [--files N,..] [--users N] [-
            made in FOLDER, which has to take lists (100000 files, 100 users, 3 runs)
   live     as root, facl-snapshot, facl-plan and facl-apply beside getfacl and setfacl on a tree that is made in FOLDER
            (100000 files, 30 users, 3 runs)
+  snapshot as root, facl-snapshot beside getfacl on trees of several sizes (300000,1000000 files, 30 users, 3 runs), of which
+           one of 1,000,000 files takes some 1.5 GB where FOLDER is of tmpfs
   tree     commands at the tree and the people alone, below the index and the tools, by a program of its own
            (tree_bench.rt.txt): it is proved and built in a temporary folder, over copies of the crates below acl_tree
            (100000 files, 1000 users, one run; the median of four hundred `creat`, `rm` and `gpasswd`)
@@ -25,10 +27,11 @@ With --beside, tools, index and limits measure another program in turn with the 
 that it does not have, and have columns of its figures and of the ratios: how many times as much the first one takes.
 
 FOLDER is that of temporary files if it is left out; what is made in it is removed. Times are processor time, the best
-of the runs, as the most memory is the least; those of `live` are by the clock, the median of the runs. Standard error
+of the runs, as the most memory is the least; those of `live` and `snapshot` are by the clock, the median of the runs, and
+`snapshot` has processor time beside them. Standard error
 has how busy the machine is. What is aimed at is for 1,000,000 files and 1,000 users. FILES are from 102 on, USERS from
 10 on. The exit status is 1 where the program refuses a line or another command fails, 2 where the words are others, a
-tool is not installed, or `live` is not run as root.
+tool is not installed, or `live` or `snapshot` is not run as root.
 """
 from __future__ import annotations
 
@@ -41,7 +44,7 @@ import subprocess
 import tempfile
 import time
 from pathlib import Path
-from typing import Callable, Dict, Iterable, List, Mapping, NamedTuple, Optional, Tuple, Union
+from typing import Callable, Dict, Iterable, List, Mapping, NamedTuple, Optional, Sequence, Tuple, Union
 
 from benches import commands, grow
 from benches.sessions import (
@@ -223,6 +226,7 @@ def measure_real(given: Words) -> int:
 FIRST_ID = 70_000  # Of the users, each of whom has a group of the same id, and of guest, who is the first.
 MODES = (0o600, 0o640, 0o644, 0o755)
 SYSTEM_TOOLS = ("getfacl -R -n", "setfacl --restore")
+OF_SNAPSHOT = ("getfacl -R -n", "facl-snapshot")
 
 
 def write_live_people(folder: str, users: int) -> None:
@@ -267,10 +271,13 @@ def live_steps(folder: str, number: int) -> Dict[str, List[str]]:
     }
 
 
-def run_steps(given: Words, folder: str, number: int) -> Dict[str, Spent]:
+def run_steps(given: Words, folder: str, number: int, names: Sequence[str] = ()) -> Dict[str, Spent]:
+    """Runs the steps of these names, or all of them."""
     path = f"{folder}:{os.path.join(TOP, 'commands')}:{os.environ['PATH']}"
     found = {}
     for name, words in live_steps(folder, number).items():
+        if names and name not in names:
+            continue
         output = f"{folder}/records" if name == SYSTEM_TOOLS[0] else os.devnull
         found[name] = spent(words, folder, output, PATH=path, FACL=given.program, FACL_LINUX=given.program)
         say(f"run {number}: {name}: {found[name].seconds:.2f} s")
@@ -290,6 +297,24 @@ def measure_live(given: Words) -> int:
     print_table(f"{given.files[-1]:,} files, {given.users} users", {
         "seconds": {name: f"{it:.2f}" for name, it in seconds.items()},
         "times the system's tools": {name: f"{it / both:.1f}" for name, it in seconds.items()}, "MiB": most})
+    return 0
+
+
+def measure_snapshot(given: Words) -> int:
+    columns: Dict[str, Dict[str, str]] = {}
+    for files in given.files:
+        with tempfile.TemporaryDirectory(prefix="facl-bench.", dir=given.folder) as folder:
+            os.chmod(folder, 0o755)
+            write_live_people(folder, given.users)
+            make_live_tree(folder, files, given.users)
+            say(f"{files:,} files are made")
+            runs = [run_steps(given, folder, number, OF_SNAPSHOT) for number in range(given.runs)]
+        found = {name: [run[name] for run in runs] for name in OF_SNAPSHOT}
+        title = f"{files:,} files: "
+        columns[title + "seconds"] = {name: f"{statistics.median(it.seconds for it in its):.2f}" for name, its in found.items()}
+        columns[title + "processor"] = {name: f"{statistics.median(it.processor for it in its):.2f}" for name, its in found.items()}
+        columns[title + "MiB"] = {name: f"{max(it.memory for it in its) / (1 << 20):,.0f}" for name, its in found.items()}
+    print_table(f"{given.users} users", columns)
     return 0
 
 
@@ -360,6 +385,7 @@ MEASUREMENTS = {
     "commands": Measurement(measure_commands, [1_000_000], 1_000, 1),
     "real": Measurement(measure_real, [100_000], 100, 3, ("getfacl", "setfacl")),
     "live": Measurement(measure_live, [100_000], 30, 3, ("getfacl", "setfacl")),
+    "snapshot": Measurement(measure_snapshot, [300_000, 1_000_000], 30, 3, ("getfacl",)),
     "tree": Measurement(measure_tree, [100_000], 1_000, 1, ("rt",)),
 }
 
@@ -384,10 +410,10 @@ def words() -> Words:
     for is_so, text in (
             (missing, f"not installed: {', '.join(missing)}"),
             ((kind == "tree") == bool(given.program), "a PROGRAM, but for tree"),
-            (kind == "live" and os.geteuid() != 0, "run it as root"),
+            (kind in ("live", "snapshot") and os.geteuid() != 0, "run it as root"),
             (min(given.files) < PER_DIRECTORY + 2 or given.users < 10 or given.runs < 1,
              "FILES from 102 on, USERS from 10 on, RUNS from 1 on"),
-            (len(given.files) > 1 and kind != "tools", "several FILES are of `tools` alone"),
+            (len(given.files) > 1 and kind not in ("tools", "snapshot"), "several FILES are of `tools` and `snapshot` alone"),
             (given.beside and kind not in BESIDE, "--beside is of tools, index and limits"),
             (kind != "grow" and given.only, "--only is of `grow`"),
             (kind != "commands" and given.clone, "--clone is of `commands`"),

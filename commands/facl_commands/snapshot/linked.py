@@ -7,7 +7,7 @@ from typing import IO, Dict, Iterator, List, NamedTuple, Set, Tuple
 
 from .runs import SEVERAL, Run
 
-ROOM = 1 << 24  # Marks, one of which each file has; several files can have the same one.
+MARKS = 16  # For each file, which has one of all these marks; several files can have the same one.
 CHUNK = 1 << 20
 
 
@@ -33,11 +33,12 @@ class Linker:
 
     def repeated(self) -> Set[int]:
         """Keys whose mark another file has too: of all that have several names, and of some others."""
-        marks, found = bytearray(ROOM), set()
+        number, found = MARKS * len(self.keys), set()
+        marks = bytearray(number)
         for key in self.keys:
-            if marks[key % ROOM]:
+            if marks[key % number]:
                 found.add(key)
-            marks[key % ROOM] = 1
+            marks[key % number] = 1
         return found
 
     def names(self, inodes: IO[bytes]) -> LinkedNames:

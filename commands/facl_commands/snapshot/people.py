@@ -9,7 +9,7 @@ from ..base.attempts import failing
 from ..base.messages import Failure
 from . import asking
 from .asking import Account, Key, Service
-from .runs import Sums
+from .runs import Sums, Warned
 
 LONGEST_USER = 256  # Bytes of a name in the file of --users.
 
@@ -132,13 +132,14 @@ def why_incomplete(people: PeopleOfSystem, sums: Sums) -> bytes:
     return b""
 
 
-Warned = Tuple[bytes, List[bytes]]  # A text, and the names that it counts.
+def warned(text: bytes, names: List[bytes]) -> Warned:
+    return text, len(names), names[0] if names else b""
 
 
 def strangers(people: PeopleOfSystem, sums: Sums) -> Warned:
     pairs = ((b"user %d", sums.users, people.users), (b"group %d", sums.groups, people.groups))
-    return (b"ids in the dump without a row in passwd or group",
-            [form % number for form, ids, accounts in pairs for number in sorted(accounts.lacking(ids))])
+    return warned(b"ids in the dump without a row in passwd or group",
+                  [form % number for form, ids, accounts in pairs for number in sorted(accounts.lacking(ids))])
 
 
 def warned_of(people: PeopleOfSystem) -> List[Warned]:
@@ -148,10 +149,10 @@ def warned_of(people: PeopleOfSystem) -> List[Warned]:
         by_id.setdefault(it.ids[0], []).append(it.name)
     kinds = ((b"passwd", people.users), (b"group", people.groups))
     return [
-        (b"members of groups without a row in passwd", sorted(people.members() - people.users.names())),
-        (b"users with an id that another user has too, as ID NAME",
-         sorted(b"%d %s" % (number, name) for number, its in by_id.items() if len(its) > 1 for name in its)),
-        *((b"rows of " + kind + b" with a carriage return, which facl takes for a part of a name",
-           [it.name for it in accounts.all if b"\r" in it.row()]) for kind, accounts in kinds),
-        *((b"rows of " + kind + b" without a name, an id or a field, which are left out",
-           [row.partition(b":")[0] for row in sorted(accounts.odd)]) for kind, accounts in kinds)]
+        warned(b"members of groups without a row in passwd", sorted(people.members() - people.users.names())),
+        warned(b"users with an id that another user has too, as ID NAME",
+               sorted(b"%d %s" % (number, name) for number, its in by_id.items() if len(its) > 1 for name in its)),
+        *(warned(b"rows of " + kind + b" with a carriage return, which facl takes for a part of a name",
+                 [it.name for it in accounts.all if b"\r" in it.row()]) for kind, accounts in kinds),
+        *(warned(b"rows of " + kind + b" without a name, an id or a field, which are left out",
+                 [row.partition(b":")[0] for row in sorted(accounts.odd)]) for kind, accounts in kinds)]

@@ -13,7 +13,7 @@ from . import scope as scopes
 from .linked import LinkedNames, Linker
 from .list_texts import shown_name
 from .marking import SAID, numbers_of
-from .runs import BITS, IS_FOLDER, REPEATED, UNREAD, LeftOut, Run, Sums
+from .runs import BITS, IS_FOLDER, REPEATED, UNREAD, LeftOut, Run, Sums, Warned
 from .scope import MOST_BYTES
 from .walking import Walked
 
@@ -82,7 +82,7 @@ class Recording:
         sets = [b"".join(shown_name(name) + b"\n" for name in names) for names in self.linked.sets]
         write_file(self.folder, b"links", b"\n".join(sets))
 
-    def said(self) -> List[bytes]:
+    def said(self) -> List[Warned]:
         """What is warned of."""
         linked, sums = self.linked, self.sums
         found = [
@@ -91,7 +91,7 @@ class Recording:
             (b"lists with several entries of one user or group, which are recorded as one, as Linux judges by them",
              sums.numbers[REPEATED], sums.first.get(REPEATED, b"")),
             *((text, sums.numbers[BITS[kind]], sums.first.get(BITS[kind], b"")) for kind, text in SAID.items())]
-        return [b"%s: %d, first: %s" % (text, number, shown_name(first)) for text, number, first in found if number]
+        return [(text, number, shown_name(first)) for text, number, first in found]
 
     def numbers(self) -> bytes:
         """The lines of meta."""

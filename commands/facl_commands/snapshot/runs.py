@@ -15,6 +15,7 @@ SEVERAL, REPEATED, IS_FOLDER = (1 << place for place in range(len(beside.KINDS),
 ALL_BITS = (*BITS.values(), SEVERAL, REPEATED)
 # Why a name is left out: a symbolic link, by --exclude, another file system, too long; and why it could not be read.
 LINK, EXCLUDED, OTHER_SYSTEM, LONG, UNREAD = range(5)
+Warned = Tuple[bytes, int, bytes]  # What is warned of, how many names there are of it, and the first one.
 FILE = b"# file: "  # Where a record begins, and nowhere else, after the end of a line.
 KEY_BITS = (1 << 64) - 1
 
@@ -71,19 +72,20 @@ class Draft:
         self.bits: List[int] = []
         self.whom: List[int] = []
         self.labels = RunLabels()
-        self.size = 0  # Of the records, without their names.
+        self.size = 0  # Of the records.
 
     def add(self, folder: bytes, device: int, rows: List[Row]) -> None:
         """Adds files of a folder and of a device. It is quicker for many at once, between which nothing else is done."""
         start, of_device = FILE + shown_name(folder), hash((device,)) & KEY_BITS
         names = shown_name(b"\0".join([name for name, _, _, _, _, _ in rows])).split(b"\0")
-        self.dump += [b"%s%s%s" % (start, name, text) for name, (_, (text, _, _), _, _, _, _) in zip(names, rows)]
+        records = [b"%s%s%s" % (start, name, text) for name, (_, (text, _, _), _, _, _, _) in zip(names, rows)]
+        self.size += sum(map(len, records))
+        self.dump += records
         self.inodes += [b"%d %d %d.%09d %s%s\0" % (device, inode, seconds, nanoseconds, folder, name)
                         for name, _, inode, seconds, nanoseconds, _ in rows]
         self.keys.extend([inode ^ of_device for _, _, inode, _, _, _ in rows])
         self.bits += [bits | more for _, (_, bits, _), _, _, _, more in rows]
         self.whom += [at for _, (_, _, at), _, _, _, _ in rows]
-        self.size += sum([len(text) for _, (text, _, _), _, _, _, _ in rows])
 
     def run(self) -> Run:
         return Run(b"".join(self.dump), b"".join(self.inodes), self.marks, self.keys.tobytes(), self.bits, self.whom,

@@ -16,7 +16,7 @@ from ..base.new_file import DIRECTORY
 from . import asking
 from .in_order import SharedWalk
 from .list_texts import shown_name
-from .people import PeopleOfSystem, Warned, strangers, warned_of, why_incomplete
+from .people import PeopleOfSystem, strangers, warned_of, why_incomplete
 from .recording import Recording, record, write_file
 from .runs import EXCLUDED, LINK, LONG, MOST_IDS, UNREAD, LeftOut
 from .scope import Scope
@@ -93,17 +93,12 @@ class Taking:
         if number and (is_of_files or not self.quiet):
             self.command.say(b"warning: %s: %d, first: %s" % (text, number, first))
 
-    def warn_of(self, warned: Warned) -> None:
-        text, names = warned
-        self.warn(text, len(names), names[0] if names else b"")
-
     def warn_of_all(self, part: Recording) -> None:
         """Of a part; of users and groups with the first one."""
         self.warn(b"files or folders that could not be read, so that the dump lacks them or what is in them", part.unread,
                   part.first_unread, True)
-        for line in part.said() if not self.quiet else ():
-            self.command.say(b"warning: " + line)
-        self.warn_of(strangers(self.people, part.sums))
+        for warned in [*part.said(), strangers(self.people, part.sums)]:
+            self.warn(*warned)
         if part.sums.has_too_many_ids:
             self.lacks = True
             self.command.say(b"files and lists have more than %d ids of users, or of groups, so the snapshot may lack some" % MOST_IDS)
@@ -115,7 +110,7 @@ class Taking:
             self.warn(b"names of more than 4,095 bytes, which are not recorded", self.left_out.numbers[LONG],
                       self.left_out.first.get(LONG, b"") + b"..", True)
             for warned in warned_of(self.people):
-                self.warn_of(warned)
+                self.warn(*warned)
             if not self.people.users.all and not self.quiet:
                 self.command.say(b"warning: passwd is empty: who, may and index will name nobody")
 

@@ -22,7 +22,7 @@ from . import scope as scopes
 from .list_texts import NoList, shown_name
 from .long_names import EXCHANGED, START, LongNames
 from .marking import KnownMount, KnownMounts, attributes_of, marked, other_lists
-from .runs import EXCLUDED, IS_FOLDER, LINK, LONG, SEVERAL, UNREAD, Draft, LeftOut, Row, Run
+from .runs import EXCLUDED, FILE, IS_FOLDER, LINK, LONG, SEVERAL, UNREAD, Draft, LeftOut, Row, Run
 from .scope import LONGEST_NAME, MOST_BYTES, Scope, of_folder
 
 MANY = 1000  # Names that a process takes before it gives back the rest,
@@ -249,7 +249,8 @@ class Walker:
         """Records plain files of the mount of their directory, up to a name of something else, or of which something cannot be read;
         returns how many these are."""
         rows: List[Row] = []
-        places, labels, room, folder = self.places, self.draft.labels, MOST_TEXT - self.draft.size, level.descriptor
+        places, labels, folder = self.places, self.draft.labels, level.descriptor
+        room, start = MOST_TEXT - self.draft.size, len(FILE) + len(level.rest.path)
         for name in names:
             try:
                 descriptor = os.open(name, live.PATH, dir_fd=folder)
@@ -271,7 +272,7 @@ class Walker:
             if not (known & STATX_BTIME and common.keeps_birth):
                 seconds = nanoseconds = 0
             rows.append((name, text, inode, seconds, nanoseconds, bits | SEVERAL if links > 1 else bits))
-            room -= len(text[0])
+            room -= start + len(name) + len(text[0])
             if room <= 0:
                 break
         self.draft.add(level.rest.path, level.rest.device, rows)
