@@ -4,7 +4,7 @@ from __future__ import annotations
 import os
 import select
 from functools import partial
-from typing import IO, Iterator, List, Optional
+from typing import IO, Generator, Iterator, List, Optional
 
 from ..base import workers
 from ..base.workers import Helper, receive, send
@@ -116,56 +116,47 @@ class Follower(Helper):
             pass
 
 
-class SharedWalk:
-    """The walk: of a large tree as root by several processes, and else by this one alone."""
-
-    def __init__(self, walker: Walker) -> None:
-        self.walker = walker
-        processes = min(workers.MOST, os.cpu_count() or 1) if os.geteuid() == 0 else 1
-        self.line, self.can_share, self.walked = Line(processes), processes > 1, 0
-        self.followers: List[Follower] = []
-
-    def __enter__(self) -> SharedWalk:
-        return self
-
-    def __exit__(self, *_error: object) -> None:
-        for follower in self.followers:
+def found_by(walker: Walker) -> Generator[Walked, None, None]:
+    """What is found, in the order of paths: of a large tree as root by several processes, and else by this one alone."""
+    processes = min(workers.MOST, os.cpu_count() or 1) if os.geteuid() == 0 else 1
+    line, number = Line(processes), 0
+    followers: List[Follower] = []
+    can_share = processes > 1
+    try:
+        while line.errands:
+            if can_share and number > workers.MANY:
+                can_share = False
+                for _ in range(processes):
+                    followers.append(Follower(walker))
+            if followers:
+                share(line, followers)
+            else:
+                errand = line.next()
+                assert errand is not None
+                line.done(errand, walker.walk(errand.rests))
+            for walked in line.ready():
+                number += len(walked.run.bits) + walked.left_out.total()
+                yield walked
+    finally:
+        for follower in followers:
             follower.end()
 
-    def found(self) -> Iterator[Walked]:
-        """What is found, in the order of paths."""
-        while self.line.errands:
-            if self.can_share and self.walked > workers.MANY:
-                self.can_share = False
-                for _ in range(self.line.processes):
-                    self.followers.append(Follower(self.walker))
-            if self.followers:
-                self.share()
-            else:
-                errand = self.line.next()
-                assert errand is not None
-                self.line.done(errand, self.walker.walk(errand.rests))
-            for walked in self.line.ready():
-                self.walked += len(walked.run.bits) + walked.left_out.total()
-                yield walked
 
-    def share(self) -> None:
-        """Gives errands to the processes that have none, and takes what comes first."""
-        for follower in self.followers:
-            errand = self.line.next() if follower.errand is None else None
-            if errand is not None:
-                follower.give(errand)
-        busy = {it.reader.fileno(): it for it in self.followers if it.errand is not None}
-        for descriptor in select.select([*busy], [], [])[0]:
-            self.take(busy[descriptor])
-
-    def take(self, follower: Follower) -> None:
+def share(line: Line, followers: List[Follower]) -> None:
+    """Gives errands to the processes that have none, and takes what comes first."""
+    for follower in followers:
+        errand = line.next() if follower.errand is None else None
+        if errand is not None:
+            follower.give(errand)
+    busy = {it.reader.fileno(): it for it in followers if it.errand is not None}
+    for descriptor in select.select([*busy], [], [])[0]:
+        follower = busy[descriptor]
         errand, walked = follower.errand, follower.take()
         follower.errand = None
         assert errand is not None
         if walked is not None:
-            self.line.done(errand, walked)
+            line.done(errand, walked)
         else:  # It ended: another one has its errand.
-            self.followers.remove(follower)
+            followers.remove(follower)
             follower.end()
             errand.is_given = False

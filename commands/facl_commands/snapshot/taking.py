@@ -14,7 +14,7 @@ from ..base.environment import environment_of_called
 from ..base.messages import Command, Failure, counted
 from ..base.new_file import DIRECTORY
 from . import asking
-from .in_order import SharedWalk
+from .in_order import found_by
 from .list_texts import shown_name
 from .people import PeopleOfSystem, strangers, warned_of, why_incomplete
 from .recording import Recording, record, write_file
@@ -60,8 +60,8 @@ class Taking:
             self.people.add_named(words.users)
         look = os.fstat(self.new.work)
         scope = Scope(self.given.folders, words.globs, words.crosses, (look.st_dev, look.st_ino))
-        with SharedWalk(Walker(scope)) as walk:
-            self.parts = record(walk.found(), self.new.made, words.most, self.left_out)
+        with contextlib.closing(found_by(Walker(scope))) as found:
+            self.parts = record(found, self.new.made, words.most, self.left_out)
         for part, folder in self.folders():
             self.people.complete(part.sums)
             self.write_people(folder)
