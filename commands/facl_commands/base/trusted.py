@@ -16,6 +16,7 @@ from copy import copy
 from typing import IO, List, Optional
 
 from . import acl_bytes
+from .attempts import failing
 from .messages import Failure, reason
 
 PRIVATE = 0o600
@@ -172,11 +173,8 @@ def way_to(name: bytes) -> Way:
 
 def open_trusted(name: bytes, flags: int) -> int:
     """Opens a file or a folder by a name; fails where somebody else can have written it or the way to it."""
-    try:
-        with contextlib.closing(way_to(name)) as way:
-            return way.opened(flags)
-    except OSError as error:
-        raise Failure(name + b": " + reason(error)) from error
+    with failing(name, True), contextlib.closing(way_to(name)) as way:
+        return way.opened(flags)
 
 
 def open_beside(way: Way, name: bytes, whole: bytes) -> int:
@@ -236,11 +234,8 @@ def too_large(shown: bytes, most: int) -> Failure:
 
 def read_trusted(name: bytes, most: int = MOST) -> bytes:
     """What is in a file that nobody else can have written."""
-    try:
-        with open(open_file(name), "rb") as file:
-            return read_all(file, name, most)
-    except OSError as error:  # Of a folder, or of a disk: it has no name.
-        raise Failure(name + b": " + reason(error)) from error
+    with failing(name, True), open(open_file(name), "rb") as file:  # Of a folder, or of a disk, an error has no name.
+        return read_all(file, name, most)
 
 
 def read_given(name: bytes) -> bytes:
@@ -249,21 +244,17 @@ def read_given(name: bytes) -> bytes:
     match = DESCRIPTOR.fullmatch(name)
     if match is None:
         return read_trusted(name, MOST_WRITTEN)
-    try:
+    with failing(name, True):
         if not os.get_inheritable(int(match[1])):
             raise OSError(errno.EBADF, os.strerror(errno.EBADF))
         with open(int(match[1]), "rb", closefd=False) as file:
             return read_all(file, name, MOST_WRITTEN)
-    except OSError as error:
-        raise Failure(name + b": " + reason(error)) from error
 
 
 def open_in(folder: int, shown: bytes, name: bytes) -> int:
     """Opens a file of an open folder; `shown` is the folder's name in messages."""
-    try:
+    with failing(shown + b"/" + name, True):
         descriptor = os.open(name, os.O_RDONLY | os.O_NOFOLLOW | os.O_NONBLOCK | os.O_CLOEXEC, dir_fd=folder)
-    except OSError as error:
-        raise Failure(shown + b"/" + name + b": " + reason(error)) from error
     look = os.fstat(descriptor)
     fault = b"is no plain file" if not stat.S_ISREG(look.st_mode) else fault_of(descriptor, look)
     if fault is not None:
@@ -299,12 +290,10 @@ def mark_failure(shown: bytes, name: bytes, fault: bytes) -> Failure:
 
 def open_mark(folder: int, shown: bytes, name: bytes) -> int:
     """Opens a mark of an open folder; fails if it is another file. A pipe or device is not opened."""
-    try:
+    with failing(shown + b"/" + name, True):
         is_plain = stat.S_ISREG(os.stat(name, dir_fd=folder, follow_symlinks=False).st_mode)
         flags = os.O_RDONLY if is_plain else os.O_PATH
         descriptor = os.open(name, flags | os.O_NOFOLLOW | os.O_NONBLOCK | os.O_CLOEXEC, dir_fd=folder)
-    except OSError as error:
-        raise Failure(shown + b"/" + name + b": " + reason(error)) from error
     fault = fault_of_mark(os.fstat(descriptor))
     if fault is not None:
         os.close(descriptor)
