@@ -13,7 +13,7 @@ from . import scope as scopes
 from .linked import LinkedNames, Linker
 from .list_texts import shown_name
 from .marking import SAID, numbers_of
-from .runs import BITS, IS_FOLDER, REPEATED, UNREAD, LeftOut, Run, Sums, Warned
+from .runs import BITS, IS_FOLDER, REPEATED, UNREAD, Files, LeftOut, Run, Sums, Warned
 from .scope import MOST_BYTES
 from .walking import Walked
 
@@ -115,43 +115,55 @@ class Parts:
         self.parts.append(Recording(make_directory(name, self.made), name))
 
     def add(self, run: Run) -> None:
-        """Adds a file."""
-        name = run.name(0)
-        while self.above and not name.startswith(self.above[-1].name(0)):
+        """Adds files: plain ones of a directory that follow each other at once."""
+        files, end = Files(run), 0
+        while end < len(files.names):
+            start, end = end, end + 1
+            name, size = files.names[start], len(files.records[start])
+            while self.above and not name.startswith(self.above[-1].name(0)):
+                self.write_held()
+                self.above.pop()
+            if not self.has_room_for(size):
+                self.begin_next(name, size)
+            if run.bits[start] & IS_FOLDER:
+                self.above.append(files.part(start, end))
+                self.held += 1
+                continue
             self.write_held()
-            self.above.pop()
-        if not self.has_room_for(run):
-            self.begin_next(run)
-        self.held += 1
-        self.above.append(run)
-        if not run.bits[0] & IS_FOLDER:
-            self.write_held()
-            self.above.pop()
+            folder, last = self.above[-1].name(0) if self.above else b"", self.parts[-1]
+            while end < len(files.names) and files.names[end].startswith(folder) and not run.bits[end] & IS_FOLDER:
+                size += len(files.records[end])
+                if last.sums.files + end - start == self.count or last.dump.size + size > MOST_BYTES:
+                    break
+                end += 1
+            last.add(files.part(start, end))
+            self.own += end - start
 
-    def has_room_for(self, run: Run) -> bool:
-        last, more = self.parts[-1], [*self.unwritten(), run]
-        return last.sums.files + len(more) <= self.count and last.dump.size + sum(len(it.dump) for it in more) <= MOST_BYTES
+    def has_room_for(self, size: int) -> bool:
+        """Whether what is held and a file with a record of this size fit."""
+        last, held = self.parts[-1], self.unwritten()
+        return (last.sums.files + len(held) < self.count
+                and last.dump.size + sum(len(it.dump) for it in held) + size <= MOST_BYTES)
 
     def unwritten(self) -> List[Run]:
         return self.above[len(self.above) - self.held :]
 
     def write_held(self) -> None:
-        """Writes what is held: it is of this part."""
+        """Writes the directories at the end: they are of this part."""
         for run in self.unwritten():
             self.parts[-1].add(run)
         self.own += self.held
         self.held = 0
 
-    def begin_next(self, following: Run) -> None:
+    def begin_next(self, following: bytes, size: int) -> None:
         """Begins a part with the directories above a file."""
         if self.own:
             self.end()
             self.begin()
             for run in self.above[: len(self.above) - self.held]:
                 self.parts[-1].add(run)
-        if not self.has_room_for(following):
-            name = shown_name(following.name(0))
-            raise Failure(b"--split %d: is too few for the directories above %s" % (self.count, name))
+        if not self.has_room_for(size):
+            raise Failure(b"--split %d: is too few for the directories above %s" % (self.count, shown_name(following)))
 
     def end(self) -> None:
         """Ends the last part."""
@@ -186,8 +198,7 @@ def record(found: Iterable[Walked], made: int, count: Optional[int], left_out: L
     parts = Parts(made, count)
     for walked in limited(found, left_out, scopes.MOST_NAMES):
         parts.parts[-1].complain(walked.left_out)
-        for run in walked.run.files():
-            parts.add(run)
+        parts.add(walked.run)
     parts.write_held()
     parts.end()
     return parts.parts

@@ -3,7 +3,7 @@ from __future__ import annotations
 
 from array import array
 from collections import Counter
-from typing import Dict, Iterator, List, NamedTuple, Set, Tuple
+from typing import Dict, List, NamedTuple, Set, Tuple
 
 from ..base import beside
 from .list_texts import LABEL_TEXTS, Label, LabelText, Whom, shown_name
@@ -34,13 +34,20 @@ class Run(NamedTuple):
     def name(self, place: int) -> bytes:
         return self.inodes.split(b"\0", place + 1)[place].split(b" ", 3)[3]
 
-    def files(self) -> Iterator[Run]:
-        """Each file alone."""
-        marks = dict(self.marks)
-        records = (b"\n" + self.dump)[:-1].split(b"\n" + FILE)[1:]
-        for place, (record, inode) in enumerate(zip(records, self.inodes.split(b"\0"))):
-            yield Run(FILE + record + b"\n", inode + b"\0", [(0, marks[place])] if place in marks else [],
-                      self.keys[8 * place : 8 * place + 8], self.bits[place : place + 1], self.whom[place : place + 1], self.named)
+
+class Files:
+    """A run of which parts are taken."""
+
+    def __init__(self, run: Run) -> None:
+        self.run, self.inodes = run, run.inodes.split(b"\0")[:-1]
+        self.names = [it.split(b" ", 3)[3] for it in self.inodes]
+        self.records = [FILE + it + b"\n" for it in (b"\n" + run.dump)[:-1].split(b"\n" + FILE)[1:]]
+
+    def part(self, start: int, end: int) -> Run:
+        run = self.run
+        return Run(b"".join(self.records[start:end]), b"".join(it + b"\0" for it in self.inodes[start:end]),
+                   [(place - start, lines) for place, lines in run.marks if start <= place < end], run.keys[8 * start : 8 * end],
+                   run.bits[start:end], run.whom[start:end], run.named)
 
 
 Text = Tuple[bytes, int, int]  # The record of a file after its name, its bits, and the place in `named`.
