@@ -10,7 +10,7 @@ import re
 import stat
 import struct
 from functools import partial
-from typing import Any, Callable, Dict, FrozenSet, NamedTuple, Optional, Tuple
+from typing import Callable, Dict, FrozenSet, NamedTuple, Optional, Tuple, TypeVar
 
 from ..base import acl_bytes, linux
 from ..base.acl_bytes import ENTRY, GROUP, GROUP_CLASS, GROUP_OBJ, HEAD, MASK, NAMED, NO_ID, OTHER, USER, USER_OBJ
@@ -53,15 +53,20 @@ class LabelText(NamedTuple):
     is_repeated: bool  # Of one of its lists.
 
 
-class Known(Dict[Any, Any]):
+Key = TypeVar("Key")
+Text = TypeVar("Text", ListText, LabelText)
+
+
+class Known(Dict[Key, Text]):
     """Texts that came last, by what they are made of: not many of long ones, which anybody can write."""
 
-    def __init__(self, make: Callable[[Any], Any]) -> None:
+    def __init__(self, make: Callable[[Key], Text]) -> None:
         super().__init__()
-        self.make, self.size = make, 0
+        self.make: Callable[[Key], Text] = make
+        self.size = 0
 
-    def __missing__(self, key: Any) -> Any:
-        text = self.make(key)
+    def __missing__(self, key: Key) -> Text:
+        text: Text = self.make(key)
         self.size += len(text.lines)
         if self.size > MOST_KEPT:
             self.clear()
@@ -111,13 +116,13 @@ def label_text(label: Label) -> LabelText:
     its, access, default = label
     owner, group, mode = linux.LABEL.unpack(its)
     flags = b"# flags: " + b"".join(letter if mode & bit else b"-" for bit, letter in FLAGS) + b"\n" if mode & 0o7000 else b""
-    first: ListText = ACCESS_TEXTS[MINIMAL[mode & 0o777] if access is None else access]
-    second: ListText = DEFAULT_TEXTS[default] if default else NO_LIST
+    first = ACCESS_TEXTS[MINIMAL[mode & 0o777] if access is None else access]
+    second = DEFAULT_TEXTS[default] if default else NO_LIST
     text = b"".join((b"\n# owner: %d\n# group: %d\n" % (owner, group), flags, first.lines, second.lines, b"\n"))
     return LabelText(text, (owner, group, first.users | second.users, first.groups | second.groups),
                      first.is_repeated or second.is_repeated)
 
 
-ACCESS_TEXTS, DEFAULT_TEXTS = (Known(partial(text_of, prefix)) for prefix in (b"", b"default:"))
+ACCESS_TEXTS, DEFAULT_TEXTS = Known(partial(text_of, b"")), Known(partial(text_of, b"default:"))
 LABEL_TEXTS = Known(label_text)
 NO_LIST = ListText(b"", frozenset(), frozenset(), False)

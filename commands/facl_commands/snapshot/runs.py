@@ -6,7 +6,7 @@ from collections import Counter
 from typing import Dict, List, NamedTuple, Set, Tuple
 
 from ..base import beside
-from .list_texts import LABEL_TEXTS, Label, LabelText, Whom, shown_name
+from .list_texts import LABEL_TEXTS, Label, Whom, shown_name
 
 MOST_IDS = 262_144  # Of users, and of groups, whose names are read: the program takes a quarter of them.
 # What is counted of recorded files: bits, of which those of KINDS are the first ones.
@@ -62,7 +62,7 @@ class RunLabels(Dict[Label, Text]):
         self.named: List[Whom] = []
 
     def __missing__(self, label: Label) -> Text:
-        text: LabelText = LABEL_TEXTS[label]
+        text = LABEL_TEXTS[label]
         self[label] = text.lines, REPEATED * text.is_repeated, len(self.named)
         self.named.append(text.whom)
         return self[label]
