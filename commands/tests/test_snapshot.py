@@ -4,6 +4,7 @@ from __future__ import annotations
 
 import calendar
 import grp
+import io
 import os
 import pwd
 import re
@@ -21,7 +22,7 @@ from snapshot_stand_ins import AFTER_NAMES, DIRECTORY, LISTS, MEANWHILE, PERSON,
 
 sys.path.insert(0, COMMANDS)
 
-from facl_commands.base import acl_bytes, beside, names  # noqa: E402
+from facl_commands.base import acl_bytes, beside, names, workers  # noqa: E402
 from facl_commands.base.accounts import is_person  # noqa: E402
 from facl_commands.base.names import path_order  # noqa: E402
 from facl_commands.page import columns as page_columns  # noqa: E402
@@ -222,11 +223,20 @@ ln -sf kept 'l\nf'; rm folder gone; mkdir folder; mv d1 d && mv d2 d1 && mv d d2
         several = few + "from ..base import workers\nfrom . import in_order\nin_order.MANY, workers.MANY = 7, 10\nos.geteuid = lambda: 0\nos.cpu_count = lambda: 3\n"
         ended = several + "real = walking.Walker.walk\ndef walk(self, rests):\n    if os.getppid() == FIRST and any(b'20' in it.names for it in rests):\n" \
             "        os._exit(1)\n    return real(self, rests)\nwalking.Walker.walk, FIRST = walk, os.getpid()\n"
-        for target, code in (("one", ""), ("two", few), ("three", several), ("four", ended)):
+        short = "from . import walking\nwalking.MOST_TEXT = 700\n"
+        for target, code in (("one", ""), ("two", few), ("three", several), ("four", ended), ("five", short)):
             self.add_code(code)
             self.expect_status(self.snapshot(target, "tree"), 0)
             for file in ("dump", "inodes", "links", "marks"):
                 self.assertEqual((target, file, self.read(f"{target}/{file}")), (target, file, self.read(f"one/{file}")))
+
+    def test_a_process_that_ends_while_it_sends(self) -> None:
+        """Nothing came of its errand."""
+        file = io.BytesIO()
+        workers.send(file, [1, b"text"])
+        text = file.getvalue()
+        self.assertEqual([workers.receive(io.BytesIO(text[:end])) for end in range(len(text))], [None] * len(text))
+        self.assertEqual(workers.receive(io.BytesIO(text)), [1, b"text"])
 
     def test_errands_are_cut_of_rests(self) -> None:
         """Each name once, in order."""
