@@ -70,7 +70,7 @@ install_modules() {
     folders=$(cd "$top/commands" && find facl_commands -name __pycache__ -prune -o -type d -print)
     for folder in $folders; do
         install -d -m 755 -- "$to/lib/facl/$folder"
-        for file in "$top/commands/$folder"/*.py "$top/commands/$folder"/*.css "$top/commands/$folder"/*.js; do
+        for file in "$top/commands/$folder"/*.py "$top/commands/$folder"/*.css "$top/commands/$folder"/*.js*; do
             [ ! -f "$file" ] || install -m 644 -- "$file" "$to/lib/facl/$folder"
         done
     done

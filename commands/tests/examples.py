@@ -9,14 +9,11 @@ from __future__ import annotations
 import difflib
 import os
 import re
-import sys
 from typing import Iterator, List, NamedTuple, Optional, Tuple
 
 from common import COMMANDS
 
-sys.path.insert(0, COMMANDS)
-
-from facl_commands.ask import manual  # noqa: E402
+from help_text import line_text
 
 REPOSITORY = os.path.dirname(COMMANDS)
 # What getfacl and `why` print begins as a command of root does.
@@ -74,7 +71,7 @@ def page_blocks(name: str) -> Iterator[Block]:
         elif line == ".RS":
             found = found._replace(first=number + 1)
         elif line != ".RE":
-            found.lines.append(manual.line_text(line))
+            found.lines.append(line_text(line))
 
 
 def blocks_of(name: str) -> List[Block]:

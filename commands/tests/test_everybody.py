@@ -80,7 +80,7 @@ class AtThePrompt(unittest.TestCase):
         texts = people_in(SHARE)
         answers = answers_over(SHARE, texts.passwd, [])
         with session_with(LINUX.find(), SHARE, *answers.everybody.with_both(texts)) as session:
-            prompt = Prompt(lambda: session, None, completer(), printed.append, superusers=Superusers({b"root": 0}), answers=answers,
+            prompt = Prompt(lambda: session, completer(), printed.append, superusers=Superusers({b"root": 0}), answers=answers,
                             beside=beside_of(13))
             prompt.noted.add(ALONE)
             for line in lines:

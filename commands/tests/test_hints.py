@@ -11,11 +11,12 @@ import unittest
 from typing import Callable, Dict, List, Optional, Set
 from unittest import mock
 
+import help_text
 from common import COMMANDS, HERE
 
 sys.path.insert(0, COMMANDS)
 
-from facl_commands.ask import manual  # noqa: E402
+from facl_commands.ask.manual import read_page  # noqa: E402
 from facl_commands.base.programs import LINUX  # noqa: E402
 from facl_commands.model.people import People  # noqa: E402
 from facl_commands.model.snapshot import read_snapshot  # noqa: E402
@@ -42,12 +43,11 @@ def units_of(lines: bytes) -> List[Unit]:
 
 def options_of_manual() -> Dict[bytes, Set[bytes]]:
     """The options that synopses and tags of each tool name."""
-    with open(next(filter(os.path.exists, manual.PLACES)), encoding="utf-8") as file:
-        (_, lines), = [it for it in manual.cut(file.read().splitlines(), "SH") if it[0] == "TOOLS"]
+    (_, lines), = [it for it in help_text.cut(help_text.page_lines(), "SH") if it[0] == "TOOLS"]
     found: Dict[bytes, Set[bytes]] = {}
-    for head, part in manual.cut(lines, "SS"):
+    for head, part in help_text.cut(lines, "SS"):
         tags = [line for above, line in zip([".TP", *part], part) if above in (".TP", ".TQ")]
-        words = re.findall(r"(?<![\w-])--?[A-Za-z][A-Za-z-]*", " ".join(map(manual.line_text, tags)))
+        words = re.findall(r"(?<![\w-])--?[A-Za-z][A-Za-z-]*", " ".join(map(help_text.line_text, tags)))
         options = found.setdefault(head.split(" ")[0].encode(), set())
         options.update(it.encode() for word in words for it in ([word] if word[1] == "-" else ["-" + letter for letter in word[1:]]))
     return found
@@ -118,9 +118,7 @@ class Rows(Asked):
                          options_of_manual())
 
     def test_synopses_are_those_of_the_manual(self) -> None:
-        page = manual.find_page()
-        assert page is not None
-        for name, wanted in ((name.encode(), " | ".join(tool.synopses).encode()) for name, tool in page.tools.items()):
+        for name, wanted in ((name.encode(), " | ".join(tool.synopses).encode()) for name, tool in read_page().tools.items()):
             if name not in (b"load", b"getfacl", b"setfacl", b"chacl"):
                 self.assertEqual(hint.synopsis(name), wanted)
         self.assertEqual(hint.synopsis(b"getfacl"), b"getfacl [-aceEsRn] FILE..")

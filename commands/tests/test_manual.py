@@ -8,11 +8,12 @@ import sys
 import unittest
 from typing import Dict, List, Tuple
 
+import help_text
 from common import COMMANDS, HERE, Case
 
 sys.path.insert(0, COMMANDS)
 
-from facl_commands.ask import manual  # noqa: E402
+from facl_commands.ask.manual import HELP, read_page  # noqa: E402
 from facl_commands.base.programs import LINUX  # noqa: E402
 from facl_commands.program.session import Session  # noqa: E402
 
@@ -77,15 +78,16 @@ LEFT_OUT = (b"getfacl -d srv", b"getfacl -t srv", b"getfacl -p srv", b"getfacl -
 NO_TOOLS = (b"chown", b"chgrp", b"mkdir", b"touch", b"mv", b"cp", b"ln", b"groupadd", b"groupdel", b"groupmod")
 
 
-def page() -> manual.Page:
-    found = manual.find_page()
-    assert found is not None
-    return found
-
-
 def words_of(text: str) -> str:
     """A text without its line ends and indentation."""
     return re.sub(r"\s+", " ", text)
+
+
+class Help(unittest.TestCase):
+    def test_what_the_prompt_shows_is_the_page(self) -> None:
+        """Else commands/tests/help_text.py makes it."""
+        with open(HELP, encoding="utf-8") as file:
+            self.assertEqual(file.read(), help_text.help_text())
 
 
 class Messages(Case):
@@ -96,12 +98,12 @@ class Messages(Case):
                     self.assertEqual(session.ask(line + b"\n").messages, [message])
 
     def test_the_page_has_them(self) -> None:
-        text = words_of(page().sections["messages"])
+        text = words_of(read_page().sections["messages"])
         for message in MESSAGES.values():
             self.assertIn(text_of(message), text)
 
     def test_the_page_has_what_the_program_can_print(self) -> None:
-        text = words_of(page().sections["messages"])
+        text = words_of(read_page().sections["messages"])
         literals: List[str] = []
         for name in ("fault.rt", "message.rt", "reserved_message.rt", "run_fault.rt"):
             with open(os.path.join(REPOSITORY, "crates", "facl_output", "src", name), encoding="utf-8") as file:
@@ -144,7 +146,7 @@ def text_of(message: bytes) -> str:
 
 class Notes(unittest.TestCase):
     def test_each_difference_has_both_sides(self) -> None:
-        sides = re.findall(r" (There|Here): ", words_of(page().sections["notes"]))
+        sides = re.findall(r" (There|Here): ", words_of(read_page().sections["notes"]))
         self.assertGreater(len(sides), 40)
         self.assertEqual(sides, ["There", "Here"] * (len(sides) // 2))
 
@@ -154,7 +156,7 @@ class Notes(unittest.TestCase):
                 self.assertEqual((line, session.ask(line + b"\n").messages), (line, [line.split()[0] + b": usage"]))
             for tool in NO_TOOLS:
                 self.assertEqual(session.ask(tool + b" srv\n").messages, [b"facl: unknown tool"])
-        text = page().sections["notes"]
+        text = read_page().sections["notes"]
         for tool in NO_TOOLS:
             self.assertIn(tool.decode(), text)
 

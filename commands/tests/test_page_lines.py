@@ -13,10 +13,10 @@ from typing import Dict, List, Tuple
 
 from common import COMMANDS, Case
 from examples import read_lines
+from help_text import plain
 
 sys.path.insert(0, COMMANDS)
 
-from facl_commands.ask import manual  # noqa: E402
 from facl_commands.base.programs import ACL5  # noqa: E402
 from facl_commands.program.session import Session  # noqa: E402
 
@@ -32,11 +32,11 @@ def tagged(start: str, end: str) -> List[Tuple[str, str]]:
     text = "\n".join(read_lines("docs/facl.1"))
     part = text[text.index(start) : text.index(end, text.index(start))]
     found = re.findall(r"^\.TP\n\\fB(.*)\\fR\n((?:(?!\.TP|\.RE).*\n)+)", part + "\n", re.MULTILINE)
-    return [(manual.plain(line), body) for line, body in found]
+    return [(plain(line), body) for line, body in found]
 
 
 def bold(text: str) -> List[str]:
-    return [manual.plain(found.replace("\n", " ")) for found in re.findall(r"\\fB(.*?)\\fR", text, re.DOTALL)]
+    return [plain(found.replace("\n", " ")) for found in re.findall(r"\\fB(.*?)\\fR", text, re.DOTALL)]
 
 
 def is_line(text: str) -> bool:

@@ -89,7 +89,7 @@ def quoted(word: str, is_whole: bool) -> str:
 class Completer:
     """Completes words over a snapshot."""
 
-    def __init__(self, page: Optional[Page], passwd: bytes, group: bytes, dump: Callable[[], bytes],
+    def __init__(self, page: Page, passwd: bytes, group: bytes, dump: Callable[[], bytes],
                  more: List[str]) -> None:
         self.page = page
         self.users = [written(row[0]) for row in rows_of(passwd)]
@@ -117,8 +117,7 @@ class Completer:
             return (word + " " for word in [*TOOL_WORDS, *self.more] if word.startswith(started.word))
         tool = started.before[0]
         if tool == b"help":
-            topics = [*self.page.tools, *self.page.sections] if self.page else []
-            return (topic for topic in topics if topic.startswith(started.word))
+            return (topic for topic in [*self.page.tools, *self.page.sections] if topic.startswith(started.word))
         if started.word.startswith("-") and b"--" not in started.before:
             return self.options(tool, started.word)
         return self.values(kind_of(started.before), started.word)

@@ -1,25 +1,11 @@
-"""The manual page of the program, as plain text: its sections, and the synopses and the text of each tool."""
+"""The manual page of the program as plain text: help.json, which commands/tests/help_text.py makes of docs/facl.1."""
 from __future__ import annotations
 
-import gzip
+import json
 import os
-import re
-import shlex
-import textwrap
-from typing import Dict, List, NamedTuple, Optional, Tuple
+from typing import Dict, List, NamedTuple
 
-from ..base.environment import HOME
-
-WIDTH = 78
-STEP = 4  # Blanks of one indentation.
-PLACES = (  # Beside the repository's commands, and beside installed ones.
-    os.path.join(HOME, "..", "docs", "facl.1"),
-    os.path.join(HOME, "..", "..", "share", "man", "man1", "facl.1"),
-    os.path.join(HOME, "..", "..", "share", "man", "man1", "facl.1.gz"),
-)
-ESCAPES = {r"\-": "-", r"\e": "\\", r"\(aq": "'", r"\ ": " "}  # All others print nothing.
-ESCAPE = re.compile(r"\\(?:\(aq|f[BIRP]|[-e& ])")
-ALTERNATING = ("BR", "RB", "IR", "RI", "BI", "IB")
+HELP = os.path.join(os.path.dirname(os.path.realpath(__file__)), "help.json")
 
 
 class ToolPage(NamedTuple):
@@ -34,78 +20,12 @@ class Page(NamedTuple):
     tools: Dict[str, ToolPage]
 
 
-def plain(text: str) -> str:
-    """Text of the page without its escapes."""
-    return ESCAPE.sub(lambda found: ESCAPES.get(found[0], ""), text)
+def text_of(lines: List[str]) -> str:
+    return "".join(line + "\n" for line in lines)
 
 
-def line_text(line: str) -> str:
-    """The text of a line, with or without a macro for fonts."""
-    if not line.startswith("."):
-        return plain(line)
-    macro, _, rest = line[1:].partition(" ")
-    lexer = shlex.shlex(rest, posix=True)
-    lexer.whitespace_split, lexer.commenters, lexer.escape, lexer.quotes = True, "", "", '"'
-    return ("" if macro in ALTERNATING else " ").join(map(plain, lexer))
-
-
-def render(lines: List[str]) -> str:
-    """Lines of the page as plain text, with filled paragraphs."""
-    found: List[str] = []
-    words: List[str] = []
-    indent = outer = 0  # Of the paragraph that is being filled, and of the lines outside a list.
-    is_literal = is_tag = False
-    for line in [*lines, ".fi"]:
-        macro = line[1:].split(" ")[0] if line.startswith(".") else ""
-        is_text = macro in ("", "B", "I", *ALTERNATING)
-        if is_text and is_literal:
-            found.append(" " * indent + line_text(line))
-            continue
-        words += [line_text(line)] * is_text
-        if is_text and not is_tag:
-            continue
-        blanks = " " * indent
-        found += textwrap.wrap(" ".join(words), WIDTH, initial_indent=blanks, subsequent_indent=blanks,
-                               break_long_words=False, break_on_hyphens=False)
-        words = []
-        found += [""] * (macro in ("TP", "PP", "IP", "SS") and found[-1:] not in ([], [""]))
-        found += [line_text(line)] * (macro == "SS")
-        outer += STEP * ((macro == "RS") - (macro == "RE"))
-        indent = outer + STEP * is_tag if macro not in ("nf", "fi") else indent
-        is_tag = macro in ("TP", "TQ")
-        is_literal = macro == "nf" or is_literal and macro != "fi"
-    return "\n".join(found).strip("\n") + "\n"
-
-
-def cut(lines: List[str], macro: str) -> List[Tuple[str, List[str]]]:
-    """The parts that start at a macro, with its argument; what is before the first one is left out."""
-    parts: List[Tuple[str, List[str]]] = []
-    for line in lines:
-        if line.startswith("." + macro + " "):
-            parts.append((line_text(line).strip('"'), [line]))
-        elif parts:
-            parts[-1][1].append(line)
-    return parts
-
-
-def tools_of(lines: List[str]) -> Dict[str, ToolPage]:
-    """The tools of the section TOOLS; one may have several heads, one after another."""
-    found: Dict[str, Tuple[List[str], List[str]]] = {}
-    for head, part in cut(lines, "SS"):
-        heads, text = found.setdefault(head.split(" ")[0], ([], []))
-        heads += head.split(" | ") if head.count(" | ") and head.count(head.split(" ")[0] + " ") > 1 else [head]
-        text += part
-    return {name: ToolPage(heads, render(text)) for name, (heads, text) in found.items()}
-
-
-def find_page() -> Optional[Page]:
-    """The page, where it is beside the commands."""
-    place = next(filter(os.path.exists, PLACES), None)
-    if place is None:
-        return None
-    with open(place, "rb") as file:
-        content = file.read()
-    text = (gzip.decompress(content) if place.endswith(".gz") else content).decode("utf-8")
-    sections = {head.lower(): part for head, part in cut(text.splitlines(), "SH")}
-    shown = {name: name.upper() + "\n" + render(part[1:]) for name, part in sections.items()}
-    return Page(shown, tools_of(sections.get("tools", [])))
+def read_page() -> Page:
+    with open(HELP, encoding="utf-8") as file:
+        found = json.load(file)
+    return Page({name: text_of(lines) for name, lines in found["sections"].items()},
+                {name: ToolPage(its["synopses"], text_of(its["text"])) for name, its in found["tools"].items()})

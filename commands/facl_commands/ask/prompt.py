@@ -17,7 +17,6 @@ from ..program.scripts import LINE_LIMIT, Unit, is_empty, read_units, words_of
 from ..program.session import Answer, Session
 from ..program.tools import EMPTY_ANSWERS, MAKERS, QUESTIONS, REACH, REMOVERS, REQUESTS
 from .completion import Completer
-from .manual import Page
 from .stops import marked
 
 Read = Callable[[str], str]  # Reads a line, after a prompt; raises EOFError and KeyboardInterrupt.
@@ -34,19 +33,15 @@ class Prompt:
     """A session with a person."""
 
     def __init__(
-        self, start: Callable[[], Session], page: Optional[Page], completer: Completer, out: Callable[[bytes], None],
+        self, start: Callable[[], Session], completer: Completer, out: Callable[[bytes], None],
         dim: Callable[[bytes], bytes] = bytes, superusers: Optional[Superusers] = None, marks: Marks = NO_MARKS,
         answers: Optional[ElseAnswers] = None, beside: Sequence[bytes] = (),
     ) -> None:
-        self.start, self.marks = start, marks
+        self.start, self.session, self.completer, self.out, self.marks = start, start(), completer, out, marks
         self.superusers = superusers or Superusers({})
         self.answers, self.beside = answers, beside  # Of a session with everybody else; and what is said beside that user.
         self.dim = dim  # How a line is written that is beside the answers.
         self.noted: Set[bytes] = set()  # What was said once.
-        self.session = start()
-        self.page = page
-        self.completer = completer
-        self.out = out
         self.number = 0  # Of the person's last line.
         self.accepted: List[bytes] = []  # Lines that changed something, with their texts.
         self.waiting: List[str] = []  # Lines that were pasted at once.
@@ -169,18 +164,15 @@ class Prompt:
                 change(read_path(word))
 
     def help(self, words: List[bytes]) -> None:
-        topic = b" ".join(words).decode("utf-8", "replace")
-        if self.page is None:
-            text = "The manual page is not beside this command: man facl\n"
-        elif not topic:
-            synopses = "".join("    " + it + "\n" for tool in self.page.tools.values() for it in tool.synopses)
-            topics = [it for it in self.page.sections if it not in ("name", "synopsis", "see also", "options")]
-            text = KEYS + "\nTools:\n" + synopses + "\nTopics: " + ", ".join(topics) + "\n"
-        elif topic in self.page.tools:
-            text = self.page.tools[topic].text
+        topic, page = b" ".join(words).decode("utf-8", "replace"), self.completer.page
+        if topic in page.tools:
+            text = page.tools[topic].text
+        elif topic:
+            text = page.sections.get(topic.lower(), "There is no tool and no section of this name: `help` lists them.\n")
         else:
-            text = self.page.sections.get(topic.lower(),
-                                          "There is no tool and no section of this name: `help` lists them.\n")
+            synopses = "".join("    " + it + "\n" for tool in page.tools.values() for it in tool.synopses)
+            topics = [it for it in page.sections if it not in ("name", "synopsis", "see also", "options")]
+            text = KEYS + "\nTools:\n" + synopses + "\nTopics: " + ", ".join(topics) + "\n"
         self.out(text.encode())
 
 

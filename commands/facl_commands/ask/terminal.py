@@ -5,8 +5,7 @@ import contextlib
 import importlib
 import os
 import stat
-from types import ModuleType
-from typing import Any, Iterator, Optional
+from typing import Any, Iterator
 
 from ..base import trusted
 from ..base.messages import Failure
@@ -17,17 +16,12 @@ from .prompt import Read
 HISTORY = ".facl_history"
 
 
-def find_toolkit() -> Optional[ModuleType]:
-    """prompt_toolkit, which Debian has as python3-prompt-toolkit."""
+def find_toolkit() -> Any:
+    """prompt_toolkit, which Debian has as python3-prompt-toolkit, with what it imports itself; else None."""
     try:
         return importlib.import_module("prompt_toolkit")
     except ImportError:
         return None
-
-
-def part(name: str) -> Any:
-    """A part of prompt_toolkit; it comes without types where it is not installed."""
-    return importlib.import_module("prompt_toolkit." + name)
 
 
 def has_history(home: str) -> bool:
@@ -52,36 +46,31 @@ def has_history(home: str) -> bool:
         return is_own
 
 
-def history() -> Any:
+def history(toolkit: Any) -> Any:
     """The lines of earlier sessions, in a file of the user's own; in memory where they cannot be kept there."""
-    home = os.path.expanduser("~")
-    if not has_history(home):
-        return part("history").InMemoryHistory()
-    return part("history").FileHistory(os.path.join(home, HISTORY))
+    home, kinds = os.path.expanduser("~"), toolkit.history
+    return kinds.FileHistory(os.path.join(home, HISTORY)) if has_history(home) else kinds.InMemoryHistory()
 
 
-def completer_of(known: Completer) -> Any:
+def completer_of(toolkit: Any, known: Completer) -> Any:
     """A completer of prompt_toolkit that calls ours."""
 
     def get_completions(_self: object, document: Any, _event: object) -> Iterator[Any]:
         line = document.text_before_cursor
         start, words = known.complete(line)
         for word in words:
-            yield part("completion").Completion(word, start_position=start - len(line))
+            yield toolkit.completion.Completion(word, start_position=start - len(line))
 
-    return type("FaclCompleter", (part("completion").Completer,), {"get_completions": get_completions})()
+    return type("FaclCompleter", (toolkit.completion.Completer,), {"get_completions": get_completions})()
 
 
 def reader(known: Completer) -> Read:
     """Reads lines by prompt_toolkit, else by Python's own readline, without completion."""
-    toolkit: Any = find_toolkit()
+    toolkit = find_toolkit()
     if toolkit is None:
         with contextlib.suppress(ImportError):  # Lines are read without a history then.
             importlib.import_module("readline")
         return input
-    session = toolkit.PromptSession(history=history(), completer=completer_of(known), complete_while_typing=False)
-
-    def read(prompt: str) -> str:
-        return str(session.prompt(prompt))
-
-    return read
+    session = toolkit.PromptSession(history=history(toolkit), completer=completer_of(toolkit, known),
+                                    complete_while_typing=False)
+    return lambda prompt: str(session.prompt(prompt))
