@@ -32,7 +32,7 @@ COMMANDS_APART: Dict[str, str] = {
     "man": "by hand",
 }
 LIVE = ("facl-snapshot", "facl-apply", "getfacl", "setfacl", "ls")
-PARALLEL = re.compile(r"facl-ask .*--(each|hosts)\b")
+OF_SEVERAL = re.compile(r"facl-ask .*--(each|hosts)\b")
 PROGRAM = re.compile(r"(?:^|[|;&] *)([\w./-]+)")
 MADE = re.compile(r"(?:([\w.-]+) /|>([\w.-]+))")  # What facl-snapshot or a shell makes.
 REAL_TREE = """\
@@ -145,9 +145,7 @@ class Runner:
         first = command.partition("\n")[0]
         if first.split(" ")[0] in COMMANDS_APART:
             return COMMANDS_APART[first.split(" ")[0]]
-        if PARALLEL.search(first) and not shutil.which("parallel"):
-            return "GNU parallel is not installed"
-        if PARALLEL.search(first) and not self.is_real and not why_no_tree():
+        if OF_SEVERAL.search(first) and not self.is_real and not why_no_tree():
             return "takes long, and is run over the real tree"
         live = set(PROGRAM.findall(first)) & set(LIVE)
         if live and not self.is_real:

@@ -41,7 +41,7 @@ UNKNOWN = (b"the directories above are not recorded, so they are taken as open; 
 
 def completer(folder: bytes = SHARE) -> completion.Completer:
     texts = overview.read_texts(folder)
-    return completion.Completer(manual.find_page(), texts.passwd, texts.group, lambda: texts.dump, WORDS_OF_PROMPT)
+    return completion.Completer(manual.read_page(), texts.passwd, texts.group, lambda: texts.dump, WORDS_OF_PROMPT)
 
 
 class AsTheProgram(Case):
@@ -81,8 +81,6 @@ class AsTheProgram(Case):
             (["script", "refused"], "2>/dev/full", 2, b""), (["--each"], "<&-", 0, b""), (["--part"], "<&- >&-", 2, b"facl-ask: Bad file descriptor\n"),
         ]
         for words, how, status, messages in cases:
-            if words == ["--each"] and not shutil.which("parallel"):
-                continue
             command = ["sh", "-c", 'exec "$@" ' + how, "sh", *start, *words]
             done = subprocess.run(command, cwd=self.folder, stdin=subprocess.DEVNULL, capture_output=True, check=False)
             self.assertEqual((done.returncode, done.stderr), (status, messages), (words, how))
@@ -266,9 +264,7 @@ other::r--
 
 class Manual(unittest.TestCase):
     def setUp(self) -> None:
-        page = manual.find_page()
-        assert page is not None
-        self.page = page
+        self.page = manual.read_page()
 
     def test_each_tool_is_completed_and_has_help(self) -> None:
         self.assertEqual(set(self.page.tools), set(completion.TOOL_WORDS))
@@ -405,7 +401,7 @@ class Prompts(unittest.TestCase):
     def prompt(self) -> Prompt:
         self.printed: List[bytes] = []
         known = completer()
-        prompt = Prompt(lambda: Session(LINUX.find(), SHARE), known.page, known, self.printed.append,
+        prompt = Prompt(lambda: Session(LINUX.find(), SHARE), known, self.printed.append,
                         lambda line: b"~" + line, Superusers(self.without))
         prompt.noted.update(self.noted)
         self.addCleanup(prompt.close)

@@ -1,4 +1,4 @@
-"""facl-snapshot --split, with users of its own; facl-ask --each, by GNU parallel, beside one session; and --hosts."""
+"""facl-snapshot --split, with users of its own; facl-ask --each beside one session; and --hosts."""
 from __future__ import annotations
 
 import os
@@ -20,6 +20,8 @@ sys.path.insert(0, COMMANDS)
 
 from facl_commands.ask.parts import agreement, counts, join, worker  # noqa: E402
 from facl_commands.ask.parts import hosts as servers  # noqa: E402
+from facl_commands.ask.parts.runs import HERE as THIS  # noqa: E402
+from facl_commands.ask.parts.runs import Part, Server  # noqa: E402
 from facl_commands.base.messages import Failure  # noqa: E402
 from facl_commands.base.names import path_order, read_path  # noqa: E402
 from facl_commands.base.programs import LINUX  # noqa: E402
@@ -32,6 +34,11 @@ from facl_commands.program.session import LINE_ROOM, OutputSlice, Session  # noq
 def without_else(answers: bytes) -> bytes:
     """Answers without the lines about everybody else."""
     return b"".join(line for line in answers.splitlines(True) if b"everybody else" not in line)
+
+
+def part_of(label: bytes, users: Dict[str, int], groups: Dict[str, int], files: OutputSlice) -> Part:
+    """What a snapshot writes that records these."""
+    return Part(label, worker.Head(label, users, groups, [], [], 0, [], files.end - files.start), files, {})
 
 
 class Split(Case):
@@ -161,7 +168,7 @@ class Joined(unittest.TestCase):
             file.write(b"".join(blocks))
             file.flush()
             ends = [0, len(blocks[0]), len(blocks[0] + blocks[1])]
-            parts = [agreement.RecordedPart(b"", {}, {}, OutputSlice(file, start, end)) for start, end in zip(ends, ends[1:])]
+            parts = [part_of(b"", {}, {}, OutputSlice(file, start, end)) for start, end in zip(ends, ends[1:])]
             self.assertEqual(agreement.files_of_several(parts), [b"srv", b"srv/b"])
 
     def test_reasons_are_in_path_order(self) -> None:
@@ -172,21 +179,21 @@ class Joined(unittest.TestCase):
 class Agreement(unittest.TestCase):
     """What two snapshots may not have if they are parts of one tree."""
 
-    def recorded(self, label: bytes, files: Dict[bytes, bytes], users: Dict[str, int], groups: Dict[str, int]) -> agreement.RecordedPart:
+    def recorded(self, label: bytes, files: Dict[bytes, bytes], users: Dict[str, int], groups: Dict[str, int]) -> Part:
         file = tempfile.TemporaryFile()
         self.addCleanup(file.close)
         file.write(b"".join(b"# file: " + name + b"\n" + body + b"\n" for name, body in files.items()))
         file.flush()
         size = file.tell()
-        blocks = b"".join(agreement.blocks_of([OutputSlice(file, 0, size)]))
+        blocks = b"".join(worker.blocks_of([OutputSlice(file, 0, size)]))
         file.write(blocks)
         file.flush()
-        return agreement.RecordedPart(label, users, groups, OutputSlice(file, size, size + len(blocks)))
+        return part_of(label, users, groups, OutputSlice(file, size, size + len(blocks)))
 
     def expect(self, wanted: Optional[bytes], first: Dict[bytes, bytes], second: Dict[bytes, bytes], users: Dict[str, int] = {},
                groups: Dict[str, int] = {}) -> None:
         parts = [self.recorded(b"a", first, {"ines": 1, "ben": 2}, {"staff": 5}), self.recorded(b"b", second, users, groups)]
-        self.assertEqual(agreement.disagreement(parts), wanted)
+        self.assertEqual(agreement.differing_file(parts) or agreement.differing_id(parts), wanted)
 
     def test_files(self) -> None:
         one, two = b"user::rwx\n", b"user::rw-\n"
@@ -237,18 +244,15 @@ class Servers(Case):
 
     def test_words(self) -> None:
         self.assertEqual(servers.read_servers([b"srva:mon", b"me@srvb:/b c", b"localhost:x:y"]),
-                         [servers.Server(b"srva", b"mon"), servers.Server(b"me@srvb", b"/b c"), servers.Server(b"localhost", b"x:y")])
-        self.assertEqual([it.host() for it in servers.read_servers([b"srva:mon", b"localhost:x"])], [b"srva", b":"])
+                         [Server(b"srva", b"srva", b"mon"), Server(b"me@srvb", b"me@srvb", b"/b c"), Server(b"localhost", THIS, b"x:y")])
         for word, text in ((b"-oProxyCommand=x:mon", b"NAME starts with a letter"), (b"me@-F:x", b"NAME starts with a letter"),
-                           (b"mon", b"a server is NAME:DIR"), (b"srva:", b"parallel cannot"), (b"srva:a\nb", b"parallel cannot"),
-                           (b"srva::::", b"parallel cannot"), (b"srva:fri", b"is the second snapshot of srva")):
+                           (b"mon", b"a server is NAME:DIR"), (b"srva:fri", b"is the second snapshot of srva")):
             with self.assertRaises(Failure) as caught:
                 servers.read_servers([b"srva:mon", word] if b"second" in text else [word])
             self.assertIn(text, caught.exception.text)
         self.assertEqual(self.run_command("facl-ask", ["--hosts", "--each", "a:b"]).status, 2)
 
     @outside_the_gate
-    @unittest.skipUnless(shutil.which("parallel"), "GNU parallel is not installed")
     def test_answers(self) -> None:
         shutil.copytree(self.path("before"), self.path("other"))
         self.write("other/group", self.read("before/group").replace(b"audit:x:400:ben", b"audit:x:400:"))
@@ -257,7 +261,7 @@ class Servers(Case):
                    b"shift\n[ \"$1\" != -- ] || shift\nexec sh -c \"$*\"\n")
         os.chmod(self.path("bin/ssh"), stat.S_IRWXU)
         os.symlink(os.path.join(COMMANDS, "facl-ask"), self.path("bin/facl-ask"))
-        environment = {"PATH": self.path("bin") + ":" + os.environ["PATH"], "PARALLEL_SSH": self.path("bin/ssh")}
+        environment = {"PATH": self.path("bin") + ":" + os.environ["PATH"]}
         script = b"who r srv/share/one\nfrob\ngpasswd -d ben audit\nwho r srv/share/two"
         words = ["--hosts", "srva:" + self.path("before"), "localhost:before", "srvb:" + self.path("other")]
         done = self.run_command("facl-ask", words, script, environment)
@@ -294,8 +298,8 @@ class Files(unittest.TestCase):
         self.expect(b"why --reach ines a b", b"a", b"b")
         self.expect(b"who r a")
         self.expect(b"changes --reach")
-        self.assertEqual(join.hosts_of([b"a", b"host:b", b"./c:d", b"me@host.x:/b c", b"host:e"]),
-                         {b":": [b"a", b"./c:d"], b"host": [b"b", b"e"], b"me@host.x": [b"/b c"]})
+        self.assertEqual([it[1:] for it in join.servers_of([b"a", b"host:b", b"./c:d", b"me@host.x:/b c", b"host:e"])],
+                         [(THIS, b"a"), (THIS, b"./c:d"), (b"host", b"b"), (b"host", b"e"), (b"me@host.x", b"/b c")])
 
 
 class Hosts(Case):
@@ -311,23 +315,21 @@ class Hosts(Case):
             self.assertEqual(self.refused(os.fsdecode(word)), b"facl-ask: " + word + b": a HOST starts with a letter, a digit or _, so "
                              b"that no program takes it for something else\n")
 
-    def test_names(self) -> None:
-        for word, shown in (("a\nb", b"a\\012b"), (":::", b":::"), ("::::", b"::::"), (":::+", b":::+"), ("", b""), ("host:", b"host:"),
-                            ("host:a\nb", b"host:a\\012b")):
-            self.assertEqual(self.refused("before", word), b"facl-ask: " + shown + b": parallel cannot be given a snapshot of this name: rename "
-                             b"the folder\n")
-
     def test_the_environment(self) -> None:
+        """Of what is called, and its words, also those for the shell of another machine."""
         os.mkdir(self.path("bin"))
-        self.write("bin/parallel", b"#!/bin/sh\necho \"$POSIXLY_CORRECT$PYTHONPATH$PYTHONHOME$PARALLEL$LC_ALL\" >&2\nprintf '%s\\n' \"$@\" >&2\nexit 9\n")
-        os.chmod(self.path("bin/parallel"), 0o755)
-        environment = {"PATH": self.path("bin") + ":" + os.environ["PATH"], "POSIXLY_CORRECT": "1", "PYTHONPATH": "x", "PARALLEL": "--dry-run"}
-        done = self.run_command("facl-ask", ["--each", "before"], b"", environment)
-        self.assertEqual(done, Done(2, b"", b"facl-ask: C\n"))
+        self.write("bin/ssh", b"#!/bin/sh\necho \"$POSIXLY_CORRECT$PYTHONPATH$PYTHONHOME$LC_ALL\" \"$@\" >&2\nexit 9\n")
+        os.chmod(self.path("bin/ssh"), 0o755)
+        environment = {"PATH": self.path("bin") + ":" + os.environ["PATH"], "POSIXLY_CORRECT": "1", "PYTHONPATH": "x"}
+        done = self.run_command("facl-ask", ["--each", "host:it's; a"], b"", environment)
+        self.assertEqual((done.status, done.out), (2, b""))
+        self.assertRegex(done.messages, b"^facl-ask: host: C -- host facl-ask --part --everybody=facl-everybody-else-[0-9a-f]+:[0-9]+ "
+                         b"-- 'it'\"'\"'s; a'\n$")
+        self.expect(self.run_command("facl-ask", ["--each", "host:x"], b"", {"PATH": self.path("none")}), 2, b"",
+                    b"facl-ask: ssh: No such file or directory\n")
 
 
 @outside_the_gate
-@unittest.skipUnless(shutil.which("parallel"), "GNU parallel is not installed")
 class Each(Case):
     """Answers of parts are those of one session over the whole."""
 
@@ -479,8 +481,9 @@ class Each(Case):
         self.expect(self.each(b"index\n"), 2, b"", b"facl-ask: 2: the program does not load it: facl: setup: dump: text line 1: permissions missing\n")
 
     def test_odd_names(self) -> None:
-        os.rename(self.path("1"), self.path("o'n e;"))
-        self.assertEqual(self.each(b"may ines r\n", "o'n e;", "2", "3").out, self.run_command("facl-ask", ["before"], b"may ines r\n").out)
+        for old, new in (("1", "o'n e;"), ("2", "a\nb"), ("3", ":::")):
+            os.rename(self.path(old), self.path(new))
+        self.assertEqual(self.each(b"may ines r\n", "o'n e;", "a\nb", ":::").out, self.run_command("facl-ask", ["before"], b"may ines r\n").out)
 
     def test_other_machines(self) -> None:
         os.mkdir(self.path("bin"))
@@ -488,7 +491,7 @@ class Each(Case):
                    % os.fsencode(self.path("called")))
         os.chmod(self.path("bin/ssh"), stat.S_IRWXU)
         os.symlink(os.path.join(COMMANDS, "facl-ask"), self.path("bin/facl-ask"))
-        environment = {"PATH": self.path("bin") + ":" + os.environ["PATH"], "PARALLEL_SSH": self.path("bin/ssh")}
+        environment = {"PATH": self.path("bin") + ":" + os.environ["PATH"]}
         words = ["--each", "--with-root", "1", "machine:" + self.path("2"), "3"]
         done = self.run_command("facl-ask", words, b"index\n", environment)
         self.assertEqual(done._replace(out=without_else(done.out)), self.run_command("facl-ask", ["before"], b"index\n"))

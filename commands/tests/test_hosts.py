@@ -5,14 +5,12 @@ from __future__ import annotations
 import json
 import os
 import re
-import shutil
 import sys
-import time
 import unittest
 from typing import Any, Callable, Dict, Optional, Tuple
 from unittest import mock
 
-from common import COMMANDS, Case, Done, outside_the_gate
+from common import COMMANDS, Case, Done
 
 sys.path.insert(0, COMMANDS)
 
@@ -27,12 +25,6 @@ for word in "$@"; do
     if [ -x '%(folder)s'/machines/"$word" ]; then exec '%(folder)s'/machines/"$word"; fi
 done
 exit 255
-"""
-PARALLEL = b"""\
-#!/bin/sh
-# Plays parallel for one job on another machine.
-while [ "$1" != --sshlogin ]; do shift; done
-exec ssh "$2"
 """
 UNREADABLE = b"an answer cannot be read; facl-ask may be of another version there"
 CUT = b"a snapshot did not answer to the end"
@@ -95,20 +87,17 @@ PROGRAMS: Dict[str, Tuple[bytes, Optional[bytes]]] = {
     "endless": (b"exec tr '\\0' x </dev/zero", TOO_MUCH), "endless_lines": (b"exec yes", TOO_MUCH),
     "endless_messages": (b"cat good.answer; exec tr '\\0' x </dev/zero >&2", TOO_MUCH), "endless_fields": (b"exec yes '{\"size\": 7}'", TOO_MUCH),
     "says_no": (b"echo 'facl-ask: no snapshot' >&2; exit 2", b"no snapshot"), "says_much": (b"tr '\\0' x </dev/zero | head -c 500000 >&2; exit 2", b"x" * 10_000),
-    "nothing": (b"cat >/dev/null", b"1 of 1 snapshots did not answer"), "fails": (b"cat good.answer; exit 1", b""), "dies": (b"head -c 300 good.answer; kill -9 $$", b""),
+    "nothing": (b"cat >/dev/null", b"1 of 1 snapshots did not answer"), "fails": (b"cat good.answer; exit 1", b"facl-ask ended with status 1"),
+    "dies": (b"head -c 300 good.answer; kill -9 $$", b"facl-ask ended with status 137"),
 }
 
 
 class WrongServers(Case):
-    real = False  # Whether GNU parallel runs ssh.
-
     def setUp(self) -> None:
         super().setUp()
         for name in ("bin", "machines", "temporary"):
             os.mkdir(self.path(name))
         self.executable("bin/ssh", SSH % {b"folder": os.fsencode(self.folder)})
-        if not self.real:
-            self.executable("bin/parallel", PARALLEL)
         self.answer = self.run_command("facl-ask", ["--part", "before"], SCRIPT).out
         self.assertEqual(self.answer[-5:], b"\nend\n")
         self.write("machines/good.answer", self.answer)
@@ -127,6 +116,10 @@ class WrongServers(Case):
 
     def environment(self) -> Dict[str, str]:
         return {"PATH": self.path("bin") + ":" + os.environ["PATH"], "TMPDIR": self.path("temporary")}
+
+    def run_all(self, *names: str) -> Dict[str, runs.Outcome]:
+        servers = [runs.Server(name.encode(), name.encode(), b"DIR") for name in names]
+        return dict(zip(names, runs.run_all(servers, [], SCRIPT)))
 
     def ask(self, *names: str) -> Done:
         return self.run_command("facl-ask", ["--hosts", *(name + ":DIR" for name in names)], SCRIPT, self.environment())
@@ -153,16 +146,16 @@ class WrongServers(Case):
         for name, (body, _) in PROGRAMS.items():
             self.machine(name, body)
         with mock.patch.dict(os.environ, self.environment()), mock.patch.object(runs, "MOST_WRITTEN", MOST_WRITTEN):
-            found = runs.run_hosts({name.encode(): [b"DIR"] for name in ("good", *PROGRAMS)}, [], SCRIPT, self.path("temporary"))
-        self.assertIsInstance(found[b"good"], list)
+            found = self.run_all("good", *PROGRAMS)
+        self.assertIsInstance(found["good"], runs.Part)
         for name, (_, message) in PROGRAMS.items():
-            outcome = found[name.encode()]
+            outcome = found[name]
             if isinstance(outcome, Failure):
                 self.assertIsNotNone(message, (name, outcome))
                 self.assertEqual(outcome.text[: len(message or b"")], message, name)
             else:
                 self.assertIsNone(message, name)
-                self.assertEqual([it.answers for it in outcome][0].keys(), {1, 2, 3, 4})
+                self.assertEqual(outcome.answers.keys(), {1, 2, 3, 4})
 
     def test_one_that_never_answers(self) -> None:
         """The others' answers are given, and nothing of it is left."""
@@ -171,10 +164,7 @@ class WrongServers(Case):
         done = self.run_command("facl-ask", ["--hosts", "--timeout", "2", "silent:DIR", "good:DIR"], SCRIPT, self.environment())
         self.assertEqual((done.status, done.out), (2, good.out))
         self.assertEqual(done.messages.splitlines()[-1], b"silent: did not answer in 2 seconds (--timeout)")
-        last = time.monotonic() + 60  # GNU parallel ends its jobs, and does not wait for them.
-        while os.path.exists("/proc/" + self.read("machines/silent.id").decode().strip()):
-            self.assertLess(time.monotonic(), last)
-            time.sleep(0.02)
+        self.assertFalse(os.path.exists("/proc/" + self.read("machines/silent.id").decode().strip()))
         self.assertEqual(os.listdir(self.path("temporary")), [])
         done = self.run_command("facl-ask", ["--each", "--timeout", "2", "silent:DIR"], SCRIPT, self.environment())
         self.expect(done, 2, b"", b"facl-ask: silent: did not answer in 2 seconds (--timeout)\n")
@@ -187,8 +177,8 @@ class WrongServers(Case):
         self.wrong("wide", b'{"part": "' + b"x" * 100_000 + b'"}\n')
         self.wrong("high", self.answer.replace(b'{"line": 3', b'{"other": "' + b"x" * 100_000 + b'", "line": 3'))
         with mock.patch.dict(os.environ, self.environment()), mock.patch.object(runs, "MOST_READ", 90_000):
-            found = runs.run_hosts({name: [b"DIR"] for name in (b"good", b"wide", b"high")}, [], SCRIPT, self.path("temporary"))
-        self.assertIsInstance(found.pop(b"good"), list)
+            found = self.run_all("good", "wide", "high")
+        self.assertIsInstance(found.pop("good"), runs.Part)
         for outcome in found.values():
             assert isinstance(outcome, Failure)
             self.assertEqual(outcome.text, b"its answer has more than 16,777,216 bytes beside what the program printed")
@@ -202,16 +192,9 @@ class WrongServers(Case):
             self.assertEqual((done.status, done.messages.splitlines()[-1]), (2, b"facl-ask: " + machine + (CUT if name in CUTS else UNREADABLE)))
 
     def test_a_worker_is_killed(self) -> None:
-        if self.real:
-            self.executable("killer", b"#!/bin/sh\nkill -9 $PPID\n")
-            done = self.run_command("facl-ask", ["--each", "--program", self.path("killer"), "before", "before"], SCRIPT, self.environment())
-            self.assertEqual((done.status, done.out, b"Traceback" in done.messages), (2, b"", False), done)
-
-
-@outside_the_gate
-@unittest.skipUnless(shutil.which("parallel"), "GNU parallel is not installed")
-class WithParallel(WrongServers):
-    real = True
+        self.executable("killer", b"#!/bin/sh\nkill -9 $PPID\n")
+        done = self.run_command("facl-ask", ["--each", "--program", self.path("killer"), "before", "before"], SCRIPT, self.environment())
+        self.expect(done, 2, b"", b"facl-ask: facl-ask ended with status 137\n")
 
 
 if __name__ == "__main__":

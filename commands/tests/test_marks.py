@@ -315,9 +315,8 @@ class ByListsAlone(MarkedCase):
     def test_several_snapshots(self) -> None:
         self.mark_some()
         for words in (["--each", "project"], ["--hosts", "localhost:project"]):
-            if shutil.which("parallel"):
-                said = self.SAID.partition(b": ")[2]
-                self.assertIn(said, self.run_command("facl-ask", words, b"who w srv/project/README\n").messages)
+            said = self.SAID.partition(b": ")[2]
+            self.assertIn(said, self.run_command("facl-ask", words, b"who w srv/project/README\n").messages)
 
 
 class OnPages(MarkedCase):

@@ -5,7 +5,7 @@ usage: tools/check.py each PROGRAM [--files N] [--users N] [--parts N] [--index]
 The tree is that of tools/lib/texts.py, 50,000 files and 20 users in five snapshots where nothing is given. It prints
 the seconds of each answer and the most memory, and compares each answer with that of one session where one takes the
 tree. --index asks for the index too, whose lines are files times users. With --split the tree is a real one with lists,
-and facl-snapshot --split makes the snapshots; that needs the packages acl and parallel, and a file system with lists.
+and facl-snapshot --split makes the snapshots; that needs the package acl, and a file system with lists.
 It makes a folder of its own in FOLDER (/tmp), and removes it. The exit status is 1 where an answer is another one, a
 snapshot has too many files or a command fails, 2 where the words are others.
 """
@@ -110,7 +110,7 @@ def make_real_tree(top: str) -> None:
 
 def split(_: argparse.Namespace, work: str) -> List[bool]:
     """The same of a real tree, by OF_REAL_TREE."""
-    if missing := [tool for tool in ("setfacl", "getfacl", "parallel") if not shutil.which(tool)]:
+    if missing := [tool for tool in ("setfacl", "getfacl") if not shutil.which(tool)]:
         raise Failed(f"{missing[0]} is not installed")
     tree, one, parts, whole, joined = (os.path.join(work, name) for name in ("tree", "one", "parts", "whole", "joined"))
     make_real_tree(tree)

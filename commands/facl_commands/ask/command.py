@@ -45,12 +45,12 @@ SNAPSHOT may be a folder with passwd, group and dump alone. A dump can be given 
 SNAPSHOT. What such a dump cannot tell is said on standard error.
 
 With --each all words are SNAPSHOTs, of parts of one tree, as facl-snapshot --split makes them; HOST:DIR is one on
-another machine. They answer standard input side by side, by GNU parallel, and the answers are joined in the order of
-paths. A line that edits is taken where all its files lie in one of them.
+another machine. They answer standard input side by side, and the answers are joined in the order of paths. A line
+that edits is taken where all its files lie in one of them.
 
 With --hosts all words are servers, NAME:DIR, each with a snapshot DIR of its own. They answer standard input side by
-side, by GNU parallel and ssh, and each line of an answer and each message begins with the NAME. localhost is this
-machine. One that does not answer in time has a message, and the others' answers are given.
+side, by ssh, and each line of an answer and each message begins with the NAME. localhost is this machine. One that
+does not answer in time has a message, and the others' answers are given.
 """
 STATUS = """\
 The exit status is that of facl: 0 where every line was accepted, 1 where some line was refused, 2 where it ended
@@ -72,7 +72,8 @@ def parse(words: List[str]) -> argparse.Namespace:
     # With --part: a file that other snapshots have too.
     parser.add_argument("--shared", action="append", default=[], help=argparse.SUPPRESS)
     parser.add_argument("--part", action="store_true", help=argparse.SUPPRESS)  # What --each runs for each of them.
-    parser.add_argument("--everybody", metavar="NAME:ID", help=argparse.SUPPRESS)  # With --part: that user is in answers, too.
+    # With --part: that user is in answers, too.
+    parser.add_argument("--everybody", metavar="NAME:ID", help=argparse.SUPPRESS)
     sources.add_source(parser, words)
     parser.add_argument("scripts", metavar="SCRIPT", nargs="*", default=[])
     return parser.parse_args(words)
@@ -117,24 +118,18 @@ def run_explained(command: Command, program: str, source: Source, name: Optional
     is_terminal = os.isatty(2)
     texts = folder_of(source.folder)
     words, files = texts.command(program)
-    with subprocess.Popen(words, stderr=subprocess.PIPE, pass_fds=files, env=environment_of_called()) as run, ended(run):
+    with subprocess.Popen(words, stderr=subprocess.PIPE, pass_fds=files, env=environment_of_called()) as run:
         assert run.stderr is not None
-        for line in run.stderr:
-            units = units_of_input() if units is None else units
-            command.put(command.messages, shown(line.rstrip(b"\n")) + b"\n" if is_terminal else line)
-            command.explain(explained_by_number(units, line.rstrip(b"\n")))
-            command.put(command.messages)
+        try:
+            for line in run.stderr:
+                units = units_of_input() if units is None else units
+                command.put(command.messages, shown(line.rstrip(b"\n")) + b"\n" if is_terminal else line)
+                command.explain(explained_by_number(units, line.rstrip(b"\n")))
+                command.put(command.messages)
+        except BaseException:  # The program is ended: its script may be a pipe of which nothing comes.
+            run.kill()
+            raise
     return run.returncode if run.returncode >= 0 else 128 - run.returncode
-
-
-@contextlib.contextmanager
-def ended(run: "subprocess.Popen[bytes]") -> Iterator[None]:
-    """A program that is left early is ended: its script may be a pipe of which nothing comes."""
-    try:
-        yield
-    except BaseException:
-        run.kill()
-        raise
 
 
 def become_program(program: str, folder: bytes) -> NoReturn:
@@ -227,7 +222,7 @@ def run_prompt(command: Command, program: str, source: Source, given: argparse.N
     from .prompt import WORDS_OF_PROMPT, Prompt, refuse_early_end
 
     found, about = overview.read_texts(source.folder), meta.meta_of(source.folder)
-    completer = Completer(manual.find_page(), found.passwd, found.group, lambda: found.dump, WORDS_OF_PROMPT)
+    completer = Completer(manual.read_page(), found.passwd, found.group, lambda: found.dump, WORDS_OF_PROMPT)
 
     def out(text: bytes) -> None:
         command.write(text)
@@ -237,7 +232,7 @@ def run_prompt(command: Command, program: str, source: Source, given: argparse.N
     superusers = Superusers({} if given.with_root else ids_in(found.passwd))
     answers = answers_over(source.folder, found.passwd, [])
     texts = texts_with(source.folder, *answers.everybody.with_both(SnapshotTexts(found.passwd, found.group)))
-    prompt = Prompt(lambda: Session(program, source.folder, texts), completer.page, completer, out, dim, superusers,
+    prompt = Prompt(lambda: Session(program, source.folder, texts), completer, out, dim, superusers,
                     marks_of(source.folder), answers, beside(about))
     with kept_terminal(), contextlib.closing(prompt):
         refuse_early_end(prompt.session)

@@ -1,96 +1,53 @@
 """Whether snapshots are parts of one tree: they record no path with different records, and no user or group with
-different ids.
-
-Each part writes what it records (blocks_of): a line for each directory, with the name and a checksum of the record of
-each file in it. Only the lines of directories that several have are read.
-"""
+different ids. Only the lines of directories that several have are read (blocks_of in worker.py)."""
 from __future__ import annotations
 
-from collections import Counter
-from hashlib import blake2b
-from typing import Dict, Iterable, Iterator, List, NamedTuple, Optional, Tuple
+from typing import Dict, Iterator, List, Optional, Tuple
 
-from ...base.names import path_order, read_path, write_name
-from ...model.records import records_in, split_record
+from ...base.messages import Failure
+from ...base.names import live_name, path_order, read_path
 from ...program.session import OutputSlice
-
-SIZE = 16  # Letters of a checksum.
-
-
-class RecordedPart(NamedTuple):
-    """What one snapshot records."""
-
-    label: bytes  # The snapshot, as it was given.
-    users: Dict[str, int]  # Ids by name.
-    groups: Dict[str, int]
-    files: OutputSlice
+from .runs import Part
+from .worker import SIZE
 
 
-def blocks_of(listings: Iterable[OutputSlice]) -> Iterator[bytes]:
-    """The line of each directory, with names as the program prints them."""
-    inside: Dict[bytes, List[bytes]] = {}
-    known: Dict[bytes, bytes] = {}
-    for record in records_in(listings):
-        file, body = split_record(record)
-        checksum = known.get(body)
-        if checksum is None:
-            checksum = known[body] = blake2b(body, digest_size=SIZE // 2).hexdigest().encode()
-        above, _, name = file.rstrip(b"/").rpartition(b"/")
-        inside.setdefault(above, []).append(checksum + name)
-    for above, files in inside.items():
-        yield above + b"\0" + b"\0".join(files) + b"\n"
-
-
-def directories_of(files: OutputSlice) -> Iterator[Tuple[bytes, OutputSlice]]:
-    """The directories, each with its line."""
-    place = files.start
-    for line in files.lines():
-        yield line.partition(b"\0")[0], files._replace(start=place, end=place + len(line))
-        place += len(line) + 1
-
-
-def differing_file(parts: List[RecordedPart]) -> Optional[bytes]:
-    """The first path that two snapshots record differently, and which these are."""
+def shared_files(parts: List[Part]) -> Iterator[Tuple[bytes, List[Tuple[bytes, bytes]]]]:
+    """The paths that several snapshots record, each with the checksums of its records, and the snapshots."""
     lines: Dict[bytes, List[Tuple[bytes, OutputSlice]]] = {}
     for part in parts:
-        for above, line in directories_of(part.files):
-            lines.setdefault(above, []).append((part.label, line))
-    found = [it for above, shared in lines.items() if len(shared) > 1 for it in differences_in(above, shared)]
+        place = part.files.start
+        for line in part.files.lines():
+            its = part.files._replace(start=place, end=place + len(line))
+            lines.setdefault(line.partition(b"\0")[0], []).append((part.label, its))
+            place = its.end + 1
+    for above, shared in lines.items():
+        known: Dict[bytes, List[Tuple[bytes, bytes]]] = {}
+        for label, its in shared if len(shared) > 1 else ():
+            for file in its.read().split(b"\0")[1:]:
+                known.setdefault(file[SIZE:], []).append((file[:SIZE], label))
+        yield from ((read_path(above + b"/" + name), found) for name, found in known.items() if len(found) > 1)
+
+
+def files_of_several(parts: List[Part]) -> List[bytes]:
+    """The paths that several of some snapshots of one tree record, in path order."""
+    return sorted((path for path, _ in shared_files(parts)), key=path_order)
+
+
+def differing_file(parts: List[Part]) -> Optional[bytes]:
+    """The first path that two snapshots record differently, and which these are."""
+    found = [(path, its[0][1], label) for path, its in shared_files(parts)
+             for checksum, label in its if checksum != its[0][0]]
     if not found:
         return None
     path, first, second = min(found, key=lambda it: path_order(it[0]))
-    return b"/" + write_name(path) + b": is recorded differently in " + first + b" and in " + second
+    return live_name(path) + b": is recorded differently in " + first + b" and in " + second
 
 
-def differences_in(above: bytes, shared: List[Tuple[bytes, OutputSlice]]) -> Iterator[Tuple[bytes, bytes, bytes]]:
-    """The paths in a directory that have other records in one snapshot than in another one before it."""
-    known: Dict[bytes, Tuple[bytes, bytes]] = {}
-    for label, line in shared:
-        for file in line.read().split(b"\0")[1:]:
-            checksum, name = file[:SIZE], file[SIZE:]
-            first = known.setdefault(name, (checksum, label))
-            if first[0] != checksum:
-                yield read_path(above + b"/" + name), first[1], label
-
-
-def files_of_several(parts: List[RecordedPart]) -> List[bytes]:
-    """The paths that several of some snapshots of one tree record, in path order."""
-    lines: Dict[bytes, List[OutputSlice]] = {}
-    for part in parts:
-        for above, line in directories_of(part.files):
-            lines.setdefault(above, []).append(line)
-    found: List[bytes] = []
-    for above, shared in lines.items():
-        names = Counter(file[SIZE:] for line in shared if len(shared) > 1 for file in line.read().split(b"\0")[1:])
-        found += [read_path(above + b"/" + name) for name, count in names.items() if count > 1]
-    return sorted(found, key=path_order)
-
-
-def differing_id(parts: List[RecordedPart]) -> Optional[bytes]:
+def differing_id(parts: List[Part]) -> Optional[bytes]:
     """The first name of a user or a group that has two ids, and where."""
     known: Dict[Tuple[str, str], Tuple[int, bytes]] = {}
     for part in parts:
-        for kind, ids in (("user", part.users), ("group", part.groups)):
+        for kind, ids in (("user", part.head.users), ("group", part.head.groups)):
             for name, number in ids.items():
                 first = known.setdefault((kind, name), (number, part.label))
                 if first[0] != number:
@@ -99,6 +56,8 @@ def differing_id(parts: List[RecordedPart]) -> Optional[bytes]:
     return None
 
 
-def disagreement(parts: List[RecordedPart]) -> Optional[bytes]:
-    """Why snapshots are not of one tree; None where they agree."""
-    return differing_file(parts) or differing_id(parts)
+def check_agreement(parts: List[Part]) -> None:
+    """Fails where snapshots are not parts of one tree."""
+    fault = differing_file(parts) or differing_id(parts)
+    if fault is not None:
+        raise Failure(fault + b", so they are no parts of one tree: ask servers by --hosts NAME:DIR..")

@@ -98,45 +98,35 @@ def side_text(granted: Optional[int]) -> bytes:
 # --- where the answers are joined
 
 
-class Form(NamedTuple):
-    """Of the lines of an answer: the place of COUNT, and the number of fields, of which PATH is the last."""
-
-    place: int
-    fields: int
+class Sum(NamedTuple):
+    files: int
+    first: bytes  # Its name.
 
 
-def form_of(unit: Unit) -> Form:
-    fields = ALL[unit.tool()].prints.split()
-    return Form(fields.index("COUNT"), len(fields))
-
-
-class Sum:
-    def __init__(self) -> None:
-        self.count = 0
-        self.first = b""
-
-    def add(self, count: int, name: bytes) -> None:
-        self.count += count
-        names = [it for it in (self.first, name) if it]
-        self.first = min(names, key=lambda it: sorting_key(path_of(it)))
+def fields_of(unit: Unit) -> List[str]:
+    """The fields of the lines of an answer, of which PATH is the last."""
+    return ALL[unit.tool()].prints.split()
 
 
 def sums_of(unit: Unit, answers: List[Tuple[Iterable[bytes], List[bytes]]]) -> Dict[Key, Sum]:
     """The sums of what snapshots answer: of each its lines, and the files that others may have, with their keys. For a
     user a file is counted by the first snapshot that counts it."""
-    place, fields = form_of(unit)
+    fields = fields_of(unit)
+    place = fields.index("COUNT")
     found: Dict[Key, Sum] = {}
     seen: Set[Tuple[bytes, bytes]] = set()
     for lines, shared in answers:
         for line in lines:
-            *words, name = line.split(b" ", fields - 1)
+            *words, name = line.split(b" ", len(fields) - 1)
             key = (*words[:place], *words[place + 1 :])
-            found.setdefault(key, Sum()).add(int(words[place]), name)
+            known = found.get(key, Sum(0, name))
+            first = min(known.first, name, key=lambda it: sorting_key(path_of(it)))
+            found[key] = Sum(known.files + int(words[place]), first)
         for path, key in ((path, tuple(key.split(b" "))) for path, *keys in (it.split(b"\0") for it in shared)
                           for key in keys):
-            found[key].count -= (path, key[-1]) in seen
+            found[key] = found[key]._replace(files=found[key].files - ((path, key[-1]) in seen))
             seen.add((path, key[-1]))
-    return {key: it for key, it in found.items() if it.count}
+    return {key: it for key, it in found.items() if it.files}
 
 
 class Users:
@@ -160,9 +150,9 @@ class Users:
 
 def lines_of_sums(unit: Unit, sums: Dict[Key, Sum], users: Users) -> List[bytes]:
     """The lines in their order: by users, and then by what is before COUNT."""
-    place, places = form_of(unit).place, users.places()
+    place, places = fields_of(unit).index("COUNT"), users.places()
     keys = sorted(sums, key=lambda key: (places.get(read_name(key[-1]), len(places)), key))
-    return [b" ".join([*key[:place], b"%d" % sums[key].count, *key[place:], sums[key].first]) + b"\n" for key in keys]
+    return [b" ".join([*key[:place], b"%d" % sums[key].files, *key[place:], sums[key].first]) + b"\n" for key in keys]
 
 
 def refusal(unit: Unit, messages: List[List[bytes]], lacks: List[List[bytes]]) -> List[bytes]:

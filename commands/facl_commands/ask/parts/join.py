@@ -1,5 +1,4 @@
-"""facl-ask --each: a script over several snapshots side by side, by GNU parallel, with the answers joined in path
-order.
+"""facl-ask --each: a script over several snapshots side by side, with the answers joined in path order.
 
 The snapshots have to be parts of one tree (agreement.py). Each answers the whole script (worker.py). A line is
 then taken where the snapshots agree on it. One that is not taken, since its files lie in several snapshots, may have
@@ -10,9 +9,9 @@ from __future__ import annotations
 import argparse
 import heapq
 import os
+import re
 from typing import Dict, Iterable, Iterator, List, NamedTuple, Optional, Set, Tuple
 
-from ...base import scratch
 from ...base.folders import EXCHANGED
 from ...base.messages import Command, Failure
 from ...base.names import path_order, read_path, sorting_key, write_name
@@ -27,10 +26,11 @@ from ...program.session import OutputSlice, lines_of
 from ...program.tools import (
     ALL, CHANGES_OF_PEOPLE, COUNTING, DEEP, EDITS, LOOK, OF_RECORDS, TEST, options_that, path_in, split,
 )
-from . import agreement, counts
-from .runs import HERE, NOT_READABLE, SECONDS, Answered, Part, part_options, run_hosts
-from .runs import hosts_of as hosts_of
+from . import counts
+from .agreement import check_agreement, files_of_several
+from .runs import HERE, HOST, NOT_READABLE, SECONDS, Answered, Part, Server, part_options, run_all
 
+LIKE_HOST = re.compile(rb"[A-Za-z0-9@._-]+:|-[^/]*:")  # What somebody may have meant for a host.
 SEVERAL = b"its files lie in several snapshots; name those of one in a line of its own"
 Item = Tuple[bytes, int, bytes]  # A path, the number of its snapshot, and what is printed for it.
 
@@ -86,40 +86,33 @@ def join_accepted(unit: Unit, accepted: List[Answered]) -> Joined:
     return Joined(outputs[0].pieces(), messages)
 
 
-class CountsOfParts(NamedTuple):
-    """What the joining of lines that count needs."""
-
-    users: counts.Users
-    fault: bytes  # Why there are no sums; empty where there are.
-
-
-def join_counts(unit: Unit, answers: List[Answered], joining: CountsOfParts) -> Joined:
-    """The sums of the snapshots that have some of the files of a line that counts."""
+def join_counts(unit: Unit, answers: List[Answered], users: counts.Users, fault: bytes) -> Joined:
+    """The sums of the snapshots that have some of the files of a line that counts; none where there is a fault."""
     headers = [it.header for it in answers]
     refusal = counts.refusal(unit, [it.messages for it in headers], [it.lacks for it in headers])
     accepted = [it for it in answers if not it.is_refused()]
     if refusal or not accepted:
         return Joined(iter(()), refusal or headers[0].messages)
-    if joining.fault and len(accepted) > 1:
-        return refused(unit, joining.fault)
+    if fault and len(accepted) > 1:
+        return refused(unit, fault)
     sums = counts.sums_of(unit, [(it.output.lines(), it.header.shared) for it in accepted])
-    return Joined(iter(counts.lines_of_sums(unit, sums, joining.users)), [])
+    return Joined(iter(counts.lines_of_sums(unit, sums, users)), [])
 
 
 def join_all(units: List[Unit], parts: List[Part], dropped: Dict[int, Joined], fault: bytes) -> Dict[int, Joined]:
     """The answers to all lines, of which some are dropped."""
-    users = {name: number for part in parts for name, number in part.head.users.items()}
-    groups = {name: number for part in parts for name, number in part.head.groups.items()}
-    joining = CountsOfParts(counts.Users(users, groups), fault)
+    users = counts.Users({name: number for part in parts for name, number in part.head.users.items()},
+                         {name: number for part in parts for name, number in part.head.groups.items()})
     joined: Dict[int, Joined] = {}
     for unit in units:
-        answer = dropped.get(unit.number)
-        if answer is None:
-            answers = [part.answers[unit.number] for part in parts]
-            answer = join_counts(unit, answers, joining) if unit.is_of(*COUNTING) else join(unit, answers)
-        if not is_refused(answer.messages):
-            joining.users.follow(unit)
-        joined[unit.number] = answer
+        answers = [part.answers[unit.number] for part in parts]
+        if unit.number in dropped:
+            joined[unit.number] = dropped[unit.number]
+        else:
+            is_sum = unit.is_of(*COUNTING)
+            joined[unit.number] = join_counts(unit, answers, users, fault) if is_sum else join(unit, answers)
+        if not is_refused(joined[unit.number].messages):
+            users.follow(unit)
     return joined
 
 
@@ -175,7 +168,8 @@ def without(script: bytes, units: List[Unit], dropped: Set[int]) -> bytes:
 
 
 def say_notices(command: Command, parts: List[Part], is_acl5: bool) -> None:
-    """What the snapshots cannot tell, each of it once, and where acl(5)'s check judges by how many lists Linux grants otherwise."""
+    """What the snapshots cannot tell, each of it once, and where acl(5)'s check judges by how many lists Linux grants
+    otherwise."""
     known: Dict[bytes, bytes] = {}
     for part in parts:
         for text in part.head.unknown:
@@ -185,17 +179,6 @@ def say_notices(command: Command, parts: List[Part], is_acl5: bool) -> None:
     if is_acl5:
         names = {name for part in parts for name in part.head.otherwise}
         command.say(overview.by_acl5(sorted(names, key=lambda name: path_order(read_path(name)))))
-
-
-def recorded_in(parts: List[Part]) -> List[agreement.RecordedPart]:
-    return [agreement.RecordedPart(it.label, it.head.users, it.head.groups, it.files) for it in parts]
-
-
-def check_agreement(parts: List[Part]) -> None:
-    """Fails where snapshots are not parts of one tree."""
-    fault = agreement.disagreement(recorded_in(parts))
-    if fault is not None:
-        raise Failure(fault + b", so they are no parts of one tree: ask servers by --hosts NAME:DIR..")
 
 
 def check_same(known: List[Part], parts: List[Part]) -> None:
@@ -211,42 +194,52 @@ def superusers_of(parts: List[Part], with_root: bool) -> Superusers:
     return Superusers({} if with_root else ids)
 
 
-def run_parts(hosts: Dict[bytes, List[bytes]], options: List[bytes], script: bytes, work: str,
-              seconds: int) -> List[Part]:
+def servers_of(folders: List[bytes]) -> List[Server]:
+    """The snapshots, HOST:DIR, or a folder of this machine; those of one machine follow each other."""
+    found: List[Server] = []
+    for folder in folders:
+        match = None if os.path.exists(folder) else HOST.match(folder)
+        if match is None and LIKE_HOST.match(folder) and not os.path.exists(folder):
+            raise Failure(folder + b": a HOST starts with a letter, a digit or _, so that no program takes it for "
+                                   b"something else")
+        found.append(Server(match[1], match[1], match[2]) if match else Server(HERE, HERE, folder))
+    hosts = [server.host for server in found]
+    return sorted(found, key=lambda server: hosts.index(server.host))
+
+
+def run_parts(servers: List[Server], options: List[bytes], script: bytes, seconds: int) -> List[Part]:
     """The answers of all snapshots, of which those of another machine end after `seconds`."""
     parts: List[Part] = []
-    for host, outcome in run_hosts(hosts, options, script, work, seconds).items():
+    for server, outcome in zip(servers, run_all(servers, options, script, seconds)):
         if isinstance(outcome, Failure):
-            raise Failure((b"" if host == HERE else host + b": ") + outcome.text)
-        parts += outcome
+            raise Failure((server.host + b": " if server.host else b"") + outcome.text)
+        parts.append(outcome)
     return parts
 
 
-def answer_script(command: Command, script: Script, hosts: Dict[bytes, List[bytes]], given: argparse.Namespace,
-                  work: str) -> int:
+def answer_script(command: Command, script: Script, servers: List[Server], given: argparse.Namespace) -> int:
     """Answers a script over all snapshots, again where it has lines that count, and for each line that is dropped."""
     units = script.units()
     dropped: Dict[int, Joined] = {}
     answers = ElseAnswers(everybody_in(lambda: [script.text]))
-    program = part_options(given, answers.everybody)
-    is_one = sum(map(len, hosts.values())) == 1
-    seconds = given.timeout or SECONDS
-    parts = run_parts(hosts, [*[b"--records"] * (not is_one), *program], script.text, work, seconds)
+    program, seconds = part_options(given, answers.everybody), given.timeout or SECONDS
+    parts = run_parts(servers, [*[b"--records"] * (len(servers) > 1), *program], script.text, seconds)
     check_agreement(parts)
     say_notices(command, parts, given.acl5)
-    is_counting = any(unit.is_of(*COUNTING) for unit in units)
-    shared = agreement.files_of_several(recorded_in(parts)) if is_counting else []
+    shared = files_of_several(parts) if any(unit.is_of(*COUNTING) for unit in units) else []
     options = counts.shared_options(shared)
     fault = counts.too_many(shared) if options is None else b""
     is_answered = not options  # Else they answer again, and say what they count of the files that several have.
     while True:
         if not is_answered:
-            known, parts = parts, run_parts(hosts, [*(options or []), *program], without(script.text, units, set(dropped)), work, seconds)
+            known, rest = parts, without(script.text, units, set(dropped))
+            parts = run_parts(servers, [*(options or []), *program], rest, seconds)
             check_same(known, parts)
         joined = join_all(units, parts, dropped, fault)
         new = next((number for number, it in joined.items() if it.is_dropped and number not in dropped), None)
         if new is None:
-            status = write(command, units, joined, PeopleShown(superusers_of(parts, given.with_root), answers), given.headings)
+            people = PeopleShown(superusers_of(parts, given.with_root), answers)
+            status = write(command, units, joined, people, given.headings)
             for line in beside_of(max(part.head.asked for part in parts)) if answers.was_shown else ():
                 command.say(line)
             return status
@@ -255,13 +248,11 @@ def answer_script(command: Command, script: Script, hosts: Dict[bytes, List[byte
 
 def body(command: Command, folders: List[str], given: argparse.Namespace) -> int:
     """Answers standard input over all snapshots."""
-    hosts = hosts_of([os.fsencode(it) for it in folders])
-    script = read_text("-")
-    with scratch.folder("facl-ask.") as work:
-        try:
-            return answer_script(command, script, hosts, given, work)
-        except (LookupError, ValueError) as error:
-            raise Failure(NOT_READABLE) from error
+    servers = servers_of(list(map(os.fsencode, folders)))
+    try:
+        return answer_script(command, read_text("-"), servers, given)
+    except (LookupError, ValueError) as error:
+        raise Failure(NOT_READABLE) from error
 
 
 class PeopleShown(NamedTuple):
@@ -284,7 +275,8 @@ def pieces_of(unit: Unit, answer: Joined, people: PeopleShown, has_headings: boo
     return answer.output
 
 
-def write(command: Command, units: List[Unit], joined: Dict[int, Joined], people: PeopleShown, has_headings: bool) -> int:
+def write(command: Command, units: List[Unit], joined: Dict[int, Joined], people: PeopleShown,
+          has_headings: bool) -> int:
     status, superusers = ANSWERED, people.superusers
     for unit in units:
         answer = joined[unit.number]

@@ -1,17 +1,17 @@
 """The answers of one snapshot of several: what `facl-ask --part` writes for `facl-ask --each` and `--hosts`.
 
-First comes a line of JSON about the snapshot, with --records what it records (agreement.py), and then for each line of
-the script that does something a header, which is a line of JSON, and the bytes that the program printed, with a line
-feed. Names in JSON are bytes, a letter for each.
+First comes a line of JSON about the snapshot; with --records what it records, a line for each directory, with the name
+and a checksum of the record of each file in it. For each line of the script that does something there is a header,
+which is a line of JSON, and the bytes that the program printed, with a line feed. Names in JSON are bytes, a letter each.
 """
 from __future__ import annotations
 
 import argparse
-import contextlib
 import json
 import os
 import re
-from typing import Dict, Iterator, List, NamedTuple, Optional, Sequence, Tuple
+from hashlib import blake2b
+from typing import Any, Callable, Dict, Iterable, Iterator, List, NamedTuple, Optional, Type, TypeVar, get_type_hints
 
 from ...base.folders import folder_of
 from ...base.messages import Command
@@ -20,18 +20,20 @@ from ...model import meta, overview, sources
 from ...model.everybody import ElseAnswers, people_in, read_everybody, session_with
 from ...model.marks import alone, marks_of, not_judged
 from ...model.people import rows_of
+from ...model.records import records_in, split_record
 from ...program.answering import answer_unit
 from ...program.protocol import FREE_FILE_LINE, LIST, is_refused, lacks_file
 from ...program.scripts import Script, Unit
-from ...program.session import Answer, Session
+from ...program.session import Answer, OutputSlice, Session
 from ...program.tools import COUNTING, EDITS, FILE, MAKERS, OF_RECORDS, RESTORING, WITH_FILES, operand_kinds, split
-from . import agreement
 from .counts import SharedFiles, of_some_files
 
 COUNTING_SOME = tuple(tool for tool in COUNTING if tool in WITH_FILES)
 OF_FILES = (*EDITS, *OF_RECORDS, *COUNTING_SOME)  # Tools that take several FILEs, or edit one.
 LONGEST_NUMBER = 20  # Digits.
+SIZE = 16  # Letters of a checksum.
 RECORD = re.compile(b"^" + FREE_FILE_LINE + b"$", re.MULTILINE)
+Value = TypeVar("Value")
 
 
 class Head(NamedTuple):
@@ -70,48 +72,50 @@ def short_number(text: str) -> int:
     return int(text)
 
 
-def number_in(value: object) -> int:
-    if not isinstance(value, int) or isinstance(value, bool) or value < 0:
+def checked(value: object, kind: Type[Value]) -> Value:
+    if not isinstance(value, kind) or isinstance(value, bool):
         raise ValueError
     return value
 
 
-def name_in(value: object) -> bytes:
-    if not isinstance(value, str):
+def number_in(value: object) -> int:
+    if checked(value, int) < 0:
         raise ValueError
-    return value.encode("latin-1")
+    return checked(value, int)
+
+
+def name_in(value: object) -> bytes:
+    return checked(value, str).encode("latin-1")
 
 
 def names_in(value: object) -> List[bytes]:
-    if not isinstance(value, list):
-        raise ValueError
-    return list(map(name_in, value))
+    return list(map(name_in, checked(value, list)))
 
 
 def ids_in(value: object) -> Dict[str, int]:
-    if not isinstance(value, dict):
-        raise ValueError
-    return {name_in(name).decode("latin-1"): number_in(number) for name, number in value.items()}
+    return {name_in(name).decode("latin-1"): number_in(number) for name, number in checked(value, dict).items()}
 
 
-def read_fields(line: bytes, names: Sequence[str]) -> List[object]:
-    """The fields of these names of an object in JSON; ValueError where it is none, or lacks one."""
+READERS: Dict[object, Callable[[object], Any]] = {
+    int: number_in, bytes: name_in, List[bytes]: names_in, Dict[str, int]: ids_in}
+OF_HEAD, OF_HEADER = ({name: READERS[it] for name, it in get_type_hints(kind).items()} for kind in (Head, Header))
+
+
+def read_fields(line: bytes, readers: Dict[str, Callable[[object], Any]]) -> List[Any]:
+    """The values of some fields of an object in JSON; ValueError where it is none, or has others."""
     try:
-        fields = json.loads(line.decode("ascii"), parse_int=short_number)
-        return [fields[name] for name in names]
+        found = json.loads(line.decode("ascii"), parse_int=short_number)
+        return [read(found[name]) for name, read in readers.items()]
     except (LookupError, TypeError, RecursionError) as error:
         raise ValueError from error
 
 
 def read_head(line: bytes) -> Head:
-    part, users, groups, unknown, otherwise, asked, state, size = read_fields(line, Head._fields)
-    return Head(name_in(part), ids_in(users), ids_in(groups), names_in(unknown), names_in(otherwise), number_in(asked), names_in(state),
-                number_in(size))
+    return Head(*read_fields(line, OF_HEAD))
 
 
-def read_header(text: bytes) -> Header:
-    line, size, *lists = read_fields(text, Header._fields)
-    header = Header(number_in(line), number_in(size), *map(names_in, lists))
+def read_header(line: bytes) -> Header:
+    header = Header(*read_fields(line, OF_HEADER))
     if any(b"\n" in message for message in header.messages):
         raise ValueError
     return header
@@ -164,32 +168,41 @@ def answer(command: Command, session: Session, unit: Unit, shared: SharedFiles) 
 
 def head_of(folder: bytes, size: int, is_acl5: bool) -> Head:
     found = overview.read_texts(folder)
-    users, groups = ({row[0].decode("latin-1"): int(row[2]) for row in rows_of(rows)} for rows in (found.passwd, found.group))
-    unknown = [*overview.unknown(folder, found.dump), *overview.torn(found), *not_judged(folder), *alone(marks_of(folder))]
+    users, groups = ({row[0].decode("latin-1"): int(row[2]) for row in rows_of(rows)}
+                     for rows in (found.passwd, found.group))
+    unknown = [*overview.unknown(folder, found.dump), *overview.torn(found), *not_judged(folder),
+               *alone(marks_of(folder))]
     otherwise = list(overview.judged_otherwise(found.dump)) if is_acl5 else []
     asked = meta.users_asked_for(meta.meta_of(folder)) or 0
     return Head(folder, users, groups, unknown, otherwise, asked, [b"%d" % it for it in folder_of(folder).state], size)
 
 
-@contextlib.contextmanager
-def session_of(program: str, folder: bytes, word: Optional[str]) -> Iterator[Tuple[Session, Optional[ElseAnswers]]]:
-    """A session over the snapshot, with everybody else where the command that joins answers has given a name and an id."""
-    if word is None:
-        with Session(program, folder) as session:
-            yield session, None
-        return
-    texts, everybody = people_in(folder), read_everybody(os.fsencode(word), folder)
-    with session_with(program, folder, *everybody.with_both(texts)) as session:
-        yield session, ElseAnswers(everybody, texts.passwd)
+def blocks_of(listings: Iterable[OutputSlice]) -> Iterator[bytes]:
+    """What a snapshot records: the line of each directory, with names as the program prints them."""
+    inside: Dict[bytes, List[bytes]] = {}
+    known: Dict[bytes, bytes] = {}
+    for record in records_in(listings):
+        file, body = split_record(record)
+        checksum = known.get(body)
+        if checksum is None:
+            checksum = known[body] = blake2b(body, digest_size=SIZE // 2).hexdigest().encode()
+        above, _, name = file.rstrip(b"/").rpartition(b"/")
+        inside.setdefault(above, []).append(checksum + name)
+    for above, files in inside.items():
+        yield above + b"\0" + b"\0".join(files) + b"\n"
 
 
 def write_part(command: Command, program: str, folder: bytes, script: Script, given: argparse.Namespace) -> int:
     """Answers a script over one snapshot, between a first and a last line of our own; with the names of files that
-    others have too."""
-    with session_of(program, folder, given.everybody) as (session, answers):
+    others have too. The command that joins answers has given a name and an id for everybody else."""
+    texts, answers = people_in(folder), None
+    if given.everybody is not None:
+        answers = ElseAnswers(read_everybody(os.fsencode(given.everybody), folder), texts.passwd)
+        texts = answers.everybody.with_both(texts)
+    with session_with(program, folder, *texts) as session:
         session.ask(b"")
         listings = sources.list_below(session, sources.find_tops(session, folder)) if given.records else []
-        files = b"".join(agreement.blocks_of(listings))
+        files = b"".join(blocks_of(listings))
         command.write(line_of(head_of(folder, len(files), given.acl5)) + files)
         units = script.units()
         shared = SharedFiles(session, list(map(os.fsencode, given.shared)), units)
