@@ -14,7 +14,7 @@ import subprocess
 import sys
 import tempfile
 import unittest
-from typing import Any, Dict, Iterable, List, Tuple
+from typing import Any, Dict, Iterable, List, Sequence, Tuple
 
 from common import COMMANDS, HERE, Case
 from page_data import Node, granted, nodes_of, places_of, read_data, unpacked
@@ -24,9 +24,10 @@ sys.path.insert(0, COMMANDS)
 from facl_commands.base.messages import Failure  # noqa: E402
 from facl_commands.base.names import path_order, write_name  # noqa: E402
 from facl_commands.base.new_file import NewFile  # noqa: E402
+from facl_commands.base.numbered import Numbered  # noqa: E402
 from facl_commands.base.programs import LINUX  # noqa: E402
-from facl_commands.model.label_answers import LabelAnswers  # noqa: E402
 from facl_commands.page import columns as page_columns  # noqa: E402
+from facl_commands.page.answers import ListAnswers  # noqa: E402
 from facl_commands.page import frame as page_html  # noqa: E402
 from facl_commands.page import tree as page_tree  # noqa: E402
 from facl_commands.program.session import OutputSlice, Session  # noqa: E402
@@ -59,6 +60,20 @@ class Report(Case):
                         found = {path for path, node in nodes.items() if granted(data, node, place, request)
                                  and (not is_reached or data["reaches"][node["above"]][place] == "1")}
                         self.assertEqual(found, wanted, (user, request, is_reached))
+
+    def test_reasons_are_those_of_the_program(self) -> None:
+        """Also of users whom a list does not mention, and after a script that makes members of groups."""
+        script = b"gpasswd -a guest design\nuseradd -u 2000 -g audit nell\nusermod -g guests ben\nsetfacl -m g:audit:r,u:nell:w srv/share/notes\n"
+        _, data = self.report(script)
+        places = {name: place for (kind, name), place in places_of(data).items() if kind == "user"}
+        with Session(LINUX.find(), os.fsencode(self.path("before"))) as session:
+            session.ask_accepted(script.rstrip(b"\n"))
+            for path, node in nodes_of(data).items():
+                for user, place in places.items() if re.fullmatch("[a-z/.]+", path) else ():
+                    most, others = data["decisions"][node["l"]]
+                    record = session.ask_accepted(b"why %s %s" % (user.encode(), path.encode())).read().decode()
+                    wanted = re.sub("\t+", "  ", record.partition("\n")[2].rstrip("\n"))
+                    self.assertEqual(data["entries"][others.get(str(place), most)], wanted, (path, user))
 
     def test_groups_are_asked_by_users_of_their_own(self) -> None:
         _, data = self.report()
@@ -278,12 +293,16 @@ def listing_of(names: Iterable[bytes], bodies: Iterable[bytes]) -> OutputSlice:
 class Trees(unittest.TestCase):
     """The files of listings, without the program."""
 
-    def paths_of(self, tree: page_tree.PageTree, order: List[int]) -> List[bytes]:
-        paths: Dict[int, bytes] = {page_tree.ABOVE: b""}
-        for number in order:
-            above = paths[tree.parents[number]]
-            paths[number] = above + b"/" * (above != b"") + tree.names[number]
-        return [paths[number] for number in order]
+    def paths_of(self, paths: List[bytes]) -> List[bytes]:
+        """The paths by what each file is in, and its name from there on."""
+        found: List[bytes] = []
+        depths: List[int] = []
+        for parent, depth, names in page_tree.by_folder(paths):
+            above = b"" if parent < 0 or not found[parent] else found[parent] + b"/"
+            found += [above + name for name in names]
+            self.assertEqual(depth, 0 if parent < 0 else depths[parent] + 1)
+            depths += [depth] * len(names)
+        return found
 
     def test_random_trees(self) -> None:
         for seed in range(30):
@@ -303,11 +322,11 @@ class Trees(unittest.TestCase):
                 output = listing_of((write_name(path) or b"." for path in paths), (BODY % len(path) for path in paths))
                 listings.append(tree.add(page_tree.records_of(output), labels))
                 output.file.close()
-            order = tree.order()
-            shown = self.paths_of(tree, order)
-            self.assertEqual(shown, sorted({*kept[0], *kept[1]}, key=path_order))
+            columns = page_columns.Columns(listings)
+            self.assertEqual(columns.paths, sorted({*kept[0], *kept[1]}, key=path_order))
+            self.assertEqual(self.paths_of(columns.paths), columns.paths)
             for paths, listing in zip(kept, listings):
-                there = {path: listing.labels[k] for path, k in zip(shown, order) if k < len(listing.labels) and listing.labels[k] >= 0}
+                there = {path: k for path, k in zip(columns.paths, columns.labels(listing, columns.paths)) if k >= 0}
                 self.assertEqual({path: labels.bodies()[k] for path, k in there.items()}, {path: BODY % len(path) for path in paths})
 
 
@@ -325,10 +344,14 @@ class Deep(Case):
         listing = tree.add(page_tree.records_of(output), labels)
         output.file.close()
         vectors, lists = [b"\xff\xff", b"\xff\x01"], [b"other::r-x", b"other::---"]
-        answers = LabelAnswers([b"ines", b"ben"], vectors, lists, [[b"other::r-x"] * 2, [b"user::rwx", b"other::---"]])
-        tables, whos = page_columns.Tables(), [page_columns.Who("user", name, name) for name in answers.users]
-        view = page_columns.View(page_columns.PageState(listing, answers), labels.bodies(), whos, tables)
-        return page_columns.Builder(tree, whos, view, view, tables).data("deep", False)
+        entries: Numbered[bytes] = Numbered()
+        reasons: List[Sequence[int]] = [[*map(entries.number, its)] for its in ([b"other::r-x"] * 2, [b"user::rwx", b"other::---"])]
+        answers = ListAnswers([b"ines", b"ben"], vectors, lists, reasons, entries)
+        tables = page_columns.Tables([page_columns.Who("user", name, name) for name in answers.users])
+        views = [tables.view(answers, labels.bodies())]
+        return {"title": "deep", "script": False, "alone": False, "without": [], "whos": [["user", "ines"], ["user", "ben"]],
+                "start": tables.start, "files": page_columns.Columns([listing]).data(tables, views), **tables.data(views),
+                "heads": [], "judge": "", "unknown": [], "marks": {}, "mounts": {}, "beside": []}
 
     def test_a_chain(self) -> None:
         data = unpacked(json.loads(json.dumps(self.page())))

@@ -7,27 +7,21 @@ then those who have something else.
 from __future__ import annotations
 
 import base64
+import re
+from array import array
 from collections import Counter
-from typing import Dict, Iterable, List, NamedTuple, Optional, Tuple
+from typing import Dict, Iterable, List, NamedTuple, Sequence, Set, Tuple
 
-from ..base.beside import of_mount
-from ..base.names import write_name
 from ..base.names import shown as shown_bytes
+from ..base.names import sorting_key, write_name
 from ..base.numbered import Numbered
-from ..model.label_answers import LabelAnswers
-from ..model.marks import TEXTS, alone
 from ..model.rules_of_lists import inside
-from .tree import ABOVE, GONE, PageListing, PageTree
+from .answers import ListAnswers
+from .tree import ABOVE, PageListing, by_folder
 
-ABSENT = 0  # In the place of a byte of `index`, which always grants the request for nothing.
+GONE = -1  # The label of a file that is not there.
+ABSENT = b"\0"  # In the place of a byte of `index`, which always grants the request for nothing.
 Row = Tuple[int, Dict[int, int]]  # What most have, and by places what others have.
-
-
-class PageState(NamedTuple):
-    """The files at one time, and what the program answers of their labels."""
-
-    listing: PageListing
-    answers: LabelAnswers
 
 
 class Who(NamedTuple):
@@ -56,183 +50,140 @@ def shown_lines(text: bytes) -> str:
     return "\n".join(map(shown, text.split(b"\n")))
 
 
-def texts_of(kinds: Iterable[bytes]) -> List[str]:
-    """What is said of files of these kinds."""
-    return [shown(TEXTS[kind]) for kind in kinds if kind in TEXTS]
+class Sevens(Dict[int, bytes]):
+    """Numbers that are not negative, in seven bits a byte."""
+
+    def __missing__(self, number: int) -> bytes:
+        self[number] = bytes([number]) if number < 128 else bytes([number & 127 | 128]) + self[number >> 7]
+        return self[number]
 
 
 def packed(numbers: Iterable[int]) -> str:
-    """A column of numbers that are not negative."""
-    found = bytearray()
-    add = found.append  # Which is looked up once.
-    for number in numbers:
-        while number > 127:
-            add(number & 127 | 128)
-            number >>= 7
-        add(number)
-    return base64.b64encode(found).decode()
+    """A column of numbers."""
+    return base64.b64encode(b"".join(map(Sevens().__getitem__, numbers))).decode()
 
 
-def row_of(values: List[int]) -> Row:
+def row_of(values: Sequence[int]) -> Row:
     """The values of all places, with that of most of them once."""
     most = Counter(values).most_common(1)[0][0] if values else 0
     return most, {place: value for place, value in enumerate(values) if value != most}
 
 
-class Tables:
-    """Texts and numbers that many files share."""
-
-    def __init__(self) -> None:
-        self.rows: Numbered[str] = Numbered()
-        self.lists: Numbered[Tuple[str, bytes]] = Numbered()  # A text with the record that it shows.
-        self.reaches: Numbered[str] = Numbered()
-        self.kinds: Numbered[Tuple[int, int, int]] = Numbered()  # Whether it is a directory; row and list.
-        self.entries: Numbered[str] = Numbered()
-        self.known_entries: Dict[bytes, int] = {}
-        self.known_insides: Dict[Tuple[int, int], int] = {}
-
-    def entries_number(self, text: bytes) -> int:
-        if text not in self.known_entries:
-            self.known_entries[text] = self.entries.number(shown_lines(text))
-        return self.known_entries[text]
-
-    def decisions(self, reasons: List[bytes], places: List[int]) -> Row:
-        """By which entries of a list the shown users are judged: those that judge the most of them, and the others' by
-        their places."""
-        numbers = {place: self.entries_number(reasons[it]) for place, it in enumerate(places) if it >= 0}
-        most = Counter(numbers.values()).most_common(1)[0][0] if numbers else 0
-        return most, {place: number for place, number in numbers.items() if number != most}
-
-    def inside(self, reach: int, row: int) -> int:
-        """Who can get to what is in a directory, by who can get to it and its row."""
-        if (reach, row) not in self.known_insides:
-            digits, found = self.rows.values[row], reach
-            if digits:
-                above = bytes(map(int, self.reaches.values[reach]))
-                found = self.reaches.number("".join(map(str, inside(above, bytes.fromhex(digits)))))
-            self.known_insides[reach, row] = found
-        return self.known_insides[reach, row]
-
-    def data(self) -> Dict[str, object]:
-        """All but the decisions."""
-        rows = [row_of(list(bytes.fromhex(digits))) for digits in self.rows.values]
-        return {
-            "rows": rows, "reaches": [row_of(list(map(int, it))) for it in self.reaches.values],
-            "lists": [text for text, _ in self.lists.values], "kinds": self.kinds.values, "entries": self.entries.values,
-            "insides": [[*key, value] for key, value in self.known_insides.items()],
-        }
-
-
-class View:
+class View(NamedTuple):
     """What is shown of the labels of one state, by number in the tables of the page; of a file that is not there at the
     end, where GONE finds it."""
 
-    def __init__(self, state: PageState, bodies: List[bytes], whos: List[Who], tables: Tables) -> None:
-        self.listing = state.listing
-        known = {user: place for place, user in enumerate(state.answers.users)}
-        places = [known.get(who.user, -1) for who in whos]  # -1 where the user is not there.
-        self.rows = [tables.rows.number(digits_of(vector, places)) for vector in state.answers.vectors]
-        self.rows.append(tables.rows.number(""))
-        self.lists = [tables.lists.number((shown_lines(it), body)) for it, body in zip(state.answers.lists, bodies)]
-        self.lists.append(GONE)
-        self.decisions = {
-            number: tables.decisions(reasons, places) for number, reasons in zip(self.lists, state.answers.reasons)
-        }
-
-    def labels(self, count: int) -> List[int]:
-        """The label of each file of the tree, of which there are so many."""
-        return self.listing.labels + [GONE] * (count - len(self.listing.labels))
+    rows: List[int]
+    lists: List[int]
+    decisions: Dict[int, Row]  # By list.
 
 
-def digits_of(vector: bytes, places: List[int]) -> str:
-    """The digits of the shown users, from what `index` has of all users."""
-    return bytes([ABSENT if place < 0 else vector[place] for place in places]).hex()
+class Tables:
+    """Texts and numbers that many files share."""
 
+    def __init__(self, whos: List[Who]) -> None:
+        self.whos = whos
+        self.rows: Numbered[bytes] = Numbered()  # What each of them is granted; empty of a file that is not there.
+        self.lists: Numbered[Tuple[str, bytes]] = Numbered()  # A text with the record that it shows.
+        self.reaches: Numbered[bytes] = Numbered()  # Who gets to what is in a directory, at the start everybody.
+        self.start = self.reaches.number(b"\1" * len(whos))
+        self.kinds: Numbered[Tuple[int, int, int]] = Numbered()  # Whether it is a directory; row and list.
+        self.entries: Numbered[str] = Numbered()
+        self.insides: Dict[Tuple[int, int], int] = {}
 
-class Builder:
-    """The data of the page: the files in path order, by columns, so that a file is in an earlier one, and nothing is
-    nested."""
+    def view(self, answers: ListAnswers, bodies: List[bytes]) -> View:
+        """Takes what the program answers of the lists of one state."""
+        known = {user: place for place, user in enumerate(answers.users)}
+        places = [known.get(who.user, -1) for who in self.whos]  # Of one who is not there -1, which is the last one.
+        rows = [self.rows.number(bytes(map((vector + ABSENT).__getitem__, places))) for vector in answers.vectors]
+        lists = [self.lists.number((shown_lines(text), body)) for text, body in zip(answers.lists, bodies)]
+        numbers: Dict[int, int] = {}
+        decisions = {number: self.decided(answers, its, places, numbers) for number, its in zip(lists, answers.reasons)}
+        return View([*rows, self.rows.number(b"")], [*lists, GONE], decisions)
 
-    def __init__(self, tree: PageTree, whos: List[Who], old: View, new: View, tables: Tables) -> None:
-        self.tree, self.whos, self.old, self.new, self.tables = tree, whos, old, new, tables
-        self.start = tables.reaches.number("1" * len(whos))
-        self.order = tree.order()
-        folders = old.listing.directories | new.listing.directories  # What is a directory at any time.
-        self.folders = [number for number in self.order if number in folders]
+    def decided(self, answers: ListAnswers, reasons: Sequence[int], places: List[int], numbers: Dict[int, int]) -> Row:
+        """By which entries of a list the shown users are judged; `numbers` has those of the page by these."""
+        found = {place: reasons[it] for place, it in enumerate(places) if it >= 0}
+        for it in dict.fromkeys(found.values()):
+            if it not in numbers:  # Two blanks are before what the mask leaves.
+                numbers[it] = self.entries.number(shown_lines(re.sub(rb"\t+", b"  ", answers.entries.values[it])))
+        values = [numbers[it] for it in found.values()]
+        most = Counter(values).most_common(1)[0][0] if values else 0
+        return most, {place: value for place, value in zip(found, values) if value != most}
 
-    def names(self) -> Tuple[str, List[int]]:
-        """The names, each once, and the column that says which a file has."""
-        known: Dict[bytes, int] = {}
-        column: List[int] = []
-        names = self.tree.names
-        for number in self.order:
-            count = len(known)
-            column.append(count - known.setdefault(names[number], count))
-        return "\n".join(shown_name(name) or "/" for name in known), column
-
-    def depths(self) -> List[int]:
-        """How many files each file is in."""
-        found = [0] * (len(self.order) + 1)  # The last one is that of ABOVE itself.
-        found[ABOVE] = -1
-        for number in self.order:
-            found[number] = found[self.tree.parents[number]] + 1
-        return [found[number] for number in self.order]
-
-    def kinds(self, view: View) -> List[int]:
-        """The kind of each file by its number."""
-        makes, labels = self.tables.kinds.number, view.labels(len(self.order))
-        plain = {label: makes((0, view.rows[label], view.lists[label])) for label in dict.fromkeys(labels)}
-        found = [plain[label] for label in labels]
-        for number in self.folders:
-            label = labels[number]
-            found[number] = makes((1, view.rows[label], view.lists[label]))
+    def kinds_of(self, view: View, labels: Sequence[int], first: Iterable[int], folders: List[int]) -> List[int]:
+        """The kind of each file, of which some are directories; `first` has the labels in the order of the kinds."""
+        its = {label: self.kinds.number((0, view.rows[label], view.lists[label])) for label in dict.fromkeys(first)}
+        found = [its[label] for label in labels]
+        for place in folders:
+            found[place] = self.kinds.number((1, view.rows[labels[place]], view.lists[labels[place]]))
         return found
 
-    def find_insides(self, kinds: List[int]) -> None:
-        """Finds the reach of what is in each directory, which the tables keep."""
-        insides: Dict[int, int] = {ABOVE: self.start}
-        values = self.tables.kinds.values
-        for number in self.folders:
-            insides[number] = self.tables.inside(insides[self.tree.parents[number]], values[kinds[number]][1])
+    def find_insides(self, kinds: List[int], folders: List[int], parents: Sequence[int]) -> None:
+        """Finds who gets to what is in each directory, by who gets to it and its row."""
+        found: Dict[int, int] = {ABOVE: self.start}
+        for place in folders:
+            pair = found[parents[place]], self.kinds.values[kinds[place]][1]
+            if pair not in self.insides:
+                above, row = self.reaches.values[pair[0]], self.rows.values[pair[1]]
+                self.insides[pair] = self.reaches.number(inside(above, row)) if row else pair[0]
+            found[place] = self.insides[pair]
 
-    def files(self) -> Dict[str, object]:
-        """The columns: names, depths and kinds; and by places the kind before, where the file was another one."""
-        names, column = self.names()
-        now = self.kinds(self.new)
-        self.find_insides(now)
-        changed: Dict[int, int] = {}
-        if self.old is not self.new:
-            before = self.kinds(self.old)
-            self.find_insides(before)
-            was, is_now = self.old.listing.directories, self.new.listing.directories
-            for place, number in enumerate(self.order):
-                if before[number] != now[number] or (number in was) != (number in is_now):
-                    changed[place] = before[number]
-        return {"count": len(self.order), "names": names, "name": packed(column), "depth": packed(self.depths()),
-                "kind": packed([now[number] for number in self.order]), "changed": changed}
-
-    def marks(self) -> Dict[str, object]:
-        """What is said of files beside their lists, by places: of some alone, and of some with all below, up to others of these."""
-        its, marked = self.tree.marks, self.tree.marked
-        paths = {place: marked[number] for place, number in enumerate(self.order) if number in marked} if marked else {}
-        return {"marks": {place: texts_of(its.own[path]) for place, path in paths.items() if path in its.own},
-                "mounts": {place: texts_of(of_mount(its.mounts[path])) for place, path in paths.items() if path in its.mounts},
-                "beside": list(map(shown, alone(its)))}
-
-    def all_decisions(self) -> Tuple[List[Optional[Row]], Dict[int, Row]]:
-        """The decisions of each list, as they are now; and by its number of each that had others before, or is no more
-        there."""
-        now, before = self.new.decisions, self.old.decisions
-        lists = [now.get(number) for number in range(len(self.tables.lists.values))]
-        return lists, {number: it for number, it in before.items() if it != lists[number]}
-
-    def data(
-        self, title: str, has_script: bool, is_alone: bool = False, left_out: Iterable[bytes] = ()
-    ) -> Dict[str, object]:
-        files = self.files()
-        decisions, before = self.all_decisions()
+    def data(self, views: List[View]) -> Dict[str, object]:
+        """All of them; the decisions of each list now, and of each that had others before, or is no more there."""
+        old, new = views[0].decisions, views[-1].decisions
+        lists = [new.get(number) for number in range(len(self.lists.values))]
         return {
-            "title": title, "script": has_script, "alone": is_alone, "without": sorted(map(shown, left_out)),
-            "whos": [[who.kind, shown(who.name)] for who in self.whos], "start": self.start, "files": files,
-            **self.tables.data(), "decisions": decisions, "before": before, "heads": [], "judge": "", "unknown": [], **self.marks(),
+            "rows": [*map(row_of, self.rows.values)], "reaches": [*map(row_of, self.reaches.values)],
+            "lists": [text for text, _ in self.lists.values],
+            "kinds": self.kinds.values, "entries": self.entries.values,
+            "insides": [[*pair, found] for pair, found in self.insides.items()],
+            "decisions": lists, "before": {number: it for number, it in old.items() if it != lists[number]},
         }
+
+
+class Columns:
+    """The files in path order, so that a file is in an earlier one, and nothing is nested."""
+
+    def __init__(self, listings: List[PageListing]) -> None:
+        self.listings = listings
+        first = listings[0].paths
+        is_same = listings[-1].paths is first
+        # In the order of their kinds: those of the first listing, and then new ones.
+        self.known = first if is_same else [*dict.fromkeys([*first, *listings[-1].paths])]
+        self.paths = first if is_same else sorted(self.known, key=sorting_key)
+        self.names: Dict[bytes, int] = {}
+        self.columns = array("i"), array("i"), array("i")
+        # A name is written as how many names before the next new one it is.
+        name_of, depths, self.parents = self.columns
+        for its in by_folder(self.paths):
+            name_of.extend([len(self.names) - self.names.setdefault(name, len(self.names)) for name in its.names])
+            depths.extend([its.depth] * len(its.names))
+            self.parents.extend([its.parent] * len(its.names))
+
+    def labels(self, listing: PageListing, paths: List[bytes]) -> Sequence[int]:
+        """The labels of some files."""
+        if paths is listing.paths:
+            return listing.labels
+        known = dict(zip(listing.paths, listing.labels))
+        return [known.get(path, GONE) for path in paths]
+
+    def folders(self, listing: PageListing, labels: Sequence[int]) -> Set[int]:
+        """The places of what is a directory in a listing: by its record, or since another file is in it."""
+        found = {place for place, path in enumerate(self.paths) if path in listing.folders}
+        return found.union(parent for parent, label in zip(self.parents, labels) if label != GONE) - {ABOVE}
+
+    def data(self, tables: Tables, views: List[View]) -> Dict[str, object]:
+        """The columns: names, depths and kinds; and by places the kind before, where the file was another one."""
+        labels = [self.labels(listing, self.paths) for listing in self.listings]
+        folders = [self.folders(*its) for its in zip(self.listings, labels)]
+        places = sorted(folders[0] | folders[-1])
+        kinds = []
+        for view, listing, its in zip(views[::-1], self.listings[::-1], labels[::-1]):
+            kinds.append(tables.kinds_of(view, its, self.labels(listing, self.known), places))
+            tables.find_insides(kinds[-1], places, self.parents)
+        others = folders[0] ^ folders[-1]
+        others.update(place for place, (old, new) in enumerate(zip(kinds[-1], kinds[0])) if old != new)
+        return {"count": len(self.paths), "names": "\n".join(shown_name(name) or "/" for name in self.names),
+                "name": packed(self.columns[0]), "depth": packed(self.columns[1]), "kind": packed(kinds[0]),
+                "changed": {place: kinds[-1][place] for place in sorted(others)}}

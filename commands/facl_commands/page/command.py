@@ -3,7 +3,7 @@ from __future__ import annotations
 
 import argparse
 import os
-from typing import TYPE_CHECKING, Iterator, List, Optional
+from typing import TYPE_CHECKING, List, Optional
 
 from ..base.messages import Command, Failure, counted, parser_of
 from ..base.new_file import NewFile
@@ -18,7 +18,7 @@ from ..program.session import Session
 from . import review
 from .data import data_of, list_files
 from .frame import page_of
-from .tree import Labels, ListedRecord, PageTree
+from .tree import Labels, PageListing, PageTree
 
 if TYPE_CHECKING:
     from ..plan.replay import Replay
@@ -54,13 +54,11 @@ def parse(words: List[str]) -> argparse.Namespace:
     return given
 
 
-def keep(records: Iterator[ListedRecord], wanted: List[List[bytes]], kept: Files) -> Iterator[ListedRecord]:
-    """The records, of which those of some paths are kept."""
-    paths = {path for names in wanted for path in names}
-    for record in records:
-        if record.path in paths:
-            kept[record.path] = File(record.is_directory, record.body + b"\n")
-        yield record
+def linked_files(listing: PageListing, labels: Labels, names: List[List[bytes]]) -> Files:
+    """The files that have several names, by each that is listed."""
+    wanted, bodies = {path for its in names for path in its}, labels.bodies()
+    return {path: File(path in listing.folders, bodies[label])
+            for path, label in zip(listing.paths, listing.labels) if path in wanted}
 
 
 def answer_scripts(command: Command, run: Replay, units: List[Unit]) -> int:
@@ -78,19 +76,17 @@ def page_over(command: Command, given: argparse.Namespace, source: Source) -> Op
     units = [unit for name in given.scripts for unit in read_text(name).units()]
     overview.say_notices(command, source, given.acl5, is_alone=False)
     tree = PageTree(marks_of(snapshot.folder))
-    linked: Files = {}
     with Session(program, snapshot.folder) as session:
         labels = Labels()
         tops = sources.find_tops(session, snapshot.folder)
-        records = list_files(session, tops)
-        if given.scripts:
-            records = keep(records, snapshot.links, linked)
-        listings = [(tree.add(records, labels), labels)]
-        if not tree.names:
+        listing = tree.add(list_files(session, tops), labels)
+        listings = [(listing, labels)]
+        if not listing.paths:
             raise Failure(source.shown + b": has no files: make a snapshot by facl-snapshot")
         if given.scripts:
             from ..plan.replay import Replay  # A page of one state needs none.
 
+            linked = linked_files(listing, labels, snapshot.links)
             refusals = answer_scripts(command, Replay(session, snapshot, linked), units)
             if refusals:
                 command.say(counted(refusals, "line was", "lines were") + b" refused, so no page is written")

@@ -4,16 +4,17 @@ from __future__ import annotations
 import argparse
 import os
 import re
-from typing import Dict, Iterator, List, Set, Tuple
+from typing import Dict, Iterable, Iterator, List, Set, Tuple
 
 from ..base.accounts import is_of_system
+from ..base.beside import of_mount
 from ..base.names import read_name
 from ..base.programs import judge_text
 from ..model import meta, sources
 from ..model.entries import read_record
 from ..model.everybody import everybody_in, free_ids
-from ..model.label_answers import PeopleTexts, ask_labels
-from ..model.marks import not_judged
+from ..model.label_answers import PeopleTexts
+from ..model.marks import TEXTS, Marks, alone, not_judged
 from ..model.people import plain_id, rows_of
 from ..model.snapshot import Snapshot
 from ..model.superuser import Superusers, ids_in
@@ -21,12 +22,13 @@ from ..program.protocol import ADD_USER_WITH
 from ..program.scripts import Unit
 from ..program.session import Session
 from ..program.tools import CHANGES_OF_PEOPLE
-from .columns import Builder, PageState, Tables, View, Who, shown
-from .tree import Labels, ListedRecord, PageListing, PageTree, records_of
+from .answers import ask_lists
+from .columns import Columns, Tables, Who, shown
+from .tree import Labels, PageListing, PageTree, records_of
 
 
 class Probes:
-    """A user for each group that lists name, who has that group alone, and everybody else; with the users and groups."""
+    """A user for each group that lists name, with that group alone, and everybody else; with the users and groups."""
 
     def __init__(self, snapshot: Snapshot, bodies: List[bytes], changes: bytes) -> None:
         used = {plain_id(it) for text in (*bodies, changes) for it in re.findall(rb"[0-9]+", text)}
@@ -41,10 +43,9 @@ class Probes:
         self.whos.append(Who("everybody", b"everybody", everybody.name))
 
 
-def list_files(session: Session, tops: List[bytes]) -> Iterator[ListedRecord]:
-    """The files as they are now; none where the tops were removed, which removes all."""
-    for output in sources.list_below(session, tops):
-        yield from records_of(output)
+def list_files(session: Session, tops: List[bytes]) -> Iterator[List[bytes]]:
+    """The records of the files as they are now; none where the tops were removed, which removes all."""
+    return (records for output in sources.list_below(session, tops) for records in records_of(output))
 
 
 def users_shown(old: List[bytes], new: List[bytes], probes: List[Who], left_out: Set[bytes],
@@ -52,33 +53,49 @@ def users_shown(old: List[bytes], new: List[bytes], probes: List[Who], left_out:
     """Users first, then groups, then everybody; one whom the snapshot has by an id of no person is an account."""
     others = {who.user for who in probes} | left_out
     accounts = {name for name, uid in ids.items() if is_of_system(uid)}
-    users = old + [user for user in new if user not in set(old)]
     return [Who("account" if read_name(user) in accounts else "user", user, user)
-            for user in users if user not in others] + probes
+            for user in dict.fromkeys([*old, *new]) if user not in others] + probes
 
 
-def data_of(program: str, snapshot: Snapshot, tree: PageTree, listings: List[Tuple[PageListing, Labels]], units: List[Unit],
-            given: argparse.Namespace) -> Dict[str, object]:
+def texts_of(kinds: Iterable[bytes]) -> List[str]:
+    """What is said of files of these kinds."""
+    return [shown(TEXTS[kind]) for kind in kinds if kind in TEXTS]
+
+
+def marks_on(paths: List[bytes], marks: Marks) -> Dict[str, object]:
+    """What is said of files beside their lists, by places: of some alone, and of some with all below, up to others of
+    these."""
+    own, mounts = marks.own, marks.mounts
+    known = {*own, *mounts}
+    marked = [(place, path) for place, path in enumerate(paths) if path in known] if known else []
+    return {"marks": {place: texts_of(own[path]) for place, path in marked if path in own},
+            "mounts": {place: texts_of(of_mount(mounts[path])) for place, path in marked if path in mounts},
+            "beside": list(map(shown, alone(marks)))}
+
+
+def data_of(program: str, snapshot: Snapshot, tree: PageTree, listings: List[Tuple[PageListing, Labels]],
+            units: List[Unit], given: argparse.Namespace) -> Dict[str, object]:
     """The data of the page, of one listing, or of two with scripts between them."""
     bodies = [labels.bodies() for _, labels in listings]
     changes = b"".join(unit.lines[0] + b"\n" for unit in units if unit.is_of(*CHANGES_OF_PEOPLE))
     probes = Probes(snapshot, [body for its in bodies for body in its], changes)
-    states = [
-        PageState(listing, ask_labels(program, PeopleTexts(probes.passwd, probes.group, lines + probes.lines), its))
-        for (listing, _), its, lines in zip(listings, bodies, (b"", changes))
-    ]
+    texts = [PeopleTexts(probes.passwd, probes.group, lines + probes.lines) for lines in (b"", changes)]
+    answers = [ask_lists(program, people, probes.whos[-1].user, its) for people, its in zip(texts, bodies)]
     ids = ids_in(snapshot.passwd)
     superusers = Superusers({} if given.with_root else ids)
     for unit in units:
         superusers.follow(unit)
-    whos = users_shown(states[0].answers.users, states[-1].answers.users, probes.whos, superusers.names, ids)
-    tables = Tables()
-    views = [View(state, its, whos, tables) for state, its in zip(states, bodies)]
-    title = shown(meta.named(snapshot.folder, meta.meta_of(snapshot.folder)))
-    data = Builder(tree, whos, views[0], views[-1], tables).data(title, len(listings) > 1, given.file_alone,
-                                                                 superusers.names)
-    return {**data, "judge": judge_text(given), "unknown": unknown_of(snapshot.folder),
-            "heads": [head_of(snapshot.folder, snapshot.folder)]}
+    tables = Tables(users_shown(answers[0].users, answers[-1].users, probes.whos, superusers.names, ids))
+    views = [tables.view(*its) for its in zip(answers, bodies)]
+    columns = Columns([listing for listing, _ in listings])
+    files = columns.data(tables, views)
+    return {
+        "title": shown(meta.named(snapshot.folder, meta.meta_of(snapshot.folder))), "script": len(listings) > 1,
+        "alone": given.file_alone, "without": sorted(map(shown, superusers.names)),
+        "whos": [[who.kind, shown(who.name)] for who in tables.whos], "start": tables.start, "files": files,
+        **tables.data(views), "heads": [head_of(snapshot.folder, snapshot.folder)], "judge": judge_text(given),
+        "unknown": unknown_of(snapshot.folder), **marks_on(columns.paths, tree.marks),
+    }
 
 
 def unknown_of(folder: bytes) -> List[str]:

@@ -13,8 +13,8 @@ from typing import Dict, Sequence
 
 HERE = os.path.dirname(os.path.realpath(__file__))
 STYLE = "report.css"
-SCRIPTS = ("report_data.js", "report_tree.js", "report_side.js", "report_findings.js",
-           "report.js")  # Parts of one function, in this order.
+COMMON = "page.js"  # Before the others; parts of one function.
+SCRIPTS = ("report_data.js", "report_tree.js", "report_side.js", "report_findings.js", "report.js")
 FUNCTION = '(() => {\n"use strict";\n%s})();\n'
 PAGE = """\
 <!DOCTYPE html>
@@ -47,7 +47,7 @@ def part_of_page(name: str) -> str:
 
 def page_of(data: Dict[str, object], style_file: str = STYLE, scripts: Sequence[str] = SCRIPTS) -> bytes:
     """The page of these parts; no letter of the data can end its element."""
-    style, script = part_of_page(style_file), FUNCTION % "".join(map(part_of_page, scripts))
+    style, script = part_of_page(style_file), FUNCTION % "".join(map(part_of_page, (COMMON, *scripts)))
     sources = checksum(script), checksum(style)
     policy = "default-src 'none'; script-src %s; style-src %s; base-uri 'none'; form-action 'none'" % sources
     text = json.dumps(data, ensure_ascii=False, separators=(",", ":"))

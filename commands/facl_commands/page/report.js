@@ -32,7 +32,7 @@ function draw(wanted = "") {
   attributes(tree, {"aria-label": view.search ? "Files found" : "Files"});
   drawTree(wanted);
   drawSide();
-  for (const it of [document.getElementById("head"), tree]) it.inert = view.file >= 0 && matchMedia(NARROW).matches; // What the answer covers.
+  for (const it of [byId("head"), tree]) it.inert = view.file >= 0 && matchMedia(NARROW).matches; // What the answer covers.
 }
 
 function choose(file) {
@@ -41,7 +41,7 @@ function choose(file) {
   if (view.search && file >= 0) openPath(file);
   draw();
   writeAddress(isOther);
-  if (file >= 0 && matchMedia(NARROW).matches) document.getElementById("back").focus();
+  if (file >= 0 && matchMedia(NARROW).matches) byId("back").focus();
 }
 
 // Leaves the answer, which on a small screen is in the place of the tree.
@@ -121,10 +121,7 @@ function readAddress() {
 function field(text) { return String(text).replaceAll("\t", "\\011").replace(/^(?=[=+@'"\r]|-(?![w-][x-](?: [r-][w-][x-])*$))/, "'"); }
 
 function save(name, rows) {
-  const text = rows.map(row => row.map(field).join("\t") + "\n").join("");
-  const link = element("a", {download: name, href: URL.createObjectURL(new Blob([text], {type: "text/tab-separated-values"}))});
-  link.click();
-  setTimeout(() => URL.revokeObjectURL(link.href), 60000);
+  saveText(name, rows.map(row => row.map(field).join("\t") + "\n").join(""), "text/tab-separated-values");
 }
 
 // The rows of the tree that are shown.
@@ -153,7 +150,7 @@ function saveSide() { save("facl-answer.tsv", sideTable()); }
 function fact(name, texts) {
   const [before, now] = [texts[0], texts.at(-1)];
   const text = before === now ? now : (before || "?") + " \u2192 " + (now || "?");
-  return text ? [element("div", {}, element("dt", {textContent: name}), element("dd", {textContent: text}))] : [];
+  return text ? [factBox(name, text)] : [];
 }
 
 function factsBox() {

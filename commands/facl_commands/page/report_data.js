@@ -1,32 +1,10 @@
 // The data of the page: files, rights and their words, paths, and the search. A file is a number, in path order: the files in
 // a directory, and in these, follow it. A right is a byte of `index`: bit N says whether the request N of acl(5) is granted.
-const data = JSON.parse(document.getElementById("data").textContent);
 const files = data.files.count, SEVERAL = -2, NONE = -1;
-const LONG = 240; // Letters of a name or path in a row; a longer one is shown without its middle.
 const LONGEST = 2000; // Letters of the path beside the tree.
-const REQUESTS = ["---", "--x", "-w-", "-wx", "r--", "r-x", "rw-", "rwx"];
-// What the requests are called, of a directory and of another file; and the four levels that are counted and coloured.
-const WORDS = [["nothing", "enters", "changes", "changes and enters", "reads", "reads and enters", "reads and changes", "reads, changes and enters"],
-  ["nothing", "runs", "changes", "changes and runs", "reads", "reads and runs", "reads and changes", "reads, changes and runs"]];
-const LEVELS = ["nothing", "enters", "reads", "changes"], ABSENT = 4;
+const ABSENT = 4; // A level beside those of page.js.
 // What is chosen: the place of a user or group, a file, and how they are shown.
 const view = {who: NONE, file: NONE, alongPaths: !data.alone, changesAlone: false, search: ""};
-
-function element(name, properties, ...inner) {
-  const made = Object.assign(document.createElement(name), properties);
-  made.append(...inner);
-  return made;
-}
-
-function attributes(made, values) {
-  for (const [name, value] of Object.entries(values))
-    if (value === null) made.removeAttribute(name);
-    else made.setAttribute(name, value);
-  return made;
-}
-
-function numbered(count) { return String(count).replace(/\B(?=(?:...)+$)/g, ","); }
-function counted(count, what) { return numbered(count) + " " + what + (count === 1 ? "" : "s"); }
 
 // The numbers of a column: seven bits a byte, the lowest first.
 function unpacked(text) {
@@ -133,7 +111,7 @@ const GREATEST = Array.from({length: 256}, (_, byte) => {
   return found.filter(it => !found.some(other => other !== it && (it & other) === it));
 });
 const LETTERS = GREATEST.map(found => found.map(it => REQUESTS[it]).join(" ") || "absent");
-const LEVEL = GREATEST.map(found => found.length ? Math.max(...found.map(it => it & 2 ? 3 : it & 4 ? 2 : it)) : ABSENT);
+const LEVEL = GREATEST.map(found => found.length ? Math.max(...found.map(levelOf)) : ABSENT);
 
 function wordsOf(byte, file) { return GREATEST[byte].map(it => WORDS[isFolder(file) ? 0 : 1][it]).join(", or ") || "not there"; }
 
@@ -190,23 +168,9 @@ function inside(folder, most) {
   return found;
 }
 
-// A text without its middle where it is longer than it may be.
-function shortened(text, most) {
-  if (text.length <= most) return text;
-  const half = Math.floor(most / 2);
-  return text.slice(0, half).replace(/[\ud800-\udbff]$/, "") + " \u2026 " + text.slice(-half).replace(/^[\udc00-\udfff]/, "");
-}
-
-// The files above a file and itself, from the top down, without the root directory.
-function componentsOf(file) {
-  const found = [];
-  for (let it = file; it >= 0 && (parents[it] >= 0 || nameOfFile(it) !== "/"); it = parents[it]) found.push(it);
-  return found.reverse();
-}
-
 // The path of a file; of many components those that are shown at least.
 function pathOf(file, most) {
-  const all = componentsOf(file);
+  const all = wayTo(file, parents).filter(it => parents[it] >= 0 || nameOfFile(it) !== "/"); // Without the root directory.
   const kept = all.length <= most ? all : [...all.slice(0, most / 2), ...all.slice(-most / 2)];
   return shortened("/" + kept.map(nameOfFile).join("/"), most);
 }

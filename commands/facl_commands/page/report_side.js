@@ -50,12 +50,10 @@ function linesOf(kind) {
   return [...found.values()].sort((one, other) => rank(other) - rank(one));
 }
 
-function cell(name, ...inner) { return element("td", {className: name}, ...inner); }
 function reasonText(text) { return element("span", {className: "reason", textContent: text}); }
-function headCell(text) { return attributes(element("th", {textContent: text}), {scope: "col"}); }
 
 function lineRow(line, kind, isChange) {
-  const name = attributes(element("th", {className: "name", textContent: kind === "everybody" ? "everybody else" : line.names.join(", ")}), {scope: "row"});
+  const name = rowHead(kind === "everybody" ? "everybody else" : line.names.join(", "));
   const row = element("tr", {className: line.places.includes(view.who) ? "asked" : ""}, name);
   const below = line.below ? [belowOf(line.below)] : [];
   if (isChange)
@@ -81,9 +79,8 @@ function tableOf(kind) {
   const lines = linesOf(kind);
   if (!lines.length) return [];
   const isChange = lines.some(line => !isSame(line)), titles = isChange ? ["Who", "Before", "After"] : ["Who", "May", "Why"];
-  const head = element("thead", {}, element("tr", {}, ...titles.map(headCell)));
   const body = element("tbody", {}, ...rowsOf(lines, line => lineRow(line, kind, isChange)));
-  return [element("table", {className: "whos"}, element("caption", {textContent: KINDS[kind]}), head, body)];
+  return [element("table", {className: "whos"}, element("caption", {textContent: KINDS[kind]}), headRow(...titles), body)];
 }
 
 // A list; the lines that another one lacks are marked.
@@ -101,13 +98,6 @@ function listsOf(file) {
   const before = recordOf(file, true), now = recordOf(file, false);
   if (before === now) return element("div", {className: "lists"}, listBox("List", now, NONE - 1));
   return element("div", {className: "lists"}, listBox("List before", before, now), listBox("List after", now, before));
-}
-
-function button(id, text, act) {
-  const made = element("button", {type: "button", textContent: text});
-  if (id) made.id = id;
-  made.onclick = act;
-  return made;
 }
 
 // What is shown of the chosen file: its path, who may do what with it, and its list.

@@ -98,8 +98,8 @@ function listRows(wanted) {
   return found;
 }
 
-function badge(byte, file, name = "right") {
-  return element("span", {className: name + " " + (LEVELS[LEVEL[byte]] ?? "absent")}, wordsOf(byte, file), " ", element("small", {textContent: LETTERS[byte]}));
+function badge(byte, file) {
+  return rightBox("right " + (LEVELS[LEVEL[byte]] ?? "absent"), wordsOf(byte, file), LETTERS[byte]);
 }
 
 // The right of the chosen user on a file, and before it the one that it was.

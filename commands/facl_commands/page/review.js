@@ -1,6 +1,5 @@
 // The page of one folder for its owner: who may do what there, the entries of its lists with a box at each that can go, and the
-// lines of edits that take the ticked ones away. All text is textContent.
-const data = JSON.parse(document.getElementById("data").textContent);
+// lines of edits that take the ticked ones away.
 const {parents, names, lists} = data.files; // By file, in path order: what it is in, its name, the number of its list.
 const FIRST = 3; // Names of files, and
 const FEW = 12; // names of people, that are shown at once;
@@ -8,39 +7,17 @@ const MOST = 1000; // names of files that can be shown,
 const LISTS = 200; // and lists, until more are asked for.
 const ROOM = 60000; // Bytes of entries and names in a line of a script, which may have 65,536;
 const KEYS_ROOM = 20000; // and of entries alone.
-const LONGEST = 240; // Letters of a name or path; a longer one is shown without its middle.
 const FOR_PLAN = "# for facl-plan, not for a shell"; // As in findings.py.
-const WORDS = [[4, "r", "reads"], [2, "w", "changes"], [1, "x", "enters"]];
 const filesOf = data.lists.map(() => []);
 const ticked = new Set(); // Boxes, as LIST.ENTRY.
 let shownLists = 0;
 
-function element(name, properties, ...inner) {
-  const made = Object.assign(document.createElement(name), properties);
-  made.append(...inner);
-  return made;
-}
-
-function byId(name) { return document.getElementById(name); }
-function counted(count, one, more = one + "s") { return count.toLocaleString("en") + " " + (count === 1 ? one : more); }
-
-// A text without its middle where it is longer than it may be.
-function shortened(text) {
-  if (text.length <= LONGEST) return text;
-  const half = LONGEST / 2;
-  return text.slice(0, half).replace(/[\ud800-\udbff]$/, "") + " \u2026 " + text.slice(-half).replace(/^[\udc00-\udfff]/, "");
-}
-
 // The path of a file as a script has it: its names are printable, and escapes in them are those of scripts.
-function pathOf(file) {
-  const way = [];
-  for (let it = file; it >= 0; it = parents[it]) way.push(names[it]);
-  return way.reverse().filter(it => it).join("/") || ".";
-}
+function pathOf(file) { return wayTo(file, parents).map(it => names[it]).filter(it => it).join("/") || "."; }
 
 function shownPath(file) {
   const path = pathOf(file);
-  return shortened(path === "." ? data.prefix || path : data.prefix + path);
+  return shortened(path === "." ? data.prefix || path : data.prefix + path, LONG);
 }
 
 // --- lines of a script
@@ -133,32 +110,20 @@ function tickAll(who, boxes) {
 
 // --- what is shown
 
-function fact(name, text) { return element("div", {}, element("dt", {textContent: name}), element("dd", {textContent: text})); }
-
-// A right as people say it, with its letters beside it.
 function rightOf(permissions, isFolder) {
-  const found = WORDS.filter(([, letter]) => permissions.includes(letter)).map(([bit, , word]) => bit === 1 && !isFolder ? "runs" : word);
-  const words = found.length < 2 ? found[0] ?? "nothing" : found.slice(0, -1).join(", ") + " and " + found[found.length - 1];
-  const level = permissions.includes("w") ? "changes" : permissions.includes("r") ? "reads" : permissions.includes("x") ? "enters" : "nothing";
-  return element("span", {className: "right " + level}, words + " ", element("small", {textContent: permissions}));
+  const request = REQUESTS.indexOf(permissions);
+  return rightBox("right " + LEVELS[levelOf(request)], WORDS[isFolder ? 0 : 1][request], permissions);
 }
 
 function fewNames(places) {
   const shown = places.slice(0, FEW).map(it => data.people[it].name).join(", ");
-  return places.length > FEW ? shown + " and " + (places.length - FEW).toLocaleString("en") + " more" : shown;
-}
-
-function cell(text, className = "") { return element("td", {className, textContent: text}); }
-
-function headRow(...titles) {
-  return element("thead", {}, element("tr", {}, ...titles.map(it => element("th", {scope: "col", textContent: it}))));
+  return places.length > FEW ? shown + " and " + numbered(places.length - FEW) + " more" : shown;
 }
 
 function personRow(it) {
   const boxes = boxesOf("user " + it.name);
-  return element("tr", {}, element("th", {scope: "row", className: "name", textContent: it.name}),
-    element("td", {}, ...boxes.length ? [tickAll("user " + it.name, boxes)] : []),
-    ...[it.reads, it.changes, it.enters].map(count => cell(count ? count.toLocaleString("en") : "\u2013", "number")), cell(it.by.join(", ") || "nothing", "name"));
+  return element("tr", {}, rowHead(it.name), cell("", ...boxes.length ? [tickAll("user " + it.name, boxes)] : []),
+    ...[it.reads, it.changes, it.enters].map(count => cell("number", count ? numbered(count) : "\u2013")), cell("name", it.by.join(", ") || "nothing"));
 }
 
 // A group that entries name, or a user who is no person or has no row.
@@ -168,7 +133,7 @@ function otherRow(who) {
     return data.sets[data.lists[list].entries[entry].people];
   }));
   const people = fewNames([...places].sort((one, other) => one - other)) || "nobody here";
-  return element("tr", {}, element("th", {scope: "row", className: "name", textContent: who}), element("td", {}, tickAll(who, boxes)), cell(people, "name"));
+  return element("tr", {}, rowHead(who), cell("", tickAll(who, boxes)), cell("name", people));
 }
 
 function drawPeople() {
@@ -194,11 +159,11 @@ function namesOf(files) {
   const first = files.slice(0, FIRST).map(shownPath);
   const box = element("div", {className: "files"}, element("span", {className: "name", textContent: first.join(", ")}));
   if (files.length <= FIRST) return box;
-  const rest = element("ul"), all = element("details", {}, element("summary", {textContent: "all " + files.length.toLocaleString("en")}), rest);
+  const rest = element("ul"), all = element("details", {}, element("summary", {textContent: "all " + numbered(files.length)}), rest);
   all.ontoggle = () => {
     if (!all.open || rest.children.length) return;
     rest.append(...files.slice(0, MOST).map(it => element("li", {className: "name", textContent: shownPath(it)})));
-    if (files.length > MOST) rest.append(element("li", {textContent: "and " + (files.length - MOST).toLocaleString("en") + " more"}));
+    if (files.length > MOST) rest.append(element("li", {textContent: "and " + numbered(files.length - MOST) + " more"}));
   };
   box.append(" .. ", all);
   return box;
@@ -206,8 +171,7 @@ function namesOf(files) {
 
 function entryRow(list, entry) {
   const it = data.lists[list].entries[entry], name = list + "." + entry;
-  const row = element("tr", {}), first = element("td", {className: "tick"});
-  const who = element("th", {scope: "row", className: "name", textContent: it.who});
+  const first = cell("tick"), who = rowHead(it.who);
   if (it.key) {
     const box = element("input", {type: "checkbox", id: "box-" + name, checked: ticked.has(name)});
     box.setAttribute("aria-label", (it.isDefault ? "default " : "") + it.who + ", of " + counted(filesOf[list].length, data.lists[list].folder ? "folder" : "file"));
@@ -218,10 +182,9 @@ function entryRow(list, entry) {
     first.append(box);
     who.replaceChildren(element("label", {htmlFor: box.id, textContent: it.who}));
   }
-  const may = element("td", {}, rightOf(it.effective, it.isDefault || data.lists[list].folder));
+  const may = cell("", rightOf(it.effective, it.isDefault || data.lists[list].folder));
   if (it.effective !== it.permissions) may.append(" ", element("span", {className: "cut", textContent: "of " + it.permissions + ", as the mask cuts it"}));
-  row.append(first, who, may, cell(it.isDefault ? "" : fewNames(data.sets[it.people]), "name"));
-  return row;
+  return element("tr", {}, first, who, may, cell("name", it.isDefault ? "" : fewNames(data.sets[it.people])));
 }
 
 function listBox(list) {
@@ -253,18 +216,12 @@ function copyLines() {
   else selected();
 }
 
-function saveLines() {
-  const address = URL.createObjectURL(new Blob([byId("lines").textContent + "\n"], {type: "text/plain"}));
-  element("a", {href: address, download: "edits"}).click();
-  setTimeout(() => URL.revokeObjectURL(address), 10000);
-}
+function saveLines() { saveText("edits", byId("lines").textContent + "\n", "text/plain"); }
 
 function clearTicks() {
   for (const it of [...ticked]) setTick(it, false);
   drawLines();
 }
-
-function button(id, text, action) { return element("button", {type: "button", id, textContent: text, onclick: action}); }
 
 function drawEdits() {
   const lines = element("pre", {id: "lines", tabIndex: 0});
@@ -277,7 +234,7 @@ function drawEdits() {
 }
 
 function drawHead() {
-  const facts = element("dl", {id: "facts"}, ...data.facts.map(([name, text]) => fact(name, text)));
+  const facts = element("dl", {id: "facts"}, ...data.facts.map(([name, text]) => factBox(name, text)));
   return element("header", {id: "head"}, element("h1", {textContent: "Who may do what in " + shownPath(0)}), facts,
     element("p", {id: "word", textContent: "Is all of this still right? Tick each entry that is to go. The lines at the end take the ticked entries away and change nothing else."}));
 }

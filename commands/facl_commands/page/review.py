@@ -1,28 +1,27 @@
 """facl-report --for-review: the page of one folder for its owner, with what people may do there, and a box at each
 entry of its lists that can go.
 
-Who may do what along paths is found by what the program answers of each list: a person gets to a file where all recorded
-directories above it grant search.
+Who may do what along paths is found by what the program answers of each list: a person gets to a file where all
+recorded directories above it grant search.
 """
 from __future__ import annotations
 
 import argparse
 import os
 from collections import Counter
-from functools import lru_cache
 from typing import Counter as Counts
-from typing import Dict, List, NamedTuple, Optional, Set, Tuple
+from typing import Dict, List, NamedTuple, Optional, Sequence, Set, Tuple
 
 from ..base.accounts import PEOPLE
 from ..base.folders import folder_of
 from ..base.messages import Command
-from ..base.names import directories_above, parent_of, path_word, shell_word, shown, write_name
+from ..base.names import directories_above, path_word, shell_word, write_name
 from ..base.numbered import Numbered
 from ..base.programs import find_program, judge_text
 from ..model import choice, meta, overview, sources
 from ..model.entries import GROUP, MASK, NOTHING, OTHER, USER, Entry, NamesOfIds, entries_of, read_record
-from ..model.everybody import SHOWN, Everybody, everybody_in
-from ..model.label_answers import LabelAnswers, PeopleTexts, ask_labels
+from ..model.everybody import SHOWN, everybody_in
+from ..model.label_answers import PeopleTexts
 from ..model.marks import alone, marks_of, not_judged
 from ..model.rights import places_in
 from ..model.rules_of_lists import Vector, along_path, inside
@@ -30,8 +29,10 @@ from ..model.snapshot import NEEDED, check_texts
 from ..model.sources import Source
 from ..program.protocol import LIST_CUT, LIST_EFFECTIVE
 from ..program.session import Session
+from .answers import ask_lists
+from .columns import shown
 from .frame import page_of
-from .tree import Labels, ListedRecord, PageTree, records_of
+from .tree import ABOVE, FolderFiles, Labels, PageListing, PageTree, by_folder, records_of
 
 READ, WRITE, SEARCH = 4, 2, 1  # Requests, which are bits of a byte of `index`.
 STYLE, SCRIPT = "review.css", "review.js"
@@ -41,35 +42,31 @@ MOST = b"at most (mask)"
 class Reviewed(NamedTuple):
     """The files at or below a folder, and the directories above it."""
 
-    path: bytes
-    records: List[ListedRecord]
-    above: List[ListedRecord]  # Those that are recorded, from the highest one down.
+    above: PageListing  # Those that are recorded, from the highest one down.
+    files: PageListing
+    labels: Labels  # Of both.
 
-
-class Person(NamedTuple):
-    name: bytes  # As the page has it.
-    place: int  # In the answers.
-
-
-class Views(NamedTuple):
-    """What the program answers of lists, and who is looked at."""
-
-    answers: LabelAnswers
-    people: List[Person]
-
-    def granted(self, label: int) -> Vector:
-        """What a list grants the people."""
-        return bytes([self.answers.vectors[label][person.place] for person in self.people])
+    def parts(self) -> List[FolderFiles]:
+        return [*by_folder(self.files.paths)]
 
 
 def read_reviewed(session: Session, word: bytes) -> Reviewed:
-    path = choice.folder_of(session, word)
+    path, labels = choice.folder_of(session, word), Labels()
     above = [it for it in directories_above(path)[::-1] if choice.is_recorded(session, it)]
-    records = [record for it in above for record in records_of(
-        session.ask_accepted(LIST_CUT + b" " + path_word(it)))]
-    found = list(records_of(session.ask_accepted(LIST_EFFECTIVE + b" " + path_word(path))))
-    directories = {parent_of(record.path) for record in found[1:]}
-    return Reviewed(path, [it._replace(is_directory=it.is_directory or it.path in directories) for it in found], records)
+    lines = [LIST_CUT + b" " + path_word(it) for it in above]
+    recorded = PageTree().add((it for line in lines for it in records_of(session.ask_accepted(line))), labels)
+    files = PageTree().add(records_of(session.ask_accepted(LIST_EFFECTIVE + b" " + path_word(path))), labels)
+    return Reviewed(recorded, files, labels)
+
+
+class PeopleAnswers(NamedTuple):
+    """What the program answers of lists, of the people who are looked at."""
+
+    names: List[str]  # As the page has them.
+    granted: List[Vector]  # By list: what it grants each of them,
+    reasons: List[List[int]]  # and by which entries, as numbers in these.
+    entries: List[List[bytes]]  # Those that grant something, without what the mask leaves.
+    texts: List[bytes]  # The lines of each list, with names.
 
 
 # --- who gets where
@@ -84,42 +81,30 @@ class RightsByList(NamedTuple):
     using: Dict[int, Set[int]]  # By list: those who get to one of its files at least.
 
 
-class Walk:
-    """The way over the files from the root down, with the people who get into each directory."""
-
-    def __init__(self, views: Views, is_alone: bool) -> None:
-        self.views, self.is_alone = views, is_alone
-        self.everybody = b"\1" * len(views.people)
-        self.inside: Dict[bytes, bytes] = {}
-
-    def reach(self, path: bytes) -> bytes:
-        """Who gets to a file: those who get into the nearest recorded directory above it."""
-        above = () if self.is_alone else directories_above(path)
-        return next((self.inside[it] for it in above if it in self.inside), self.everybody)
-
-    def enter(self, path: bytes, label: int) -> None:
-        """Takes a directory, before what is in it."""
-        self.inside[path] = inside(self.reach(path), self.views.granted(label))
-
-
-def rights_of(reviewed: Reviewed, labels: Labels, views: Views, is_alone: bool) -> RightsByList:
-    walk = Walk(views, is_alone)
-    for record in reviewed.above:
-        walk.enter(record.path, labels.number(record.body))
+def rights_of(reviewed: Reviewed, folders: Set[int], granted: List[Vector], is_alone: bool) -> RightsByList:
+    """Counts the files of each list to which the same people get, from the highest directory down."""
+    everybody = b"\1" * len(granted[0])
+    reach = everybody
+    for label in reviewed.above.labels if not is_alone else ():
+        reach = inside(reach, granted[label])
+    insides = {ABOVE: reach}  # Who gets to what is in a directory,
+    reaches: Dict[int, bytes] = {}  # and to what is one perhaps, as the next file is in it.
+    labels, place = reviewed.files.labels, 0
     classes: Counts[Tuple[int, bool, bytes]] = Counter()
-    for record in reviewed.records:
-        label = labels.number(record.body)
-        classes[label, record.is_directory, walk.reach(record.path)] += 1
-        if record.is_directory:
-            walk.enter(record.path, label)
-    return counted_by(classes, views)
+    for parent, _, names in reviewed.parts():
+        if parent not in insides:
+            insides[parent] = everybody if is_alone else inside(reaches[parent], granted[labels[parent]])
+        reach, end = insides[parent], place + len(names)
+        classes.update((labels[it], it in folders, reach) for it in range(place, end))
+        place, reaches[end - 1] = end, reach
+    return counted_by(classes, granted)
 
 
-def counted_by(classes: Counts[Tuple[int, bool, bytes]], views: Views) -> RightsByList:
+def counted_by(classes: Counts[Tuple[int, bool, bytes]], granted: List[Vector]) -> RightsByList:
     """The rights of each person, from files of one list to which the same people get."""
     found = RightsByList(Counter(), Counter(), Counter(), {})
     for (label, is_directory, reach), files in classes.items():
-        vector = along_path(views.granted(label), reach)
+        vector = along_path(granted[label], reach)
         for request, counts in ((READ, found.reads), (WRITE, found.changes), (SEARCH, found.enters)):
             if request != SEARCH or is_directory:
                 counts.update({place: files for place, byte in enumerate(vector) if byte >> request & 1})
@@ -130,66 +115,48 @@ def counted_by(classes: Counts[Tuple[int, bool, bytes]], views: Views) -> Rights
 # --- the lists
 
 
-class ListOf(NamedTuple):
-    """What files have in common."""
-
-    label: int
-    is_directory: bool
-
-
-def text_of(text: bytes) -> str:
-    return shown(text).decode()
-
-
-def who_of(entry: Entry, names: Tuple[bytes, bytes], ids: NamesOfIds, is_default: bool) -> str:
+def who_of(entry: Entry, names: Sequence[bytes], ids: NamesOfIds, is_default: bool) -> str:
     """Of whom an entry is, in words; names has the owner and the group. A new file has an owner and a group of its
     own."""
     if entry.is_named():
-        return text_of(ids.shown(entry.key))
+        return shown(ids.shown(entry.key))
     mine, its = (b"its owner", b"its group") if is_default else (b"owner " + names[0], b"owning group " + names[1])
-    return text_of({USER: mine, GROUP: its, MASK: MOST, OTHER: SHOWN}[entry.key[0]])
-
-
-@lru_cache(maxsize=None)
-def granting(reasons: bytes) -> Tuple[bytes, ...]:
-    """The entries that grant something, of those by which a user is judged; without what the mask leaves."""
-    return tuple(it.text() for it in entries_of(reasons) if it.effective != NOTHING)
+    return shown({USER: mine, GROUP: its, MASK: MOST, OTHER: SHOWN}[entry.key[0]])
 
 
 class Lists:
     """The different lists of the files."""
 
-    def __init__(self, labels: Labels, views: Views, rights: RightsByList, ids: NamesOfIds) -> None:
-        self.bodies, self.views, self.rights, self.ids = labels.bodies(), views, rights, ids
+    def __init__(self, answers: PeopleAnswers, using: Dict[int, Set[int]], ids: NamesOfIds) -> None:
+        self.answers, self.using, self.ids = answers, using, ids
         self.sets: Numbered[Tuple[int, ...]] = Numbered()  # Of people.
         self.by: Dict[int, Set[str]] = {}  # By person: the entries that grant something.
 
-    def fields(self, it: ListOf) -> Dict[str, object]:
-        record = read_record(self.bodies[it.label])
-        owner, group = (self.ids.shown(key).partition(b" ")[2] for key in ((USER, record.owner), (GROUP, record.group)))
-        known = self.people(it.label)
-        lines = [line for line in self.views.answers.lists[it.label].splitlines() if not line.startswith(b"#")]
-        entries = [self.entry(entry, who_of(entry, (owner, group), self.ids, False), b"", known.get(line, []))
+    def fields(self, label: int, body: bytes, is_directory: bool) -> Dict[str, object]:
+        record = read_record(body)
+        names = [self.ids.shown(key).partition(b" ")[2] for key in ((USER, record.owner), (GROUP, record.group))]
+        known = self.people(label)
+        lines = [line for line in self.answers.texts[label].splitlines() if not line.startswith(b"#")]
+        entries = [self.entry(entry, who_of(entry, names, self.ids, False), b"", known.get(line, []))
                    for entry, line in zip(record.access, lines)]
-        entries += [self.entry(entry, who_of(entry, (owner, group), self.ids, True), b"d:", [])
-                    for entry in record.default]
+        entries += [self.entry(entry, who_of(entry, names, self.ids, True), b"d:", []) for entry in record.default]
         flags = "" if record.flags == NOTHING else record.flags.decode()
-        return {"folder": it.is_directory, "owner": text_of(owner), "group": text_of(group), "flags": flags,
+        return {"folder": is_directory, "owner": shown(names[0]), "group": shown(names[1]), "flags": flags,
                 "entries": entries}
 
     def entry(self, entry: Entry, who: str, begin: bytes, people: List[int]) -> Dict[str, object]:
         """An entry, with what setfacl takes it away by; nothing where it cannot go."""
         for person in people:
             self.by.setdefault(person, set()).add(who)
-        key = text_of(begin + self.ids.word(entry.key)) if entry.is_named() else ""
-        return {"who": who, "permissions": entry.permissions.decode(), "effective": entry.effective.decode(), "key": key,
-                "isDefault": begin != b"", "people": self.sets.number(tuple(people))}
+        key = shown(begin + self.ids.word(entry.key)) if entry.is_named() else ""
+        return {"who": who, "permissions": entry.permissions.decode(), "effective": entry.effective.decode(),
+                "key": key, "isDefault": begin != b"", "people": self.sets.number(tuple(people))}
 
     def people(self, label: int) -> Dict[bytes, List[int]]:
         """By the entries of a list: the people who get to a file of it, and to whom the entry grants something."""
         found: Dict[bytes, List[int]] = {}
-        for person in sorted(self.rights.using[label]):
-            for line in granting(self.views.answers.reasons[label][self.views.people[person].place]):
+        for person in sorted(self.using[label]):
+            for line in self.answers.entries[self.answers.reasons[label][person]]:
                 found.setdefault(line, []).append(person)
         return found
 
@@ -197,55 +164,53 @@ class Lists:
 # --- the page
 
 
-def facts_of(reviewed: Reviewed, source: Source, name: str, judge: str) -> List[List[str]]:
+def facts_of(path: str, source: Source, files: int, folders: int, judge: str) -> List[List[str]]:
     """What the page is of: names with their texts."""
     about = meta.meta_of(source.folder)
     beside = b"; ".join([*alone(marks_of(source.folder)), *not_judged(source.folder)])
-    folders = sum(record.is_directory for record in reviewed.records)
-    facts = [["host", text_of(about.host)], ["date", text_of(about.date)], ["folder", name],
-             ["version", text_of(about.version)], ["files", str(len(reviewed.records) - folders)],
-             ["folders", str(folders)], ["users of a directory service", str(meta.users_asked_for(about) or "")],
-             ["judge", judge], ["beside lists", text_of(beside)]]
+    facts = [["host", shown(about.host)], ["date", shown(about.date)], ["folder", path],
+             ["version", shown(about.version)], ["files", str(files - folders)], ["folders", str(folders)],
+             ["users of a directory service", str(meta.users_asked_for(about) or "")], ["judge", judge],
+             ["beside lists", shown(beside)]]
     return [[title, text] for title, text in facts if text]
 
 
-def columns_of(reviewed: Reviewed, labels: Labels) -> Tuple[Dict[str, object], List[ListOf]]:
-    """The files by columns, in path order, and their different lists."""
-    tree, known = PageTree(), Labels()
-    tree.add(reviewed.records, known)
-    numbers: Dict[ListOf, int] = {}
-    lists = [numbers.setdefault(ListOf(labels.number(it.body), it.is_directory), len(numbers)) for it in reviewed.records]
-    names = [text_of(write_name(name)) for name in tree.names]
-    return {"parents": tree.parents, "names": names, "lists": lists}, list(numbers)
-
-
-def people_of(users: List[bytes], everybody: Everybody, kept: List[bytes]) -> List[Person]:
-    """Everybody else, and those of the users of answers who are kept."""
-    places = {user: place for place, user in enumerate(users)}
-    return [Person(everybody.shown(user), places[user]) for user in [everybody.name, *kept]]
+def ask_people(program: str, source: Source, given: argparse.Namespace, passwd: bytes, group: bytes,
+               bodies: List[bytes]) -> PeopleAnswers:
+    """Asks of everybody else, and of those users who are kept."""
+    everybody = everybody_in(lambda: (passwd, group, *bodies))
+    texts = PeopleTexts(everybody.with_user(passwd), everybody.with_group(group), b"")
+    answers = ask_lists(program, texts, everybody.name, bodies)
+    users = [everybody.name, *choice.kept(answers.users, given, passwd)]
+    places = [*map({user: place for place, user in enumerate(answers.users)}.__getitem__, users)]
+    entries = [[it.text() for it in entries_of(text) if it.effective != NOTHING] for text in answers.entries.values]
+    return PeopleAnswers([shown(everybody.shown(user)) for user in users],
+                         [bytes([vector[place] for place in places]) for vector in answers.vectors],
+                         [[its[place] for place in places] for its in answers.reasons], entries, answers.lists)
 
 
 def data_of(program: str, reviewed: Reviewed, source: Source, given: argparse.Namespace,
             is_whole: bool) -> Dict[str, object]:
     passwd, group = map(folder_of(source.folder).read, NEEDED[:2])
-    labels = Labels()
-    for record in [*reviewed.above, *reviewed.records]:
-        labels.number(record.body)
-    everybody = everybody_in(lambda: (passwd, group, *labels.bodies()))
-    people_texts = PeopleTexts(everybody.with_user(passwd), everybody.with_group(group), b"")
-    answers = ask_labels(program, people_texts, labels.bodies())
-    views = Views(answers, people_of(answers.users, everybody, choice.kept(answers.users, given, passwd)))
-    rights = rights_of(reviewed, labels, views, given.file_alone)
-    files, kinds = columns_of(reviewed, labels)
-    lists = Lists(labels, views, rights, NamesOfIds(passwd, group))
-    fields = [lists.fields(it) for it in kinds]
-    people = [{"name": text_of(name), "reads": rights.reads[k], "changes": rights.changes[k], "enters": rights.enters[k],
-               "by": sorted(lists.by.get(k, ()))} for k, (name, _) in enumerate(views.people)]
+    bodies, (_, files, _) = reviewed.labels.bodies(), reviewed
+    parts = reviewed.parts()
+    parents = [its.parent for its in parts for _ in its.names]
+    folders = {place for place, path in enumerate(files.paths) if path in files.folders}.union(parents) - {ABOVE}
+    answers = ask_people(program, source, given, passwd, group, bodies)
+    rights = rights_of(reviewed, folders, answers.granted, given.file_alone)
+    kinds: Numbered[Tuple[int, bool]] = Numbered()  # A list, and whether its file is a directory.
+    columns = {"parents": parents, "names": [shown(write_name(name)) for its in parts for name in its.names],
+               "lists": [kinds.number((label, place in folders)) for place, label in enumerate(files.labels)]}
+    lists = Lists(answers, rights.using, NamesOfIds(passwd, group))
+    fields = [lists.fields(label, bodies[label], is_directory) for label, is_directory in kinds.values]
+    people = [{"name": name, "reads": rights.reads[k], "changes": rights.changes[k], "enters": rights.enters[k],
+               "by": sorted(lists.by.get(k, ()))} for k, name in enumerate(answers.names)]
     prefix = "/" if is_whole else ""
+    path = prefix + shown(write_name(files.paths[0]))
     return {
-        "facts": facts_of(reviewed, source, prefix + text_of(write_name(reviewed.path)), judge_text(given)), "alone": given.file_alone,
-        "prefix": prefix, "snapshot": "SNAPSHOT" if source.is_made else text_of(shell_word(source.shown)),
-        "people": people, "files": files, "lists": fields, "sets": lists.sets.values,
+        "facts": facts_of(path, source, len(parents), len(folders), judge_text(given)), "alone": given.file_alone,
+        "prefix": prefix, "snapshot": "SNAPSHOT" if source.is_made else shown(shell_word(source.shown)),
+        "people": people, "files": columns, "lists": fields, "sets": lists.sets.values,
     }
 
 
