@@ -170,8 +170,11 @@ class Columns:
 
     def folders(self, listing: PageListing, labels: Sequence[int]) -> Set[int]:
         """The places of what is a directory in a listing: by its record, or since another file is in it."""
-        found = {place for place, path in enumerate(self.paths) if path in listing.folders}
-        return found.union(parent for parent, label in zip(self.parents, labels) if label != GONE) - {ABOVE}
+        known = listing.folders
+        found = {place for place, path in enumerate(self.paths) if path in known}
+        if labels is not listing.labels:
+            return found.union(parent for parent, label in zip(self.parents, labels) if label != GONE) - {ABOVE}
+        return found.union(self.parents) - {ABOVE}
 
     def data(self, tables: Tables, views: List[View]) -> Dict[str, object]:
         """The columns: names, depths and kinds; and by places the kind before, where the file was another one."""
@@ -183,7 +186,8 @@ class Columns:
             kinds.append(tables.kinds_of(view, its, self.labels(listing, self.known), places))
             tables.find_insides(kinds[-1], places, self.parents)
         others = folders[0] ^ folders[-1]
-        others.update(place for place, (old, new) in enumerate(zip(kinds[-1], kinds[0])) if old != new)
+        if len(kinds) > 1:
+            others.update(place for place, (old, new) in enumerate(zip(kinds[-1], kinds[0])) if old != new)
         return {"count": len(self.paths), "names": "\n".join(shown_name(name) or "/" for name in self.names),
                 "name": packed(self.columns[0]), "depth": packed(self.columns[1]), "kind": packed(kinds[0]),
                 "changed": {place: kinds[-1][place] for place in sorted(others)}}

@@ -2,6 +2,7 @@
 from __future__ import annotations
 
 import itertools
+import operator
 from array import array
 from typing import Iterable, Iterator, List, NamedTuple, Set, Tuple
 
@@ -55,10 +56,11 @@ class PageTree:
                      for name in names]
             for body in dict.fromkeys(bodies):
                 labels.number(body)
+            lists = {body for body in set(bodies) if DEFAULT_ENTRY in body}  # Those of directories.
             found.paths.extend(paths)
             found.labels.extend(map(labels.numbers.__getitem__, bodies))
-            found.folders.update(path for path, name, body in zip(paths, names, bodies)
-                                 if name[-1:] == b"/" or DEFAULT_ENTRY in body or not path)
+            found.folders.update([path for path, name, body in zip(paths, names, bodies)
+                                  if name[-1:] == b"/" or body in lists or not path])
         if self.listings and self.listings[-1].paths == found.paths:
             found = found._replace(paths=self.listings[-1].paths)
         self.listings.append(found)
@@ -81,7 +83,7 @@ def by_folder(paths: List[bytes]) -> Iterator[FolderFiles]:
         yield FolderFiles(ABOVE, 0, [b""])
         above, place = [(b"", 0)], 1
     parts = (path.rpartition(b"/") for path in itertools.islice(paths, place, None))
-    for folder, its in itertools.groupby(parts, lambda part: part[0]):
+    for folder, its in itertools.groupby(parts, operator.itemgetter(0)):
         names = [name for _, _, name in its]
         last = folder + b"/" * (folder != b"") + names[-1]
         while above and folder != above[-1][0] and not is_below(folder, above[-1][0]):
