@@ -24,7 +24,7 @@ from ..program.session import Session
 from ..program.tools import ABOUT_ONE, ABOUT_USERS, BY_FILES, path_in, split, user_in
 from .meta import Meta, users_asked_for
 from .people import ids_of, needed_word, users_in
-from .records import Listing, list_slices, path_of, paths_of
+from .records import Listing, list_slices, path_of
 from .snapshot import NEEDED
 from .sources import DUMP, Source, find_tops, operands_of
 
@@ -175,11 +175,6 @@ class World(NamedTuple):
 
     def reach(self, is_alone: bool) -> bytes:
         return b"" if is_alone else b"--reach "
-
-    def may(self, user: bytes, request: bytes, is_alone: bool) -> Set[bytes]:
-        """The paths of the files on which a user is granted a request."""
-        found = self.session.ask_accepted(b"may %s-- %s %s" % (self.reach(is_alone), self.word_of(user), request))
-        return set(paths_of(found.read().split(b"\n")[:-1]))
 
     def word_of(self, user: bytes) -> bytes:
         """The word of a question that names a user."""

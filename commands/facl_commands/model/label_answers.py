@@ -5,15 +5,12 @@ with a short name, in a session over these files: neither names nor depths of th
 """
 from __future__ import annotations
 
-import re
 import struct
 from typing import Dict, Iterable, List, NamedTuple
 
 from ..base.messages import Failure
-from ..base.names import read_name
-from ..program.protocol import DEFAULT_ENTRY, ENTRIES_OF, FILE_HEAD, INDEX, LIST_NAMES
+from ..program.protocol import DEFAULT_ENTRY, FILE_HEAD, INDEX
 from ..program.session import OutputSlice, Session, parts_of, session_over
-from .people import rows_of, user_word, users_in
 from .records import body_of
 from .rights import users_of
 from .rules_of_lists import Vector
@@ -33,15 +30,6 @@ class PeopleTexts(NamedTuple):
     lines: bytes
 
 
-class LabelAnswers(NamedTuple):
-    """What the program answers of each label, by its number."""
-
-    users: List[bytes]
-    vectors: List[Vector]
-    lists: List[bytes]  # The lines of its record, with names.
-    reasons: List[List[bytes]]  # The lines of entries, for each user.
-
-
 def dump_of(bodies: List[bytes]) -> bytes:
     """A dump of a file for each body; one that has a default list is a directory."""
     slash = {True: b"/", False: b""}
@@ -57,21 +45,6 @@ def operands_of(count: int) -> List[bytes]:
 def ask_records(session: Session, lines: Iterable[bytes]) -> List[bytes]:
     """The bodies of the records that lines of our own print."""
     return list(map(body_of, session.ask_accepted(b"\n".join(lines)).records()))
-
-
-def ask_reasons(session: Session, passwd: bytes, users: List[bytes], count: int) -> List[List[bytes]]:
-    """By which entries each user is judged; one whom no word names has no entries here."""
-    known_users = users_in(passwd)
-    parts = operands_of(count)
-    found: List[List[bytes]] = [[] for _ in range(count)]
-    known: Dict[bytes, bytes] = {}  # Each text once.
-    for user in users:
-        word = user_word(known_users, read_name(user))
-        lines = [] if word is None else [b" ".join([ENTRIES_OF, word, part]) for part in parts]
-        for reasons, record in zip(found, ask_records(session, lines) if lines else [b""] * count):
-            entries = re.sub(rb"\t+", b"  ", record)  # Two blanks before an effective permission.
-            reasons.append(known.setdefault(entries, entries))
-    return found
 
 
 def vectors_of(table: OutputSlice, users: List[bytes], count: int) -> List[Vector]:
@@ -109,27 +82,3 @@ def ask_vectors(program: str, people: PeopleTexts, bodies: List[bytes]) -> List[
             session.ask_accepted(people.lines.rstrip(b"\n"))
             found.append(vectors_by_body(session, bodies))
         return [found[0], found[-1]]
-
-
-def ask_some(program: str, people: PeopleTexts, bodies: List[bytes]) -> LabelAnswers:
-    """Asks of bodies that one session has room for."""
-    with session_over(program, people.passwd, people.group, dump_of(bodies)) as session:
-        if people.lines:
-            session.ask_accepted(people.lines.rstrip(b"\n"))
-        table = session.ask_accepted(INDEX)
-        users = users_of(table)
-        vectors = vectors_of(table, users, len(bodies))
-        reasons = ask_reasons(session, people.passwd, users, len(bodies))
-        lists = ask_records(session, [LIST_NAMES + b" " + part for part in operands_of(len(bodies))])
-        return LabelAnswers(users, vectors, lists, reasons)
-
-
-def ask_labels(program: str, people: PeopleTexts, bodies: List[bytes]) -> LabelAnswers:
-    """Asks of all bodies, as many at once as lines of one session have room for."""
-    users = len(rows_of(people.passwd)) + people.lines.count(b"\n")
-    step = max(1, min(FILES_ROOM, SCRIPT_ROOM // (WORD_SIZE * (users + 1))))
-    found = LabelAnswers([], [], [], [])
-    for start in range(0, len(bodies), step):
-        users_of_part, vectors, lists, reasons = ask_some(program, people, bodies[start : start + step])
-        found = LabelAnswers(users_of_part, found.vectors + vectors, found.lists + lists, found.reasons + reasons)
-    return found

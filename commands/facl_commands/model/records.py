@@ -74,11 +74,6 @@ def body_of(record: bytes) -> bytes:
     return split_record(record)[1]
 
 
-def is_of_directory(name: bytes, body: bytes) -> bool:
-    """Whether a record says that its file is a directory, by its name or by default entries; one with a file below it is one too."""
-    return name[-1:] == b"/" or name == b"." or DEFAULT_ENTRY in body
-
-
 def path_of(name: bytes) -> bytes:
     """The path that a name in a listing is; only one with an escape, or with a component that is none, has to be
     read."""
@@ -119,17 +114,13 @@ def list_pieces(pieces: Iterable[bytes], directories: Iterable[bytes] = ()) -> L
     return Listing(found, names)
 
 
-def list_files(text: bytes) -> Listing:
-    """The same of a text."""
-    return list_pieces([text, b"\n\n"])
-
-
 def read_listing(text: bytes) -> Files:
-    return list_files(text).files
+    """The files of a listing that is a text."""
+    return list_pieces([text, b"\n\n"]).files
 
 
 def list_slices(listing: Iterable[OutputSlice], directories: Iterable[bytes] = ()) -> Listing:
-    """The same of what a session printed."""
+    """The files of what a session printed."""
     return list_pieces((piece for output in listing for piece in output.pieces()), directories)
 
 

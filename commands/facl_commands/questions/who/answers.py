@@ -12,7 +12,7 @@ from ...base.names import highest, json_text, path_order, path_word, read_path, 
 from ...base.tables import Column, Table
 from ...model import choice, sources
 from ...model.entries import OWNER_KEY, USER, ReadRecord, read_record
-from ...model.records import list_files, path_of, paths_of, split_record
+from ...model.records import list_slices, path_of, paths_of, split_record
 from ...model.rights import GRANTED, REQUESTS
 from ...program.protocol import BELOW, CAN, DEFAULT_ENTRY, FILE_HEAD, LIST_EFFECTIVE, MAY
 from ...program.session import LINES_ROOM, parts_of
@@ -162,7 +162,7 @@ def with_default_entries(asker: Asker, dump: bytes) -> Set[bytes]:
     if sources.LIVE_ROOT in dump or DEFAULT_LINE.search(dump) is None:
         return set()
     tops = sources.find_tops(asker.session, asker.session.folder)
-    listing = list_files(b"".join(it.read() for it in sources.list_below(asker.session, tops)))
+    listing = list_slices(sources.list_below(asker.session, tops))
     return {path for path, file in listing.files.items() if DEFAULT_ENTRY in file.body}
 
 
