@@ -321,7 +321,7 @@ class Places(Stubbed):
 
     def test_words(self) -> None:
         self.assertEqual((self.daily("--keep", "0"), self.subjects()), (2, [b"--keep 0: is no number of snapshots"]))
-        self.assertEqual((self.daily("--nix"), self.subjects()), (2, [b"--nix: is no option" + daily_words.HINT]))
+        self.assertEqual((self.daily("--nix"), self.subjects()), (2, [b"--nix: is no option" + os.fsencode(daily_words.HINT)]))
         self.assertFalse(os.path.exists(self.kept))
 
 
