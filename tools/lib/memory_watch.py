@@ -16,9 +16,9 @@ from typing import Dict, List, NamedTuple, Optional, Set, Tuple
 from ways import Crates
 from .processes import Process
 
-# The most that a check takes, in bytes: what the gate saw on 2026-11-29 on two processors with 8 GB, rounded up.
+# The most that a check takes, in bytes: what the gate saw on 2026-11-30 on four processors with 16 GB, rounded up.
 MOST = 3_400_000_000
-MOST_OF = {"acl_tree_tests": 4_000_000_000, "acl_rights": 3_800_000_000, "acl_rights_tests": 3_800_000_000, "facl": 3_700_000_000}
+MOST_OF = {"acl_rights": 4_000_000_000, "acl_rights_tests": 3_900_000_000, "facl_tests": 3_700_000_000, "facl": 3_600_000_000}
 SPARE = 300_000_000  # What rt and its scripts take.
 
 
