@@ -7,7 +7,7 @@ from __future__ import annotations
 
 import codecs
 import re
-from typing import Iterable, List, Match, Tuple
+from typing import Container, Iterable, List, Match, Tuple
 
 ESCAPE = re.compile(rb"\\([0-3][0-7][0-7]|\\)")
 SAFE = re.compile(rb"[\x20-\x7e\t]*\Z")
@@ -70,6 +70,17 @@ def directories_above(path: bytes) -> List[bytes]:
     """The nearest first, and the root last."""
     parts = path.split(b"/") if path else []
     return [b"/".join(parts[:end]) for end in range(len(parts) - 1, -1, -1)]
+
+
+def way_to(path: bytes, known: Container[bytes]) -> List[bytes]:
+    """A path and the directories above it, the highest first, from below the first one that is known on."""
+    found: List[bytes] = []
+    while path not in known:
+        found.append(path)
+        if not path:
+            break
+        path = parent_of(path)
+    return found[::-1]
 
 
 def is_below(path: bytes, above: bytes) -> bool:

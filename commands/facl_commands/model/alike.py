@@ -7,7 +7,7 @@ from __future__ import annotations
 
 from typing import Dict, Iterable, List, NamedTuple, Optional, Tuple
 
-from ..base.names import directories_above, parent_of
+from ..base.names import parent_of, way_to
 from .records import File, Files
 
 TOP = 0  # The number of what is above the root.
@@ -33,13 +33,11 @@ class Chains:
 
     def number(self, path: bytes) -> int:
         """Of a directory; of one that is not recorded, as of one without a record."""
-        if path not in self.numbers:
-            for it in [*directories_above(path)[::-1], path]:
-                if it not in self.numbers:
-                    above = self.numbers[parent_of(it)] if it else TOP
-                    file = self.files.get(it)
-                    pair = above, file.body if file else None
-                    self.numbers[it] = self.known.setdefault(pair, len(self.known) + 1)
+        for it in way_to(path, self.numbers):
+            above = self.numbers[parent_of(it)] if it else TOP
+            file = self.files.get(it)
+            pair = above, file.body if file else None
+            self.numbers[it] = self.known.setdefault(pair, len(self.known) + 1)
         return self.numbers[path]
 
 

@@ -5,7 +5,7 @@ from __future__ import annotations
 from typing import Dict, Iterable, List, NamedTuple, Optional, Tuple
 
 from ...base.messages import Failure
-from ...base.names import directories_above, parent_of, path_word, shown_path, write_user
+from ...base.names import parent_of, path_word, shown_path, way_to, write_user
 from ...model.alike import Alike, alike_of
 from ...model.choice import is_chosen
 from ...model.entries import GROUP, OTHER, USER, Key, digits, flag_digit, named, read_record, without
@@ -57,11 +57,10 @@ class EverybodyRights:
 
     def closed_at(self, directory: bytes) -> Optional[bytes]:
         """The highest of a directory and those above it that everybody else cannot search."""
-        if directory not in self.closed:
-            for it in [*directories_above(directory)[::-1], directory]:
-                above = self.closed[parent_of(it)] if it else None
-                is_open = it not in self.files or inside(b"\1", self.vectors[self.files[it].body]) != b"\0"
-                self.closed[it] = it if above is None and not is_open else above
+        for it in way_to(directory, self.closed):
+            above = self.closed[parent_of(it)] if it else None
+            is_open = it not in self.files or inside(b"\1", self.vectors[self.files[it].body]) != b"\0"
+            self.closed[it] = it if above is None and not is_open else above
         return self.closed[directory]
 
     def of(self, file: File) -> List[OpenRight]:
@@ -125,9 +124,11 @@ class Writers:
         self.bits = {write_user(name): bit for name, bit in teams.bits.items()}
         first = {it.file: it.first() for it in reversed(groups)}
         self.alone = self.ask([(writing(file.is_directory), path) for file, path in first.items()])
-        above = {} if audited.given.file_alone else {parent_of(it.first()): None for it in groups if it.first()}
-        known = {path: self.files[path] for it in above for path in (it, *directories_above(it)) if path in self.files}
-        self.search = self.ask([(EXECUTE, path) for path in {file: path for path, file in known.items()}.values()])
+        above: Dict[bytes, None] = {}
+        for it in groups if not audited.given.file_alone else []:
+            above.update(dict.fromkeys(way_to(parent_of(it.first()), above) if it.first() else []))
+        known = {self.files[path]: path for path in above if path in self.files}
+        self.search = self.ask([(EXECUTE, path) for path in known.values()])
         self.inside: Dict[bytes, int] = {}  # By directory: who gets to what is in it.
 
     def ask(self, questions: List[Tuple[bytes, bytes]]) -> Dict[File, int]:
@@ -145,10 +146,9 @@ class Writers:
         return found
 
     def inside_of(self, directory: bytes) -> int:
-        if directory not in self.inside:
-            for it in [*directories_above(directory)[::-1], directory]:
-                above = self.inside[parent_of(it)] if it else -1
-                self.inside[it] = above & self.search[self.files[it]] if it in self.files else above
+        for it in way_to(directory, self.inside):
+            above = self.inside[parent_of(it)] if it else -1
+            self.inside[it] = above & self.search[self.files[it]] if it in self.files else above
         return self.inside[directory]
 
     def of(self, alike: Alike) -> int:

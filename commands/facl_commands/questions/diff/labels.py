@@ -11,7 +11,7 @@ import itertools
 from typing import Dict, Iterable, Iterator, List, NamedTuple, Optional, Set, Tuple
 
 from ...base.messages import Failure
-from ...base.names import at_or_below, directories_above, parent_of, shown_path, sorting_key, write_user
+from ...base.names import at_or_below, parent_of, shown_path, sorting_key, way_to, write_user
 from ...base.numbered import Numbered
 from ...model import label_answers
 from ...model.gains import Gain
@@ -76,11 +76,10 @@ class Shapes:
 
     def ways_to(self, directory: bytes) -> Key:
         """A directory and those above it, as far as they are recorded."""
-        if directory not in self.above:
-            for it in [*directories_above(directory)[::-1], directory]:
-                old, new = (way if it not in files else self.ways.number((way, self.number(files[it])))
-                            for way, files in zip(self.above[parent_of(it)] if it else (OPEN, OPEN), self.sides))
-                self.above[it] = old, new
+        for it in way_to(directory, self.above):
+            old, new = (way if it not in files else self.ways.number((way, self.number(files[it])))
+                        for way, files in zip(self.above[parent_of(it)] if it else (OPEN, OPEN), self.sides))
+            self.above[it] = old, new
         return self.above[directory]
 
     def records(self, shapes: Iterable[Shape]) -> List[int]:
