@@ -8,7 +8,6 @@ import shutil
 import signal
 import subprocess
 import sys
-import tempfile
 import time
 import unittest
 from typing import Any, Dict, List, Tuple
@@ -17,10 +16,8 @@ from common import COMMANDS, Case, Done, restore_signals
 
 sys.path.insert(0, COMMANDS)
 
-from facl_commands.model import records  # noqa: E402
-from facl_commands.program.session import OutputSlice  # noqa: E402
 from facl_commands.questions.diff.reasons import decided_by, words_of_list  # noqa: E402
-from facl_commands.questions.diff.states import read_files  # noqa: E402
+from facl_commands.questions.diff.states import pairs_of  # noqa: E402
 
 PAIR = ("before", "after")
 NOTHING = b"nothing differs: the same users, groups of users, files and lists\n"
@@ -523,21 +520,18 @@ facl-diff: warning: left out of before alone as another file system, so what is 
 
 
 class Records(unittest.TestCase):
-    """Listings are compared by the paths of their files."""
+    """Listings are compared record by record."""
 
-    def files(self, *names: bytes) -> records.Files:
-        text = b"".join(b"# file: " + name + b"\n" + NEW_FILE for name in names)
-        with tempfile.TemporaryFile() as file:
-            file.write(text)
-            file.flush()
-            return read_files([OutputSlice(file, 0, len(text))])
+    def test_pairs(self) -> None:
+        def listing(*names: bytes) -> List[bytes]:
+            return [b"# file: " + name for name in names]
 
-    def test_what_differs(self) -> None:
-        # A file with another one below it is a directory, also if what is between them is not recorded.
-        old = self.files(b".", b"a", b"a/b", b"a b", b"c", b"e", b"e/f", b"e/f/g")
-        new = self.files(b".", b"a/", b"a b", b"c", b"c/d/e", b"e", b"e/f/g")
-        self.assertEqual(records.compare(old, new), ([], [b"c", b"c/d/e"], [b"a/b", b"c", b"e/f"]))
-        self.assertEqual(records.compare(old, old), ([], [], []))
+        old, new = listing(b".", b"a", b"a/b", b"a b", b"c"), listing(b".", b"a/", b"a b", b"c", b"c/d")
+        pairs = {pair.path: pair for pair in pairs_of(iter(old), iter(new))}
+        self.assertEqual(sorted(pairs), [b"a", b"a/b", b"c", b"c/d"])
+        self.assertFalse(pairs[b"a"].is_of_other_kind())
+        self.assertTrue(pairs[b"c"].is_of_other_kind())
+        self.assertEqual(list(pairs_of(iter(old), iter(old))), [])
 
 
 if __name__ == "__main__":

@@ -74,6 +74,11 @@ def body_of(record: bytes) -> bytes:
     return split_record(record)[1]
 
 
+def is_of_directory(name: bytes, body: bytes) -> bool:
+    """Whether a record says that its file is a directory, by its name or by default entries; one with a file below it is one too."""
+    return name[-1:] == b"/" or name == b"." or DEFAULT_ENTRY in body
+
+
 def path_of(name: bytes) -> bytes:
     """The path that a name in a listing is; only one with an escape, or with a component that is none, has to be
     read."""

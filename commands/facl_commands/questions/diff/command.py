@@ -3,26 +3,31 @@ from __future__ import annotations
 
 import argparse
 import os
-from typing import Iterable, List, Optional, Set, Tuple
+from typing import Dict, Iterable, List, NamedTuple, Optional, Set, Tuple
 
 from ...base import folders, tables
 from ...base.messages import Command, Failure, parser_of
-from ...base.names import at_or_below, highest, write_user
+from ...base.names import is_at_or_below, write_user
 from ...base.new_file import NewFile
 from ...base.programs import add_program, find_program
 from ...model import choice, overview, sources
-from ...model.everybody import Everybody, beside, everybody_in, session_with, texts_in
+from ...model.everybody import Everybody
 from ...model.gains import Gain, ask_gains
 from ...model.marks import alone, marks_of
 from ...model.people import rows_of as rows_of_text
-from ...model.records import ChangedPaths, Files, compare as compare_files
+from ...model.records import name_of, path_of, records_in
 from ...program.session import OutputSlice, Session
 from . import report
 from .edits import CannotLead, Edits, group_text
-from .labels import Shapes, gains_by_labels
-from .reasons import reasons_of
-from .report import AllUsers, Compared, rows_of
-from .states import State, files_in_parts, find_moved, members_of, people_counts, read_files, read_state
+from .labels import LabelDifferences, Shapes, records_of_folders
+from .moved import Moved, find_moved
+from .reasons import ask_records, reasons_of
+from .report import Compared
+from .rows import AllUsers, rows_of
+from .states import (
+    Pair, State, counts_of, everybody_of, is_same_text, listing_of_all, members_of, pairs_of, people_counts, read_state,
+    session_of, tops_of,
+)
 
 SAME, DIFFERS = 0, 1
 BY_GAINS, BY_INDEX = "gains", "index"
@@ -47,6 +52,16 @@ the words or the snapshots cannot be used.
 """
 
 
+class Differences(NamedTuple):
+    """What differs between two snapshots, as far as it is looked at."""
+
+    by: str
+    gains: List[Gain]
+    pairs: List[Pair]
+    people: List[bytes]  # The lines of the edits that change users and groups.
+    listing: List[OutputSlice]  # The files after the edits; none where there are no edits.
+
+
 def parse(words: List[str]) -> argparse.Namespace:
     parser = parser_of("facl-diff", HELP, STATUS)
     add_program(parser)
@@ -63,116 +78,169 @@ def parse(words: List[str]) -> argparse.Namespace:
     return given
 
 
+def check_hosts(old: State, new: State, given: argparse.Namespace) -> None:
+    hosts = old.about.host, new.about.host
+    if all(hosts) and hosts[0] != hosts[1] and not given.any_host:
+        raise Failure(b"%s is of %s, and %s of %s: --any-host compares them" % (old.folder, hosts[0], new.folder,
+                                                                             hosts[1]))
+
+
+def folders_of(sessions: Tuple[Session, Session], words: Iterable[str]) -> List[bytes]:
+    """The paths of words; each is recorded before or after."""
+    found = []
+    for word in map(os.fsencode, words):
+        choice.refuse_empty(word)
+        paths = [path for path in choice.paths_of(word) if any(choice.is_recorded(it, path) for it in sessions)]
+        found.append(paths[0] if paths else choice.folder_of(sessions[1], word))
+    return found
+
+
 class Comparison:
-    """Two snapshots by their files, with everybody else among the users of both."""
+    """Two snapshots by their listings, with everybody else among the users of both."""
 
-    def __init__(self, given: argparse.Namespace, program: str, plain: Tuple[State, State], everybody: Everybody,
-                 files: Tuple[Files, Files]) -> None:
-        self.given, self.program, self.plain, self.everybody, self.files = given, program, plain, everybody, files
-        self.states = plain[0].with_everybody(everybody), plain[1].with_everybody(everybody)
-        self.is_whole = any(b"" in it for it in files)  # Whether paths start at the root of the file system.
-        self.changes = compare_files(*files)
+    def __init__(self, program: str, states: Tuple[State, State], everybody: Everybody, listings: List[List[OutputSlice]],
+                 given: argparse.Namespace) -> None:
+        self.program, self.plain, self.everybody, self.listings, self.given = program, states, everybody, listings, given
+        self.states = states[0].with_everybody(everybody), states[1].with_everybody(everybody)
+        self.is_alone: bool = given.file_alone
         self.folders: List[bytes] = []  # Those that are looked at; none where all files are.
+        self.is_whole = False  # Whether paths start at the root of the file system.
 
-    def recorded_of(self, paths: Iterable[bytes]) -> Set[bytes]:
-        """Those of some paths that are there before or after."""
-        return {path for path in paths if any(path in it for it in self.files)}
+    def records_of(self, paths: List[bytes]) -> Dict[bytes, bytes]:
+        """The later records of some paths."""
+        wanted = set(paths)
+        both = ((path_of(name_of(record)), record) for record in records_in(self.listings[1]))
+        return {path: record for path, record in both if path in wanted}
 
-    def by_labels(self) -> Compared:
-        shapes = Shapes(*self.files, self.folders or [b""])
-        return self.compared(BY_INDEX, gains_by_labels(self.program, self.states, shapes, self.given.file_alone))
+    def pairs(self, is_all: bool = False) -> Iterable[Pair]:
+        """What differs in the files that are looked at, and the directories above them; or all of these."""
+        old, new = (records_of_folders(records_in(it), self.folders or [b""]) for it in self.listings)
+        return pairs_of(old, new, is_all)
 
-    def compared(self, way: str, found: List[Gain]) -> Compared:
+    def answer(self) -> Differences:
+        return self.by_labels(list(self.pairs()))
+
+    def by_labels(self, pairs: List[Pair]) -> Differences:
+        shapes = Shapes()
+        shapes.add(self.pairs(is_all=True), self.folders or [b""])
+        labels = LabelDifferences(self.program, self.states[0], self.states[1], shapes, self.is_alone)
+        return Differences(BY_INDEX, labels.gains(), pairs, [], [])
+
+    def compared(self, answered: Differences) -> Compared:
         old, new = self.plain
         chosen = chosen_users(old, new, self.given)
         place = {user: number for number, user in enumerate([self.everybody.name, *chosen])}
-        gains = sorted((it for it in found if it.user in place), key=lambda it: place[it.user])
-        changes = ChangedPaths(*(at_or_below(paths, self.folders or [b""]) for paths in self.changes))
-        moved = find_moved(old, new, self.files, changes)
-        reasons = reasons_of(self.program, self.states, self.files, gains, moved, self.given.file_alone, self.is_whole)
-        left_out = list(dict.fromkeys(it.user for it in found if it.user not in place))
+        gains = sorted((it for it in answered.gains if it.user in place), key=lambda it: place[it.user])
+        counted = [pair for pair in answered.pairs if is_at_or_below(pair.path, self.folders or [b""])]
+        moved: List[Moved] = find_moved(old, new, counted)
+        reasons = reasons_of(self.program, self.states, self.records_of, {it.path: it for it in answered.pairs}, gains,
+                             self.is_alone, self.is_whole)
+        reasons.moved_from = {it.new: it.old for it in moved}
+        reasons.moved_to = {it.old: it.new for it in moved}
+        left_out = list(dict.fromkeys(it.user for it in answered.gains if it.user not in place))
         everybody = AllUsers((old, new), set(chosen), self.everybody)
-        return Compared(old, new, self.folders, self.given.file_alone, self.is_whole, way, rows_of(gains, reasons.of, everybody),
-                        everybody, left_out, changes, people_counts(members_of(old.people()), members_of(new.people())), moved)
+        return Compared(old, new, self.folders, self.is_alone, self.is_whole, answered.by,
+                        rows_of(gains, reasons.of, everybody), everybody, left_out, counts_of(counted),
+                        people_counts(members_of(old.people()), members_of(new.people())), moved)
 
 
 class OfSessions(Comparison):
     """Two snapshots, each with a session."""
 
-    def __init__(self, given: argparse.Namespace, program: str, plain: Tuple[State, State], everybody: Everybody,
-                 sessions: Tuple[Session, Session]) -> None:
-        tops = [sources.find_tops(*side) for side in zip(sessions, (it.folder for it in plain))]
-        self.sessions, self.tops = sessions, highest([*tops[0], *tops[1]])
-        self.listings = [sources.list_below(*side) for side in zip(sessions, tops)]
-        super().__init__(given, program, plain, everybody, (read_files(self.listings[0]), read_files(self.listings[1])))
-        self.folders = [self.path_of(os.fsencode(word)) for word in given.folders]
+    def __init__(self, program: str, states: Tuple[State, State], everybody: Everybody, sessions: Tuple[Session, Session],
+                 given: argparse.Namespace) -> None:
+        super().__init__(program, states, everybody, [sources.list_below(session, sources.find_tops(session, state.folder))
+                                                      for session, state in zip(sessions, states)], given)
+        self.sessions = sessions
+        self.tops = tops_of((sessions[0], states[0]), (sessions[1], states[1]))
+        self.folders, self.is_whole = folders_of(sessions, given.folders), self.tops == [b""]
 
-    def path_of(self, word: bytes) -> bytes:
-        """The path of a word, which is recorded before or after."""
-        choice.refuse_empty(word)
-        known = [path for path in choice.paths_of(word) if self.recorded_of([path])]
-        return known[0] if known else choice.folder_of(self.sessions[1], word)
+    def records_of(self, paths: List[bytes]) -> Dict[bytes, bytes]:
+        return ask_records(self.sessions[1], paths)
 
-    def answer(self) -> Tuple[Compared, Optional[bytes]]:
-        """What differs, and the page where one is asked for."""
+    def answer(self) -> Differences:
+        pairs = list(self.pairs())
         if self.folders:
-            return self.by_labels(), None
+            return self.by_labels(pairs)
         try:
-            edits = Edits(self.states, self.files, self.changes)
-            edits.answer(self.sessions[0])
-            listing = sources.list_below(self.sessions[0], self.tops)
-            if not is_same_text(listing, self.listings[1]):
-                raise CannotLead(b"the files are others then")
+            return self.by_edits(pairs)
         except CannotLead as error:
             if self.given.page is not None:
-                raise Failure(b"no page is made, as no edits lead from one snapshot to the other: " + error.args[0]) from error
-            return self.by_labels(), None
-        found = self.compared(BY_GAINS, ask_gains(self.sessions[0], self.given.file_alone))
+                raise Failure(b"no page is made, as no edits lead from one snapshot to the other: "
+                              + error.text) from error
+            return self.by_labels(pairs)
+
+    def by_edits(self, pairs: List[Pair]) -> Differences:
+        edits = Edits(self.states[0], self.states[1], pairs)
+        edits.answer(self.sessions[0])
+        listing = sources.list_below(self.sessions[0], self.tops)
+        if not is_same_text(listing, self.listings[1]):
+            raise CannotLead(b"the files are others then")
+        return Differences(BY_GAINS, ask_gains(self.sessions[0], self.is_alone), pairs, edits.people, listing)
+
+    def page(self, answered: Differences) -> Optional[bytes]:
         if self.given.page is None:
-            return found, None
+            return None
         from .page import page_of  # Few runs need it.
 
-        return found, page_of(self.program, *self.plain, group_text(*self.plain), edits.people, [self.listings[0], listing],
-                              self.given)
+        group = group_text(*self.plain)
+        listings = [self.listings[0], answered.listing]
+        return page_of(self.program, self.plain[0], self.plain[1], group, answered.people, listings, self.given)
 
 
-def is_same_text(one: List[OutputSlice], other: List[OutputSlice]) -> bool:
-    """Whether two listings are the same, to the byte."""
-    if [it.end - it.start for it in one] != [it.end - it.start for it in other]:
-        return False
-    return all(here == there for it, that in zip(one, other) for here, there in zip(it.pieces(), that.pieces()))
+class OfParts(Comparison):
+    """Two snapshots of which at least one has parts. One session has no room for the files of all of them."""
+
+    def __init__(self, program: str, states: Tuple[State, State], everybody: Everybody, given: argparse.Namespace) -> None:
+        if given.page is not None:
+            raise Failure(b"--page: a snapshot in parts has none")
+        super().__init__(program, states, everybody, [[listing_of_all(program, state)] for state in states], given)
+        firsts = [next(records_in(it), b"") for it in self.listings]
+        self.is_whole = b"" in [path_of(name_of(record)) for record in firsts if record]
+        self.folders = choice.folders_in(given.folders, self.recorded_of)
+
+    def close(self) -> None:
+        for listing in self.listings:
+            listing[0].file.close()
+
+    def recorded_of(self, paths: Set[bytes]) -> Set[bytes]:
+        """Those of some paths that are there before or after."""
+        return {path for it in self.listings for path in (path_of(name_of(record)) for record in records_in(it)) if path in paths}
 
 
 def chosen_users(old: State, new: State, given: argparse.Namespace) -> List[bytes]:
     """Those who are looked at, as the program prints their names, by their id before or after."""
-    return list(dict.fromkeys(user for state in (old, new) for user in choice.kept(
-        [write_user(row[0]) for row in rows_of_text(state.passwd)], given, state.passwd)))
+    found = [*choice.kept(names_of(old), given, old.passwd), *choice.kept(names_of(new), given, new.passwd)]
+    return list(dict.fromkeys(found))
+
+
+def names_of(state: State) -> List[bytes]:
+    return [write_user(row[0]) for row in rows_of_text(state.passwd)]
 
 
 def compare(command: Command, given: argparse.Namespace) -> Tuple[Compared, Optional[bytes]]:
     """What differs, and the page where one is asked for."""
     program = find_program(given)
     old, new = read_state(os.fsencode(given.before)), read_state(os.fsencode(given.after))
-    hosts = old.about.host, new.about.host
-    if all(hosts) and hosts[0] != hosts[1] and not given.any_host:
-        raise Failure(b"%s is of %s, and %s of %s: --any-host compares them" % (old.folder, hosts[0], new.folder, hosts[1]))
+    check_hosts(old, new, given)
     for text in report.warnings(old, new):
         command.say(text)
     beside = [list(alone(marks_of(state.folder))) for state in (old, new)]
     for state in (old, new):
         overview.say_notices(command, sources.Source(state.folder, state.folder, False), given.acl5 and state is new,
                              is_alone=state is new or beside[0] != beside[1])
-    everybody = everybody_in(lambda: texts_in([*old.folders, *new.folders]))
+    everybody = everybody_of(old, new)
     if old.is_split() or new.is_split():
-        if given.page is not None:
-            raise Failure(b"--page: a snapshot in parts has none")
-        found = Comparison(given, program, (old, new), everybody, (files_in_parts(program, old), files_in_parts(program, new)))
-        found.folders = choice.folders_in(given.folders, found.recorded_of)
-        return found.by_labels(), None
+        parts = OfParts(program, (old, new), everybody, given)
+        try:
+            return parts.compared(parts.answer()), None
+        finally:
+            parts.close()
     states = old.with_everybody(everybody), new.with_everybody(everybody)
-    with session_with(program, old.folder, states[0].passwd, group_text(*states)) as before, \
-            session_with(program, new.folder, states[1].passwd, states[1].group) as after:
-        return OfSessions(given, program, (old, new), everybody, (before, after)).answer()
+    with session_of(program, states[0], group_text(*states)) as before, session_of(program, states[1]) as after:
+        comparison = OfSessions(program, (old, new), everybody, (before, after), given)
+        answered = comparison.answer()
+        return comparison.compared(answered), comparison.page(answered)
 
 
 def write(command: Command, given: argparse.Namespace, compared: Compared) -> None:
@@ -180,13 +248,12 @@ def write(command: Command, given: argparse.Namespace, compared: Compared) -> No
         tables.write_json(command, given, report.SCHEMA, report.object_of(compared))
         return
     if given.tsv:
-        tables.write_table(command, given, report.table_of(compared, is_for_script=True))
+        tables.write_table(command, given, report.fields_table(compared))
     else:
         with tables.paged(command, not given.no_pager):
             if compared.rows:
-                tables.write_table(command, given, report.table_of(compared, is_for_script=False))
-            has_else = any(map(compared.everybody.has_else, compared.rows))
-            for line in [*(beside(compared.new.about) if has_else else []), report.summary(compared)]:
+                tables.write_table(command, given, report.table_of(compared))
+            for line in [*report.line_beside(compared), report.summary(compared)]:
                 command.tell(line)
     for note in choice.notes(compared.left_out, compared.new.passwd + b"\n" + compared.old.passwd):
         command.say(note)

@@ -1,95 +1,21 @@
-"""What facl-diff prints: a table for a person, rows for a script, or one object. Changes of several people are one row,
-in the order of what a person is to see first."""
+"""What facl-diff prints: a table for a person, rows for a script, or one object."""
 from __future__ import annotations
 
-from typing import Callable, Dict, Iterable, Iterator, List, NamedTuple, Sequence, Set, Tuple
+from typing import Callable, Dict, Iterator, List, NamedTuple, Sequence, Tuple
 
 from ...base.names import file_name, is_at_or_below, json_text, write_user
 from ...base.tables import Column, Table
-from ...model.everybody import SHOWN, Everybody
-from ...model.gains import Gain, order_of
+from ...model.everybody import SHOWN, beside
 from ...model.meta import EXCLUDED, PART, UNREAD, Meta, fields_of
-from ...model.records import ChangedPaths, path_of
-from ...model.rights import ABSENT, REQUESTS
-from .states import Moved, PeopleCounts, State
+from ...model.records import path_of
+from .moved import Moved
+from .rows import AllUsers, ChangeRow
+from .states import FileCounts, PeopleCounts, State
 
 SCHEMA = "facl-diff/1"
 COLUMNS = [Column("BEFORE"), Column("AFTER"), Column("WHO"), Column("FILES", True), Column("FIRST"), Column("WHY")]
 MOST_NAMES = 8  # In a row for a person,
 MOST_FOLDERS = 3  # and in a warning.
-FEWEST = 2  # Users of the snapshots who are called everybody, with everybody else.
-WRITE = 2  # The bit of a request.
-
-
-class ChangeRow(NamedTuple):
-    """People of one change, with why it is so on the first file, where that is plain."""
-
-    old: str
-    new: str
-    users: List[bytes]
-    files: int
-    first: bytes
-    why: bytes
-
-
-class AllUsers:
-    """All whom a row can be about: of those who are chosen the users who are there before and after, or at the time at which
-    the file is; and everybody else."""
-
-    def __init__(self, states: Tuple[State, State], chosen: Set[bytes], everybody: Everybody) -> None:
-        self.everybody = everybody
-        sides = [{write_user(user.name) for user in state.people().users} for state in states]
-        self.before, self.after = (chosen & side for side in sides)
-
-    def are_known(self, row: ChangeRow) -> bool:
-        """Whether a row has all of the users, with everybody else or without."""
-        users = set(row.users) - {self.everybody.name}
-        known = self.after if row.old == ABSENT else self.before if row.new == ABSENT else self.before & self.after
-        return len(users) >= FEWEST and users == known
-
-    def has_else(self, row: ChangeRow) -> bool:
-        return self.everybody.name in row.users
-
-
-def rows_of(gains: Iterable[Gain], why: Callable[[Gain], bytes], everybody: AllUsers) -> List[ChangeRow]:
-    """The changes; people with one change for one reason are together, but for everybody else: that row has all users, or nobody
-    beside."""
-    found: Dict[Tuple[str, str, int, bytes, bytes], ChangeRow] = {}
-    for gain in gains:
-        key = (*gain[1:], why(gain))
-        found.setdefault(key, ChangeRow(gain.old, gain.new, [], gain.files, gain.first, key[-1])).users.append(gain.user)
-    rows = [it for row in found.values() for it in parted(row, everybody)]
-    return sorted(rows, key=lambda row: (rank(row, everybody), -row.files, order_of(row.first), -len(row.users)))
-
-
-def parted(row: ChangeRow, everybody: AllUsers) -> Iterator[ChangeRow]:
-    """A row, or two where everybody else is to be apart."""
-    if not everybody.has_else(row) or len(row.users) == 1 or everybody.are_known(row):
-        yield row
-    else:
-        name = everybody.everybody.name
-        yield row._replace(users=[name])
-        yield row._replace(users=[user for user in row.users if user != name])
-
-
-# --- the order
-
-
-def rank(row: ChangeRow, everybody: AllUsers) -> Tuple[int, int]:
-    """First what everybody else gained or lost, then what everybody did, and of each gains of write, other gains, and losses."""
-    who = 2 if not everybody.has_else(row) else 0 if len(row.users) == 1 else 1
-    old, new = requests_in(row.old), requests_in(row.new)
-    is_write = any(it & WRITE for it in new) and not any(it & WRITE for it in old)
-    return who, 0 if is_write else 1 if new - old else 2
-
-
-def requests_in(text: str) -> Set[int]:
-    """All requests that a right grants, of which its text has the greatest; none where the user or the file is not there."""
-    greatest = [REQUESTS.index(it) for it in text.split(" ") if it in REQUESTS]
-    return {request for request in range(1, len(REQUESTS)) for it in greatest if request & it == request}
-
-
-# --- all of it
 
 
 class Compared(NamedTuple):
@@ -104,7 +30,7 @@ class Compared(NamedTuple):
     rows: List[ChangeRow]
     everybody: AllUsers  # Whom rows can be about.
     left_out: List[bytes]  # Other users who have changes.
-    files: ChangedPaths
+    files: FileCounts
     people: PeopleCounts
     moved: List[Moved]
 
@@ -129,19 +55,17 @@ def who_of(row: ChangeRow, everybody: AllUsers) -> bytes:
     return b" ".join(row.users[:MOST_NAMES]) + (b" and %d more" % rest if rest > 0 else b"")
 
 
-def shown_users(compared: Compared, row: ChangeRow) -> List[bytes]:
-    """The users of a row, as an answer has their names."""
-    return list(map(compared.everybody.everybody.shown, row.users))
+def fields_of_row(compared: Compared, row: ChangeRow, who: bytes) -> List[bytes]:
+    return [row.old.encode(), row.new.encode(), who, b"%d" % row.files, compared.first_of(row), row.why]
 
 
-def table_of(compared: Compared, is_for_script: bool) -> Table:
-    """A row for each change; for a script for each user of it."""
-    rows = []
-    for row in compared.rows:
-        users = shown_users(compared, row) if is_for_script else [who_of(row, compared.everybody)]
-        fields = [b"%d" % row.files, compared.first_of(row), row.why]
-        rows += [[row.old.encode(), row.new.encode(), who, *fields] for who in users]
-    return Table(COLUMNS, rows)
+def table_of(compared: Compared) -> Table:
+    return Table(COLUMNS, [fields_of_row(compared, row, who_of(row, compared.everybody)) for row in compared.rows])
+
+
+def line_beside(compared: Compared) -> List[bytes]:
+    """What stands beside everybody else, where a row has them."""
+    return beside(compared.new.about) if any(map(compared.everybody.has_else, compared.rows)) else []
 
 
 def numbers(kind: bytes, *parts: Tuple[int, bytes, Sequence[bytes]]) -> List[bytes]:
@@ -158,8 +82,8 @@ def summary(compared: Compared) -> bytes:
     """What differs in the files and users, whether somebody may do otherwise or not."""
     files, people = compared.files, compared.people
     users = [list(map(write_user, names)) for names in people[:3]]
-    parts = [*numbers(b"files", (len(files.changed), b"with another owner, group, flags or list", []),
-                      (len(files.made), b"new", []), (len(files.removed), b"gone", []),
+    parts = [*numbers(b"files", (files.changed, b"with another owner, group, flags or list", []),
+                      (files.made, b"new", []), (files.removed, b"gone", []),
                       (len(compared.moved), b"of these moved", [])),
              *numbers(b"users", (len(users[0]), b"new", users[0]), (len(users[1]), b"gone", users[1]),
                       (len(users[2]), b"with another id", users[2])),
@@ -169,23 +93,44 @@ def summary(compared: Compared) -> bytes:
     return (b"" if compared.rows else b"nobody gained or lost anything; ") + b"; ".join(parts)
 
 
-def texts(names: Iterable[bytes], write: Callable[[bytes], bytes] = bytes) -> List[str]:
+# --- for a script
+
+
+def fields_table(compared: Compared) -> Table:
+    """A row for each user of a change."""
+    return Table(COLUMNS, [fields_of_row(compared, row, user) for row in compared.rows for user in shown_users(compared, row)])
+
+
+def shown_users(compared: Compared, row: ChangeRow) -> List[bytes]:
+    """The users of a row, as an answer has their names."""
+    return list(map(compared.everybody.everybody.shown, row.users))
+
+
+def texts(names: Sequence[bytes], write: Callable[[bytes], bytes] = bytes) -> List[str]:
     return [json_text(write(name)) for name in names]
+
+
+def snapshot_json(state: State) -> Dict[str, object]:
+    return {"snapshot": json_text(state.folder), **fields_of(state.about)}
+
+
+def row_json(compared: Compared, row: ChangeRow) -> Dict[str, object]:
+    return {"before": row.old, "after": row.new, "users": texts(shown_users(compared, row)), "files": row.files,
+            "first": json_text(compared.first_of(row)), "why": json_text(row.why) or None}
 
 
 def object_of(compared: Compared) -> Dict[str, object]:
     """The object of --json, whose schema is in the manual page."""
-    files, people = compared.files, compared.people
-    sides: List[Dict[str, object]] = [
-        {"snapshot": json_text(it.folder), **fields_of(it.about)} for it in (compared.old, compared.new)]
-    changes = [{"before": row.old, "after": row.new, "users": texts(shown_users(compared, row)), "files": row.files,
-                "first": json_text(compared.first_of(row)), "why": json_text(row.why) or None} for row in compared.rows]
-    moved = [dict(zip(("from", "to"), texts(it, compared.name_of))) for it in compared.moved]
+    people = compared.people
     return {
-        "before": sides[0], "after": sides[1], "folders": texts(compared.folders, compared.name_of),
-        "along_paths": not compared.is_alone, "answered_by": compared.by, "changes": changes,
+        "before": snapshot_json(compared.old), "after": snapshot_json(compared.new),
+        "folders": texts(compared.folders, compared.name_of), "along_paths": not compared.is_alone,
+        "answered_by": compared.by,
+        "changes": [row_json(compared, row) for row in compared.rows],
         "left_out": texts(compared.left_out),
-        "files": {"changed": len(files.changed), "new": len(files.made), "removed": len(files.removed), "moved": moved},
+        "files": {"changed": compared.files.changed, "new": compared.files.made, "removed": compared.files.removed,
+                  "moved": [{"from": json_text(compared.name_of(it.old)), "to": json_text(compared.name_of(it.new))}
+                            for it in compared.moved]},
         "users": {"new": texts(people.made, write_user), "removed": texts(people.removed, write_user),
                   "other_id": texts(people.renumbered, write_user)},
         "memberships": {"new": people.joined, "removed": people.left},
@@ -200,7 +145,6 @@ SCOPES: List[Tuple[bytes, Callable[[Meta], List[bytes]]]] = [
     (b"left out of %s alone by --exclude" + MAY, lambda about: about.excludes),
     (b"left out of %s alone as another file system" + MAY, lambda about: about.mounts),
 ]
-IS_PART = b"warning: %s: is part %s, so files of the other parts are not looked at"
 NOT_READ = b"warning: %s lacks what could not be read (unread %s in its meta)" + MAY[:-2]
 
 
@@ -216,19 +160,29 @@ def scope_warnings(text: bytes, states: Tuple[State, State], names: Callable[[Me
             yield b"warning: " + text % state.folder + shown
 
 
-def warnings(*states: State) -> Iterator[bytes]:
-    """What is likely not meant: snapshots in the wrong order, of other folders, what only one of them could read, and
-    parts of several ones."""
-    old, new = states
-    if old.about.date and new.about.date and new.about.date < old.about.date:
-        yield b"warning: the second snapshot is older than the first one: " + new.named()
-    if old.about.folders and new.about.folders:
-        for text, names in SCOPES:
-            yield from scope_warnings(text, (old, new), names)
+def unread_warnings(states: Tuple[State, State]) -> Iterator[bytes]:
+    """What only one of two snapshots could read."""
     unread = [state.about.numbers.get(UNREAD, b"0") for state in states]
     for state, count in zip(states, unread):
         if count != b"0" and unread[0] != unread[1]:
             yield NOT_READ % (state.folder, count)
+
+
+def part_warnings(states: Tuple[State, State]) -> Iterator[bytes]:
+    """What is a part of several snapshots."""
     for state in states:
         if PART in state.about.numbers:
-            yield IS_PART % (state.folder, state.about.numbers[PART])
+            yield (b"warning: " + state.folder + b": is part " + state.about.numbers[PART]
+                   + b", so files of the other parts are not looked at")
+
+
+def warnings(old: State, new: State) -> List[bytes]:
+    """What is likely not meant: snapshots in the wrong order, of other folders, or parts of several ones."""
+    found = []
+    if old.about.date and new.about.date and new.about.date < old.about.date:
+        found.append(b"warning: the second snapshot is older than the first one: " + new.named())
+    if old.about.folders and new.about.folders:
+        for text, names in SCOPES:
+            found += scope_warnings(text, (old, new), names)
+    found += [*unread_warnings((old, new)), *part_warnings((old, new))]
+    return found

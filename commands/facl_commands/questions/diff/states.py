@@ -1,22 +1,20 @@
-"""Two snapshots for facl-diff: their files by their records, their users and groups, what differs between them, and files
-that have another path than before: by device, inode and time of birth, as the snapshots have them."""
+"""Two snapshots for facl-diff: their files record by record, their users and groups, and what differs between them."""
 from __future__ import annotations
 
 import itertools
-from typing import Dict, FrozenSet, Iterable, List, NamedTuple, Set, Tuple
+from typing import ContextManager, Dict, FrozenSet, Iterable, Iterator, List, NamedTuple, Optional, Tuple
 
+from ...base import scratch
 from ...base.folders import folder_of
-from ...base.linux import Identity
 from ...base.messages import Failure
-from ...base.names import directories_above, parent_of, sorting_key
+from ...base.names import highest, sorting_key
 from ...model import meta, sources, split_tree
-from ...model.everybody import Everybody
+from ...model.everybody import Everybody, everybody_in, session_with, texts_in
 from ...model.people import People, groups_by_user
-from ...model.records import ChangedPaths, Files, read_listing
-from ...model.snapshot import NEEDED, nanoseconds
+from ...model.records import body_of, is_of_directory, name_of, path_of, records_in
+from ...model.snapshot import NEEDED
+from ...program.protocol import FILE_HEAD
 from ...program.session import OutputSlice, Session
-
-NO_BOOT = b"-"  # Of a system that does not say since when it runs.
 
 
 class State(NamedTuple):
@@ -47,6 +45,31 @@ class State(NamedTuple):
                           + self.folder + b" says which") from error
 
 
+class ListedFile(NamedTuple):
+    """A file as the program lists it: its record without the empty line at the end."""
+
+    record: bytes
+    is_directory: bool
+
+    def name(self) -> bytes:
+        return name_of(self.record)
+
+    def body(self) -> bytes:
+        return body_of(self.record) + b"\n"
+
+
+class Pair(NamedTuple):
+    """A path, with its file before and after; one of them is None where it is not there."""
+
+    path: bytes
+    old: Optional[ListedFile]
+    new: Optional[ListedFile]
+
+    def is_of_other_kind(self) -> bool:
+        """Whether a file is in the place of a directory, or a directory in that of a file."""
+        return self.old is not None and self.new is not None and self.old.is_directory != self.new.is_directory
+
+
 class Member(NamedTuple):
     """A user, with all groups."""
 
@@ -65,35 +88,111 @@ def read_state(folder: bytes) -> State:
     return State(folder, passwd, group, about, folders)
 
 
+def everybody_of(old: State, new: State) -> Everybody:
+    """Everybody else in both snapshots."""
+    return everybody_in(lambda: texts_in([*old.folders, *new.folders]))
+
+
 def members_of(people: People) -> Members:
     groups = groups_by_user(people)
     return {user.name: Member(user.uid, user.gid, frozenset(groups[user.name])) for user in people.users}
 
 
-# --- files
+# --- a session over a snapshot
 
 
-def read_files(listing: Iterable[OutputSlice]) -> Files:
-    """The files of a listing. One with a file below it is a directory, also if what is between them is not recorded."""
-    found = read_listing(b"".join(it.read() for it in listing))
-    between = {parent_of(path) for path in found} - found.keys()
-    for path in {it for above in between for it in directories_above(above)} & found.keys():
-        found[path] = found[path]._replace(is_directory=True)
-    return found
+def session_of(program: str, state: State, group: Optional[bytes] = None) -> ContextManager[Session]:
+    """A session over a snapshot; with other groups in the place of its own."""
+    return session_with(program, state.folder, state.passwd, state.group if group is None else group)
 
 
-def files_in_parts(program: str, state: State) -> Files:
+def tops_of(*sides: Tuple[Session, State]) -> List[bytes]:
+    """The paths of both snapshots that no recorded directory is above."""
+    return highest(path for session, state in sides for path in sources.find_tops(session, state.folder))
+
+
+def listing_of_all(program: str, state: State) -> OutputSlice:
     """The files of all parts of a snapshot, each once, in path order."""
-    found: Files = {}
-    once = split_tree.Once()
+    file, once = scratch.new_file("facl-parts."), split_tree.Once()
+    last = b""
     for folder in state.folders:
         with Session(program, folder) as session:
-            files = read_files(sources.list_below(session, sources.find_tops(session, folder)))
-        found.update((path, files[path]) for path in once.of_part(files))
-    return found
+            for record in records_in(sources.list_below(session, sources.find_tops(session, folder))):
+                if once.is_new(path_of(name_of(record))):
+                    file.write(as_listed(last, record))
+                    last = record
+    file.write(as_listed(last, b""))
+    file.flush()
+    return OutputSlice(file, 0, file.tell())
 
 
-# --- people
+def as_listed(record: bytes, following: bytes) -> bytes:
+    """A record as it is in the listing of a whole tree, where the name of a directory ends in a slash only if nothing is in it."""
+    name = name_of(record)
+    if name[-1:] == b"/" and following.startswith(FILE_HEAD + name):
+        record = FILE_HEAD + name[:-1] + record[len(FILE_HEAD + name) :]
+    return record + b"\n\n" if record else b""
+
+
+# --- records
+
+
+def is_directory(record: bytes, following: Optional[bytes]) -> bool:
+    """Whether a record is that of a directory: by its name, its default entries, or the next file, which is in it."""
+    name = name_of(record)
+    if is_of_directory(name, record):
+        return True
+    return following is not None and following.startswith(FILE_HEAD + name + b"/")
+
+
+def found_of(record: Optional[bytes], following: Optional[bytes]) -> Optional[ListedFile]:
+    return None if record is None else ListedFile(record, is_directory(record, following))
+
+
+def is_first(record: bytes, other: Optional[bytes]) -> bool:
+    """Whether a record comes before another one in path order, or has its path."""
+    return other is None or sorting_key(path_of(name_of(record))) <= sorting_key(path_of(name_of(other)))
+
+
+def pairs_of(old: Iterator[bytes], new: Iterator[bytes], is_all: bool = False) -> Iterator[Pair]:
+    """The paths of two listings whose files differ, or all of them, in path order."""
+    before, after = next(old, None), next(new, None)
+    while before is not None or after is not None:
+        has_old = before is not None and is_first(before, after) if before != after else True
+        has_new = after is not None and is_first(after, before) if before != after else True
+        next_old = next(old, None) if has_old else before
+        next_new = next(new, None) if has_new else after
+        if is_all or before != after or next_old != next_new:
+            pair = pair_of(found_of(before, next_old) if has_old else None,
+                           found_of(after, next_new) if has_new else None)
+            if is_all or before != after or pair.is_of_other_kind():
+                yield pair
+        before, after = next_old, next_new
+
+
+def pair_of(old: Optional[ListedFile], new: Optional[ListedFile]) -> Pair:
+    found = old or new
+    assert found is not None
+    return Pair(path_of(found.name()), old, new)
+
+
+def is_same_text(one: List[OutputSlice], other: List[OutputSlice]) -> bool:
+    """Whether two listings are the same, to the byte."""
+    if [it.end - it.start for it in one] != [it.end - it.start for it in other]:
+        return False
+    both = zip(one, other)
+    return all(here == there for it, that in both for here, there in itertools.zip_longest(it.pieces(), that.pieces()))
+
+
+# --- what differs
+
+
+class FileCounts(NamedTuple):
+    """How many files differ, and how."""
+
+    changed: int
+    made: int
+    removed: int
 
 
 class PeopleCounts(NamedTuple):
@@ -107,6 +206,16 @@ class PeopleCounts(NamedTuple):
     left: int
 
 
+def counts_of(pairs: Iterable[Pair]) -> FileCounts:
+    changed = made = removed = 0
+    for pair in pairs:
+        is_kept = pair.old is not None and pair.new is not None and not pair.is_of_other_kind()
+        changed += pair.old is not None and pair.new is not None and is_kept and pair.old.body() != pair.new.body()
+        made += not is_kept and pair.new is not None
+        removed += not is_kept and pair.old is not None
+    return FileCounts(changed, made, removed)
+
+
 def people_counts(old: Members, new: Members) -> PeopleCounts:
     both = [name for name in old if name in new]
     return PeopleCounts(
@@ -115,51 +224,3 @@ def people_counts(old: Members, new: Members) -> PeopleCounts:
         sum(len(new[name].groups - old[name].groups) for name in both),
         sum(len(old[name].groups - new[name].groups) for name in both),
     )
-
-
-# --- files that moved
-
-
-class Moved(NamedTuple):
-    old: bytes  # The paths.
-    new: bytes
-
-
-def read_inodes(state: State, paths: Set[bytes]) -> Tuple[bytes, Dict[bytes, Identity]]:
-    """When the system was started, and which files some paths are, by all parts of a snapshot; nothing where it has no inodes."""
-    texts = [folder_of(folder).optional(b"inodes").split(b"\0") for folder in state.folders]
-    found: Dict[bytes, Identity] = {}
-    for record in itertools.chain(*(records[1:-1] for records in texts)):
-        fields = record.split(b" ", 3)
-        path = fields[-1].strip(b"/")
-        if path in paths and len(fields) == 4 and fields[0].isdigit() and fields[1].isdigit():
-            found.setdefault(path, Identity(int(fields[0]), int(fields[1]), nanoseconds(fields[2])))
-    return texts[0][0].partition(b" ")[2] or NO_BOOT, found
-
-
-def by_file(inodes: Dict[bytes, Identity], with_device: bool) -> Dict[Tuple[int, ...], List[bytes]]:
-    """The paths of each file. One whose time of birth is not known can have the inode of another one that is gone, and
-    is left out."""
-    found: Dict[Tuple[int, ...], List[bytes]] = {}
-    for path, it in inodes.items():
-        if it.birth:
-            found.setdefault(tuple(it) if with_device else (it.inode, it.birth), []).append(path)
-    return found
-
-
-def find_moved(old: State, new: State, files: Tuple[Files, Files], changes: ChangedPaths) -> List[Moved]:
-    """The files of one name that are gone from a path, and are there by a new one."""
-    gone = [path for path in changes.removed if path not in files[1]]
-    made = [path for path in changes.made if path not in files[0]]
-    if not gone or not made:
-        return []
-    (old_boot, before), (new_boot, after) = read_inodes(old, set(gone)), read_inodes(new, set(made))
-    with_device = old_boot == new_boot != NO_BOOT
-    several = {path for state in (old, new) for names in split_tree.links_in(state.folders) for path in names}
-    places, found = by_file(after, with_device), []
-    for identity, names in by_file(before, with_device).items():
-        there = places.get(identity, [])
-        if len(names) == len(there) == 1 and several.isdisjoint((names[0], there[0])):
-            if files[0][names[0]].is_directory == files[1][there[0]].is_directory:
-                found.append(Moved(names[0], there[0]))
-    return sorted(found, key=lambda it: sorting_key(it.old))

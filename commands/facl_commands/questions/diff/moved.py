@@ -1,0 +1,78 @@
+"""Files that have another path than before: by device, inode and time of birth, as the snapshots have them."""
+from __future__ import annotations
+
+from typing import Dict, Iterable, List, NamedTuple, Set, Tuple
+
+from ...base.folders import folder_of
+from ...base.linux import Identity
+from ...base.names import sorting_key
+from ...model import split_tree
+from ...model.snapshot import nanoseconds
+from .states import Pair, State
+
+NO_BOOT = b"-"  # Of a system that does not say since when it runs.
+
+
+class Moved(NamedTuple):
+    old: bytes  # The paths.
+    new: bytes
+
+
+class Inodes(NamedTuple):
+    """Which files some paths are, by the file `inodes` of a snapshot."""
+
+    boot: bytes
+    files: Dict[bytes, Identity]
+
+
+def read_some(folder: bytes, paths: Set[bytes]) -> Inodes:
+    """What is known of some paths; nothing where the snapshot has no inodes."""
+    records = folder_of(folder).optional(b"inodes").split(b"\0")
+    found: Dict[bytes, Identity] = {}
+    for record in records[1:-1]:
+        fields = record.split(b" ", 3)
+        path = fields[-1].strip(b"/")
+        if path in paths and len(fields) == 4 and fields[0].isdigit() and fields[1].isdigit():
+            found[path] = Identity(int(fields[0]), int(fields[1]), nanoseconds(fields[2]))
+    return Inodes(records[0].partition(b" ")[2] or NO_BOOT, found)
+
+
+def read_all(state: State, paths: Set[bytes]) -> Inodes:
+    """The same of all parts of a snapshot."""
+    found = [read_some(folder, paths) for folder in state.folders]
+    return Inodes(found[0].boot, {path: it for part in reversed(found) for path, it in part.files.items()})
+
+
+def names_of_one_file(state: State) -> Set[bytes]:
+    """The paths of files that have several."""
+    return {path for names in split_tree.links_in(state.folders) for path in names}
+
+
+def by_file(inodes: Inodes, with_device: bool) -> Dict[Tuple[int, ...], List[bytes]]:
+    """The paths of each file. One whose time of birth is not known can have the inode of another one that is gone, and
+    is left out."""
+    found: Dict[Tuple[int, ...], List[bytes]] = {}
+    for path, it in inodes.files.items():
+        if it.birth:
+            found.setdefault(tuple(it) if with_device else (it.inode, it.birth), []).append(path)
+    return found
+
+
+def find_moved(old: State, new: State, pairs: Iterable[Pair]) -> List[Moved]:
+    """The files of one name that are gone from a path, and are there by a new one."""
+    both = list(pairs)
+    gone = {pair.path: pair.old.is_directory for pair in both if pair.old is not None and pair.new is None}
+    made = {pair.path: pair.new.is_directory for pair in both if pair.new is not None and pair.old is None}
+    if not gone or not made:
+        return []
+    before, after = read_all(old, set(gone)), read_all(new, set(made))
+    with_device = before.boot == after.boot != NO_BOOT
+    several = names_of_one_file(old) | names_of_one_file(new)
+    places = by_file(after, with_device)
+    found = []
+    for identity, names in by_file(before, with_device).items():
+        there = places.get(identity, [])
+        if len(names) == len(there) == 1 and several.isdisjoint((names[0], there[0])):
+            if gone[names[0]] == made[there[0]]:
+                found.append(Moved(names[0], there[0]))
+    return sorted(found, key=lambda it: sorting_key(it.old))
