@@ -87,7 +87,7 @@ PROGRAMS: Dict[str, Tuple[bytes, Optional[bytes]]] = {
     "endless": (b"exec tr '\\0' x </dev/zero", TOO_MUCH), "endless_lines": (b"exec yes", TOO_MUCH),
     "endless_messages": (b"cat good.answer; exec tr '\\0' x </dev/zero >&2", TOO_MUCH), "endless_fields": (b"exec yes '{\"size\": 7}'", TOO_MUCH),
     "says_no": (b"echo 'facl-ask: no snapshot' >&2; exit 2", b"no snapshot"), "says_much": (b"tr '\\0' x </dev/zero | head -c 500000 >&2; exit 2", b"x" * 10_000),
-    "nothing": (b"cat >/dev/null", b"1 of 1 snapshots did not answer"), "fails": (b"cat good.answer; exit 1", b"facl-ask ended with status 1"),
+    "nothing": (b"cat >/dev/null", b"did not answer"), "fails": (b"cat good.answer; exit 1", b"facl-ask ended with status 1"),
     "dies": (b"head -c 300 good.answer; kill -9 $$", b"facl-ask ended with status 137"),
 }
 

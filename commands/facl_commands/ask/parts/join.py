@@ -105,10 +105,10 @@ def join_all(units: List[Unit], parts: List[Part], dropped: Dict[int, Joined], f
                          {name: number for part in parts for name, number in part.head.groups.items()})
     joined: Dict[int, Joined] = {}
     for unit in units:
-        answers = [part.answers[unit.number] for part in parts]
-        if unit.number in dropped:
+        if unit.number in dropped:  # Nobody has answered it.
             joined[unit.number] = dropped[unit.number]
         else:
+            answers = [part.answers[unit.number] for part in parts]
             is_sum = unit.is_of(*COUNTING)
             joined[unit.number] = join_counts(unit, answers, users, fault) if is_sum else join(unit, answers)
         if not is_refused(joined[unit.number].messages):

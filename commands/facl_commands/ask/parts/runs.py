@@ -143,7 +143,7 @@ class PartRun:
             status = self.process.returncode
             raise Failure(text or b"facl-ask ended with status %d" % (status if status > 0 else 128 - status))
         if self.size == 0:
-            raise Failure(b"1 of 1 snapshots did not answer")
+            raise Failure(b"did not answer")
         self.room = self.size if self.is_here else MOST_READ  # For what is kept in memory.
         self.out.seek(0)
 
