@@ -1,12 +1,13 @@
 -- Rows where files have other labels and others are gone, by their labels' numbers.
-use Rattle.std.proofs.Common.{◌≡◌, ℕ, ◌+◌, ◌<◌, Bool, true, false, not, cond, List, [], ◌∷◌, length, map, filter, is_some, Option, Some, None, refl, sym, ap, subst, ◌∙◌, arith}
-use Rattle.std.specs.Prelude.{slice_get}
+use Rattle.std.proofs.Common.{◌≡◌, ℕ, ◌+◌, ◌<◌, ◌||◌, ◌++◌, Bool, true, false, true≢false, not, cond, List, [], ◌∷◌, length, map, filter, is_some, Option, Some, None, refl, sym, ap, subst, ◌∙◌, arith}
+use Rattle.std.specs.Prelude.{slice_get, ◌==◌}
 use Rattle.std.specs.Borrow.{Bor}
 use Rattle.std.specs.List.{AllByRecursion}
 use Rattle.std.specs.Option.{option_or}
 use Rattle.std.specs.Ordering.{is_eq}
 use Rattle.std.specs.FinMap.{find}
 use Rattle.std.proofs.lemmas.Bool.{eq-eqb}
+use Rattle.std.proofs.lemmas.List.Folds.{list_any-append}
 use Rattle.std.proofs.lemmas.List.Sums.{length-filter}
 use Rattle.acl_names.specs.Paths.{path_cmp, PathOf}
 use Rattle.acl_entry.specs.declared.label.Label.{Label}
@@ -15,6 +16,7 @@ use Rattle.path_map.specs.Merged.{has, put_all, without_all}
 use Rattle.path_map.proofs.Rows.{find_put_all}
 use Rattle.kinds.specs.Kinds.{KindsOf, node_at, count_at, IsNode}
 use Rattle.kinds.specs.Numbered.{Kept, Numbers, AreUsed, AreSound, entries_by, paths_with, one_if}
+use Rattle.kinds.specs.Tagged.{is_one}
 use Rattle.path_classes.specs.declared.label_row.LabelRow.{LabelRow}
 use Rattle.path_classes.specs.ClassedRows.{PutsRows, paths_of}
 use Rattle.path_classes.specs.ClassesWithin.{is_inside, inside}
@@ -117,3 +119,13 @@ inside_entries {N = N} tops k ns used =
 
 pub label_paths : (changed : List (Bor PathOf × Bor Label)) → paths_of (map (seen {V = Bor Label}) changed) ≡ paths_of (map with_label changed)
 label_paths changed = map_twice (seen {V = Bor Label}) (λ (e : PathOf × Bor Label). e.0) changed ∙ sym (map_twice with_label (λ (e : PathOf × Label). e.0) changed)
+
+-- ---- numbers of two lists
+
+neither : (a b : Bool) → (a || b) ≡ false → (a ≡ false) × (b ≡ false)
+neither true b h = absurd (true≢false h)
+neither false b h = (refl, h)
+
+-- a number that is none of two lists in a row
+pub none_of : (n : ℕ) (xs ys all : List ℕ) → all ≡ xs ++ ys → is_one n all ≡ false → (is_one n xs ≡ false) × (is_one n ys ≡ false)
+none_of n xs ys all is h = neither (is_one n xs) (is_one n ys) (sym (list_any-append (λ m. m == n) xs ys) ∙ sym (ap (is_one n) is) ∙ h)

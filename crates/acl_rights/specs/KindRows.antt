@@ -1,12 +1,12 @@
 -- For each file its label, and its row of verdicts.
-use Rattle.std.specs.Prelude.{◌≡◌, ◌≤◌, ◌+◌, ℕ, Bool, true, ◌++◌, ◌&&◌, nat_lt, List, [], ◌∷◌, Option, Some, map, length, slice_get, slice_set, if◌then◌else◌}
+use Rattle.std.specs.Prelude.{◌≡◌, ◌<◌, ◌≤◌, ◌+◌, ℕ, Bool, true, ◌++◌, ◌&&◌, nat_lt, List, [], ◌∷◌, Option, Some, map, length, slice_get, slice_set, if◌then◌else◌}
 use Rattle.std.specs.Borrow.{Bor}
 use Rattle.std.specs.declared.rc.Rc.{Rc}
 use Rattle.std.specs.List.{remove, AllByRecursion}
 use Rattle.acl_names.specs.Paths.{PathOf}
-use Rattle.path_map.specs.Merged.{has}
-use Rattle.kinds.specs.Kinds.{node_at}
-use Rattle.kinds.specs.Numbered.{Kept, entries_in}
+use Rattle.path_map.specs.Merged.{has, put_all}
+use Rattle.kinds.specs.Kinds.{node_at, count_at}
+use Rattle.kinds.specs.Numbered.{Kept, Numbers, entries_in}
 use Rattle.kinds.specs.Placed.{IsOfEntry}
 use Rattle.acl_entry.specs.Mentions.{mentions, meets}
 use Rattle.acl_entry.specs.Person.{Person}
@@ -100,6 +100,13 @@ pub record IsPlaced (l : Label) (old new : List Label) (at : ℕ) : Type 0 where
 pub record ArePlaced (paths : List (PathOf × Label)) (ls : List Label) (es : List (PathOf × ℕ)) : Type 0 where
   pub are : labels_at ls es ≡ some_labels paths
   pub few : length ls ≤ length paths
+
+-- rows after some paths got labels: each of these has a number, and a number that a path has keeps its row
+pub record PutsLabels (old : Kept LabelRow) (labels : List (PathOf × Label)) (new : Kept LabelRow) : Type 0 where
+  pub puts : Numbers
+  pub paths : paths_of puts ≡ paths_of labels
+  pub numbers : new.1 ≡ put_all puts old.1
+  pub nodes : (n : ℕ) (x : LabelRow) → node_at old.0 n ≡ Some x → 0 < count_at new.0 n → node_at new.0 n ≡ Some x
 
 -- the root, which has a row, is the first of some paths with labels, and no path is gone
 pub record BeginWithRoot {W : Type 0} (es : RowedPaths) (labels : List (PathOf × Label)) (gone : List (PathOf × W)) : Type 0 where

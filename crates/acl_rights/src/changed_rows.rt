@@ -2,12 +2,13 @@
 
 ghost use Rattle.std.specs.Prelude.{◌≡◌, ◌+◌, ◌*◌, ◌++◌, ◌<◌, ◌≤◌, ◌^◌, ℕ, Some, true, length, map, slice_get, IfOk, IfSome, OnOk};
 ghost use Rattle.path_map.specs.Entries.{IsInOrder, seen};
-ghost use Rattle.path_map.specs.Merged.{has, merged};
+ghost use Rattle.path_map.specs.Merged.{has, merged, put_all};
 ghost use Rattle.kinds.specs.Numbered.{entries_in};
 ghost use Rattle.kinds.specs.Placed.{given};
+ghost use Rattle.kinds.specs.Tagged.{SameBut};
 ghost use Rattle.path_classes.specs.ClassedRows.{AreCounted, paths_of};
 ghost use Rattle.path_classes.specs.ClassesWithin.{inside};
-ghost use Rattle.acl_rights.specs.KindRows.{label_row, some_row, rowed_labels, with_label, borrowed_labels, AreRowsOf, HasLabel, IsPlaced, ArePlaced, BeginWithRoot};
+ghost use Rattle.acl_rights.specs.KindRows.{label_row, some_row, rowed_labels, with_label, borrowed_labels, AreRowsOf, HasLabel, IsPlaced, ArePlaced, PutsLabels, BeginWithRoot};
 
 use crate::hints::Hints;
 use crate::judge::Judge;
@@ -217,6 +218,54 @@ fn sum_up_to(most: usize, one: usize, other: usize) -> usize
     }
 }
 
+/// Rows after some files got labels; hints at the numbers of these too; and the numbers whose rows may be others.
+#[derive(Drop)]
+struct LabelsPut {
+    map: KindMap<LabelRow>,
+    hints: Hints,
+    numbers: Vec<usize>,
+}
+
+/// Puts the rows of files that got labels, each distinct label judged at most once (more often if hashes collide; the
+/// clause bounds that by the files).
+fn put_labels<'a, J: Judge>(
+    alloc: Global,
+    judge: &mut J,
+    users: &Subjects,
+    known: &HintedRows<'_, '_>,
+    changed: &[(&'a Path, &'a Label)],
+) -> Result<LabelsPut, AllocError>
+    requires room { J.asked_of judge.old + length changed.now * length users.now < 2 ^ 64 }
+    requires known { AreRowsOf J.verdict_of users.now (entries_in known.now.rows.now) }
+    requires changed { IsInOrder (map with_label changed.now) }
+    ensures rows { IfOk result (λ new. entries_in new.map ≡ put_all (rowed_labels J.verdict_of users.now (map with_label changed.now)) (entries_in known.now.rows.now)) }
+    ensures puts { IfOk result (λ new. PutsLabels known.now.rows.now (map with_label changed.now) new.map) }
+    ensures same { IfOk result (λ new. SameBut new.numbers.items known.now.rows.now.0 new.map.0) }
+    ensures at_most { J.asked_of judge.new ≤ J.asked_of judge.old + length changed.now * length users.now }
+{
+    let new = places_of(alloc, changed)?;
+    let LabelPlaces {
+        labels,
+        places,
+        by_hash,
+    } = new;
+    let nodes = given_rows(alloc, judge, users, known, &labels)?;
+    let put = known.rows.put_placed(alloc, &places, &nodes)?;
+    let PlacedMap {
+        map,
+        numbers,
+        found,
+    } = put;
+    let hints = known.hints.with(alloc, &by_hash, &numbers)?;
+    let mut numbers = numbers;
+    push_found(&mut numbers, &found)?;
+    Ok(LabelsPut {
+        map,
+        hints,
+        numbers,
+    })
+}
+
 impl KindRows {
     /// Returns the rows after some files got other labels and others are gone, and of how many files the answers
     /// along their paths were found again. The judge gives one verdict per user for each distinct label that hints do not
@@ -242,28 +291,19 @@ impl KindRows {
         let before = self.rows.rows();
         let (left, gone_found) = before.map().without_found(alloc, gone)?;
         let _left = left.kinds();
-        let new = places_of(alloc, changed)?;
-        let LabelPlaces {
-            labels,
-            places,
-            by_hash,
-        } = new;
         let known = HintedRows {
             rows: &left,
             hints: &self.hints,
         };
-        let nodes = given_rows(alloc, judge, users, &known, &labels)?;
-        let put = left.put_placed(alloc, &places, &nodes)?;
-        let PlacedMap {
+        let put = put_labels(alloc, judge, users, &known, changed)?;
+        let LabelsPut {
             map,
+            hints,
             numbers,
-            found,
         } = put;
-        let hints = self.hints.with(alloc, &by_hash, &numbers)?;
-        let mut changed_numbers = numbers;
-        push_found(&mut changed_numbers, &gone_found)?;
-        push_found(&mut changed_numbers, &found)?;
-        let labelled = before.after(alloc, map, changed_numbers)?;
+        let mut numbers = numbers;
+        push_found(&mut numbers, &gone_found)?;
+        let labelled = before.after(alloc, map, numbers)?;
         let _kinds = labelled.map().kinds();
         let (rows, refreshed) = self.rows.with_files(alloc, labelled, changed, gone)?;
         Ok((KindRows { rows, hints }, refreshed))
