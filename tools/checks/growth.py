@@ -136,6 +136,8 @@ may joe rx
 may --reach ann 0
 below r .
 below --reach rx pub f run
+below --plain r pub .
+below --directories --reach 0 .
 why joe pub run
 why --reach joe pub run
 chmod 700 .

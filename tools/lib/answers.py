@@ -142,6 +142,7 @@ class File:
 
     def __init__(self, record: bytes) -> None:
         self.entries: Dict[Key, int] = {}
+        self.has_default = b"\ndefault:" in record
         for line in record.split(b"\n"):
             if line.startswith(b"# file: "):
                 self.shown = line[8:]
@@ -194,6 +195,9 @@ class Table:
         files = [File(record) for record in listing.split(b"\n\n") if record]
         self.files = {components(it.shown): it for it in files}
         self.order = sorted(self.files)
+        # A name without a final slash is that of a directory where default entries or a file below show it, or at the root.
+        self.directories = {path[:k] for path in self.files for k in range(len(path))} | {()} | {
+            path for path, it in self.files.items() if it.has_default or it.shown.endswith(b"/")}
         self.granted: Dict[bytes, Dict[Path, Set[int]]] = {}
         for user in people.users:
             groups = people.groups_of(user)
@@ -216,9 +220,11 @@ class Table:
         paths = [path for path in self.order if self.is_granted(user.name, path, request, reach)]
         return b"".join(self.files[path].shown + b"\n" for path in paths)
 
-    def below(self, request: int, paths: List[Path], reach: bool) -> bytes:
-        """For each user the number of files at or below some on which a request is granted, and the first of them."""
-        asked = [path for path in self.order if any(path[: len(top)] == top for top in paths)]
+    def below(self, request: int, paths: List[Path], reach: bool, kind: bytes) -> bytes:
+        """For each user the number of files at or below some on which a request is granted, and the first of them. Files are
+        all, or those of one kind."""
+        asked = [path for path in self.order if any(path[: len(top)] == top for top in paths)
+                 and kind in (b"", b"--directories " if path in self.directories else b"--plain ")]
         lines = []
         for user in self.people.users:
             found = [path for path in asked if self.is_granted(user.name, path, request, reach)]
@@ -310,5 +316,6 @@ class Table:
             paths = [it for it in paths if it in self.files]
         files = b" ".join(b"'" + self.files[it].shown + b"'" for it in paths)
         if kind == "below":
-            return b"below %s%s %s" % (option, perms, files), self.below(request, paths, reach)
+            only = random.choice([b"", b"--plain ", b"--directories "])
+            return b"below %s%s%s %s" % (option, only, perms, files), self.below(request, paths, reach, only)
         return b"why %s%s %s" % (option, word, files), self.why(user, paths, reach)

@@ -3,6 +3,7 @@
 use crate::asked::{Question, Row, expect_rows};
 use crate::lines::Line;
 use crate::texts::{FILES, GROUP, PASSWD};
+use acl_edit::Kind;
 use acl_tree::Table;
 
 static SETUP: [Line; 3] = [
@@ -131,16 +132,28 @@ static WHY: [Row; 3] = [
 
 /// How many files, and the first of them in path order: those at or below a path on which a request is granted, and those that
 /// a line changed.
-static COUNTS: [Row; 3] = [
+static COUNTS: [Row; 5] = [
     Row {
         lines: &[],
-        question: Question::Below(WRITE, b"."),
+        question: Question::Below(WRITE, None, b"."),
         along: false,
         answer: Some(b"4 lisa .\n1 ann pub/\n"),
     },
     Row {
         lines: &[],
-        question: Question::Below(READ, b"gone"),
+        question: Question::Below(WRITE, Some(Kind::Plain), b"."),
+        along: false,
+        answer: Some(b"3 lisa f\n"),
+    },
+    Row {
+        lines: &[],
+        question: Question::Below(WRITE, Some(Kind::Directory), b"."),
+        along: true,
+        answer: Some(b"1 lisa .\n1 ann pub/\n"),
+    },
+    Row {
+        lines: &[],
+        question: Question::Below(READ, None, b"gone"),
         along: false,
         answer: None,
     },

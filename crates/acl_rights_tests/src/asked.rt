@@ -6,11 +6,12 @@ ghost use Rattle.std.specs.Prelude.{IfSome};
 ghost use Rattle.acl_tree.specs.Reports.{Reports};
 
 use crate::lines::{Line, command, path, paths};
+use acl_edit::Kind;
 use acl_entry::Perm;
 use acl_rights::{IndexedState, Judge, Posix, Verdicts};
 use acl_tree::{Staged, State};
 use facl_answers::{files_asked, write_changes, write_index, write_may, write_who, write_why};
-use facl_counts::{write_below, write_gains};
+use facl_counts::{Asked, write_below, write_gains};
 use std::alloc::Global;
 use std::mem;
 use std::process::Abort;
@@ -26,8 +27,8 @@ pub enum Question {
     May(&'static [u8], u8),
     /// A user and a file.
     Why(&'static [u8], &'static [u8]),
-    /// A request, and a file that is asked about with all below it.
-    Below(u8, &'static [u8]),
+    /// A request, a kind of files, and a file that is asked about with all below it.
+    Below(u8, Option<Kind>, &'static [u8]),
     /// Since the state after the setup.
     Changes,
     /// How many files changed, since the state after the setup.
@@ -97,11 +98,15 @@ fn below(
     alloc: Global,
     verdicts: &Verdicts<'_, Posix>,
     request: u8,
+    kind: Option<Kind>,
     text: &[u8],
 ) -> Option<Vec<u8>> {
-    let request = Perm::from_number(request)?;
+    let asked = Asked {
+        request: Perm::from_number(request)?,
+        kind,
+    };
     let paths = paths(alloc, text)?;
-    write_below(alloc, verdicts, request, &paths).ok()
+    write_below(alloc, verdicts, &asked, &paths).ok()
 }
 
 /// What a question prints; none where it is not answered.
@@ -115,7 +120,7 @@ fn answer(alloc: Global, worlds: &Worlds, question: &Question, along: bool) -> O
         Question::Who(request, text) => who(alloc, &verdicts, *request, text),
         Question::May(user, request) => may(alloc, &verdicts, user, *request),
         Question::Why(user, text) => why(alloc, indexed, user, text, along),
-        Question::Below(request, text) => below(alloc, &verdicts, *request, text),
+        Question::Below(request, kind, text) => below(alloc, &verdicts, *request, *kind, text),
         Question::Changes => write_changes(alloc, loaded, &verdicts).ok(),
         Question::Gains => write_gains(alloc, loaded, &verdicts).ok(),
     }

@@ -142,7 +142,7 @@ first_fault_refuses judge loaded s (lines.Can line) text = can_refused judge.ver
 first_fault_refuses judge loaded s (lines.Who line) text = who_refused judge.verdict s line
 first_fault_refuses judge loaded s (lines.May line) text = may_refused judge.verdict s line
 first_fault_refuses judge loaded s (lines.Below line) text =
-    listing_refused s.tree.files line.files (λ paths. printed s (below_text judge.verdict line.reach s line.request paths))
+    listing_refused s.tree.files line.files (λ paths. printed s (below_text judge.verdict line.reach s line.asked.request line.asked.kind paths))
 first_fault_refuses judge loaded s (lines.Why line) text = why_refused judge.decider s line
 first_fault_refuses judge loaded s lines.Index text = nothing_refused (printed s (index_text judge.verdict s))
 first_fault_refuses judge loaded s (lines.Changes line) text = nothing_refused (printed s (changes_text judge.verdict line.reach loaded s))

@@ -44,7 +44,7 @@ pub use facl_answers::{
     write_index, write_may, write_who, write_why,
 };
 pub use facl_counts::{
-    below_counts_what_may_lists, gains_count_each_change_once, gains_print_all_that_changes,
+    Asked, below_counts_what_may_lists, gains_count_each_change_once, gains_print_all_that_changes,
     write_below, write_gains,
 };
 // Laws of what tools print and read.

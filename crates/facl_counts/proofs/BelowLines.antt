@@ -1,5 +1,5 @@
 -- The lines of `below`, out of the rows of the files at or below some paths.
-use Rattle.std.proofs.Common.{◌≡◌, ℕ, zero, suc, ◌+◌, ◌<◌, Bool, true, false, cond, ◌||◌, IsTrue, Option, Some, None, refl, sym, ap, subst, ◌∙◌, arith}
+use Rattle.std.proofs.Common.{◌≡◌, ℕ, zero, suc, ◌+◌, ◌<◌, Bool, true, false, cond, ◌&&◌, ◌||◌, IsTrue, Option, Some, None, refl, sym, ap, subst, ◌∙◌, arith}
 use Rattle.std.proofs.Common.{List, [], ◌∷◌, ◌++◌, append-nil, append_assoc, drop, filter, get_or, length, map}
 use Rattle.std.specs.Prelude.{option_map, slice_get, count_by, decimal}
 use Rattle.std.specs.Option.{option_map_or}
@@ -19,6 +19,7 @@ use Rattle.acl_names.specs.Paths.{path_cmp, PathOf}
 use Rattle.acl_names.proofs.PathOrder.{path_total}
 use Rattle.acl_names.proofs.Basics.{is_less}
 use Rattle.acl_text.specs.declared.rows.PasswdRow.{PasswdRow}
+use Rattle.acl_edit.specs.declared.node.Kind.{Kind}
 use Rattle.acl_edit.specs.declared.node.Node.{Node}
 use Rattle.path_map.specs.Below.{holds_below}
 use Rattle.path_map.specs.Entries.{IsInOrder}
@@ -30,12 +31,12 @@ use Rattle.acl_tree.specs.State.{State}
 use Rattle.acl_tree.proofs.Follows.{before_it}
 use Rattle.path_classes.specs.Rows.{Rows, grants, grants_to}
 use Rattle.acl_rights.specs.Rows.{Verdict}
-use Rattle.acl_rights.specs.Verdicts.{granted, rows_granted}
+use Rattle.acl_rights.specs.Verdicts.{granted}
 use Rattle.facl_answers.specs.Answers.{file_line}
-use Rattle.facl_answers.proofs.GrantedFiles.{cell_granted, cells_granted, rows_are, same_items}
-use Rattle.facl_counts.specs.BelowText.{below_line, granted_below, below_text}
+use Rattle.facl_answers.proofs.GrantedFiles.{cell_granted, cells_granted, same_items}
+use Rattle.facl_counts.specs.BelowText.{is_of_kind, below_line, granted_below, below_text}
 use Rattle.facl_counts.specs.CountTexts.{count_text}
-use Rattle.facl_counts.specs.Sums.{Sum, sum_in, sum_line, sum_lines, AreSums}
+use Rattle.facl_counts.specs.Sums.{Sum, rows_of_kind, sum_in, sum_line, sum_lines, AreSums}
 
 -- ---- one file of all
 
@@ -123,7 +124,7 @@ module _ (V : Verdict) (along : Bool) (s : State) where
   abbrev cells : PathOf × Node → List ℕ
   cells e = cells_granted V s along e
 
-  module _ (q : Perms) (paths : List PathOf) where
+  module _ (q : Perms) (kind : Option Kind) (paths : List PathOf) where
     abbrev asked : PathOf × Node → Bool
     asked e = is_file true paths e.0
 
@@ -131,21 +132,27 @@ module _ (V : Verdict) (along : Bool) (s : State) where
     asked_rows rows = filter (λ (r : PathOf × List ℕ). is_file true paths r.0) rows
 
     module _ (user : ℕ) (row : PasswdRow) (is : slice_get s.people.users user ≡ Some row) where
-      abbrev test : PathOf × Node → Bool
-      test e = has (granted V along s row e) q
+      abbrev is_granted : PathOf × Node → Bool
+      is_granted e = has (granted V along s row e) q
 
-      grants_is : (e : PathOf × Node) → grants q user (cells e) ≡ test e
+      abbrev test : PathOf × Node → Bool
+      test e = is_of_kind kind e.1 && is_granted e
+
+      grants_is : (e : PathOf × Node) → grants q user (cells e) ≡ is_granted e
       grants_is e = ap (λ o. option_map_or (λ c. has c q) o false) (cell_granted V s along e user ∙ ap (option_map (λ r. granted V along s r e)) is)
 
+      abbrev rows_with_kind : Files → Rows
+      rows_with_kind es = map {B = PathOf × List ℕ} (λ (e : PathOf × Node). (e.0, cells e)) (filter (λ (e : PathOf × Node). is_of_kind kind e.1) es)
+
       abbrev of_rows : Files → Rows
-      of_rows es = filter (grants_to q user) (asked_rows (map {B = PathOf × List ℕ} (λ (e : PathOf × Node). (e.0, cells e)) es))
+      of_rows es = filter (grants_to q user) (asked_rows (rows_with_kind es))
 
       abbrev of_files : Files → List FoundFile
       of_files es = passing t asked test (found_in t (filter asked es))
 
       same_paths : (es : Files) → map (λ (r : PathOf × List ℕ). r.0) (of_rows es) ≡ map (λ (f : FoundFile). f.path) (of_files es)
       same_paths [] = refl
-      same_paths (e ∷ es) = by (asked e) (same_paths es)
+      same_paths (e ∷ es) = by (is_of_kind kind e.1) refl (same_paths es)
         where
           here : (a b : Bool) → a ≡ b → map (λ (r : PathOf × List ℕ). r.0) (of_rows es) ≡ map (λ (f : FoundFile). f.path) (of_files es)
               → map (λ (r : PathOf × List ℕ). r.0) (cond a ((e.0, cells e) ∷ of_rows es) (of_rows es))
@@ -155,34 +162,49 @@ module _ (V : Verdict) (along : Bool) (s : State) where
           here false true h more = absurd (cc h)
           here false false h more = more
 
-          by : (b : Bool) → map (λ (r : PathOf × List ℕ). r.0) (of_rows es) ≡ map (λ (f : FoundFile). f.path) (of_files es)
-              → map (λ (r : PathOf × List ℕ). r.0) (filter (grants_to q user) (cond b ((e.0, cells e) ∷ asked_rows
-              (map {B = PathOf × List ℕ} (λ (x : PathOf × Node). (x.0, cells x)) es)) (asked_rows (map {B = PathOf × List ℕ} (λ (x : PathOf × Node). (x.0, cells x)) es))))
+          -- a file of the kind
+          of_it : (b : Bool) → is_of_kind kind e.1 ≡ true → map (λ (r : PathOf × List ℕ). r.0) (of_rows es) ≡ map (λ (f : FoundFile). f.path) (of_files es)
+              → map (λ (r : PathOf × List ℕ). r.0) (filter (grants_to q user) (cond b ((e.0, cells e) ∷ asked_rows (rows_with_kind es)) (asked_rows (rows_with_kind es))))
               ≡ map (λ (f : FoundFile). f.path) (passing t asked test (found_in t (cond b (e ∷ filter asked es) (filter asked es))))
-          by true more = here (grants q user (cells e)) (test e) (grants_is e) more
-          by false more = more
+          of_it true is more = here (grants q user (cells e)) (test e) (grants_is e ∙ sym (ap (λ k. k && is_granted e) is)) more
+          of_it false is more = more
+
+          -- a file of another kind
+          not_counted : (b : Bool) → b ≡ false → map (λ (r : PathOf × List ℕ). r.0) (of_rows es) ≡ map (λ (f : FoundFile). f.path) (of_files es)
+              → map (λ (r : PathOf × List ℕ). r.0) (of_rows es) ≡ map (λ (f : FoundFile). f.path) (cond b (found_file (holds_below t e.0) e ∷ of_files es) (of_files es))
+          not_counted true h more = absurd (cc h)
+          not_counted false h more = more
+
+          of_other : (b : Bool) → is_of_kind kind e.1 ≡ false → map (λ (r : PathOf × List ℕ). r.0) (of_rows es) ≡ map (λ (f : FoundFile). f.path) (of_files es)
+              → map (λ (r : PathOf × List ℕ). r.0) (of_rows es) ≡ map (λ (f : FoundFile). f.path) (passing t asked test (found_in t (cond b (e ∷ filter asked es) (filter asked es))))
+          of_other true is more = not_counted (test e) (ap (λ k. k && is_granted e) is) more
+          of_other false is more = more
+
+          by : (b : Bool) → is_of_kind kind e.1 ≡ b → map (λ (r : PathOf × List ℕ). r.0) (of_rows es) ≡ map (λ (f : FoundFile). f.path) (of_files es)
+              → map (λ (r : PathOf × List ℕ). r.0) (filter (grants_to q user) (asked_rows (map {B = PathOf × List ℕ} (λ (x : PathOf × Node). (x.0, cells x))
+              (cond b (e ∷ filter (λ (x : PathOf × Node). is_of_kind kind x.1) es) (filter (λ (x : PathOf × Node). is_of_kind kind x.1) es)))))
+              ≡ map (λ (f : FoundFile). f.path) (passing t asked test (found_in t (cond (asked e) (e ∷ filter asked es) (filter asked es))))
+          by true is more = of_it (asked e) is more
+          by false is more = of_other (asked e) is more
 
       -- the sum of the user
-      sum_is : sum_in q user (asked_rows (rows_granted V along s)) ≡ sum_of_files (granted_below V along s q paths row)
+      sum_is : sum_in q user (asked_rows (rows_of_kind V along s kind)) ≡ sum_of_files (granted_below V along s q kind paths row)
       sum_is =
-          let all = rows_are V s along in
-          let passes = filter (grants_to q user) (asked_rows (rows_granted V along s)) in
-          let same : map (λ (r : PathOf × List ℕ). r.0) passes ≡ map (λ (f : FoundFile). f.path) (granted_below V along s q paths row) =
-          ap (λ (rows : Rows). map (λ (r : PathOf × List ℕ). r.0) (filter (grants_to q user) (asked_rows rows))) all ∙ same_paths t
-          in
-          let count : count_by (grants_to q user) (asked_rows (rows_granted V along s)) ≡ length (granted_below V along s q paths row) =
-          sym (length-filter (grants_to q user) (asked_rows (rows_granted V along s)))
+          let passes = filter (grants_to q user) (asked_rows (rows_of_kind V along s kind)) in
+          let same : map (λ (r : PathOf × List ℕ). r.0) passes ≡ map (λ (f : FoundFile). f.path) (granted_below V along s q kind paths row) = same_paths t in
+          let count : count_by (grants_to q user) (asked_rows (rows_of_kind V along s kind)) ≡ length (granted_below V along s q kind paths row) =
+          sym (length-filter (grants_to q user) (asked_rows (rows_of_kind V along s kind)))
           ∙ sym (length-map passes (λ (r : PathOf × List ℕ). r.0))
           ∙ ap length same
-          ∙ length-map (granted_below V along s q paths row) (λ (f : FoundFile). f.path)
+          ∙ length-map (granted_below V along s q kind paths row) (λ (f : FoundFile). f.path)
           in
-          let first = found_first (grants_to q user) (asked_rows (rows_granted V along s)) ∙ ap first_path same in
+          let first = found_first (grants_to q user) (asked_rows (rows_of_kind V along s kind)) ∙ ap first_path same in
           λ i. (count i, first i)
 
-      line_is : IsInOrder t → (name : List ℕ) → sum_line t name (sum_of_files (granted_below V along s q paths row)) ≡ below_line name (granted_below V along s q paths row)
-      line_is order name = by (granted_below V along s q paths row) refl
+      line_is : IsInOrder t → (name : List ℕ) → sum_line t name (sum_of_files (granted_below V along s q kind paths row)) ≡ below_line name (granted_below V along s q kind paths row)
+      line_is order name = by (granted_below V along s q kind paths row) refl
         where
-          by : (files : List FoundFile) → granted_below V along s q paths row ≡ files → sum_line t name (sum_of_files files) ≡ below_line name files
+          by : (files : List FoundFile) → granted_below V along s q kind paths row ≡ files → sum_line t name (sum_of_files files) ≡ below_line name files
           by [] is = refl
           by (file ∷ rest) is =
               let more : suc (length rest) ≡ 1 + length rest = omega arith in
@@ -257,21 +279,21 @@ same_at : {A C : Type 0} (g h : A → List C) (xs : List A) → ((i : ℕ) (x : 
 same_at g h [] same = refl
 same_at g h (x ∷ xs) same = λ i. same 0 x refl i ++ same_at g h xs (λ n y is. same (suc n) y is) i
 
-module _ (V : Verdict) (along : Bool) (s : State) (q : Perms) (paths : List PathOf) (order : IsInOrder s.tree.files) where
+module _ (V : Verdict) (along : Bool) (s : State) (q : Perms) (kind : Option Kind) (paths : List PathOf) (order : IsInOrder s.tree.files) where
   abbrev sum_of_row : PasswdRow → Sum
-  sum_of_row row = sum_of_files (granted_below V along s q paths row)
+  sum_of_row row = sum_of_files (granted_below V along s q kind paths row)
 
   -- the sums of all users, and their lines
   pub below_lines : {A : Type 0} (f : A → List ℕ) (users : List A) (sums : List Sum) → map f users ≡ map (λ row. escaped row.name) s.people.users
-      → AreSums q (filter (λ row. is_file true paths row.0) (rows_granted V along s)) users sums → sum_lines s.tree.files (map f users) sums ≡ below_text V along s q paths
+      → AreSums q (filter (λ row. is_file true paths row.0) (rows_of_kind V along s kind)) users sums → sum_lines s.tree.files (map f users) sums ≡ below_text V along s q kind paths
   below_lines {A} f users sums names are =
       (λ i. sum_lines s.tree.files (names i) (all i))
       ∙ each_line s.tree.files (λ row. escaped row.name) sum_of_row s.people.users
-      ∙ same_at (λ row. sum_line s.tree.files (escaped row.name) (sum_of_row row)) (λ row. below_line (escaped row.name) (granted_below V along s q paths row)) s.people.users
-      (λ user row is. line_is V along s q paths user row is order (escaped row.name))
+      ∙ same_at (λ row. sum_line s.tree.files (escaped row.name) (sum_of_row row)) (λ row. below_line (escaped row.name) (granted_below V along s q kind paths row)) s.people.users
+      (λ user row is. line_is V along s q kind paths user row is order (escaped row.name))
     where
       rows : Rows
-      rows = filter (λ (row : PathOf × List ℕ). is_file true paths row.0) (rows_granted V along s)
+      rows = filter (λ (row : PathOf × List ℕ). is_file true paths row.0) (rows_of_kind V along s kind)
 
       -- there is a name where there is a user
       here : (user : ℕ) → option_map (λ (a : A). sum_in q user rows) (slice_get users user) ≡ option_map (λ (row : PasswdRow). sum_in q user rows) (slice_get s.people.users user)
@@ -290,7 +312,7 @@ module _ (V : Verdict) (along : Bool) (s : State) (q : Perms) (paths : List Path
         where
           by : (o : Option PasswdRow) → slice_get s.people.users user ≡ o → option_map (λ (row : PasswdRow). sum_in q user rows) o ≡ option_map sum_of_row o
           by None is = refl
-          by (Some row) is = ap Some (sum_is V along s q paths user row is)
+          by (Some row) is = ap Some (sum_is V along s q kind paths user row is)
 
       all : sums ≡ map sum_of_row s.people.users
       all = same_items sums (map sum_of_row s.people.users) one
@@ -305,6 +327,17 @@ no_line user (file ∷ files) h = absurd (not_empty (decimal (1 + length files))
     not_empty (c ∷ number) h = absurd (cc h)
 
 -- ---- what `may` lists, and what is at or below some paths
+
+pub filter_both : {A : Type 0} (f g : A → Bool) (xs : List A) → filter (λ x. f x && g x) xs ≡ filter f (filter g xs)
+filter_both f g [] = refl
+filter_both f g (x ∷ xs) = by (f x) refl (g x) (filter_both f g xs)
+  where
+    by : (b : Bool) → f x ≡ b → (c : Bool) → filter (λ y. f y && g y) xs ≡ filter f (filter g xs)
+        → cond (b && c) (x ∷ filter (λ y. f y && g y) xs) (filter (λ y. f y && g y) xs) ≡ filter f (cond c (x ∷ filter g xs) (filter g xs))
+    by true is true more = ap (λ l. x ∷ l) more ∙ sym (ap (λ b. cond b (x ∷ filter f (filter g xs)) (filter f (filter g xs))) is)
+    by true is false more = more
+    by false is true more = more ∙ sym (ap (λ b. cond b (x ∷ filter f (filter g xs)) (filter f (filter g xs))) is)
+    by false is false more = more
 
 module _ (t : Files) (asked : PathOf → Bool) (test : PathOf × Node → Bool) where
   abbrev tested : List FoundFile → List FoundFile

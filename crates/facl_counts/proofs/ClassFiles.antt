@@ -7,15 +7,15 @@ use Rattle.std.proofs.lemmas.List.{map-append}
 use Rattle.acl_names.specs.Below.{encloses}
 use Rattle.acl_names.specs.Paths.{PathOf}
 use Rattle.acl_names.proofs.Basics.{all_end}
-use Rattle.path_classes.specs.Classes.{Classed, KeepRows, TakesFile}
-use Rattle.path_map.specs.Below.{within}
+use Rattle.acl_edit.specs.declared.node.Kind.{Kind}
+use Rattle.acl_tree.specs.Files.{Files}
+use Rattle.path_classes.specs.Classes.{Classed, IsFileTaken, KeepRows, TakesFile}
 use Rattle.path_map.specs.Entries.{first}
 use Rattle.path_classes.specs.Rows.{Rows}
-use Rattle.path_classes.proofs.Making.{within_root}
 use Rattle.facl_answers.specs.BothStates.{front}
 use Rattle.facl_answers.specs.BothStates.{Sides}
 use Rattle.path_classes.specs.Tallies.{Tallied, SaysAs, one, count_where, first_where, AreTallied}
-use Rattle.facl_counts.specs.Sums.{row_of, of_class, Keyed, one_of, AreCounted, TakesWithin, IsCounting}
+use Rattle.facl_counts.specs.Sums.{row_of, rows_with, of_class, Keyed, one_of, AreCounted, TakesKind, TakesWithin, IsCounting}
 
 all_each : {A : Type 0} (P Q : A → Type 0) (xs : List A) → ((x : A) → P x → Q x) → AllByRecursion P xs → AllByRecursion Q xs
 all_each P Q [] each all = tt
@@ -61,44 +61,93 @@ module _ (top : PathOf) (old : Classed) where
       let here : p ≡ file.0 = cc in
       (ap (encloses top) (sym here) ∙ holds, taken)
 
-pub counting_begins : (top : PathOf) (classes : Classed) (ts : List (Tallied Sides)) → ts ≡ [] → IsCounting top (front top classes.1) classes ts
-counting_begins top classes ts none = record {
+pub counting_begins : (all : Rows) (classes : List (List ℕ)) (ts : List (Tallied Sides)) → ts ≡ [] → IsCounting all all classes ts
+counting_begins all classes ts none = record {
   seen = [];
   whole = refl;
-  counted = subst (AreCounted classes.0 []) (sym none) (record { files = []; says = record { counts = λ test. refl; firsts = λ test. refl }; are = refl; have = tt });
+  counted = subst (AreCounted classes []) (sym none) (record { files = []; says = record { counts = λ test. refl; firsts = λ test. refl }; are = refl; have = tt });
 }
 
+-- the first file that was to come, at a path or below it
+first_is : (top : PathOf) (old new : Classed) (p : PathOf) (class : ℕ) (here : TakesWithin top old (Some (p, class)) new) → front top old.1 ≡ (p, here.1.row) ∷ front top new.1
+first_is top old new p class here =
+    let file : PathOf × List ℕ = (p, here.1.row) in
+    ap (front top) here.1.first ∙ ap (λ b. cond b (file ∷ front top new.1) []) here.0
+
 -- a file is counted
-pub file_counted : (top : PathOf) (all : Rows) (old new : Classed) (ts more : List (Tallied Sides)) (p : PathOf) (class : ℕ) → TakesWithin top old (Some (p, class)) new
-    → IsCounting top all old ts → ((others : List (Tallied Sides)) → SaysAs ts others → SaysAs more (others ++ one (None, Some class) p ∷ [])) → IsCounting top all new more
-file_counted top all old new ts more p class here at says = record {
+counted_one : (all left rest : Rows) (old new : Classed) (ts more : List (Tallied Sides)) (p : PathOf) (class : ℕ) (taken : IsFileTaken old (p, class) new) → left ≡ (p, taken.row) ∷ rest
+    → IsCounting all left old.0 ts → ((others : List (Tallied Sides)) → SaysAs ts others → SaysAs more (others ++ one (None, Some class) p ∷ [])) → IsCounting all rest new.0 more
+counted_one all left rest old new ts more p class taken begins at says = record {
   seen = at.seen ++ file ∷ [];
-  whole = append_assoc at.seen (file ∷ []) (front top new.1) ∙ ap (λ (l : Rows). at.seen ++ l) (sym in_front) ∙ at.whole;
+  whole = append_assoc at.seen (file ∷ []) rest ∙ ap (λ (l : Rows). at.seen ++ l) (sym begins) ∙ at.whole;
   counted = record {
     files = now.files ++ key ∷ [];
     says = subst (SaysAs more) (sym (map-append one_of now.files (key ∷ []))) (says (map one_of now.files) now.says);
     are = map-append (λ (k : Keyed). k.1) now.files (key ∷ []) ∙ ap (λ (l : Rows). l ++ file ∷ []) now.are;
-    have = all_end (λ k. row_of new.0 k.0 ≡ Some k.1.1) now.files key now.have here.1.has;
+    have = all_end (λ k. row_of new.0 k.0 ≡ Some k.1.1) now.files key now.have taken.has;
   };
 }
   where
     file : PathOf × List ℕ
-    file = (p, here.1.row)
+    file = (p, taken.row)
 
     key : Keyed
     key = ((None, Some class), file)
 
     now : AreCounted new.0 at.seen ts
-    now = kept old.0 new.0 at.seen ts here.1.keep at.counted
+    now = kept old.0 new.0 at.seen ts taken.keep at.counted
 
-    in_front : front top old.1 ≡ file ∷ front top new.1
-    in_front = ap (front top) here.1.first ∙ ap (λ b. cond b (file ∷ front top new.1) []) here.0
+-- a file is not counted
+passed_one : (all left rest : Rows) (old new : List (List ℕ)) (ts more : List (Tallied Sides)) → KeepRows old new → left ≡ rest → IsCounting all left old ts
+    → ((others : List (Tallied Sides)) → SaysAs ts others → SaysAs more (others ++ [])) → IsCounting all rest new more
+passed_one all left rest old new ts more keep same at says = record {
+  seen = at.seen;
+  whole = ap (λ (l : Rows). at.seen ++ l) (sym same) ∙ at.whole;
+  counted = record {
+    files = now.files;
+    says = subst (SaysAs more) (append-nil (map one_of now.files)) (says (map one_of now.files) now.says);
+    are = now.are;
+    have = now.have;
+  };
+}
+  where
+    now : AreCounted new at.seen ts
+    now = kept old new at.seen ts keep at.counted
 
-pub counting_ends : (top : PathOf) (all : Rows) (left new : Classed) (ts : List (Tallied Sides)) → (front top left.1 ≡ []) × (new ≡ left)
-    → IsCounting top all left ts → AreCounted new.0 all ts
-counting_ends top all left new ts ended at =
-    subst (λ (c : Classed). AreCounted c.0 all ts) (sym ended.1)
-    (subst (λ (rows : Rows). AreCounted left.0 rows ts) (sym (append-nil at.seen) ∙ ap (λ (l : Rows). at.seen ++ l) (sym ended.0) ∙ at.whole) at.counted)
+pub file_counted : (top : PathOf) (all : Rows) (old new : Classed) (ts more : List (Tallied Sides)) (p : PathOf) (class : ℕ) → TakesWithin top old (Some (p, class)) new
+    → IsCounting all (front top old.1) old.0 ts → ((others : List (Tallied Sides)) → SaysAs ts others → SaysAs more (others ++ one (None, Some class) p ∷ []))
+    → IsCounting all (front top new.1) new.0 more
+file_counted top all old new ts more p class here =
+    counted_one all (front top old.1) (front top new.1) old new ts more p class here.1 (first_is top old new p class here)
+
+-- a file is counted if it is of a kind
+pub kind_counted : (kind : Kind) (top : PathOf) (all : Rows) (es fs : Files) (old new : Classed) (ts more : List (Tallied Sides)) (p : PathOf) (class : ℕ) (is_of_it : Bool)
+    → TakesWithin top old (Some (p, class)) new → TakesKind kind es is_of_it fs → IsCounting all (rows_with kind es (front top old.1)) old.0 ts
+    → ((others : List (Tallied Sides)) → SaysAs ts others → SaysAs more (others ++ cond is_of_it (one (None, Some class) p ∷ []) []))
+    → IsCounting all (rows_with kind fs (front top new.1)) new.0 more
+kind_counted kind top all es fs old new ts more p class is_of_it here takes at =
+    by is_of_it (ap (rows_with kind es) (first_is top old new p class here) ∙ takes file (front top new.1))
+  where
+    file : PathOf × List ℕ
+    file = (p, here.1.row)
+
+    rest : Rows
+    rest = rows_with kind fs (front top new.1)
+
+    by : (b : Bool) → rows_with kind es (front top old.1) ≡ cond b (file ∷ rest) rest
+        → ((others : List (Tallied Sides)) → SaysAs ts others → SaysAs more (others ++ cond b (one (None, Some class) p ∷ []) [])) → IsCounting all rest new.0 more
+    by true is says = counted_one all (rows_with kind es (front top old.1)) rest old new ts more p class here.1 is at says
+    by false is says = passed_one all (rows_with kind es (front top old.1)) rest old.0 new.0 ts more here.1.keep is at says
+
+pub counting_ends : (all left : Rows) (classes new : List (List ℕ)) (ts : List (Tallied Sides)) → left ≡ [] → new ≡ classes → IsCounting all left classes ts → AreCounted new all ts
+counting_ends all left classes new ts none same at =
+    subst (λ (c : List (List ℕ)). AreCounted c all ts) (sym same)
+    (subst (λ (rows : Rows). AreCounted classes rows ts) (sym (append-nil at.seen) ∙ ap (λ (l : Rows). at.seen ++ l) (sym none) ∙ at.whole) at.counted)
+
+-- no row is left
+pub none_with : (kind : Kind) (es : Files) (rows : Rows) → rows ≡ [] → rows_with kind es rows ≡ []
+none_with kind [] rows none = refl
+none_with kind (e ∷ es) rows none = ap (rows_with kind (e ∷ es)) none
 
 -- ---- all files, counted by classes already
 
@@ -152,7 +201,7 @@ all_counted classes rows found ts are says = record {
   have = sides_have classes are.files are.have;
 }
 
--- all files are at the root or below it
-pub root_within : (top : PathOf) (rows : Rows) → (length top == 0) ≡ true → rows ≡ within top rows
-root_within [] rows is = sym (within_root rows)
-root_within (name ∷ top) rows is = let none : length (name ∷ top) ≡ 0 = eqb-true (length (name ∷ top)) 0 is in absurd (omega (arith, none))
+-- the root is the path without components
+pub root_is : (top : PathOf) → (length top == 0) ≡ true → top ≡ []
+root_is [] is = refl
+root_is (name ∷ top) is = let none : length (name ∷ top) ≡ 0 = eqb-true (length (name ∷ top)) 0 is in absurd (omega (arith, none))

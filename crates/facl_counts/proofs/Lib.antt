@@ -3,6 +3,7 @@ pub mod BothCounts
 pub mod ClassFiles
 pub mod GainLines
 pub mod Gained
+pub mod KindRows
 pub mod OperandTops
 pub mod PartGains
 pub mod Rekeyed

@@ -1,7 +1,8 @@
 -- For inner functions of `below`: what is added to each user's sum, row by row.
-use Rattle.std.specs.Prelude.{◌≡◌, ℕ, ◌+◌, true, false, if◌then◌else◌, List, [], ◌∷◌, ◌++◌, slice_get, count_by, zip, Option, Some, None, option_map, option_and_then}
+use Rattle.std.specs.Prelude.{◌≡◌, ℕ, ◌+◌, Bool, true, false, if◌then◌else◌, List, [], ◌∷◌, ◌++◌, filter, map, slice_get, count_by, zip, Option, Some, None, option_map, option_and_then}
 use Rattle.std.specs.Option.{option_map_or, option_or}
 use Rattle.std.specs.List.{find, flat_map}
+use Rattle.acl_edit.specs.declared.node.Kind.{Kind}
 use Rattle.acl_entry.specs.Check.{has}
 use Rattle.acl_entry.specs.Perms.{Perms}
 use Rattle.acl_names.specs.Below.{encloses}
@@ -10,7 +11,11 @@ use Rattle.path_classes.specs.Classes.{Classed, IsFileTaken}
 use Rattle.path_classes.specs.Rows.{Rows, grants_to}
 use Rattle.acl_tree.specs.Found.{files_found}
 use Rattle.acl_tree.specs.Files.{Files}
+use Rattle.acl_tree.specs.State.{State}
+use Rattle.acl_rights.specs.Rows.{Verdict}
+use Rattle.acl_rights.specs.Verdicts.{granted}
 use Rattle.facl_answers.specs.Answers.{file_line}
+use Rattle.facl_counts.specs.BelowText.{is_of_kind}
 use Rattle.facl_counts.specs.CountTexts.{count_text}
 use Rattle.facl_answers.specs.BothStates.{front}
 use Rattle.facl_counts.specs.declared.sums.UserSum.{UserSum}
@@ -70,11 +75,28 @@ abbrev pub TakesWithin : PathOf → Classed → Option (PathOf × ℕ) → Class
 TakesWithin top old None new = (front top old.1 ≡ []) × (new ≡ old)
 TakesWithin top old (Some file) new = (encloses top file.0 ≡ true) × IsFileTaken old file new
 
--- after some of the files at or below a path, the counts are of those
-pub record IsCounting (top : PathOf) (all : Rows) (left : Classed) (ts : List (Tallied Sides)) : Type 0 where
+-- after some of the files, the counts are of those: the others are left
+pub record IsCounting (all left : Rows) (classes : List (List ℕ)) (ts : List (Tallied Sides)) : Type 0 where
   pub seen : Rows
-  pub whole : seen ++ front top left.1 ≡ all
-  pub counted : AreCounted left.0 seen ts
+  pub whole : seen ++ left ≡ all
+  pub counted : AreCounted classes seen ts
+
+-- ---- files of one kind
+
+-- the files of a kind, with what each user is granted on them
+abbrev pub rows_of_kind : Verdict → Bool → State → Option Kind → Rows
+rows_of_kind V along s kind = map (λ e. (e.0, map (λ row. granted V along s row e) s.people.users)) (filter (λ e. is_of_kind kind e.1) s.tree.files)
+
+-- the rows of files of a kind, where files and rows are in the same order
+abbrev pub rows_with : Kind → Files → Rows → Rows
+rows_with kind [] rows = []
+rows_with kind (e ∷ es) [] = []
+rows_with kind (e ∷ es) (row ∷ rows) = if is_of_kind (Some kind) e.1 then row ∷ rows_with kind es rows else rows_with kind es rows
+
+-- the first of some files is of a kind, or not; the others are left
+abbrev pub TakesKind : Kind → Files → Bool → Files → Type 0
+TakesKind kind old is_of_it new =
+    (row : PathOf × List ℕ) (rows : Rows) → rows_with kind old (row ∷ rows) ≡ (if is_of_it then row ∷ rows_with kind new rows else rows_with kind new rows)
 
 -- on how many of some files a user is granted a request, and the first of them
 abbrev pub sum_in : Perms → ℕ → Rows → Sum

@@ -1,18 +1,21 @@
 //! Files at or below some paths, counted by their classes, and what they add to the sums of users.
 
-ghost use Rattle.std.specs.Prelude.{◌≡◌, ◌++◌, ◌∷◌, [], List, None, Some, true, map, filter, option_map, IfOk, OnOk};
+ghost use Rattle.std.specs.Prelude.{◌≡◌, ◌++◌, ◌∷◌, [], List, None, Some, true, if◌then◌else◌, map, filter, option_map, IfOk, OnOk};
 ghost use Rattle.path_map.specs.Entries.{seen};
+ghost use Rattle.facl_counts.specs.BelowText.{is_of_kind};
 ghost use Rattle.facl_counts.specs.Counting.{tallied};
 ghost use Rattle.facl_answers.specs.BothStates.{front};
-ghost use Rattle.facl_counts.specs.Sums.{of_class, after_tally, after_tallies, AreCounted, TakesWithin};
+ghost use Rattle.facl_counts.specs.Sums.{of_class, after_tally, after_tallies, rows_with, AreCounted, TakesKind, TakesWithin};
 ghost use Rattle.facl_answers.specs.BothStates.{Sides};
 ghost use Rattle.path_classes.specs.Tallies.{Tallied, SaysAs, class_tally};
 
 use crate::sums::UserSums;
 use crate::tallies::{Tallies, Tally};
+use acl_edit::{Kind, Node};
 use acl_entry::Perm;
 use acl_names::Path;
 use acl_rights::{ClassFiles, FileClasses};
+use acl_tree::FilesIter;
 use facl_answers::Sides;
 use std::alloc::{AllocError, Global};
 
@@ -57,6 +60,67 @@ pub(crate) fn count_files<'a>(
             first,
         };
         count(&mut tallies, file)?;
+    }
+    Ok(tallies)
+}
+
+/// Tells whether a file is of a kind.
+fn is_of_kind(kind: Kind, node: &Node) -> bool
+    ensures { result ≡ is_of_kind (Some kind) node.now }
+{
+    let is_directory = node.kind == Kind::Directory;
+    match kind {
+        Kind::Plain => !is_directory,
+        Kind::Directory => is_directory,
+    }
+}
+
+/// Takes the first of some files, and tells whether it is of a kind.
+fn takes_kind(files: &mut FilesIter<'_>, kind: Kind) -> bool
+    ensures { TakesKind kind files.old result files.new }
+{
+    match files.next() {
+        Some((_, node)) => is_of_kind(kind, node),
+        None => false,
+    }
+}
+
+/// Adds files of a class to the counts, if they count.
+fn count_if<'a>(
+    tallies: &mut Tallies<'a>,
+    are_counted: bool,
+    files: ClassFiles<'a>,
+) -> Result<(), AllocError>
+    ensures { OnOk result ((others : List (Tallied Sides)) → SaysAs tallies.old others
+        → SaysAs tallies.new (others ++ (if are_counted then of_class (class_tally files.entry) ∷ [] else []))) }
+{
+    if are_counted {
+        count(tallies, files)
+    } else {
+        Ok(())
+    }
+}
+
+/// Counts those of the next files by their classes that are of a kind, as long as they are at or below a path. `files`
+/// has the same files as `classes`.
+pub(crate) fn count_kind<'a>(
+    alloc: Global,
+    files: &mut FilesIter<'_>,
+    classes: &mut FileClasses<'a>,
+    kind: Kind,
+    top: &Path,
+) -> Result<Tallies<'a>, AllocError>
+    ensures { IfOk result (λ tallies. AreCounted classes.new.0 (rows_with kind files.old (front top.now classes.old.1)) tallies) }
+{
+    let mut tallies = Tallies::new(alloc);
+    while let Some((first, class)) = next_within(alloc, classes, top)? {
+        let is_of_it = takes_kind(files, kind);
+        let file = ClassFiles {
+            class,
+            count: 1,
+            first,
+        };
+        count_if(&mut tallies, is_of_it, file)?;
     }
     Ok(tallies)
 }

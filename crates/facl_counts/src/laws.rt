@@ -1,7 +1,8 @@
 //! Laws of what `below` and `gains` print, each proved as the contract of a function that does nothing.
 
-ghost use Rattle.std.specs.Prelude.{◌≡◌, ◌↔◌, ℕ, [], List, Bool, false, true, filter, length};
+ghost use Rattle.std.specs.Prelude.{◌≡◌, ◌↔◌, ℕ, [], List, Bool, false, true, filter, length, Some, None};
 ghost use Rattle.std.specs.List.{sum_by};
+ghost use Rattle.acl_edit.specs.declared.node.Kind.{Kind};
 ghost use Rattle.acl_entry.specs.Check.{has};
 ghost use Rattle.acl_entry.specs.Perms.{Perms};
 ghost use Rattle.acl_names.specs.Names.{escaped};
@@ -13,18 +14,21 @@ ghost use Rattle.acl_tree.specs.Operands.{is_file};
 ghost use Rattle.acl_tree.specs.State.{State as StateOf};
 ghost use Rattle.facl_answers.specs.Answers.{all_files};
 ghost use Rattle.facl_answers.specs.ChangesText.{change_lines, granted_to, users_of_both};
-ghost use Rattle.facl_counts.specs.BelowText.{below_line, granted_below};
+ghost use Rattle.facl_counts.specs.BelowText.{below_line, granted_below, is_of_kind};
 ghost use Rattle.facl_counts.specs.GainsLaws.{AreBytes, IsWithoutChange, changed_files, changed_pairs, counted, is_changed};
 ghost use Rattle.facl_counts.specs.GainsText.{gains_text, is_kept};
 
 /// Proof only: the files that `below` counts for a user are those of the files that `may` lists which are at or below
-/// one of the paths; so the user has a line exactly if `may` lists such a file.
+/// one of the paths; so the user has a line exactly if `may` lists such a file. With a kind it counts those of these
+/// files that are of the kind.
 pub fn below_counts_what_may_lists()
     ensures files { (V : Verdict) (along : Bool) (s : StateOf) (q : Perms) (paths : List PathOf) (row : PasswdRow)
-        → granted_below V along s q paths row ≡ filter (λ file. is_file true paths file.path) (filter (λ file. has (granted V along s row (file.path, file.node)) q) (all_files s)) }
+        → granted_below V along s q None paths row ≡ filter (λ file. is_file true paths file.path) (filter (λ file. has (granted V along s row (file.path, file.node)) q) (all_files s)) }
     ensures lines { (V : Verdict) (along : Bool) (s : StateOf) (q : Perms) (paths : List PathOf) (row : PasswdRow)
-        → (below_line (escaped row.name) (granted_below V along s q paths row) ≡ [])
+        → (below_line (escaped row.name) (granted_below V along s q None paths row) ≡ [])
         ↔ (filter (λ file. is_file true paths file.path) (filter (λ file. has (granted V along s row (file.path, file.node)) q) (all_files s)) ≡ []) }
+    ensures kinds { (V : Verdict) (along : Bool) (s : StateOf) (q : Perms) (kind : Kind) (paths : List PathOf) (row : PasswdRow)
+        → granted_below V along s q (Some kind) paths row ≡ filter (λ file. is_of_kind (Some kind) file.node) (granted_below V along s q None paths row) }
 {}
 
 /// Proof only: `gains` prints nothing exactly if no file of both states is a change for a user of both, if each

@@ -19,7 +19,7 @@ mod tallies;
 mod user_counts;
 mod user_gains;
 
-pub use below::write_below;
+pub use below::{Asked, write_below};
 pub use gains::{write_gains, write_gains_within};
 pub use laws::{
     below_counts_what_may_lists, gains_count_each_change_once, gains_print_all_that_changes,

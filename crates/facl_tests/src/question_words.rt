@@ -114,6 +114,23 @@ static LINES: [(&str, &str); 93] = [
     ("index -", "usage"),
 ];
 
+/// `--plain` and `--directories` of `below`.
+static KIND_LINES: [(&str, &str); 9] = [
+    ("below --plain w f", "--plain : w f"),
+    ("below w f --directories", "--directories : w f"),
+    (
+        "below --directories w --reach f g",
+        "--reach --directories : w f g",
+    ),
+    ("below --plain --directories w f", "usage"),
+    ("below w f --directories --reach --plain", "usage"),
+    ("below --plain --plain w f", "usage"),
+    ("below --plain=1 w f", "usage"),
+    ("below --directory w f", "usage"),
+    // No other tool has them.
+    ("who --plain w f", "usage"),
+];
+
 /// `--reach` of `can`, `who`, `may`, `below` and `why`, which has no letter.
 static REACH_LINES: [(&str, &str); 57] = [
     ("below --reach w f g", "--reach : w f g"),
@@ -181,6 +198,11 @@ static REACH_LINES: [(&str, &str); 57] = [
 #[test]
 fn query_lines(rt: HostRuntime) {
     expect_lines(&rt, rt.alloc(), &LINES);
+}
+
+#[test]
+fn kind_lines(rt: HostRuntime) {
+    expect_lines(&rt, rt.alloc(), &KIND_LINES);
 }
 
 #[test]

@@ -37,11 +37,15 @@ def tops_of(unit: Unit) -> List[bytes]:
     return [read_path(word) for word in split(unit.words).operands[1:]]
 
 
+def of_files(unit: Unit, words: List[bytes]) -> bytes:
+    """The line with other FILEs."""
+    line = split(unit.words)
+    return b" ".join([unit.tool(), *(option.name for option in line.given), b"--", script_word(line.operands[0]), *words])
+
+
 def of_some_files(unit: Unit, names: List[bytes]) -> bytes:
     """The line with those of its FILEs that have these names."""
-    line = split(unit.words)
-    files = [word for word in line.operands[1:] if read_name(word) in names]
-    return b" ".join([unit.tool(), *[REACH] * line.has(REACH), b"--", *map(script_word, [line.operands[0], *files])])
+    return of_files(unit, [script_word(word) for word in split(unit.words).operands[1:] if read_name(word) in names])
 
 
 class SharedFiles:
@@ -73,12 +77,18 @@ class SharedFiles:
                 found[user] |= 1 << request
         return found
 
+    def keys_below(self, unit: Unit, path: bytes) -> List[Key]:
+        """The users for whom a line on FILEs counts a file: for them it is the first at or below itself."""
+        if not is_at_or_below(path, tops_of(unit)):
+            return []
+        answer = self.session.ask(of_files(unit, [path_word(path)]) + b"\n")
+        lines = [] if answer.messages else [line.split(b" ", 2) for line in answer.output.lines()]
+        return [(user,) for _, user, name in lines if path_of(name) == path]
+
     def keys(self, unit: Unit, path: bytes) -> List[Key]:
         """For what a line counts a file."""
         if unit.is_of(*WITH_FILES):
-            perms, tops = split(unit.words).operands[0], tops_of(unit)
-            users = self.who(path, perms, along(unit)) if is_at_or_below(path, tops) else None
-            return [(user,) for user in users or []]
+            return self.keys_below(unit, path)
         before, now = self.before.get((path, along(unit))), self.granted(path, along(unit))
         users = list(dict.fromkeys([*(before or {}), *(now or {})]))
         is_kept = before is not None and now is not None

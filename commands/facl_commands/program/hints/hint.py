@@ -15,7 +15,8 @@ from .rows import ROWS, HintRow
 MARK = b"  in the script: "  # No command of a shell has the name `in`.
 BLANKS = re.compile(rb"('[^']*')|[ \t]+")
 # Of tools whose options are needed.
-SYNOPSES = {b"creat": b"[-d] --user=USER --mode=MODE [--umask=MASK] FILE", b"gpasswd": b"-a USER GROUP | gpasswd -d USER GROUP",
+SYNOPSES = {b"below": b"[--reach] [--plain | --directories] PERMS FILE..",
+            b"creat": b"[-d] --user=USER --mode=MODE [--umask=MASK] FILE", b"gpasswd": b"-a USER GROUP | gpasswd -d USER GROUP",
             b"setattr": b"NAME=0xHEX FILE", b"usermod": b"-g GROUP USER", b"useradd": b"-u UID -g GROUP NAME"}
 
 

@@ -4,7 +4,7 @@ use Rattle.facl_counts.specs.Sums.{IsCounting}
 use Rattle.facl_counts.proofs.class_counts.count_files.Given as goal
 
 abbrev pub invariant-loop-tallies : goal.invariant-loop-tallies
-invariant-loop-tallies l = IsCounting l.top (front l.top l.initial.classes.1) l.classes l.tallies
+invariant-loop-tallies l = IsCounting (front l.top l.initial.classes.1) (front l.top l.classes.1) l.classes.0 l.tallies
 
 abbrev pub decreases-loop-tallies : goal.decreases-loop-tallies
 decreases-loop-tallies l = length l.classes.1
