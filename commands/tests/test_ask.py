@@ -295,7 +295,7 @@ class Completion(unittest.TestCase):
         self.expect("g", "gains ", "getfacl ", "gpasswd ")
         self.expect("gains -", "gains --reach")
         self.expect("b", "below ")
-        self.expect("below --", "below --directories", "below --plain", "below --reach")
+        self.expect("below --", "below --depth", "below --directories", "below --list", "below --plain", "below --reach", "below --user")
         self.expect("below r srv/share/tw", "below r srv/share/two ")
         self.expect("below r srv/share/two srv/share/draf", "below r srv/share/two srv/share/drafts/")
         self.expect("help bel", "help below")
@@ -450,7 +450,7 @@ class Prompts(unittest.TestCase):
                                   "gains --reach", "below q srv", "below r", "below r srv/none"),
                          b"1 ines srv/share/notes\n(nobody)\n(nothing)\n11 55 1 mara srv/share/notes\n01 11 1 guest srv/share/notes\n"
                          b"(nothing)\nline 7: below: usage\n    PERMS are letters of rwx, or one digit 0 to 7.\n"
-                         b"line 8: below: usage\n    below [--reach] [--plain | --directories] PERMS FILE..\n"
+                         b"line 8: below: usage\n    below [--reach] [--plain | --directories] [--user=USER --list=N | [--user=USER] --depth=N] PERMS FILE..\n"
                          b"line 9: below: srv/none: no such file\n    Paths start at the root of the file system. A symbolic link, and what is "
                          b"reached by one, is not recorded.\n\n")
 

@@ -50,6 +50,7 @@ class Answers(unittest.TestCase):
                     [b"everybody else gains r-- a", b"everybody else loses -w- a", b"ines gains r-- a", b"nell gains r-- b"])
 
     def test_other_answers(self) -> None:
+        self.assertEqual(list(Superusers({b"root": 0}).rest(read_script(b"s", b"below --user root --list 1 r .")[0], [b"a root"])), [b"a root"])
         for tool in (b"may", b"getfacl", b"why", b"can", b""):
             self.expect(tool, [b"a", b"b"], [b"a", b"b"])
 
@@ -62,11 +63,14 @@ class Questions(unittest.TestCase):
     def test_questions_about_one_user(self) -> None:
         for line, wanted in ((b"can 'everybody else' srv", b"'can' 'NEMO' 'srv'\n"), (b"may --reach 'everybody else' r", b"'may' '--reach' 'NEMO' 'r'\n"),
                              (b"why -- everybody' 'else 'a\\012b' 'p\351q'", b"'why' '--' 'NEMO' 'a\\012b' 'p\\351q'\n"),
-                             (b"can 'everybody else' 'everybody else'", b"'can' 'NEMO' 'everybody else'\n")):
+                             (b"can 'everybody else' 'everybody else'", b"'can' 'NEMO' 'everybody else'\n"),
+                             (b"below --list 2 --user 'everybody else' r 'everybody else'", b"'below' '--list' '2' '--user' 'NEMO' 'r' 'everybody else'\n"),
+                             (b"below r srv --user='everybody else' --list=2", b"'below' 'r' 'srv' '--user=NEMO' '--list=2'\n")):
             self.assertEqual(self.asked(line), wanted.replace(b"NEMO", NEMO.name))
 
     def test_lines_that_stay(self) -> None:
-        for line in (b"can ines 'everybody else'\n", b"who r 'everybody else'\n", b"gpasswd -a 'everybody else' staff\n", b"can\n", b"getfacl 'everybody else'\n"):
+        for line in (b"can ines 'everybody else'\n", b"who r 'everybody else'\n", b"gpasswd -a 'everybody else' staff\n", b"can\n", b"below -- r --user 'everybody else'\n",
+                     b"below --user ines --list 1 r 'everybody else'\n", b"creat --user 'everybody else' --mode=0644 srv/a\n", b"getfacl 'everybody else'\n"):
             self.assertEqual(self.asked(line), line)
         line = b"can 'everybody else' srv\n"
         for passwd in (b"everybody else:x:2:1::/:\n", b"ines:x:1:1::/:\neverybody else:x:2:1::/:"):

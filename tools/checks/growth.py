@@ -138,6 +138,9 @@ below r .
 below --reach rx pub f run
 below --plain r pub .
 below --directories --reach 0 .
+below --reach --user joe --list 2 r .
+below --reach --user joe --depth 1 r .
+below --plain --depth 2 r . f
 why joe pub run
 why --reach joe pub run
 chmod 700 .

@@ -232,6 +232,26 @@ class Table:
                 lines.append(b"%d %s %s\n" % (len(found), shown_name(user.name), self.files[found[0]].shown))
         return b"".join(lines)
 
+    def listed(self, user: User, most: int, request: int, paths: List[Path], reach: bool, kind: bytes) -> bytes:
+        """The first files of a user at or below some, all or those of one kind."""
+        found = [path for path in self.order if any(path[: len(top)] == top for top in paths)
+                 and kind in (b"", b"--directories " if path in self.directories else b"--plain ")
+                 and self.is_granted(user.name, path, request, reach)]
+        return b"".join(self.files[path].shown + b"\n" for path in found[:most])
+
+    def folders(self, only: Optional[User], depth: int, request: int, paths: List[Path], reach: bool, kind: bytes) -> bytes:
+        """For each path, and each folder at most so deep below it, what `below` counts of users there, with the folder."""
+        lines = []
+        for top in paths:
+            for folder in self.order:
+                is_folder = folder == top or (folder in self.directories and len(folder) <= len(top) + depth)
+                if folder[: len(top)] == top and is_folder:
+                    for line in self.below(request, [folder], reach, kind).splitlines():
+                        count, user, _ = line.split(b" ", 2)
+                        if only is None or user == shown_name(only.name):
+                            lines.append(b"%s %s %s\n" % (count, user, self.files[folder].shown))
+        return b"".join(lines)
+
     def why(self, user: User, paths: List[Path], reach: bool) -> bytes:
         asked = {path[:k] for path in paths for k in range(len(path))} | set(paths) if reach else set(paths)
         groups = self.people.groups_of(user)
@@ -317,5 +337,14 @@ class Table:
         files = b" ".join(b"'" + self.files[it].shown + b"'" for it in paths)
         if kind == "below":
             only = random.choice([b"", b"--plain ", b"--directories "])
-            return b"below %s%s%s %s" % (option, only, perms, files), self.below(request, paths, reach, only)
+            if random.random() < 0.5:
+                return b"below %s%s%s %s" % (option, only, perms, files), self.below(request, paths, reach, only)
+            if random.random() < 0.5:
+                depth, one = random.randrange(4), random.random() < 0.5
+                of_user = b"--user=%s " % word if one else b""
+                return (b"below --depth %d %s%s%s%s %s" % (depth, of_user, option, only, perms, files),
+                        self.folders(user if one else None, depth, request, paths, reach, only))
+            most = random.randrange(6)
+            return (b"below --user %s %s--list=%d %s%s %s" % (word, option, most, only, perms, files),
+                    self.listed(user, most, request, paths, reach, only))
         return b"why %s%s %s" % (option, word, files), self.why(user, paths, reach)

@@ -189,7 +189,14 @@ class Grammar:
         paths = self.paths(top)
         if self.chance(0.4):  # One above another.
             paths.append(self.quoted(self.random.choice(paths).strip("'").rpartition("/")[0] or top))
-        return self.question("below", self.asked_perms(), *paths)
+        words = [self.asked_perms(), *paths]
+        kind = self.one("", "", "--list", "--depth", "--depth")
+        if kind:
+            number = self.one("0", "1", "2", "5", "007", "x", "''") if self.chance(0.3) else "3"
+            words = [*self.option([kind], number), *words]
+        if self.chance({"": 0.05, "--list": 0.95}.get(kind, 0.5)):
+            words = [*self.option(["--user"], self.user()), *words]
+        return self.question("below", *words)
 
     def why(self, top: str) -> Words:
         return self.question("why", self.user(), *self.paths(top))

@@ -158,7 +158,7 @@ def answer_units(
         lines = marked(unit, output.lines(), marks) if is_terminal else output.lines()
         pieces: Iterator[bytes] = (shown(line) + b"\n" for line in lines) if is_terminal else output.pieces()
         if answers is not None:
-            pieces = below_heading(unit, answers.first(unit.tool(), lines), messages)
+            pieces = below_heading(unit, answers.first(unit.form(), lines), messages)
         for piece in pieces:
             command.write(piece)
         write_messages(command, place_of(unit), unit, messages, b"" if is_explained else None)

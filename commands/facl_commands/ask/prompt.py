@@ -123,11 +123,11 @@ class Prompt:
     def show(self, unit: Unit, answer: Answer) -> None:
         """An answer below its line."""
         count, lines = 0, self.superusers.rest(unit, marked(unit, answer.output.lines(), self.marks))
-        for printed in lines if self.answers is None else self.answers.first(unit.tool(), lines):
+        for printed in lines if self.answers is None else self.answers.first(unit.form(), lines):
             self.out(shown(printed) + b"\n")
             count += 1
         if not count and not is_refused(answer.messages) and unit.words:
-            self.out(EMPTY_ANSWERS.get(unit.words[0], b""))
+            self.out(EMPTY_ANSWERS.get(unit.form(), b""))
         for message in answer.messages:
             self.out(IN_LINE % unit.number + shown(message) + b"\n")
             for line in self.advice(unit, message):

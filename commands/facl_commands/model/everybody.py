@@ -21,7 +21,7 @@ from ..base.user_tools import User
 from ..program.protocol import FREE_FILE_LINE, LIST, LIST_EFFECTIVE
 from ..program.scripts import Unit
 from ..program.session import Session
-from ..program.tools import ABOUT_ONE, ABOUT_USERS, BY_FILES, path_in, split, user_in
+from ..program.tools import ABOUT_ONE, ABOUT_USERS, BY_FILES, QUESTIONS, USER, options_with, path_in, split, user_in
 from .meta import Meta, users_asked_for
 from .people import ids_of, needed_word, users_in
 from .records import Listing, list_slices, path_of
@@ -121,6 +121,16 @@ def free_ids(rows: bytes, used: Set[bytes]) -> Iterator[int]:
 # --- questions and answers of a session with everybody else
 
 
+def place_of_user(words: List[bytes]) -> int:
+    """Where a question about one user has everybody else; 0 where it does not."""
+    tool, line = words[0] if words else b"", split(words)
+    names = options_with(tool, USER) if tool in QUESTIONS else frozenset()
+    if line.value(*names) == SHOWN:
+        joined = [name + b"=" + SHOWN for name in names]
+        return next(at for at, word in enumerate(words) if word in joined or word == SHOWN and words[at - 1] in names)
+    return words.index(SHOWN) if tool in ABOUT_ONE and line.operands[:1] == [SHOWN] else 0
+
+
 class ElseAnswers:
     """Questions about one user, and answers about users, as a person writes and reads them."""
 
@@ -131,10 +141,10 @@ class ElseAnswers:
 
     def asked(self, unit: Unit) -> Unit:
         """A line for the program, which knows everybody else by another name."""
-        if not self.is_word or not unit.is_of(*ABOUT_ONE) or split(unit.words).operands[:1] != [SHOWN]:
+        at = place_of_user(unit.words) if self.is_word else 0
+        if not at:
             return unit
-        at = unit.words.index(SHOWN)
-        words = [*unit.words[:at], self.everybody.name, *unit.words[at + 1 :]]
+        words = [*unit.words[:at], unit.words[at].replace(SHOWN, self.everybody.name), *unit.words[at + 1 :]]
         return unit._replace(words=words, lines=[b" ".join(map(script_word, words))])
 
     def first(self, tool: bytes, lines: Iterable[bytes]) -> Iterator[bytes]:

@@ -30,15 +30,16 @@ class Superusers:
 
     def rest(self, unit: Unit, lines: Iterable[bytes]) -> Iterator[bytes]:
         """The lines of an answer without those about them; a question of one user is answered as it is."""
+        form, is_about_people = unit.form(), self.is_about_people(unit)
         for line in lines:
-            if self.names and self.is_about_people(unit) and read_name(user_in(unit.tool(), line)) in self.names:
+            if self.names and is_about_people and read_name(user_in(form, line)) in self.names:
                 self.has_left_out = True
             else:
                 yield line
 
     def is_about_people(self, unit: Unit) -> bool:
         """Whether its answer has names of users."""
-        return unit.is_of(*ABOUT_USERS)
+        return unit.form() in ABOUT_USERS
 
     def note(self) -> bytes:
         """What is said once, where somebody was left out."""

@@ -76,7 +76,7 @@ class Replay:
         answer = answer_unit(self.session, done if self.answers is None else self.answers.asked(done))
         self.messages += [Message(unit, message, message == WARNING) for message in answer.messages]
         output, is_taken = answer.output.read(), not is_refused(answer.messages)
-        output = output if self.answers is None else self.answers.text(unit.tool(), output)
+        output = output if self.answers is None else self.answers.text(unit.form(), output)
         if output or unit.is_of(*QUESTIONS_WITH_EMPTY_ANSWERS) and is_taken:
             self.asked.append(Asked(unit, output))
         if is_taken:

@@ -10,7 +10,7 @@ from typing import IO, Iterable, Iterator, List, NamedTuple, Optional, Tuple
 from ..base.attempts import failing
 from ..base.messages import Failure
 from ..base.trusted import MOST_WRITTEN, read_all, too_large
-from .tools import LOADERS, TEXT_WORDS
+from .tools import LOADERS, TEXT_WORDS, form_of
 
 LINE_LIMIT = 65536
 DESCRIPTOR = re.compile(r"/dev/(?:stdin|fd/\d+)\Z|/proc/self/fd/\d+\Z")
@@ -38,6 +38,10 @@ class Unit(NamedTuple):
 
     def tool(self) -> bytes:
         return self.words[0] if self.words else b""
+
+    def form(self) -> bytes:
+        """The tool that has answers of the form of its answer."""
+        return form_of(self.words)
 
     def is_of(self, *tools: bytes) -> bool:
         """Whether its tool is one of these."""

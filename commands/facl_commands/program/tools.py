@@ -21,6 +21,8 @@ RECORDS = "records"  # It gives the records of files.
 FILE_RECORDS = "# file: PATH"  # The form of answers that have a record of some lines for each file.
 MAKES, REMOVES = "makes", "removes"  # What a tool does with its FILEs.
 REACH = b"--reach"  # Search on the directories above counts too.
+FIRST_FILES = b"--list"  # How many files are printed, and no counts.
+BY_FOLDER = b"--depth"  # Counts folder by folder.
 TEST = b"--test"  # The lists that would result are printed.
 
 
@@ -48,6 +50,7 @@ class Tool(NamedTuple):
     other_operands: Tuple[Tuple[str, str], ...] = ()  # Those of lines with one of some options; the first pair counts.
     others: str = ""  # Options of the system's tool that have values, and are none here.
     harmless: str = ""  # Options of the system's tool without which a line does the same here.
+    other_forms: Tuple[Tuple[str, bytes], ...] = ()  # Of lines with one of some options the tool whose answers theirs are like.
 
 
 BY_REACH = (option("--reach"),)
@@ -58,8 +61,10 @@ ROWS = (
     Tool(b"can", QUESTION, "USER FILE", BY_REACH, is_request=True),
     Tool(b"who", QUESTION, "PERMS FILE", BY_REACH, "USER", b"(nobody)\n", is_request=True),
     Tool(b"may", QUESTION, "USER PERMS", BY_REACH, "PATH", b"(nothing)\n", is_request=True),
-    Tool(b"below", QUESTION, "PERMS FILE..", (*BY_REACH, option("--plain"), option("--directories")), "COUNT USER PATH",
-         b"(nobody)\n", is_request=True),
+    Tool(b"below", QUESTION, "PERMS FILE..",
+         (*BY_REACH, option("--plain"), option("--directories"), option("--user", USER), option("--list", OTHER),
+          option("--depth", OTHER)),
+         "COUNT USER PATH", b"(nobody)\n", is_request=True, other_forms=(("--list", b"may"),)),
     Tool(b"why", QUESTION, "USER FILE..", BY_REACH, FILE_RECORDS),
     Tool(b"changes", QUESTION, "", BY_REACH, "USER HOW REQUESTS PATH", b"(nothing)\n"),
     Tool(b"gains", QUESTION, "", BY_REACH, "BEFORE AFTER COUNT USER PATH", b"(nothing)\n"),
@@ -170,6 +175,13 @@ def operands_of(tool: bytes, line: Split) -> List[str]:
         return []
     others = (names for options, names in ALL[tool].other_operands if line.has(*names_in(options)))
     return next(others, ALL[tool].operands).replace("..", "").split()
+
+
+def form_of(words: List[bytes]) -> bytes:
+    """The tool that has answers of the form of a line's answer."""
+    tool = words[0] if words else b""
+    forms = ALL[tool].other_forms if tool in ALL else ()
+    return next((form for options, form in forms if split(words).has(*names_in(options))), tool)
 
 
 def operand_kinds(tool: bytes, line: Split) -> List[str]:

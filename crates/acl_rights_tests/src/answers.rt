@@ -165,6 +165,81 @@ static COUNTS: [Row; 5] = [
     },
 ];
 
+/// The first files of a user at or below a path on which a request is granted: as many as are asked for, and those before them
+/// that are not granted do not count.
+static LISTED: [Row; 7] = [
+    Row {
+        lines: &[],
+        question: Question::Listed(b"joe", 9, READ_AND_SEARCH, b"."),
+        along: false,
+        answer: Some(b".\npub/\nrun\n"),
+    },
+    Row {
+        lines: &[],
+        question: Question::Listed(b"joe", 2, READ_AND_SEARCH, b"."),
+        along: false,
+        answer: Some(b".\npub/\n"),
+    },
+    Row {
+        lines: &[],
+        question: Question::Listed(b"ann", 1, WRITE, b"."),
+        along: false,
+        answer: Some(b"pub/\n"),
+    },
+    Row {
+        lines: &[],
+        question: Question::Listed(b"joe", 0, READ_AND_SEARCH, b"."),
+        along: false,
+        answer: Some(b""),
+    },
+    Row {
+        lines: &[],
+        question: Question::Listed(b"joe", 9, READ_AND_SEARCH, b"run"),
+        along: false,
+        answer: Some(b"run\n"),
+    },
+    Row {
+        lines: &[Line::Chmod(0o754, b".")],
+        question: Question::Listed(b"joe", 9, READ, b"."),
+        along: true,
+        answer: Some(b".\n"),
+    },
+    Row {
+        lines: &[],
+        question: Question::Listed(b"joe", 9, READ, b"gone"),
+        along: false,
+        answer: None,
+    },
+];
+
+/// How many files, folder by folder.
+static FOLDERS: [Row; 4] = [
+    Row {
+        lines: &[],
+        question: Question::Folders(None, 0, WRITE, b"."),
+        along: false,
+        answer: Some(b"4 lisa .\n1 ann .\n"),
+    },
+    Row {
+        lines: &[],
+        question: Question::Folders(Some(b"ann"), 1, WRITE, b"."),
+        along: false,
+        answer: Some(b"1 ann .\n1 ann pub/\n"),
+    },
+    Row {
+        lines: &[],
+        question: Question::Folders(Some(b"joe"), 0, READ_AND_SEARCH, b"run"),
+        along: false,
+        answer: Some(b"1 joe run\n"),
+    },
+    Row {
+        lines: &[],
+        question: Question::Folders(None, 9, READ, b"gone"),
+        along: false,
+        answer: None,
+    },
+];
+
 #[test]
 fn answers_are_of_the_lists_alone(rt: HostRuntime) {
     expect_rows(&rt, rt.alloc(), &SETUP, &ALONE);
@@ -183,6 +258,16 @@ fn names_are_of_the_rows(rt: HostRuntime) {
 #[test]
 fn files_are_counted(rt: HostRuntime) {
     expect_rows(&rt, rt.alloc(), &SETUP, &COUNTS);
+}
+
+#[test]
+fn the_first_files_of_a_user(rt: HostRuntime) {
+    expect_rows(&rt, rt.alloc(), &SETUP, &LISTED);
+}
+
+#[test]
+fn files_are_counted_by_folder(rt: HostRuntime) {
+    expect_rows(&rt, rt.alloc(), &SETUP, &FOLDERS);
 }
 
 #[test]

@@ -11,7 +11,7 @@ use acl_entry::Perm;
 use acl_rights::{IndexedState, Judge, Posix, Verdicts};
 use acl_tree::{Staged, State};
 use facl_answers::{files_asked, write_changes, write_index, write_may, write_who, write_why};
-use facl_counts::{Asked, write_below, write_gains};
+use facl_counts::{Asked, Folders, Listing, write_below, write_folders, write_gains, write_listed};
 use std::alloc::Global;
 use std::mem;
 use std::process::Abort;
@@ -29,6 +29,10 @@ pub enum Question {
     Why(&'static [u8], &'static [u8]),
     /// A request, a kind of files, and a file that is asked about with all below it.
     Below(u8, Option<Kind>, &'static [u8]),
+    /// A user, how many files, a request, and a file that is asked about with all below it.
+    Listed(&'static [u8], usize, u8, &'static [u8]),
+    /// One user or all, how many levels below, a request, and a file.
+    Folders(Option<&'static [u8]>, usize, u8, &'static [u8]),
     /// Since the state after the setup.
     Changes,
     /// How many files changed, since the state after the setup.
@@ -109,6 +113,45 @@ fn below(
     write_below(alloc, verdicts, &asked, &paths).ok()
 }
 
+fn listed(
+    alloc: Global,
+    verdicts: &Verdicts<'_, Posix>,
+    user: &[u8],
+    most: usize,
+    request: u8,
+    text: &[u8],
+) -> Option<Vec<u8>> {
+    let user = verdicts.state.state().people().find_user(user)?;
+    let asked = Asked {
+        request: Perm::from_number(request)?,
+        kind: None,
+    };
+    let listing = Listing { asked, user, most };
+    let paths = paths(alloc, text)?;
+    write_listed(alloc, verdicts, &listing, &paths).ok()
+}
+
+fn folders(
+    alloc: Global,
+    verdicts: &Verdicts<'_, Posix>,
+    user: Option<&[u8]>,
+    depth: usize,
+    request: u8,
+    text: &[u8],
+) -> Option<Vec<u8>> {
+    let user = match user {
+        Some(name) => Some(verdicts.state.state().people().find_user(name)?),
+        None => None,
+    };
+    let asked = Asked {
+        request: Perm::from_number(request)?,
+        kind: None,
+    };
+    let which = Folders { asked, user, depth };
+    let paths = paths(alloc, text)?;
+    write_folders(alloc, verdicts, &which, &paths).ok()
+}
+
 /// What a question prints; none where it is not answered.
 fn answer(alloc: Global, worlds: &Worlds, question: &Question, along: bool) -> Option<Vec<u8>> {
     let loaded = &worlds.loaded.indexed;
@@ -121,6 +164,12 @@ fn answer(alloc: Global, worlds: &Worlds, question: &Question, along: bool) -> O
         Question::May(user, request) => may(alloc, &verdicts, user, *request),
         Question::Why(user, text) => why(alloc, indexed, user, text, along),
         Question::Below(request, kind, text) => below(alloc, &verdicts, *request, *kind, text),
+        Question::Listed(user, most, request, text) => {
+            listed(alloc, &verdicts, user, *most, *request, text)
+        }
+        Question::Folders(user, depth, request, text) => {
+            folders(alloc, &verdicts, *user, *depth, *request, text)
+        }
         Question::Changes => write_changes(alloc, loaded, &verdicts).ok(),
         Question::Gains => write_gains(alloc, loaded, &verdicts).ok(),
     }

@@ -14,6 +14,7 @@ use Rattle.acl_names.specs.Paths.{path_of, PathOf}
 use Rattle.acl_people.specs.KnownPeople.{naming_of, users_of}
 use Rattle.acl_people.specs.NameTables.{place_of_word}
 use Rattle.acl_rights.specs.Deciders.{Judging}
+use Rattle.acl_rights.specs.Rows.{Verdict}
 use Rattle.acl_rights.specs.Verdicts.{can_requests}
 use Rattle.acl_rights.specs.declared.indexed.States.{States}
 use Rattle.acl_text.specs.Attr.{attr_of, bad_attr}
@@ -57,7 +58,7 @@ use Rattle.facl_tools.specs.Chacl.{task_done}
 use Rattle.facl_tools.specs.Creat.{new_file}
 use Rattle.facl_tools.specs.Edits as edits
 use Rattle.facl_tools.specs.Lists.{entry_of, list_from, list_of_text, specs_of}
-use Rattle.facl_tools.specs.Operands.{bad_operand, name_meant, not_recorded, path_at, paths_from}
+use Rattle.facl_tools.specs.Operands.{bad_operand, name_meant, not_recorded, path_at, paths_from, user_at}
 use Rattle.facl_tools.specs.Replies.{done, replied}
 use Rattle.facl_tools.specs.Setattr as setattr
 use Rattle.facl_tools.specs.Setfacl.{both_at, change_files, change_line, done_or_tested, edit_of, edited_or_tested, entries_given, entries_of_line, records_of, restore_line}
@@ -75,6 +76,7 @@ use Rattle.facl.proofs.MemoryOfCommands.{edit_has_memory, restore_has_memory, lo
 use Rattle.facl.proofs.MemoryOfTexts as of_texts
 use Rattle.facl.proofs.MemoryOfTexts.{entries_have_memory, dump_has_memory, attr_has_memory}
 use Rattle.facl.proofs.ToolLines.{tool_line_is}
+use Rattle.facl.specs.Below.{folders_at, listed_at, place_of, shown_answered}
 use Rattle.facl.specs.Can.{can_of}
 use Rattle.facl.specs.Laws.{NoMemoryIsNoFault}
 use Rattle.facl.specs.LineParts.{line_read, outcome}
@@ -84,6 +86,9 @@ use Rattle.facl.specs.Tools.{tool_named}
 use Rattle.facl.specs.Units.{reply, text_of, words_of_line}
 use Rattle.facl.specs.Who.{who_of}
 use Rattle.facl.specs.Why.{person_named, why_of}
+use Rattle.facl.specs.declared.tools.below.BelowLine.{BelowLine}
+use Rattle.facl.specs.declared.tools.below.Shown.{Shown}
+use Rattle.facl.specs.declared.tools.below.Shown.TheVariants.{Counts, Folders, Listed}
 use Rattle.facl.specs.declared.tools.ToolLine.{ToolLine}
 use Rattle.facl.specs.declared.tools.ToolLine.TheVariants as lines
 
@@ -202,6 +207,22 @@ of_digits digits =
     both IsOther (setattr.bytes_of digits) _ (seen IsOther (λ e. faults.Text AttributeEntry (bad_attr 0)) (decode_of digits) (λ e is. tt))
     (λ bytes. read AttributeEntry (attr_of bytes) (attr_has_memory bytes))
 
+shows : (verdict : Verdict) (s : State) (line : BelowLine) (shown : Shown) → IfErr (shown_answered verdict s line shown) IsOther
+shows verdict s line Counts = with_paths line.files _ (λ paths. recorded paths s.tree.files _)
+shows verdict s line (Listed user most) =
+    both IsOther (paths_from 1 line.files >>= λ paths. user_at s.people (name_meant user) >>= listed_at verdict s line most paths) _
+    (with_paths line.files _
+    (λ paths. there IsOther (place_of_word (name_meant user) (users_of s.people)) (faults.Tree (trees.NoSuchUser (name_meant user))) _ tt (λ place. recorded paths s.tree.files _)))
+    (λ out. tt)
+shows verdict s line (Folders user depth) =
+    both IsOther (paths_from 1 line.files >>= λ paths. place_of s.people user >>= folders_at verdict s line depth paths) _
+    (with_paths line.files _ (λ paths. both IsOther (place_of s.people user) (folders_at verdict s line depth paths) (place user) (λ at. recorded paths s.tree.files _)))
+    (λ out. tt)
+  where
+    place : (user : Option Text) → IfErr (place_of s.people user) IsOther
+    place None = tt
+    place (Some word) = there IsOther (place_of_word (name_meant word) (users_of s.people)) (faults.Tree (trees.NoSuchUser (name_meant word))) _ tt (λ at. tt)
+
 -- ---- what a line does
 
 does : (judge : Judging) (loaded s : State) (line : ToolLine) (text : List ℕ) → IfErr (answered judge loaded s line text) IsOther
@@ -232,7 +253,7 @@ does judge loaded s (lines.Who line) text =
     (λ out. tt)
 does judge loaded s (lines.May line) text =
     there IsOther (may_text_of judge.verdict line.reach s line.request (name_meant line.user)) (faults.Tree (trees.NoSuchUser (name_meant line.user))) _ tt (λ out. tt)
-does judge loaded s (lines.Below line) text = with_paths line.files _ (λ paths. recorded paths s.tree.files _)
+does judge loaded s (lines.Below line) text = shows judge.verdict s line line.shown
 does judge loaded s (lines.Why line) text =
     both IsOther (paths_from 1 line.files >>= why_of judge.decider s line.reach line.user) _
     (with_paths line.files _

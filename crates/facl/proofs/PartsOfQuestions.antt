@@ -1,5 +1,5 @@
 -- Listings and questions are refused for their first part at fault.
-use Rattle.std.proofs.Common.{◌≡◌, ◌≤◌, ℕ, List, [], ◌∷◌, slice_get, Option, Some, None, option_map, option_and_then, Result, Ok, Err, refl, sym, subst, arith}
+use Rattle.std.proofs.Common.{◌≡◌, ◌≤◌, ℕ, List, [], ◌∷◌, slice_get, Option, Some, None, option_map, option_and_then, Result, Ok, Err, refl, sym, ap, subst, arith}
 use Rattle.std.specs.FinMap.{find}
 use Rattle.std.specs.Prelude.{ok_or}
 use Rattle.facl_answers.specs.Requests.{requests_line}
@@ -7,7 +7,7 @@ use Rattle.acl_edit.specs.declared.node.Node.{Node}
 use Rattle.acl_entry.specs.Person.{Person}
 use Rattle.acl_tree.specs.declared.fault.TreeFault.TheVariants.{NoSuchFile, NoSuchUser}
 use Rattle.acl_names.specs.Paths.{path_cmp, PathOf}
-use Rattle.acl_names.proofs.Basics.{ok_or_err, some_is_not_none}
+use Rattle.acl_names.proofs.Basics.{ok_is_not_err, ok_or_err, some_is_not_none}
 use Rattle.acl_people.specs.KnownPeople.{KnownPeople, users_of}
 use Rattle.acl_people.specs.NameTables.{place_of_word}
 use Rattle.acl_text.specs.declared.rows.PasswdRow.{PasswdRow}
@@ -21,6 +21,7 @@ use Rattle.facl_script.specs.Forms.{Text}
 use Rattle.facl.specs.ToolParts.{Part, in_operand, in_user, in_file, rank, place, OfListing, OfUser, OfUserAndFiles, IsUnrecorded}
 use Rattle.facl_tools.specs.Operands.{path_at, paths_from, name_meant, user_at, not_recorded}
 use Rattle.facl_tools.specs.Replies.{Reply, printed}
+use Rattle.facl.specs.Below.{place_of}
 use Rattle.facl.specs.Why.{person_named}
 use Rattle.facl.proofs.FirstPart.{accepted}
 use Rattle.facl.proofs.NoPaths.{Reads, reads_files, reads_file}
@@ -194,29 +195,54 @@ module _ (s : State) (word file : Text) (look : PathOf → Node → PasswdRow �
       both_refused s word (file ∷ []) (path_at 1 file) (reads_file file) place_read (reads_place s.people word) shown_at
       (λ path is i also. by_node path is i also (find path_cmp path s.tree.files) refl (slice_get s.people.users i) refl)
 
--- files, by the user as the check sees one
+-- files, by the user
 
-module _ (s : State) (word : Text) (files : List Text) (look : List PathOf → Person → Text) where
+module _ {B : Type 0} (s : State) (word : Text) (files : List Text) (user : Result B LineFault) (reads_user : ReadsUser s.people word user) (look : List PathOf → B → Text) where
   abbrev OfAll : Part → LineFault → Type 0
   OfAll = OfUserAndFiles s word files
 
-  abbrev person_read : Result Person LineFault
-  person_read = ok_or (person_named s.people (name_meant word)) (Tree (NoSuchUser (name_meant word)))
-
-  abbrev looked_at_all : List PathOf → Person → Result Text LineFault
+  abbrev looked_at_all : List PathOf → B → Result Text LineFault
   looked_at_all ps u = unless (not_recorded ps s.tree.files) (Ok (look ps u))
 
-  by_missing : (ps : List PathOf) → paths_from 1 files ≡ Ok ps → (u : Person) → ok_or (person_named s.people (name_meant word)) (Tree (NoSuchUser (name_meant word))) ≡ Ok u
+  by_missing : (ps : List PathOf) → paths_from 1 files ≡ Ok ps → (u : B) → user ≡ Ok u
       → (o : Option PathOf) → first_missing ps s.tree.files ≡ o → Refused OfAll (unless (option_map (λ path. Tree (NoSuchFile path)) o) (Ok (look ps u)) >>= λ out. Ok (printed s out))
   by_missing ps are u also None found =
       accepted rank place named is_named OfAll (Ok (printed s (look ps u))) (printed s (look ps u)) refl
-      (both_are_there s word files (paths_from 1 files) (reads_files files) person_read (reads_person s.people word) ps are u also (all_recorded s.tree.files 1 files ps are found))
+      (both_are_there s word files (paths_from 1 files) (reads_files files) user reads_user ps are u also (all_recorded s.tree.files 1 files ps are found))
   by_missing ps are u also (Some p) missing =
       refused_file OfAll s.tree.files files (Err (Tree (NoSuchFile p))) (Tree (NoSuchFile p)) refl (first_unrecorded s.tree.files 1 files ps p are missing) (λ n g h. h) (λ n g h. h)
-      (files_next s word files (paths_from 1 files) (reads_files files) person_read (reads_person s.people word) ps are u also)
+      (files_next s word files (paths_from 1 files) (reads_files files) user reads_user ps are u also)
 
-  pub user_and_files_refused : Refused (OfUserAndFiles s word files)
-      ((paths_from 1 files >>= λ ps. ok_or (person_named s.people (name_meant word)) (Tree (NoSuchUser (name_meant word))) >>= looked_at_all ps) >>= λ out. Ok (printed s out))
-  user_and_files_refused =
-      both_refused s word files (paths_from 1 files) (reads_files files) person_read (reads_person s.people word) looked_at_all
-      (λ ps are u also. by_missing ps are u also (first_missing ps s.tree.files) refl)
+  all_refused : Refused (OfUserAndFiles s word files) ((paths_from 1 files >>= λ ps. user >>= looked_at_all ps) >>= λ out. Ok (printed s out))
+  all_refused =
+      both_refused s word files (paths_from 1 files) (reads_files files) user reads_user looked_at_all (λ ps are u also. by_missing ps are u also (first_missing ps s.tree.files) refl)
+
+-- the user as the check sees one
+pub user_and_files_refused : (s : State) (word : Text) (files : List Text) (look : List PathOf → Person → Text) → Refused (OfUserAndFiles s word files)
+    ((paths_from 1 files >>= λ ps. ok_or (person_named s.people (name_meant word)) (Tree (NoSuchUser (name_meant word))) >>= λ u. unless
+    (not_recorded ps s.tree.files) (Ok (look ps u))) >>= λ out. Ok (printed s out))
+user_and_files_refused s word files look =
+    all_refused s word files (ok_or (person_named s.people (name_meant word)) (Tree (NoSuchUser (name_meant word)))) (reads_person s.people word) look
+
+-- the user by the place
+pub placed_and_files_refused : (s : State) (word : Text) (files : List Text) (look : List PathOf → ℕ → Text) → Refused (OfUserAndFiles s word files)
+    ((paths_from 1 files >>= λ ps. user_at s.people (name_meant word) >>= λ i. unless (not_recorded ps s.tree.files) (Ok (look ps i))) >>= λ out. Ok (printed s out))
+placed_and_files_refused s word files look = all_refused s word files (user_at s.people (name_meant word)) (reads_place s.people word) look
+
+-- the user by the place, or all users
+asks_place : (s : State) (word : Text) → ReadsUser s.people word (place_of s.people (Some word))
+asks_place s word = record {
+  bad = λ f h. ap (λ (r : Result ℕ LineFault). r >>= λ user. Ok (Some user)) (reads.bad f h);
+  only = λ f h. reads.only f (by (user_at s.people (name_meant word)) f h);
+}
+  where
+    reads : ReadsUser s.people word (user_at s.people (name_meant word))
+    reads = reads_place s.people word
+
+    by : (r : Result ℕ LineFault) (f : LineFault) → (r >>= λ user. Ok (Some user)) ≡ Err f → r ≡ Err f
+    by (Ok user) f h = absurd (ok_is_not_err (Some user) f h)
+    by (Err e) f h = ap (λ e. Err e) (let same : e ≡ f = cc in same)
+
+pub asked_and_files_refused : (s : State) (word : Text) (files : List Text) (look : List PathOf → Option ℕ → Text) → Refused (OfUserAndFiles s word files)
+    ((paths_from 1 files >>= λ ps. place_of s.people (Some word) >>= λ user. unless (not_recorded ps s.tree.files) (Ok (look ps user))) >>= λ out. Ok (printed s out))
+asked_and_files_refused s word files look = all_refused s word files (place_of s.people (Some word)) (asks_place s word) look

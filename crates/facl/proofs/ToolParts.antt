@@ -1,5 +1,5 @@
 -- Every line is refused for its first part at fault.
-use Rattle.std.proofs.Common.{ℕ, Bool, true, false, List, [], ◌∷◌, Some, None, Result, Ok, refl, subst}
+use Rattle.std.proofs.Common.{◌≡◌, ℕ, Bool, true, false, List, [], ◌∷◌, Option, Some, None, Result, Ok, Err, refl, sym, subst}
 use Rattle.acl_edit.specs.declared.edit.Edit.{Edit}
 use Rattle.acl_edit.specs.declared.edit.Edit.TheVariants.{Put, Flatten}
 use Rattle.acl_text.specs.declared.fault.Which.TheVariants.{Access, Default}
@@ -13,11 +13,11 @@ use Rattle.acl_entry.specs.Check.{has}
 use Rattle.acl_entry.specs.Perms.{Perms}
 use Rattle.acl_edit.specs.declared.node.Node.{Node}
 use Rattle.acl_text.specs.declared.rows.PasswdRow.{PasswdRow}
-use Rattle.acl_text.specs.Results.{◌>>=◌}
+use Rattle.acl_text.specs.Results.{◌>>=◌, unless}
 use Rattle.std.specs.Prelude.{filter}
 use Rattle.std.specs.List.{flat_map}
 use Rattle.facl_output.specs.AttrListings.{attr_listing}
-use Rattle.facl_counts.specs.BelowText.{below_text}
+use Rattle.facl_counts.specs.BelowText.{below_text, folders_text, listed_text}
 use Rattle.facl_answers.specs.ChangesText.{changes_text}
 use Rattle.facl_counts.specs.GainsText.{gains_text}
 use Rattle.facl_answers.specs.WhyText.{files_asked}
@@ -27,13 +27,14 @@ use Rattle.facl_output.specs.declared.fault.Source.TheVariants.{Entry, DefaultEn
 use Rattle.facl_tools.specs.Chacl as chacl
 use Rattle.facl.specs.Can as can
 use Rattle.facl_tools.specs.Creat as creat
-use Rattle.facl.specs.ToolParts.{rank, place, OfNothing, OfPaths, OfListing, OfUser, OfUserAndFiles, OfSetfacl, OfTask, IsAtFault, file_at}
+use Rattle.facl.specs.Below.{shown_answered}
+use Rattle.facl.specs.ToolParts.{rank, place, OfBelow, OfNothing, OfPaths, OfListing, OfUser, OfUserAndFiles, OfSetfacl, OfTask, IsAtFault, file_at}
 use Rattle.facl.specs.FirstPart.{IsRefusedForFirst}
 use Rattle.facl_tools.specs.Getfacl as getfacl
 use Rattle.facl_tools.specs.Lists.{list_of_text}
 use Rattle.facl_tools.specs.Load as load
 use Rattle.facl.specs.May as may
-use Rattle.facl_tools.specs.Operands.{path_at, paths_from, name_meant}
+use Rattle.facl_tools.specs.Operands.{path_at, paths_from, name_meant, not_recorded}
 use Rattle.facl_tools.specs.Replies.{Reply, done, printed}
 use Rattle.facl_tools.specs.Setattr as setattr
 use Rattle.facl_tools.specs.Setfacl as setfacl_line
@@ -46,6 +47,9 @@ use Rattle.facl.specs.Who as who
 use Rattle.facl.specs.Who.{who_at}
 use Rattle.facl.specs.Why as why
 use Rattle.facl.specs.Why.{named_why}
+use Rattle.facl.specs.declared.tools.below.BelowLine.{BelowLine}
+use Rattle.facl.specs.declared.tools.below.Shown.{Shown}
+use Rattle.facl.specs.declared.tools.below.Shown.TheVariants.{Counts, Folders, Listed}
 use Rattle.facl.specs.declared.tools.can.CanLine.{CanLine}
 use Rattle.facl_tools.specs.declared.chacl.Task.{Task}
 use Rattle.facl_tools.specs.declared.chacl.Task.TheVariants as tasks
@@ -62,7 +66,7 @@ use Rattle.facl.proofs.NoPaths.{reads_files, reads_file}
 use Rattle.facl.proofs.Outcomes.{after_after}
 use Rattle.facl.proofs.Parts.{Refused, named, is_named}
 use Rattle.facl.proofs.PartsOfLines.{command_refused, paths_refused, text_refused, text_and_files_refused, two_texts_refused, change_refused}
-use Rattle.facl.proofs.PartsOfQuestions.{listing_refused, one_file_refused, user_refused, user_and_file_refused, user_and_files_refused}
+use Rattle.facl.proofs.PartsOfQuestions.{listing_refused, one_file_refused, user_refused, user_and_file_refused, asked_and_files_refused, placed_and_files_refused, user_and_files_refused}
 
 -- the files of a line, and what is done with them
 files_refused : (files : List Text) (use_of : List PathOf → Result Reply LineFault) → Refused (OfPaths files (paths_from 1 files) use_of) (paths_from 1 files >>= use_of)
@@ -119,6 +123,27 @@ may_refused verdict s line = user_refused s.people line.user (files_shown verdic
 why_refused : (D : Decider) (s : State) (line : WhyLine) → Refused (OfUserAndFiles s line.user line.files) (why.answered D s line)
 why_refused D s line = user_and_files_refused s line.user line.files (λ paths u. named_why D s.people u (files_asked line.reach paths s.tree.files))
 
+-- what is printed of files that are looked at
+printed_after : {A : Type 0} (read : Result A LineFault) (missing : A → Option LineFault) (text : A → Text) (s : State)
+    → ((read >>= λ a. unless (missing a) (Ok (text a))) >>= λ out. Ok (printed s out)) ≡ (read >>= λ a. unless (missing a) (Ok (printed s (text a))))
+printed_after (Err f) missing text s = refl
+printed_after (Ok a) missing text s = by (missing a)
+  where
+    by : (o : Option LineFault) → (unless o (Ok (text a)) >>= λ out. Ok (printed s out)) ≡ unless o (Ok (printed s (text a)))
+    by None = refl
+    by (Some f) = refl
+
+below_refused : (verdict : Verdict) (s : State) (line : BelowLine) (shown : Shown) → Refused (OfBelow s shown line.files) (shown_answered verdict s line shown)
+below_refused verdict s line Counts = listing_refused s.tree.files line.files (λ paths. printed s (below_text verdict line.reach s line.asked.request line.asked.kind paths))
+below_refused verdict s line (Listed word most) =
+    placed_and_files_refused s word line.files (λ paths user. listed_text verdict line.reach s line.asked.request line.asked.kind paths user most)
+below_refused verdict s line (Folders None depth) =
+    subst (Refused (OfListing s.tree.files line.files))
+    (sym (printed_after (paths_from 1 line.files) (λ paths. not_recorded paths s.tree.files) (λ paths. folders_text verdict line.reach s line.asked.request line.asked.kind None depth paths) s))
+    (listing_refused s.tree.files line.files (λ paths. printed s (folders_text verdict line.reach s line.asked.request line.asked.kind None depth paths)))
+below_refused verdict s line (Folders (Some word) depth) =
+    asked_and_files_refused s word line.files (λ paths user. folders_text verdict line.reach s line.asked.request line.asked.kind user depth paths)
+
 -- what looks at the whole state
 nothing_refused : (reply : Reply) → Refused OfNothing (Ok reply)
 nothing_refused reply = accepted rank place named is_named OfNothing (Ok reply) reply refl (λ part fault h. h)
@@ -141,8 +166,7 @@ first_fault_refuses judge loaded s (lines.Setattr line) text =
 first_fault_refuses judge loaded s (lines.Can line) text = can_refused judge.verdict s line
 first_fault_refuses judge loaded s (lines.Who line) text = who_refused judge.verdict s line
 first_fault_refuses judge loaded s (lines.May line) text = may_refused judge.verdict s line
-first_fault_refuses judge loaded s (lines.Below line) text =
-    listing_refused s.tree.files line.files (λ paths. printed s (below_text judge.verdict line.reach s line.asked.request line.asked.kind paths))
+first_fault_refuses judge loaded s (lines.Below line) text = below_refused judge.verdict s line line.shown
 first_fault_refuses judge loaded s (lines.Why line) text = why_refused judge.decider s line
 first_fault_refuses judge loaded s lines.Index text = nothing_refused (printed s (index_text judge.verdict s))
 first_fault_refuses judge loaded s (lines.Changes line) text = nothing_refused (printed s (changes_text judge.verdict line.reach loaded s))

@@ -32,6 +32,8 @@ use Rattle.facl_tools.specs.declared.setfacl.ChangeLine.{ChangeLine}
 use Rattle.facl_tools.specs.declared.setfacl.SetfaclLine.{SetfaclLine}
 use Rattle.facl_tools.specs.declared.setfacl.SetfaclLine.TheVariants as setfacl
 use Rattle.facl_tools.specs.declared.setfacl_entries.ChangeEntries.{ChangeEntries}
+use Rattle.facl.specs.declared.tools.below.Shown.{Shown}
+use Rattle.facl.specs.declared.tools.below.Shown.TheVariants.{Counts, Folders, Listed}
 use Rattle.facl.specs.declared.tools.ToolLine.{ToolLine}
 use Rattle.facl.specs.declared.tools.ToolLine.TheVariants as lines
 
@@ -167,6 +169,13 @@ OfUserAndFiles s word files in_user fault = IsNoUser s.people word fault
 OfUserAndFiles s word files (in_file n) fault = IsUnrecorded s.tree.files files n fault
 OfUserAndFiles s word files part fault = ⊥
 
+-- of a line of `below`
+abbrev pub OfBelow : State → Shown → List Text → Part → LineFault → Type 0
+OfBelow s Counts files = OfListing s.tree.files files
+OfBelow s (Listed word most) files = OfUserAndFiles s word files
+OfBelow s (Folders None depth) files = OfListing s.tree.files files
+OfBelow s (Folders (Some word) depth) files = OfUserAndFiles s word files
+
 -- of a line with a text
 abbrev pub OfText : {A : Type 0} → Result A LineFault → (A → Result Reply LineFault) → Part → LineFault → Type 0
 OfText text use_of in_first_text fault = text ≡ Err fault
@@ -247,7 +256,7 @@ IsAtFault s (lines.Setattr line) text =
 IsAtFault s (lines.Can line) text = OfUserAndFiles s line.user (line.file ∷ [])
 IsAtFault s (lines.Who line) text = OfListing s.tree.files (line.file ∷ [])
 IsAtFault s (lines.May line) text = OfUser s.people line.user
-IsAtFault s (lines.Below line) text = OfListing s.tree.files line.files
+IsAtFault s (lines.Below line) text = OfBelow s line.shown line.files
 IsAtFault s (lines.Why line) text = OfUserAndFiles s line.user line.files
 IsAtFault s lines.Index text = OfNothing
 IsAtFault s (lines.Changes line) text = OfNothing

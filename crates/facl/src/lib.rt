@@ -44,8 +44,8 @@ pub use facl_answers::{
     write_index, write_may, write_who, write_why,
 };
 pub use facl_counts::{
-    Asked, below_counts_what_may_lists, gains_count_each_change_once, gains_print_all_that_changes,
-    write_below, write_gains,
+    Asked, Folders, Listing, below_counts_what_may_lists, gains_count_each_change_once,
+    gains_print_all_that_changes, write_below, write_folders, write_gains, write_listed,
 };
 // Laws of what tools print and read.
 pub use facl_tools::{

@@ -36,7 +36,7 @@ use Rattle.facl_answers.specs.Answers.{file_line}
 use Rattle.facl_answers.proofs.GrantedFiles.{cell_granted, cells_granted, same_items}
 use Rattle.facl_counts.specs.BelowText.{is_of_kind, below_line, granted_below, below_text}
 use Rattle.facl_counts.specs.CountTexts.{count_text}
-use Rattle.facl_counts.specs.Sums.{Sum, rows_of_kind, sum_in, sum_line, sum_lines, AreSums}
+use Rattle.facl_counts.specs.Sums.{Sum, lines_by, rows_of_kind, sum_in, sum_line, sum_lines, AreSums}
 
 -- ---- one file of all
 
@@ -103,7 +103,7 @@ first_path [] = None
 first_path (p ∷ ps) = Some p
 
 -- the sum out of files
-abbrev sum_of_files : List FoundFile → Sum
+abbrev pub sum_of_files : List FoundFile → Sum
 sum_of_files files = (length files, first_path (map (λ (f : FoundFile). f.path) files))
 
 found_first : (test : PathOf × List ℕ → Bool) (rows : Rows) → option_map (λ (r : PathOf × List ℕ). r.0) (find test rows) ≡ first_path (map (λ (r : PathOf × List ℕ). r.0) (filter test rows))
@@ -217,13 +217,13 @@ module _ (V : Verdict) (along : Bool) (s : State) where
 
 -- ---- all lines
 
-each_line : {A : Type 0} (t : Files) (name : A → List ℕ) (sum : A → Sum) (xs : List A) → sum_lines t (map name xs) (map sum xs) ≡ flat_map (λ x. sum_line t (name x) (sum x)) xs
-each_line t name sum [] = refl
-each_line t name sum (x ∷ xs) = ap (λ (l : List ℕ). sum_line t (name x) (sum x) ++ l) (each_line t name sum xs)
+pub each_line : {A : Type 0} (line : List ℕ → Sum → List ℕ) (name : A → List ℕ) (sum : A → Sum) (xs : List A) → lines_by line (map name xs) (map sum xs) ≡ flat_map (λ x. line (name x) (sum x)) xs
+each_line line name sum [] = refl
+each_line line name sum (x ∷ xs) = ap (λ (l : List ℕ). line (name x) (sum x) ++ l) (each_line line name sum xs)
 
-no_more_sums : (t : Files) (names : List (List ℕ)) → sum_lines t names [] ≡ []
-no_more_sums t [] = refl
-no_more_sums t (name ∷ names) = refl
+no_more_sums : (line : List ℕ → Sum → List ℕ) (names : List (List ℕ)) → lines_by line names [] ≡ []
+no_more_sums line [] = refl
+no_more_sums line (name ∷ names) = refl
 
 drop_none : (k : ℕ) → drop {A = Sum} k [] ≡ []
 drop_none zero = refl
@@ -238,59 +238,55 @@ none_left (sum ∷ sums) (suc i) h =
     (more.0, ap (λ k. drop k (sum ∷ sums)) on ∙ more.1)
 
 -- the line of one user more
-sums_step : (t : Files) (names : List (List ℕ)) (sums : List Sum) (i : ℕ) (d : List ℕ) (s : Sum) → i < length names → Some s ≡ slice_get sums i
-    → sum_lines t (drop i names) (drop i sums) ≡ sum_line t (get_or names i d) s ++ sum_lines t (drop (i + 1) names) (drop (i + 1) sums)
-sums_step t [] sums i d s lt here = absurd (omega (arith, lt))
-sums_step t (name ∷ names) [] i d s lt here = absurd (cc here)
-sums_step t (name ∷ names) (sum ∷ sums) zero d s lt here = let same : s ≡ sum = cc in ap (λ x. sum_line t name x ++ sum_lines t names sums) (sym same)
-sums_step t (name ∷ names) (sum ∷ sums) (suc i) d s lt here =
+sums_step : (line : List ℕ → Sum → List ℕ) (names : List (List ℕ)) (sums : List Sum) (i : ℕ) (d : List ℕ) (s : Sum) → i < length names → Some s ≡ slice_get sums i
+    → lines_by line (drop i names) (drop i sums) ≡ line (get_or names i d) s ++ lines_by line (drop (i + 1) names) (drop (i + 1) sums)
+sums_step line [] sums i d s lt here = absurd (omega (arith, lt))
+sums_step line (name ∷ names) [] i d s lt here = absurd (cc here)
+sums_step line (name ∷ names) (sum ∷ sums) zero d s lt here = let same : s ≡ sum = cc in ap (λ x. line name x ++ lines_by line names sums) (sym same)
+sums_step line (name ∷ names) (sum ∷ sums) (suc i) d s lt here =
     let on : suc i + 1 ≡ suc (i + 1) = omega arith in
-    sums_step t names sums i d s (omega (arith, lt)) here
-    ∙ ap (λ k. sum_line t (get_or names i d) s ++ sum_lines t (drop k (name ∷ names)) (drop k (sum ∷ sums))) (sym on)
+    sums_step line names sums i d s (omega (arith, lt)) here
+    ∙ ap (λ k. line (get_or names i d) s ++ lines_by line (drop k (name ∷ names)) (drop k (sum ∷ sums))) (sym on)
 
-name_at : {A : Type 0} (items : A → List ℕ) (names : List A) (i : ℕ) (d : A) → i < length names → get_or (map items names) i (items d) ≡ items (get_or names i d)
+pub name_at : {A : Type 0} (items : A → List ℕ) (names : List A) (i : ℕ) (d : A) → i < length names → get_or (map items names) i (items d) ≡ items (get_or names i d)
 name_at items [] i d lt = absurd (omega (arith, lt))
 name_at items (name ∷ names) zero d lt = refl
 name_at items (name ∷ names) (suc i) d lt = name_at items names i d (omega (arith, lt))
 
-module _ {A : Type 0} (t : Files) (items : A → List ℕ) (names : List A) (sums : List Sum) (i : ℕ) (text new all : List ℕ) where
-  pub sums_more : (name d : A) (s : Sum) → i < length names → name ≡ get_or names i d → Some s ≡ slice_get sums i → new ≡ text ++ sum_line t (items name) s
-      → text ++ sum_lines t (drop i (map items names)) (drop i sums) ≡ all → new ++ sum_lines t (drop (i + 1) (map items names)) (drop (i + 1) sums) ≡ all
+module _ {A : Type 0} (line : List ℕ → Sum → List ℕ) (items : A → List ℕ) (names : List A) (sums : List Sum) (i : ℕ) (text new all : List ℕ) where
+  pub sums_more : (name d : A) (s : Sum) → i < length names → name ≡ get_or names i d → Some s ≡ slice_get sums i → new ≡ text ++ line (items name) s
+      → text ++ lines_by line (drop i (map items names)) (drop i sums) ≡ all → new ++ lines_by line (drop (i + 1) (map items names)) (drop (i + 1) sums) ≡ all
   sums_more name d s lt is here wrote so_far =
       let ns = map items names in
       let within : i < length ns = omega (arith, lt, length-map names items) in
       let named : items name ≡ get_or ns i (items d) = ap items is ∙ sym (name_at items names i d lt) in
-      (λ j. (wrote ∙ ap (λ n. text ++ sum_line t n s) named) j ++ sum_lines t (drop (i + 1) ns) (drop (i + 1) sums))
-      ∙ append_assoc text (sum_line t (get_or ns i (items d)) s) (sum_lines t (drop (i + 1) ns) (drop (i + 1) sums))
-      ∙ ap (λ l. text ++ l) (sym (sums_step t ns sums i (items d) s within here))
+      (λ j. (wrote ∙ ap (λ n. text ++ line n s) named) j ++ lines_by line (drop (i + 1) ns) (drop (i + 1) sums))
+      ∙ append_assoc text (line (get_or ns i (items d)) s) (lines_by line (drop (i + 1) ns) (drop (i + 1) sums))
+      ∙ ap (λ l. text ++ l) (sym (sums_step line ns sums i (items d) s within here))
       ∙ so_far
 
   -- no sum is left
-  pub sums_over : None ≡ slice_get sums i → new ≡ text → text ++ sum_lines t (drop i (map items names)) (drop i sums) ≡ all
-      → new ++ sum_lines t (drop (i + 1) (map items names)) (drop (i + 1) sums) ≡ all
+  pub sums_over : None ≡ slice_get sums i → new ≡ text → text ++ lines_by line (drop i (map items names)) (drop i sums) ≡ all
+      → new ++ lines_by line (drop (i + 1) (map items names)) (drop (i + 1) sums) ≡ all
   sums_over none is so_far =
       let ns = map items names in
       let left = none_left sums i none in
-      let later = ap (sum_lines t (drop (i + 1) ns)) left.1 ∙ no_more_sums t (drop (i + 1) ns) in
-      let here = ap (sum_lines t (drop i ns)) left.0 ∙ no_more_sums t (drop i ns) in
+      let later = ap (lines_by line (drop (i + 1) ns)) left.1 ∙ no_more_sums line (drop (i + 1) ns) in
+      let here = ap (lines_by line (drop i ns)) left.0 ∙ no_more_sums line (drop i ns) in
       (λ j. is j ++ (later ∙ sym here) j) ∙ so_far
 
 same_at : {A C : Type 0} (g h : A → List C) (xs : List A) → ((i : ℕ) (x : A) → slice_get xs i ≡ Some x → g x ≡ h x) → flat_map g xs ≡ flat_map h xs
 same_at g h [] same = refl
 same_at g h (x ∷ xs) same = λ i. same 0 x refl i ++ same_at g h xs (λ n y is. same (suc n) y is) i
 
-module _ (V : Verdict) (along : Bool) (s : State) (q : Perms) (kind : Option Kind) (paths : List PathOf) (order : IsInOrder s.tree.files) where
+module _ (V : Verdict) (along : Bool) (s : State) (q : Perms) (kind : Option Kind) (paths : List PathOf) where
   abbrev sum_of_row : PasswdRow → Sum
   sum_of_row row = sum_of_files (granted_below V along s q kind paths row)
 
-  -- the sums of all users, and their lines
-  pub below_lines : {A : Type 0} (f : A → List ℕ) (users : List A) (sums : List Sum) → map f users ≡ map (λ row. escaped row.name) s.people.users
-      → AreSums q (filter (λ row. is_file true paths row.0) (rows_of_kind V along s kind)) users sums → sum_lines s.tree.files (map f users) sums ≡ below_text V along s q kind paths
-  below_lines {A} f users sums names are =
-      (λ i. sum_lines s.tree.files (names i) (all i))
-      ∙ each_line s.tree.files (λ row. escaped row.name) sum_of_row s.people.users
-      ∙ same_at (λ row. sum_line s.tree.files (escaped row.name) (sum_of_row row)) (λ row. below_line (escaped row.name) (granted_below V along s q kind paths row)) s.people.users
-      (λ user row is. line_is V along s q kind paths user row is order (escaped row.name))
+  -- the sums of all users
+  pub all_sums : {A : Type 0} (f : A → List ℕ) (users : List A) (sums : List Sum) → map f users ≡ map (λ row. escaped row.name) s.people.users
+      → AreSums q (filter (λ row. is_file true paths row.0) (rows_of_kind V along s kind)) users sums → sums ≡ map sum_of_row s.people.users
+  all_sums {A} f users sums names are = same_items sums (map sum_of_row s.people.users) one
     where
       rows : Rows
       rows = filter (λ (row : PathOf × List ℕ). is_file true paths row.0) (rows_of_kind V along s kind)
@@ -314,8 +310,14 @@ module _ (V : Verdict) (along : Bool) (s : State) (q : Perms) (kind : Option Kin
           by None is = refl
           by (Some row) is = ap Some (sum_is V along s q kind paths user row is)
 
-      all : sums ≡ map sum_of_row s.people.users
-      all = same_items sums (map sum_of_row s.people.users) one
+  -- their lines
+  pub below_lines : IsInOrder s.tree.files → {A : Type 0} (f : A → List ℕ) (users : List A) (sums : List Sum) → map f users ≡ map (λ row. escaped row.name) s.people.users
+      → AreSums q (filter (λ row. is_file true paths row.0) (rows_of_kind V along s kind)) users sums → sum_lines s.tree.files (map f users) sums ≡ below_text V along s q kind paths
+  below_lines order f users sums names are =
+      (λ i. sum_lines s.tree.files (names i) (all_sums f users sums names are i))
+      ∙ each_line (sum_line s.tree.files) (λ row. escaped row.name) sum_of_row s.people.users
+      ∙ same_at (λ row. sum_line s.tree.files (escaped row.name) (sum_of_row row)) (λ row. below_line (escaped row.name) (granted_below V along s q kind paths row)) s.people.users
+      (λ user row is. line_is V along s q kind paths user row is order (escaped row.name))
 
 -- there is no line only where there are no files
 pub no_line : (user : List ℕ) (files : List FoundFile) → below_line user files ≡ [] → files ≡ []

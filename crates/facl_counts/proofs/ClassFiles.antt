@@ -69,7 +69,7 @@ counting_begins all classes ts none = record {
 }
 
 -- the first file that was to come, at a path or below it
-first_is : (top : PathOf) (old new : Classed) (p : PathOf) (class : ℕ) (here : TakesWithin top old (Some (p, class)) new) → front top old.1 ≡ (p, here.1.row) ∷ front top new.1
+pub first_is : (top : PathOf) (old new : Classed) (p : PathOf) (class : ℕ) (here : TakesWithin top old (Some (p, class)) new) → front top old.1 ≡ (p, here.1.row) ∷ front top new.1
 first_is top old new p class here =
     let file : PathOf × List ℕ = (p, here.1.row) in
     ap (front top) here.1.first ∙ ap (λ b. cond b (file ∷ front top new.1) []) here.0

@@ -47,7 +47,7 @@ module _ (V : Verdict) (along : Bool) (s : State) where
   -- ---- those at a path or below it
 
   module _ (top : PathOf) where
-    rows_from : (es : Files) → from top (rows_of es) ≡ rows_of (from top es)
+    pub rows_from : (es : Files) → from top (rows_of es) ≡ rows_of (from top es)
     rows_from [] = refl
     rows_from (e ∷ es) = by (is_gt (path_cmp top e.0)) (rows_from es)
       where

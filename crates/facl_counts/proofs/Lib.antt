@@ -1,9 +1,12 @@
 pub mod BelowLines
 pub mod BothCounts
 pub mod ClassFiles
+pub mod FirstListed
+pub mod FolderLines
 pub mod GainLines
 pub mod Gained
 pub mod KindRows
+pub mod LookedUp
 pub mod OperandTops
 pub mod PartGains
 pub mod Rekeyed

@@ -18,7 +18,6 @@ use Rattle.path_map.specs.Below.{within}
 use Rattle.path_map.specs.Entries.{IsInOrder}
 use Rattle.path_classes.specs.ClassesWithin.{paths_seen, is_inside, inside, AreTops}
 use Rattle.path_classes.specs.ClassedRows.{paths_of}
-use Rattle.path_classes.specs.Rows.{Rows}
 use Rattle.path_classes.specs.Tops.{is_in_two}
 use Rattle.path_classes.proofs.FoundWithin.{inside_none, none_taken}
 use Rattle.facl_answers.proofs.ChangeLines.{paths, order_by_paths}
@@ -110,7 +109,7 @@ module _ (q : PathOf) where
 
 -- ---- the rows at or below tops, top by top
 
-pub none_inside : (tops : List (Bor PathOf)) (rows : Rows) → inside (paths_seen (take 0 tops)) rows ≡ []
+pub none_inside : {A : Type 0} (tops : List (Bor PathOf)) (rows : List (PathOf × A)) → inside (paths_seen (take 0 tops)) rows ≡ []
 none_inside tops rows = ap (λ ts. inside (paths_seen ts) rows) (none_taken tops) ∙ inside_none rows
 
 module _ (tops : List (Bor PathOf)) (at : ℕ) (top : Bor PathOf) (lt : at < length tops) (is : top ≡ get_or tops at top) where
@@ -119,13 +118,15 @@ module _ (tops : List (Bor PathOf)) (at : ℕ) (top : Bor PathOf) (lt : at < len
       ap paths_seen (sym (take-append-drop at tops) ∙ ap (λ l. take at tops ++ l) (drop-cons tops at top lt ∙ ap (λ p. p ∷ drop (suc at) tops) (sym is)))
       ∙ map-append (λ (p : Bor PathOf). p.now) (take at tops) (top ∷ drop (suc at) tops)
 
-  pub one_inside : AreTops (paths_seen tops) → (rows : Rows) → IsInOrder rows → inside (paths_seen (take at tops)) rows ++ within top.now rows ≡ inside (paths_seen (take (at + 1) tops)) rows
+  pub one_inside : {A : Type 0} → AreTops (paths_seen tops) → (rows : List (PathOf × A)) → IsInOrder rows
+      → inside (paths_seen (take at tops)) rows ++ within top.now rows ≡ inside (paths_seen (take (at + 1) tops)) rows
   one_inside are rows order =
       sym (inside_more (paths_seen (take at tops)) top.now (tops_parts (paths_seen (take at tops)) top.now (paths_seen (drop (suc at) tops)) (subst AreTops cut are)).0 rows order)
       ∙ ap (λ ts. inside ts rows) (ap (λ (p : Bor PathOf). paths_seen (take at tops) ++ p.now ∷ []) is ∙ sym (map_more (λ (p : Bor PathOf). p.now) tops at top lt))
 
 -- all rows at or below the operands
-pub operand_rows : (tops ps : List PathOf) → ((q : PathOf) → is_inside tops q ≡ is_file true ps q) → (rows : Rows) → inside tops rows ≡ filter (λ row. is_file true ps row.0) rows
+pub operand_rows : {A : Type 0} (tops ps : List PathOf) → ((q : PathOf) → is_inside tops q ≡ is_file true ps q) → (rows : List (PathOf × A))
+    → inside tops rows ≡ filter (λ row. is_file true ps row.0) rows
 operand_rows tops ps same [] = refl
 operand_rows tops ps same (row ∷ rows) = λ i. cond (same row.0 i) (row ∷ operand_rows tops ps same rows i) (operand_rows tops ps same rows i)
 

@@ -4,5 +4,6 @@ pub mod Counting
 pub mod GainsLaws
 pub mod GainsText
 pub mod InnerGains
+pub mod Listed
 pub mod SumLists
 pub mod Sums

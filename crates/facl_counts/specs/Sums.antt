@@ -1,5 +1,6 @@
 -- For inner functions of `below`: what is added to each user's sum, row by row.
-use Rattle.std.specs.Prelude.{◌≡◌, ℕ, ◌+◌, Bool, true, false, if◌then◌else◌, List, [], ◌∷◌, ◌++◌, filter, map, slice_get, count_by, zip, Option, Some, None, option_map, option_and_then}
+use Rattle.std.specs.Prelude.{◌≡◌, ℕ, ◌+◌, Bool, true, false, if◌then◌else◌, List, [], ◌∷◌, ◌++◌, filter, map, slice_get, count_by, zip, option_to_list, Option}
+use Rattle.std.specs.Prelude.{Some, None, option_map, option_and_then}
 use Rattle.std.specs.Option.{option_map_or, option_or}
 use Rattle.std.specs.List.{find, flat_map}
 use Rattle.acl_edit.specs.declared.node.Kind.{Kind}
@@ -9,7 +10,7 @@ use Rattle.acl_names.specs.Below.{encloses}
 use Rattle.acl_names.specs.Paths.{PathOf}
 use Rattle.path_classes.specs.Classes.{Classed, IsFileTaken}
 use Rattle.path_classes.specs.Rows.{Rows, grants_to}
-use Rattle.acl_tree.specs.Found.{files_found}
+use Rattle.acl_tree.specs.Found.{FoundFile, files_found}
 use Rattle.acl_tree.specs.Files.{Files}
 use Rattle.acl_tree.specs.State.{State}
 use Rattle.acl_rights.specs.Rows.{Verdict}
@@ -112,5 +113,21 @@ AreSums q rows users sums = (user : ℕ) → slice_get sums user ≡ option_map 
 abbrev pub sum_line : Files → List ℕ → Sum → List ℕ
 sum_line t name sum = option_map_or (λ p. count_text sum.0 name ++ flat_map file_line (files_found false (p ∷ []) t)) sum.1 []
 
+-- the lines of users
+abbrev pub lines_by : (List ℕ → Sum → List ℕ) → List (List ℕ) → List Sum → List ℕ
+lines_by line names sums = flat_map (λ x. line x.0 x.1) (zip names sums)
+
 abbrev pub sum_lines : Files → List (List ℕ) → List Sum → List ℕ
-sum_lines t names sums = flat_map (λ x. sum_line t x.0 x.1) (zip names sums)
+sum_lines t names sums = lines_by (sum_line t) names sums
+
+-- the line of a folder and a user, where there is a file
+abbrev pub folder_sum : FoundFile → List ℕ → Sum → List ℕ
+folder_sum folder name sum = option_map_or (λ p. count_text sum.0 name ++ file_line folder) sum.1 []
+
+-- those of the user at a place, if there is one
+abbrev pub folder_sum_at : FoundFile → (names : List (List ℕ)) → List Sum → (user : ℕ) → List ℕ
+folder_sum_at folder names sums user = flat_map (λ x. folder_sum folder x.0 x.1) (option_to_list (slice_get (zip names sums) user))
+
+abbrev pub folder_sums : FoundFile → (user : Option ℕ) → List (List ℕ) → List Sum → List ℕ
+folder_sums folder None names sums = lines_by (folder_sum folder) names sums
+folder_sums folder (Some user) names sums = folder_sum_at folder names sums user

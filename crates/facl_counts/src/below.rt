@@ -36,7 +36,7 @@ pub struct Asked {
     pub kind: Option<Kind>,
 }
 
-fn push_found(text: &mut Vec<u8>, files: &[FoundFile<'_>]) -> Result<(), AllocError>
+pub(crate) fn push_found(text: &mut Vec<u8>, files: &[FoundFile<'_>]) -> Result<(), AllocError>
     ensures { OnOk result (text.new.items ≡ text.old.items ++ flat_map file_line files.now) }
 {
     for file in files {
@@ -79,7 +79,7 @@ fn push_sums(
 }
 
 /// Returns the paths of files that are below none of the others, in path order.
-fn tops<'a>(alloc: Global, files: &[FoundFile<'a>]) -> Result<Vec<&'a Path>, AllocError>
+pub(crate) fn tops<'a>(alloc: Global, files: &[FoundFile<'a>]) -> Result<Vec<&'a Path>, AllocError>
     requires { IsInOrder (map (λ file. (file.path, file.node)) files.now) }
     ensures tops { IfOk result (λ tops. AreTops (paths_seen tops.items)) }
     ensures covers { IfOk result (λ tops. (q : PathOf) → is_inside (paths_seen tops.items) q ≡ is_inside (map (λ file. file.path) files.now) q) }
@@ -159,7 +159,7 @@ fn add_below<'a, J: Judge>(
 
 /// Counts for each user how many of the files at or below `tops` count, and finds the first of these files: path by
 /// path, so that no other file is looked at.
-fn sums_below<'a, J: Judge>(
+pub(crate) fn sums_below<'a, J: Judge>(
     alloc: Global,
     verdicts: &Verdicts<'a, J>,
     asked: &Asked,

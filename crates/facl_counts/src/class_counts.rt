@@ -31,7 +31,7 @@ fn count<'a>(tallies: &mut Tallies<'a>, files: ClassFiles<'a>) -> Result<(), All
 }
 
 /// Returns the next file with its class, if it is at a path or below it.
-fn next_within<'a>(
+pub(crate) fn next_within<'a>(
     alloc: Global,
     classes: &mut FileClasses<'a>,
     top: &Path,
@@ -65,7 +65,7 @@ pub(crate) fn count_files<'a>(
 }
 
 /// Tells whether a file is of a kind.
-fn is_of_kind(kind: Kind, node: &Node) -> bool
+pub(crate) fn is_of_kind(kind: Kind, node: &Node) -> bool
     ensures { result ≡ is_of_kind (Some kind) node.now }
 {
     let is_directory = node.kind == Kind::Directory;

@@ -131,6 +131,56 @@ static KIND_LINES: [(&str, &str); 9] = [
     ("who --plain w f", "usage"),
 ];
 
+/// `--user` and `--list` of `below`.
+static LISTED_LINES: [(&str, &str); 17] = [
+    ("below --user joe --list 3 w f", "--user=joe --list=3 : w f"),
+    ("below w f --list=0 --user=joe", "--user=joe --list=0 : w f"),
+    (
+        "below --plain --list 007 w --user=1 f g --reach",
+        "--reach --plain --user=1 --list=007 : w f g",
+    ),
+    (
+        "below --user= --list 4294967294 w f",
+        "--user= --list=4294967294 : w f",
+    ),
+    ("below --user joe w f", "usage"),
+    ("below --list 3 w f", "usage"),
+    ("below --list x w f", "usage"),
+    ("below --user joe --list x w f", "usage"),
+    ("below --user joe --list= w f", "usage"),
+    ("below --user joe --list -1 w f", "usage"),
+    ("below --user joe --list +1 w f", "usage"),
+    ("below --user joe --list 0x1 w f", "usage"),
+    ("below --user joe --list 4294967295 w f", "usage"),
+    ("below --user joe --user ann --list 3 w f", "usage"),
+    ("below --user joe --list 3 --list 3 w f", "usage"),
+    ("below --user joe --list 3 w", "usage"),
+    // No other tool has them.
+    ("may --list 3 joe w", "usage"),
+];
+
+/// `--depth` of `below`, alone or with `--user`.
+static DEPTH_LINES: [(&str, &str); 11] = [
+    ("below --depth 1 w f", "--depth=1 : w f"),
+    (
+        "below --user joe --depth=0 w f",
+        "--user=joe --depth=0 : w f",
+    ),
+    (
+        "below w f g --depth 007 --directories --reach",
+        "--reach --directories --depth=007 : w f g",
+    ),
+    ("below --depth 4294967294 w f", "--depth=4294967294 : w f"),
+    ("below --depth 4294967295 w f", "usage"),
+    ("below --depth x w f", "usage"),
+    ("below --depth= w f", "usage"),
+    ("below --depth 1 --list 1 w f", "usage"),
+    ("below --user joe --depth 1 --list 1 w f", "usage"),
+    ("below --depth 1 --depth 1 w f", "usage"),
+    // No other tool has it.
+    ("may --depth 1 joe w", "usage"),
+];
+
 /// `--reach` of `can`, `who`, `may`, `below` and `why`, which has no letter.
 static REACH_LINES: [(&str, &str); 57] = [
     ("below --reach w f g", "--reach : w f g"),
@@ -203,6 +253,16 @@ fn query_lines(rt: HostRuntime) {
 #[test]
 fn kind_lines(rt: HostRuntime) {
     expect_lines(&rt, rt.alloc(), &KIND_LINES);
+}
+
+#[test]
+fn lines_with_a_user_and_a_list(rt: HostRuntime) {
+    expect_lines(&rt, rt.alloc(), &LISTED_LINES);
+}
+
+#[test]
+fn lines_with_a_depth(rt: HostRuntime) {
+    expect_lines(&rt, rt.alloc(), &DEPTH_LINES);
 }
 
 #[test]

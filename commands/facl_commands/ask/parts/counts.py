@@ -17,7 +17,7 @@ from ...model.records import path_of
 from ...program.protocol import NO_FILE, NOT_THERE, is_refused, lacks_file, message_of
 from ...program.scripts import Unit
 from ...program.session import Session
-from ...program.tools import ALL, COUNTING, MAKERS, REACH, WITH_FILES, split
+from ...program.tools import ALL, COUNTING, MAKERS, REACH, VALUES, WITH_FILES, split
 
 MOST_SHARED = 1_000  # Files that several snapshots may have,
 ROOM_FOR_SHARED = 60_000  # and bytes of their names, which are words of a command.
@@ -39,8 +39,9 @@ def tops_of(unit: Unit) -> List[bytes]:
 
 def of_files(unit: Unit, words: List[bytes]) -> bytes:
     """The line with other FILEs."""
-    line = split(unit.words)
-    return b" ".join([unit.tool(), *(option.name for option in line.given), b"--", script_word(line.operands[0]), *words])
+    line, values = split(unit.words), VALUES[unit.tool()]
+    options = [option.name + (b"=" + option.value) * (option.name in values) for option in line.given]
+    return b" ".join([unit.tool(), *map(script_word, options), b"--", script_word(line.operands[0]), *words])
 
 
 def of_some_files(unit: Unit, names: List[bytes]) -> bytes:
@@ -106,6 +107,11 @@ def side_text(granted: Optional[int]) -> bytes:
 
 
 # --- where the answers are joined
+
+
+def is_counting(unit: Unit) -> bool:
+    """Whether its answer has sums."""
+    return unit.form() in COUNTING
 
 
 class Sum(NamedTuple):

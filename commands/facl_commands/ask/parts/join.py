@@ -8,6 +8,7 @@ from __future__ import annotations
 
 import argparse
 import heapq
+import itertools
 import os
 import re
 from typing import Dict, Iterable, Iterator, List, NamedTuple, Optional, Set, Tuple
@@ -24,7 +25,7 @@ from ...program.protocol import ANSWERED, FILE_HEAD, PROGRAM, REFUSED, is_refuse
 from ...program.scripts import Script, Unit, read_text
 from ...program.session import OutputSlice, lines_of
 from ...program.tools import (
-    ALL, CHANGES_OF_PEOPLE, COUNTING, DEEP, EDITS, LOOK, OF_RECORDS, TEST, options_that, path_in, split,
+    ALL, BY_FOLDER, CHANGES_OF_PEOPLE, COUNTING, DEEP, EDITS, FIRST_FILES, LOOK, OF_RECORDS, TEST, options_that, path_in, split,
 )
 from . import counts
 from .agreement import check_agreement, files_of_several
@@ -50,7 +51,7 @@ def path_key(name: bytes) -> bytes:
 
 def items_of(unit: Unit, place: int, output: OutputSlice) -> Optional[Iterator[Item]]:
     """What a line printed, file by file; None where it names no files."""
-    tool = unit.tool()
+    tool = unit.form()
     if tool in OF_RECORDS:
         start = output._replace(end=min(output.end, output.start + len(FILE_HEAD))).read()
         if start in (b"", FILE_HEAD):
@@ -86,13 +87,23 @@ def join_accepted(unit: Unit, accepted: List[Answered]) -> Joined:
     return Joined(outputs[0].pieces(), messages)
 
 
+def first_files(unit: Unit, joined: Joined) -> Joined:
+    """The first of the files that several snapshots list, as many as the line says."""
+    return joined._replace(output=itertools.islice(joined.output, int(split(unit.words).value(FIRST_FILES))))
+
+
 def join_counts(unit: Unit, answers: List[Answered], users: counts.Users, fault: bytes) -> Joined:
-    """The sums of the snapshots that have some of the files of a line that counts; none where there is a fault."""
+    """The sums of the snapshots that have some of the files of a line that counts, none where there is a fault; or the first of
+    these files."""
     headers = [it.header for it in answers]
     refusal = counts.refusal(unit, [it.messages for it in headers], [it.lacks for it in headers])
     accepted = [it for it in answers if not it.is_refused()]
     if refusal or not accepted:
         return Joined(iter(()), refusal or headers[0].messages)
+    if split(unit.words).has(BY_FOLDER) and len(accepted) > 1:
+        return refused(unit, b"the folders of one snapshot are counted; ask it alone, or omit --depth")
+    if not counts.is_counting(unit):
+        return first_files(unit, join_accepted(unit, accepted))
     if fault and len(accepted) > 1:
         return refused(unit, fault)
     sums = counts.sums_of(unit, [(it.output.lines(), it.header.shared) for it in accepted])
@@ -226,7 +237,7 @@ def answer_script(command: Command, script: Script, servers: List[Server], given
     parts = run_parts(servers, [*[b"--records"] * (len(servers) > 1), *program], script.text, seconds)
     check_agreement(parts)
     say_notices(command, parts, given.acl5)
-    shared = files_of_several(parts) if any(unit.is_of(*COUNTING) for unit in units) else []
+    shared = files_of_several(parts) if any(map(counts.is_counting, units)) else []
     options = counts.shared_options(shared)
     fault = counts.too_many(shared) if options is None else b""
     is_answered = not options  # Else they answer again, and say what they count of the files that several have.

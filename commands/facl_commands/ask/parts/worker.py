@@ -26,7 +26,7 @@ from ...program.protocol import FREE_FILE_LINE, LIST, is_refused, lacks_file
 from ...program.scripts import Script, Unit
 from ...program.session import Answer, OutputSlice, Session
 from ...program.tools import COUNTING, EDITS, FILE, MAKERS, OF_RECORDS, RESTORING, WITH_FILES, operand_kinds, split
-from .counts import SharedFiles, of_some_files
+from .counts import SharedFiles, is_counting, of_some_files
 
 COUNTING_SOME = tuple(tool for tool in COUNTING if tool in WITH_FILES)
 OF_FILES = (*EDITS, *OF_RECORDS, *COUNTING_SOME)  # Tools that take several FILEs, or edit one.
@@ -144,7 +144,7 @@ def is_recorded(session: Session, name: bytes) -> Optional[bool]:
 
 
 def answer_here(session: Session, unit: Unit, has: List[bytes]) -> Answer:
-    """Answers a line; one that counts below some FILEs by those that are recorded here."""
+    """Answers a line; one that counts or lists below some FILEs by those that are recorded here."""
     answered = answer_unit(session, unit)
     if unit.is_of(*COUNTING_SOME) and lacks_file(answered.messages) and has:
         return session.ask(of_some_files(unit, has) + b"\n")
@@ -157,7 +157,7 @@ def answer(command: Command, session: Session, unit: Unit, shared: SharedFiles) 
     lacks, has = ([name for name, is_there in found if is_there is wanted] for wanted in (False, True))
     output, messages = answer_here(session, unit, has)
     is_taken = not is_refused(messages)
-    counted = shared.counted(unit) if is_taken and unit.is_of(*COUNTING) else []
+    counted = shared.counted(unit) if is_taken and is_counting(unit) else []
     if is_taken:
         shared.follow(unit)
     command.write(line_of(Header(unit.number, output.end - output.start, messages, lacks, has, counted)))

@@ -15,7 +15,7 @@ from .rows import ROWS, HintRow
 MARK = b"  in the script: "  # No command of a shell has the name `in`.
 BLANKS = re.compile(rb"('[^']*')|[ \t]+")
 # Of tools whose options are needed.
-SYNOPSES = {b"below": b"[--reach] [--plain | --directories] PERMS FILE..",
+SYNOPSES = {b"below": b"[--reach] [--plain | --directories] [--user=USER --list=N | [--user=USER] --depth=N] PERMS FILE..",
             b"creat": b"[-d] --user=USER --mode=MODE [--umask=MASK] FILE", b"gpasswd": b"-a USER GROUP | gpasswd -d USER GROUP",
             b"setattr": b"NAME=0xHEX FILE", b"usermod": b"-g GROUP USER", b"useradd": b"-u UID -g GROUP NAME"}
 

@@ -19,6 +19,6 @@ loop-at-preserved c =
           let wrote : new ≡ text ++ sum_line t name.items s =
           ap (λ v. v.items) w.text-is ∙ w.in_ok-push_sum.ensures ∙ ap (λ n. text ++ sum_line t n s) w.deref.ensures.value
           in
-          sums_more t (λ n. n.items) names sums at text new _ name name s c.loop-at-test.true w.index-names-at.is w.in-Some.ensures wrote c.loop-at.invariant
-      | in_default w ↦ sums_over t (λ n. n.items) names sums at text new _ w.in_default.ensures (ap (λ v. v.items) w.text-is) c.loop-at.invariant
+          sums_more (sum_line t) (λ n. n.items) names sums at text new _ name name s c.loop-at-test.true w.index-names-at.is w.in-Some.ensures wrote c.loop-at.invariant
+      | in_default w ↦ sums_over (sum_line t) (λ n. n.items) names sums at text new _ w.in_default.ensures (ap (λ v. v.items) w.text-is) c.loop-at.invariant
     ]
