@@ -1,5 +1,6 @@
 -- The lines of a folder, out of the sums of all users.
-use Rattle.std.proofs.Common.{◌≡◌, ◌<◌, ◌≤◌, ℕ, zero, suc, ◌+◌, get_or, Bool, true, List, [], ◌∷◌, ◌++◌, append_assoc, append-nil, filter, length, map, zip, Option, Some, None, refl, sym, ap, ◌∙◌, arith}
+use Rattle.std.proofs.Common.{◌≡◌, ◌<◌, ◌≤◌, ℕ, zero, suc, ◌+◌, get_or, Bool, true, List, [], ◌∷◌, ◌++◌, append_assoc, append-nil, filter, length, map, zip}
+use Rattle.std.proofs.Common.{Option, Some, None, refl, sym, ap, ◌∙◌, arith}
 use Rattle.std.specs.Prelude.{decimal, option_to_list, slice_get}
 use Rattle.std.specs.List.{flat_map}
 use Rattle.std.proofs.lemmas.List.{length-map}
@@ -72,7 +73,8 @@ module _ {A : Type 0} (text : List ℕ) (folder : FoundFile) (f : A → List ℕ
   no_sum_at h = nothing_added text ∙ ap (λ (o : Option (List ℕ × Sum)). text ++ lines o) (sym (zip_none_right (map f names) sums user h))
 
   pub no_name_at : length names ≤ user → text ≡ text ++ folder_sum_at folder (map f names) sums user
-  no_name_at h = nothing_added text ∙ ap (λ (o : Option (List ℕ × Sum)). text ++ lines o) (sym (zip_none_left (map f names) sums user (slice_get_past (map f names) user (omega (arith, h, length-map names f)))))
+  no_name_at h = nothing_added text ∙ ap (λ (o : Option (List ℕ × Sum)). text ++ lines o)
+      (sym (zip_none_left (map f names) sums user (slice_get_past (map f names) user (omega (arith, h, length-map names f)))))
 
   pub sum_at : (name d : A) (sum : Sum) → user < length names → name ≡ get_or names user d → slice_get sums user ≡ Some sum
       → text ++ folder_sum folder (f name) sum ≡ text ++ folder_sum_at folder (map f names) sums user
