@@ -421,14 +421,14 @@ class Tools(Case):
         self.change(RECORDS_PATH, 'Tool(b"userdel"', 'Tool(b"deluser"')
         self.change(RECORDS_PATH, '"USER FILE..", BY_REACH', '"USER FILE", BY_REACH')
         self.change(RECORDS_PATH, "takes_text=True", "takes_text=False")
-        self.change(RULES, "(`--user`, ", "(")
+        self.change(RULES, "`--mode`, ", "")
         self.change("docs/facl-commands.1", "chgrp", "group")
         self.expect(
             ("README.md", "the tool getfacl is not in it"), ("README.md", "the program has no tool getfatcl"),
             (RECORDS_PATH, "-x --remove takes a value"), (RECORDS_PATH, "-X --remove-file takes a text"),
             (RECORDS_PATH, "the tool userdel is not in it"), (RECORDS_PATH, "the program has no tool deluser"),
             (RECORDS_PATH, "why takes other operands"), (RECORDS_PATH, "load takes a text"),
-            (RULES, "creat has no --user here"),
+            (RULES, "creat has no --mode here"),
             ("docs/facl-commands.1", "the tool chgrp is not in it"))
 
 
