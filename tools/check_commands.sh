@@ -52,7 +52,7 @@ lint() {
 
 # run_linters: all of them, each with what it found
 run_linters() {
-    lint shellcheck -x .ci/run commands/completion/facl.bash debian/*.sh debian/*.postrm tools/*.sh tools/*/*.sh
+    lint shellcheck -x .ci/run commands/facl commands/completion/facl.bash debian/*.sh debian/*.postrm tools/*.sh tools/*/*.sh
     lint mypy
     lint pyflakes3 commands tools
     for check in documents memory_faults line_lengths edits_apply; do

@@ -1,14 +1,15 @@
 #!/bin/sh
-# Installs the programs as `facl` and `facl_linux`, the commands around them, and their manual pages.
+# Installs `facl` with its verbs, the programs that it asks, and their manual pages.
 #
-# usage: tools/install.sh [--program FILE [--linux-program FILE]] [--version VERSION] [PREFIX]
-#                                                                          into bin, lib/facl and share of PREFIX
+# usage: tools/install.sh [--program FILE [--linux-program FILE]] [--version VERSION] [--origin TEXT] [PREFIX]
+#                                                                          into bin, libexec/facl and share of PREFIX
 #        tools/install.sh --uninstall [PREFIX]                              removes what it installs
 #
 # PREFIX is /usr/local. FILE is a program that is built; without --program the programs are crates/facl_cli/out/facl_cli
 # and crates/facl_linux_cli/out/facl_linux_cli, which tools/prove.py proves and builds. With --program alone there is no
-# facl_linux, and the commands answer with --acl5 alone. With DESTDIR in the environment all goes below that folder. The exit status is 2 where the words
-# are others, there is no program, or PREFIX cannot be written.
+# facl_linux, and the commands answer with --acl5 alone. TEXT is what `facl --version` says of the programs. With DESTDIR in
+# the environment all goes below that folder. The exit status is 2 where the words are others, there is no program, or PREFIX
+# cannot be written.
 set -eu
 top=$(cd "$(dirname "$0")/.." && pwd)
 # shellcheck source=tools/lib/program.sh
@@ -18,6 +19,7 @@ program=$built
 linux_program=$built_linux
 python=/usr/bin/python3 # by which the commands run
 version=0
+origin=
 action=install
 if [ "${1:-}" = --uninstall ]; then
     action=uninstall
@@ -31,6 +33,7 @@ while [ $# -gt 0 ]; do
         ;;
     --linux-program) linux_program=${2:-} ;;
     --version) version=${2:-} ;;
+    --origin) origin=${2:-} ;;
     --help) show_head 0 ;;
     -*) show_head 2 >&2 ;;
     *) break ;;
@@ -49,19 +52,19 @@ pages="facl facl_linux facl-commands $commands"
 completions=share/bash-completion/completions
 
 uninstall() {
-    for name in facl facl_linux $commands; do rm -f -- "$to/bin/$name"; done
+    for name in facl facl_linux $commands; do rm -f -- "$to/bin/$name"; done # links, and of an older facl programs
     for page in $pages; do rm -f -- "$to/share/man/man1/$page.1"; done
     for name in $commands; do rm -f -- "$to/$completions/$name"; done
-    rm -rf -- "$to/lib/facl"
+    rm -rf -- "$to/libexec/facl"
 }
 
 # check_parts: what has to be there before anything is written
 check_parts() {
     check_program "$program"
     [ -z "$linux_program" ] || check_program "$linux_program"
-    [ ! -e "$to/lib/facl" ] || [ -d "$to/lib/facl/facl_commands" ] || fail "$to/lib/facl: is there, and is not ours"
-    mkdir -p -- "$to/bin" "$to/lib" "$to/share/man/man1" "$to/$completions" || true
-    { [ -w "$to/bin" ] && [ -w "$to/lib" ] && [ -w "$to/share/man/man1" ] && [ -w "$to/$completions" ]; } ||
+    [ ! -e "$to/libexec/facl" ] || [ -d "$to/libexec/facl/facl_commands" ] || fail "$to/libexec/facl: is there, and is not ours"
+    mkdir -p -- "$to/bin" "$to/libexec" "$to/share/man/man1" "$to/$completions" || true
+    { [ -w "$to/bin" ] && [ -w "$to/libexec" ] && [ -w "$to/share/man/man1" ] && [ -w "$to/$completions" ]; } ||
         fail "$prefix: cannot be written: run it as root, or give a PREFIX"
 }
 
@@ -69,9 +72,9 @@ check_parts() {
 install_modules() {
     folders=$(cd "$top/commands" && find facl_commands -name __pycache__ -prune -o -type d -print)
     for folder in $folders; do
-        install -d -m 755 -- "$to/lib/facl/$folder"
+        install -d -m 755 -- "$to/libexec/facl/$folder"
         for file in "$top/commands/$folder"/*.py "$top/commands/$folder"/*.css "$top/commands/$folder"/*.js*; do
-            [ ! -f "$file" ] || install -m 644 -- "$file" "$to/lib/facl/$folder"
+            [ ! -f "$file" ] || install -m 644 -- "$file" "$to/libexec/facl/$folder"
         done
     done
 }
@@ -82,26 +85,34 @@ name_page() {
     chmod 644 "$to/share/man/man1/$1.1"
 }
 
+# write_origin: what `facl --version` says of the programs
+write_origin() {
+    [ -n "$origin" ] || origin='The programs were given as they are: nobody said whether they were proved.'
+    printf '%s\n' "$origin" >"$to/libexec/facl/origin"
+    chmod 644 "$to/libexec/facl/origin"
+}
+
 install_files() {
-    install -m 755 -- "$program" "$to/bin/facl"
-    [ -z "$linux_program" ] || install -m 755 -- "$linux_program" "$to/bin/facl_linux"
-    rm -rf -- "$to/lib/facl"
-    install -d -m 755 -- "$to/lib/facl"
+    rm -rf -- "$to/libexec/facl"
+    install -d -m 755 -- "$to/libexec/facl"
+    install -m 755 -- "$program" "$to/libexec/facl/facl-program"
+    for name in facl facl-verbs facl-by-hand $commands; do install -m 755 -- "$top/commands/$name" "$to/libexec/facl"; done
+    for name in facl $commands; do ln -sf -- "../libexec/facl/$name" "$to/bin/$name"; done
+    [ -z "$linux_program" ] || {
+        install -m 755 -- "$linux_program" "$to/libexec/facl/facl_linux"
+        ln -sf -- ../libexec/facl/facl_linux "$to/bin/facl_linux"
+    }
     install_modules
-    sed -i "s/^VERSION = \"0\"/VERSION = \"$version\"/" "$to/lib/facl/facl_commands/__init__.py"
-    install -m 755 -- "$top/commands/facl-by-hand" "$to/lib/facl" # which by_hand of a plan starts, and nobody by name
-    for name in $commands; do
-        install -m 755 -- "$top/commands/$name" "$to/lib/facl"
-        ln -sf -- "../lib/facl/$name" "$to/bin/$name"
-    done
+    write_origin
+    sed -i "s/^VERSION = \"0\"/VERSION = \"$version\"/" "$to/libexec/facl/facl_commands/__init__.py"
     # A start reads what is compiled; a package compiles it where it is installed.
-    [ -n "${DESTDIR:-}" ] || ! command -v $python >/dev/null || $python -m compileall -q "$to/lib/facl/facl_commands"
+    [ -n "${DESTDIR:-}" ] || ! command -v $python >/dev/null || $python -m compileall -q "$to/libexec/facl/facl_commands"
     for page in facl facl-commands; do install -m 644 -- "$top/docs/$page.1" "$to/share/man/man1"; done
     [ -z "$linux_program" ] || name_page facl_linux facl
     for name in $commands; do name_page "$name" facl-commands; done
-    install -m 644 -- "$top/commands/completion/facl.bash" "$to/lib/facl/facl.bash"
+    install -m 644 -- "$top/commands/completion/facl.bash" "$to/libexec/facl/facl.bash"
     for name in $commands; do
-        ln -sf -- ../../../lib/facl/facl.bash "$to/$completions/$name"
+        ln -sf -- ../../../libexec/facl/facl.bash "$to/$completions/$name"
     done
 }
 

@@ -10,11 +10,16 @@ import os
 import re
 import shutil
 import subprocess
+import sys
 import threading
 from typing import Dict, List, Tuple
 
 from common import COMMANDS
 from examples import Example, difference
+
+sys.path.insert(0, COMMANDS)
+
+from facl_commands.base.programs import ACL5, LINUX  # noqa: E402
 
 SECONDS = 120  # that a command may take, however busy the machine is
 HOME = "/root"  # Where the examples of documents are run.
@@ -126,7 +131,8 @@ class Runner:
         self.run_count = 0
         self.missing: List[str] = []  # What a command that was not run would have made.
         path = "%s:%s/bin:%s" % (COMMANDS, folder, os.environ["PATH"])
-        environment = {"PATH": path, "LC_ALL": "C", "HOME": folder, "SNAPSHOT": snapshot}
+        programs = {it.variable: it.find() for it in (ACL5, LINUX)}
+        environment = {"PATH": path, "LC_ALL": "C", "HOME": folder, "SNAPSHOT": snapshot, **programs}
         self.shell = Shell(folder, environment, ("unshare", "-m", "sh", "-ec", REAL_TREE) if is_real else ("sh",))
 
     def run(self, example: Example) -> None:

@@ -44,6 +44,7 @@ for package; do
     [ "$enabled" ] || ln -s /lib/systemd/system/facl-daily.timer root/etc/systemd/system/timers.target.wants
     enabled=yes
     inside facl-who --version
+    inside facl --version
     step installed
 done
 mkdir -p root/var/lib/facl/day; echo text >root/var/lib/facl/day/dump
@@ -111,8 +112,8 @@ def check_files(package: str, programs: List[str], folder: str) -> None:
     """The programs are those that were given, to the byte, and lintian warns of nothing."""
     there = os.path.join(folder, "there")
     run(["dpkg-deb", "-x", package, there])
-    for program, name in zip(programs, ("facl", "facl_linux")):
-        expect(Path(there, "usr/bin", name).read_bytes() == Path(program).read_bytes(), f"usr/bin/{name} has other bytes")
+    for program, name in zip(programs, ("facl-program", "facl_linux")):
+        expect(Path(there, "usr/libexec/facl", name).read_bytes() == Path(program).read_bytes(), f"{name} has other bytes")
     script.say(run(["lintian", "--allow-root", "--pedantic", "--display-info", "--fail-on", "error,warning", package]).strip())
 
 
@@ -127,10 +128,11 @@ def life(packages: List[str], folder: str) -> Dict[str, List[str]]:
 
 def check_life(packages: List[str], folder: str) -> None:
     found = life(packages, folder)
-    modules = [path for path in found["installed"] if path.startswith("./usr/lib/facl/facl_commands/")]
+    modules = [path for path in found["installed"] if path.startswith("./usr/libexec/facl/facl_commands/")]
     compiled = sum(path.endswith(".pyc") for path in modules)
     expect(compiled == sum(path.endswith(".py") for path in modules) > 0, f"{compiled} modules are compiled")
-    expect(f"facl-who {field(packages[-1], 'Version')}\n" in found[""][0], "facl-who has another version")
+    for name in ("facl-who", "facl"):
+        expect(f"{name} {field(packages[-1], 'Version')}\n" in found[""][0], f"{name} has another version")
     expect(LINK in found["installed"] and LINK in found["removed"], "the timer is no longer enabled")
     left = [path for path in found["removed"] if "deb-systemd-helper" not in path]
     expect(left == sorted([SETTINGS, LINK, KEPT]), f"left after it was removed: {left}")

@@ -6,7 +6,7 @@ from typing import Dict
 
 # What would have a called program take other words, or read other files, than it is given.
 LEFT_OUT = ("POSIXLY_CORRECT", "PYTHONPATH", "PYTHONHOME", "PERL5LIB", "PERL5OPT")
-HOME = os.path.dirname(os.path.dirname(os.path.dirname(os.path.realpath(__file__))))  # commands/, or PREFIX/lib/facl.
+HOME = os.path.dirname(os.path.dirname(os.path.dirname(os.path.realpath(__file__))))  # commands/, or PREFIX/libexec/facl.
 
 
 def environment_of_called() -> Dict[str, str]:

@@ -1,0 +1,76 @@
+"""facl VERB: finds the verb among the words, reads them by its parser, and runs what its row says."""
+from __future__ import annotations
+
+import difflib
+import importlib
+import os
+from typing import Callable, List, NamedTuple, Tuple
+
+from .. import VERSION
+from ..base.environment import HOME
+from ..base.messages import Command, Failure
+from .options import BY_NAME
+from .table import BY_VERB, MEANT, Verb, parser_of, words_of
+
+PACKAGE = __package__.rpartition(".")[0]
+ORIGIN = os.path.join(HOME, "origin")  # What is known of the installed programs.
+NOT_INSTALLED = "It runs from a clone, which does not say whether its programs were proved.\n"
+
+
+class VerbLine(NamedTuple):
+    """The words of a line: the verb, and all others."""
+
+    verb: Verb
+    words: List[str]
+
+
+def place_of_verb(words: List[str]) -> int:
+    """Where the verb is: the first word that is no option and no value of one; the number of the words where there is none."""
+    place = 0
+    while place < len(words) and words[place].startswith("-") and len(words[place]) > 1:
+        option = BY_NAME.get(words[place])
+        place += 2 if option is not None and option.value else 1
+    return place
+
+
+def read_line(words: List[str]) -> VerbLine:
+    """Fails where there is no such verb."""
+    place = min(place_of_verb(words), len(words))
+    before, rest = words[:place], words[place:]
+    if not rest:
+        raise Failure(b"a verb is missing; facl help lists them")
+    for count in (2, 1):
+        name = " ".join(rest[:count])
+        if name in BY_VERB and len(rest) >= count:
+            return VerbLine(BY_VERB[name], before + rest[count:])
+    raise Failure(os.fsencode(rest[0]) + b": no such verb" + nearest(rest[0]) + b"; facl help lists them")
+
+
+def nearest(word: str) -> bytes:
+    """The end of a message: the verbs that may be meant."""
+    meant = [MEANT[word]] if word in MEANT else []
+    found = [it for it in [*meant, *difflib.get_close_matches(word, BY_VERB)] if it in BY_VERB]
+    return b": did you mean " + " or ".join(dict.fromkeys(found)).encode() + b"?" if found else b""
+
+
+def version() -> bytes:
+    """What is installed, and whether its programs were proved."""
+    try:
+        with open(ORIGIN, encoding="utf-8") as file:
+            origin = file.read()
+    except FileNotFoundError:
+        origin = NOT_INSTALLED
+    return ("facl %s\n%s" % (VERSION, origin)).encode()
+
+
+def body(command: Command, words: List[str]) -> int:
+    if words[:1] == ["--version"]:
+        command.write(version())
+        return 0
+    line = read_line(["help"] if not words or words[0] in ("--help", "-h") else words)
+    command.name = b"facl " + line.verb.name.encode()
+    command.goes_on = line.verb.goes_on
+    given = parser_of(line.verb).parse_intermixed_args(line.words)
+    line.verb.prepare(given)
+    run: Callable[..., int] = importlib.import_module("%s.%s" % (PACKAGE, line.verb.module)).body
+    return run(command, words_of(line.verb, given) if line.verb.words else given)
