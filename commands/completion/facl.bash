@@ -1,14 +1,74 @@
-# Completes the words of the commands in bash: options and findings as --help has them, users, groups, and names of files.
+# Completes the words of facl and of the commands in bash: verbs, options, findings, users, groups, snapshots, and names of files.
 # Names of users, groups and files are data of others: nothing here evaluates one, and each is quoted on the command line.
-# shellcheck shell=bash
+# shellcheck shell=bash disable=SC2154  # the tables of verbs, which `facl complete bash` prints, come below this file
 
 # _facl_help COMMAND PATTERN: what --help prints of a pattern; of the command on the path, not of a file that is being typed
 _facl_help() {
     command "${1##*/}" --help 2>/dev/null </dev/null | grep -o -E -e "$2"
 }
 
+# _facl_line: sets `verb`, the verb that is on the line before the word that is typed, and `place`, how many words are after it
+# that are no options and no values of any
+_facl_line() {
+    local word next=''
+    verb='' place=0
+    for word in "${seen[@]:1}"; do
+        if [[ -n $next ]]; then
+            next=''
+        elif [[ $word == -?* ]]; then
+            next=${_facl_values[$word]-}
+        elif [[ -z $verb ]]; then
+            verb=$word
+        elif [[ $place -eq 0 && " ${_facl_more[$verb]-} " == *" $word "* ]]; then
+            verb+=" $word"
+        else
+            place=$((place + 1))
+        fi
+    done
+}
+
+# _facl_kind COMMAND KIND WORD: the words of a kind, of the snapshot that is meant; users and groups of the system where there is none
+_facl_kind() {
+    case $2 in
+    file | word) ;;
+    *) command "${1##*/}" complete "$2" -- "$3" 2>/dev/null </dev/null || case $2 in
+        user) compgen -u ;;
+        group) compgen -g ;;
+        esac ;;
+    esac
+}
+
+# _facl_of_verb COMMAND WORD BEFORE: the same as _facl_words, of a line of facl
+_facl_of_verb() {
+    local verb place kinds=() kind='' words
+    _facl_line
+    read -ra kinds <<<"${verb:+${_facl_kinds[$verb]-}}"
+    if [[ $3 == -?* && -n ${_facl_values[$3]-} ]]; then
+        words=${_facl_values[$3]}
+    elif [[ $2 == -* ]]; then
+        words=${verb:+${_facl_options[$verb]-}}
+        words=${words:---version --help}
+    elif [[ -z $verb ]]; then
+        words=${_facl_verbs[*]-}
+    else
+        kind=${kinds[place]-}
+        [[ -n $kind || ${#kinds[@]} -eq 0 || ${kinds[-1]} != *\* ]] || kind=${kinds[-1]}
+        [[ $place -gt 0 || -z ${_facl_more[$verb]-} ]] || printf '%s\n' "${_facl_more[$verb]}"
+        words=:${kind%\*}
+    fi
+    case $words in
+    :) ;;
+    :*) _facl_kind "$1" "${words#:}" "$2" ;;
+    *) tr ' ' '\n' <<<"$words" ;;
+    esac
+}
+
 # _facl_words COMMAND WORD BEFORE: what the word after another one can be; nothing where it is a name of a file
 _facl_words() {
+    if [ "${1##*/}" = facl ]; then
+        _facl_of_verb "$@"
+        return
+    fi
     case $3 in
     --list | --edits) _facl_help "$1" '^    (high|middle|low) +[a-z-]+' | sed 's/.* //' ;;
     --fail-on) printf '%s\n' high middle low none ;;
@@ -19,10 +79,10 @@ _facl_words() {
 }
 
 # _facl_read LINE: sets `word` and `before`, the last two words of a line without their quotes, `typed`, the last one with
-# them, and `quote`, the quote that it leaves open
+# them, `quote`, the quote that it leaves open, and `seen`, the words before the last one
 _facl_read() {
     local place letter next
-    word='' before='' typed='' quote=''
+    word='' before='' typed='' quote='' seen=()
     for ((place = 0; place < ${#1}; place++)); do
         letter=${1:place:1} next=${1:place+1:1}
         case $quote$letter in
@@ -30,7 +90,7 @@ _facl_read() {
             word+=$next typed+=$letter$next place=$((place + 1)) ;;
         \' | \") quote=$letter typed+=$letter ;;
         "''" | '""') quote='' typed+=$letter ;;
-        [[:blank:]]) [ -z "$typed" ] || before=$word
+        [[:blank:]]) [ -z "$typed" ] || { before=$word && seen+=("$word"); }
             word='' typed='' ;;
         *) word+=$letter typed+=$letter ;;
         esac
@@ -57,7 +117,7 @@ _facl_quoted() {
 
 # _facl COMMAND TEXT: the words that go on from what is typed, of which TEXT is replaced; names of files bash completes
 _facl() {
-    local word before typed quote quoted name kept names=()
+    local word before typed quote quoted name kept names=() seen=()
     _facl_read "${COMP_LINE:0:COMP_POINT}"
     mapfile -t names < <(_facl_words "$1" "$word" "$before" | LC_ALL=C sort -u)
     COMPREPLY=()
@@ -68,6 +128,7 @@ _facl() {
         _facl_quoted "$name" "$quote"
         [[ $quoted != "$kept"* ]] || COMPREPLY+=("${quoted#"$kept"}")
     done
+    [[ ${#COMPREPLY[@]} -ne 1 || ${COMPREPLY[0]} != */ ]] || compopt -o nospace
 }
 
 complete -F _facl facl-snapshot facl-ask facl-who facl-diff facl-audit facl-check facl-daily facl-report facl-plan facl-apply

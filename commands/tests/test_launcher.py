@@ -20,12 +20,16 @@ TEXTS = ["--passwd", "before/passwd", "--group", "before/group", "--dump", "befo
 SCRIPT = b"who r srv/share/one\nfrob\ngetfacl -c srv\nsetfacl -m u:ines:rwx srv\nindex\n"
 # Words after which there is no verb, each with what is on standard input.
 RUNS: Tuple[Tuple[List[str], bytes], ...] = (
-    (TEXTS, SCRIPT), (["--passwd=before/passwd", *TEXTS[2:]], SCRIPT), (TEXTS[2:] + TEXTS[:2], SCRIPT), ([], b"index\n"), ([], b""),
-    (["--passwd", "absent"], b""), (["--passwd"], b""), (["--passwd", "before/group", "who"], b"index\n"), (["--groups"], b""),
-    (["--dump", "before/dump"], b"index\n"), (["--dump=before/dump\n"], b""), ([*TEXTS, "--frob"], b""), (TEXTS, b"\xff\0\r\n'" * 20),
+    (TEXTS, SCRIPT), (["--passwd=before/passwd", *TEXTS[2:]], SCRIPT), (TEXTS[2:] + TEXTS[:2], SCRIPT),
+    ([], b"index\n"), ([], b""),
+    (["--passwd", "absent"], b""), (["--passwd"], b""), (["--passwd", "before/group", "who"], b"index\n"),
+    (["--groups"], b""),
+    (["--dump", "before/dump"], b"index\n"), (["--dump=before/dump\n"], b""), ([*TEXTS, "--frob"], b""),
+    (TEXTS, b"\xff\0\r\n'" * 20),
 )
 # Streams of a shell's command.
-STREAMS = ("<&-", ">&-", "2>&-", "<&- >&-", ">&- 2>&-", "<&- >&- 2>&-", ">/dev/full", "2>/dev/full", "</", "<before/dump")
+STREAMS = ("<&-", ">&-", "2>&-", "<&- >&-", ">&- 2>&-", "<&- >&- 2>&-", ">/dev/full", "2>/dev/full", "</",
+           "<before/dump")
 
 
 class Launcher(Case):
@@ -42,25 +46,29 @@ class Launcher(Case):
         for streams in STREAMS:
             for words in (["--passwd", "before/passwd"], []):
                 line = '"$@" ' + streams
-                runs = [self.run_file("/bin/sh", ["-c", line, "sh", file, *words], b"index\n") for file in (FACL, ACL5.find())]
-                self.assertEqual(*runs, (streams, words))
+                runs = [self.run_file("/bin/sh", ["-c", line, "sh", file, *words], b"index\n")
+                        for file in (FACL, ACL5.find())]
+                self.assertEqual(runs[0], runs[1], (streams, words))
 
     def test_by_other_names(self) -> None:
         os.symlink(FACL, self.path("facl link"))
         os.symlink("facl link", self.path("-facl"))
         for name in ("facl link", "-facl"):
-            done = subprocess.run(["sh", "-c", './"$1" help; ./"$1" --passwd absent', "sh", name], cwd=self.folder, capture_output=True,
+            done = subprocess.run(["sh", "-c", './"$1" help; ./"$1" --passwd absent', "sh", name], cwd=self.folder,
+                                  capture_output=True,
                                   check=False)
             self.assertIn(b"facl undo PLAN", done.stdout)
             self.assertEqual((done.returncode, done.stderr), (2, b"facl: absent: cannot read\n"))
 
     def test_what_is_installed(self) -> None:
         """The program that is installed beside it answers, whatever the environment names."""
-        for name in ("facl", "facl-verbs", "facl_commands"):
-            (shutil.copytree if name == "facl_commands" else shutil.copy)(os.path.join(COMMANDS, name), self.path(name))
+        shutil.copytree(os.path.join(COMMANDS, "facl_commands"), self.path("facl_commands"))
+        for name in ("facl", "facl-verbs"):
+            shutil.copy(os.path.join(COMMANDS, name), self.path(name))
         shutil.copy(ACL5.find(), self.path("facl-program"))
         self.write("origin", b"They were proved.\n")
-        done = subprocess.run([self.path("facl")], input=b"frob\n", capture_output=True, env={"FACL": "/bin/false"}, check=False)
+        done = subprocess.run([self.path("facl")], input=b"frob\n", capture_output=True, env={"FACL": "/bin/false"},
+                              check=False)
         self.assertEqual((done.returncode, done.stderr), (1, b"line 1: facl: unknown tool\n"))
         self.assertEqual(self.run_file(self.path("facl"), ["--version"], b"").out, b"facl 0\nThey were proved.\n")
 
@@ -81,30 +89,35 @@ class Words(Case):
 
     def test_no_verb(self) -> None:
         for words, text in (
-                (["frob"], b"frob: no such verb; facl help lists them"), (["-n"], b"a verb is missing; facl help lists them"),
+                (["frob"], b"frob: no such verb; facl help lists them"),
+                (["-n"], b"a verb is missing; facl help lists them"),
                 (["aply", "x"], b"aply: no such verb: did you mean apply?; facl help lists them"),
                 (["revert"], b"revert: no such verb: did you mean undo?; facl help lists them"),
-                (["help", "frob"], b""), ([""], b": no such verb; facl help lists them"), (["-s"], b"a verb is missing; facl help lists them"),
-                (["-s", "apply"], b"a verb is missing; facl help lists them"), (["a\033b"], b"a\\033b: no such verb; facl help lists them")):
+                (["help", "frob"], b""), ([""], b": no such verb; facl help lists them"),
+                (["-s"], b"a verb is missing; facl help lists them"),
+                (["-s", "apply"], b"a verb is missing; facl help lists them"),
+                (["a\033b"], b"a\\033b: no such verb; facl help lists them")):
             done = self.verb(*words)
             self.assertEqual((done.status, done.out), (2, b""), words)
             if text:
                 self.assertEqual(done.messages, b"facl: " + text + b"\n")
 
     def test_wrong_words(self) -> None:
-        for words in (["apply"], ["apply", "--frob", "x"], ["apply", "a", "b"], ["--json", "apply", "x"], ["apply", "--dry", "x"]):
+        for words in (["apply"], ["apply", "--frob", "x"], ["apply", "a", "b"], ["--json", "apply", "x"],
+                      ["apply", "--dry", "x"]):
             done = self.verb(*words)
             self.assertEqual((done.status, done.out), (2, b""), words)
             self.assertTrue(done.messages.startswith(b"usage: facl apply PLAN [OPTION]"), done.messages)
 
     def test_options_before_and_after(self) -> None:
-        for words in (["apply", "-n", "x"], ["-n", "apply", "x"], ["apply", "x", "-n"], ["--dry-run", "apply", "--", "x"]):
+        for words in (["apply", "-n", "x"], ["-n", "apply", "x"], ["apply", "x", "-n"],
+                      ["--dry-run", "apply", "--", "x"]):
             text = b"/x: is no plan: make one by facl-plan\n"
             self.expect(self.verb(*words), 2, b"", b"facl apply: " + os.fsencode(self.folder) + text)
 
     def test_help(self) -> None:
-        for words in (["help"], ["--help"], ["-h"], []):
-            self.assertEqual(self.verb(*words), self.verb("help"))
+        for word in ("help", "--help", "-h"):
+            self.assertEqual(self.verb(word), self.verb())
         self.assertIn(b"usage: facl undo PLAN [OPTION]", self.verb("undo", "-h").out)
 
     def test_version(self) -> None:

@@ -20,7 +20,9 @@ ALLOWED: Dict[str, Tuple[str, ...]] = {
     "questions.who": QUESTION, "questions.check": QUESTION,
     "questions.diff": (*QUESTION, "page"), "questions.audit": (*QUESTION, "page"),
     "apply": ("base", "planned", "model.meta"), "daily": ("base",), "snapshot": ("base",),
-    "verbs": (*QUESTION, "ask.stops", "daily.folder", "questions.audit.findings"),  # It starts commands by their names.
+    # It starts commands by their names.
+    "verbs": (*QUESTION, "daily.folder", "questions.audit.findings", "questions.who.answers", "questions.who.asking",
+              "snapshot.target", "snapshot.written"),
 }
 Imports = Dict[str, Set[str]]  # By the name of a module: the modules that it imports, also late ones in functions.
 

@@ -12,6 +12,7 @@ from ..base.linux import Identity
 from ..base.live import NotFound, Opener, OpenFile, Seen
 from ..base.messages import SIGNALS, reason
 from ..base.names import path_order
+from ..base.progress import AT
 from ..base.workers import Helper, Stop
 from ..planned import differences, plan_files, plan_folder
 from . import changing
@@ -106,6 +107,7 @@ class Carrier:
     def give(self, paths: Iterable[bytes]) -> Dict[bytes, bytes]:
         """Gives the files their new records, by several processes where there are many."""
         first, *others = self.parts(list(paths))
+        AT.begin("changing", len(first) * (1 + len(others)), 1 + len(others))
         helpers: List[Helper] = []
         try:
             for part in others:
@@ -138,6 +140,7 @@ class Carrier:
         left: Dict[bytes, bytes] = {}
         with Opener() as opener:
             for number, path in enumerate(paths):
+                AT.done = number
                 if not is_whole and number % OFTEN == 0:
                     self.stop_at_signal()
                 if not is_whole and self.stop.is_set():
@@ -237,6 +240,7 @@ class Carrier:
 
     def put_back(self) -> Dict[bytes, bytes]:
         """Gives back the old records, the last first; returns the files that did not get them."""
+        AT.begin("putting back", len(set(self.changed)))
         return self.walk(self.put_one_back, reversed(list(dict.fromkeys(self.changed))), is_whole=True)
 
     def put_one_back(self, opener: Opener, path: bytes) -> None:

@@ -20,6 +20,7 @@ from .environment import environment_of_called
 from .messages import Command, Failure
 from .names import shown
 from .programs import judge_word
+from .progress import AT
 
 GAP = "  "  # Between two columns.
 MIDDLE = ".."  # In the place of what is cut out.
@@ -235,6 +236,7 @@ def paged(command: Command, is_wanted: bool = True) -> Iterator[None]:
         raise
     finally:
         command.out = stream
+    AT.stop()
     text, size = kept.getvalue(), shutil.get_terminal_size()
     if lines_at_terminal(text, size.columns) < size.lines or not is_shown_by_pager(text):
         command.write(text)

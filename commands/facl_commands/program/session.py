@@ -11,6 +11,7 @@ from typing import IO, Callable, Iterable, Iterator, List, NamedTuple, Optional
 from ..base import scratch
 from ..base.folders import TEXTS, Folder, folder_of
 from ..base.messages import Failure
+from ..base.progress import AT
 from .exchange import end_program, exchange, how_it_ended, pipes_of
 from .protocol import IN_LINE, PROBE, PROBE_REFUSED, SETUP, UNKNOWN_TOOL, has_text
 
@@ -81,6 +82,7 @@ class Session:
         """Runs the program; `texts` are in the place of those of the folder."""
         texts = texts or folder_of(folder)  # Which is open until the program has its files.
         words, files = texts.command(program)
+        AT.at("loading")
         self.folder = folder
         self.number = 0
         self.output = scratch.new_file("facl-session.")
@@ -105,6 +107,7 @@ class Session:
         messages = exchange(self.pipes, lines + PROBE % token + b"\n", end)
         if not messages.endswith(end):
             raise self.early_end(messages)
+        AT.at("answering")
         output = OutputSlice(self.output, start, os.fstat(self.output.fileno()).st_size)
         # The numbers are those of our own stream of lines.
         return Answer(output, [NUMBER.sub(b"", it) for it in messages.split(b"\n")[:-2]])

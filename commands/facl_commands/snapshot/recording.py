@@ -9,6 +9,7 @@ from ..base import beside, linux
 from ..base.attempts import failing
 from ..base.messages import Failure
 from ..base.new_file import create, make_directory
+from ..base.progress import AT
 from . import scope as scopes
 from .linked import LinkedNames, Linker
 from .list_texts import shown_name
@@ -64,6 +65,8 @@ class Recording:
         self.marks.write(b"".join([lines for _, lines in run.marks]))
         self.sums.add_run(run)
         self.linker.add(run)
+        AT.at("recording")
+        AT.done = self.sums.files
 
     def complain(self, left_out: LeftOut) -> None:
         """Counts what could not be read."""

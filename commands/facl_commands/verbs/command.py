@@ -1,16 +1,18 @@
 """facl VERB: finds the verb among the words, reads them by its parser, and runs what its row says."""
 from __future__ import annotations
 
+import argparse
 import difflib
 import importlib
 import os
-from typing import Callable, List, NamedTuple, Tuple
+from typing import Callable, List, NamedTuple
 
 from .. import VERSION
 from ..base.environment import HOME
 from ..base.messages import Command, Failure
-from .options import BY_NAME
-from .table import BY_VERB, MEANT, Verb, parser_of, words_of
+from .options import BY_FIELD, BY_NAME, PATH
+from .running import Runs
+from .table import BY_VERB, MEANT, Verb, parser_of, values_of, words_of
 
 PACKAGE = __package__.rpartition(".")[0]
 ORIGIN = os.path.join(HOME, "origin")  # What is known of the installed programs.
@@ -25,7 +27,7 @@ class VerbLine(NamedTuple):
 
 
 def place_of_verb(words: List[str]) -> int:
-    """Where the verb is: the first word that is no option and no value of one; the number of the words where there is none."""
+    """Where the verb is: the first word that is no option and no value of one; else behind the last word."""
     place = 0
     while place < len(words) and words[place].startswith("-") and len(words[place]) > 1:
         option = BY_NAME.get(words[place])
@@ -49,8 +51,15 @@ def read_line(words: List[str]) -> VerbLine:
 def nearest(word: str) -> bytes:
     """The end of a message: the verbs that may be meant."""
     meant = [MEANT[word]] if word in MEANT else []
-    found = [it for it in [*meant, *difflib.get_close_matches(word, BY_VERB)] if it in BY_VERB]
+    found = [it for it in [*meant, *difflib.get_close_matches(word, BY_VERB, cutoff=0.7)] if it in BY_VERB]
     return b": did you mean " + " or ".join(dict.fromkeys(found)).encode() + b"?" if found else b""
+
+
+def paths_in(verb: Verb, given: argparse.Namespace) -> List[str]:
+    """The words of a line that are paths of the snapshot."""
+    fields = [it.field() for it in verb.operands if it.kind == PATH]
+    fields += [it for it in verb.options if BY_FIELD[it].kind == PATH]
+    return [word for field in fields for word in values_of(getattr(given, field))]
 
 
 def version() -> bytes:
@@ -71,6 +80,9 @@ def body(command: Command, words: List[str]) -> int:
     command.name = b"facl " + line.verb.name.encode()
     command.goes_on = line.verb.goes_on
     given = parser_of(line.verb).parse_intermixed_args(line.words)
-    line.verb.prepare(given)
+    if line.verb.is_watched:
+        Runs(command, line.verb).start(os.isatty(2) and not getattr(given, "quiet", False))
+    given.paths = paths_in(line.verb, given)
+    line.verb.prepare(command, given)
     run: Callable[..., int] = importlib.import_module("%s.%s" % (PACKAGE, line.verb.module)).body
     return run(command, words_of(line.verb, given) if line.verb.words else given)

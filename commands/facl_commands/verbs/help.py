@@ -37,7 +37,7 @@ def page_of(verb: Verb) -> Optional[str]:
     """The file of its manual page; None where there is none."""
     name = "facl-%s.1" % verb.name.replace(" ", "-")
     names = (os.path.join(place, name + end) for place in PLACES for end in ("", ".gz"))
-    return next(filter(os.path.exists, names), None)
+    return next((it for it in names if os.path.exists(it)), None)
 
 
 def show_page(command: Command, verb: Verb) -> int:

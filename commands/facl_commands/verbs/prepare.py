@@ -1,12 +1,84 @@
-"""What a verb does with its words before it runs."""
+"""What a verb does with its words before it runs: it chooses the snapshot, or where something is written."""
 from __future__ import annotations
 
 import argparse
+import os
+
+from ..base import scratch
+from ..base.messages import Command, Failure
+from . import store
+
+EDITS = "edits"  # What a plan is named by, where its lines are in no file.
 
 
-def nothing(_given: argparse.Namespace) -> None:
+def nothing(_command: Command, _given: argparse.Namespace) -> None:
     """Leaves the words as they are."""
 
 
-def choose(given: argparse.Namespace) -> None:
-    raise NotImplementedError(given)
+def choose(command: Command, given: argparse.Namespace) -> None:
+    """Chooses the snapshot, says how old it is, and looks whether it has the paths of the line."""
+    given.stored = store.chosen(given.snapshot)
+    store.check_paths(given.stored, [*map(os.fsencode, given.paths)])
+    given.folder = os.fsdecode(given.stored.folder)
+    for note in () if given.quiet else store.notes(given.stored):
+        command.say(note)
+
+
+def new_snapshot(_command: Command, given: argparse.Namespace) -> None:
+    """Names the new snapshot of the store, unless a folder is given."""
+    given.in_store = given.output is None
+    if given.in_store:
+        place = store.made_place()
+        given.output = os.fsdecode(os.path.join(place, store.new_name(place)))
+
+
+def two(command: Command, given: argparse.Namespace) -> None:
+    """Chooses the two snapshots that are compared."""
+    words = [it for it in (given.old, given.new) if it is not None]
+    found = [store.named(os.fsencode(it)) for it in words]
+    if len(found) < 2:
+        known = store.whole_of_this_host(store.snapshots_in(store.place()))[len(found) - 2:]
+        if len(known) + len(found) < 2:
+            raise Failure(store.place() + b": has no two snapshots of this host to compare: facl snapshots")
+        found += known
+    if found[0].folder == found[1].folder:
+        raise Failure(found[0].name + b": is compared with itself; facl snapshots lists the others")
+    for it in () if given.quiet or words else found:
+        command.say(b"compares " + it.name + b" of " + it.about.date)
+    given.before, given.after = (os.fsdecode(it.folder) for it in found)
+
+
+def plan(command: Command, given: argparse.Namespace) -> None:
+    """Takes lines of edits in the place of a file, and names the plan by the edits."""
+    if bool(given.edit) == bool(given.scripts):
+        raise Failure(b"give a file of edits, or lines by -e LINE")
+    choose(command, given)
+    if given.edit:
+        with scratch.new_file("facl-edits.") as file:
+            file.write(os.fsencode("".join(line + "\n" for line in given.edit)))
+            file.seek(0)
+            os.dup2(file.fileno(), 0)
+        given.scripts = ["-"]
+    if given.output is None:
+        name = os.path.basename(given.scripts[0])
+        given.output = (EDITS if name in ("", "-", ".", "..") else name) + ".plan"
+
+
+def ask(command: Command, given: argparse.Namespace) -> None:
+    """Chooses the snapshot, unless all words are snapshots."""
+    given.snapshots = []
+    if not (given.each or given.hosts):
+        choose(command, given)
+        given.snapshots = [given.folder]
+
+
+def daily(_command: Command, given: argparse.Namespace) -> None:
+    """Puts the options of recording into one word, which facl-daily cuts at blanks."""
+    words = ["--exclude=" + it for it in given.exclude] + ["--users=" + it for it in (given.users,) if it] + [
+        "--readers=" + it for it in (given.readers,) if it] + ["--cross-file-systems"] * given.cross_file_systems
+    for word in words:
+        if len(word.split()) != 1:
+            raise Failure(os.fsencode(word) + b": may have no blank here")
+    given.exclude, given.users, given.readers, given.cross_file_systems = [], None, None, False
+    given.recording = " ".join(words) or None
+    given.store = os.fsdecode(store.place())

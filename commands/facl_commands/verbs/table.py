@@ -2,10 +2,11 @@
 from __future__ import annotations
 
 import argparse
-from typing import Callable, Dict, Iterator, List, NamedTuple, Tuple
+from typing import Callable, Dict, Iterator, List, NamedTuple, Optional, Tuple
 
+from ..base.messages import Command
 from . import prepare
-from .options import BY_FIELD, FILE, FINDING, FINDINGS, PATH, SNAPSHOT, USER, VERB, WORD
+from .options import BY_FIELD, FILE, FINDING, FINDINGS, GROUP, PATH, SNAPSHOT, USER, VERB, WORD
 
 ANSWERED = ("program", "acl5")
 CHOSEN = ("snapshot", *ANSWERED, "quiet")
@@ -22,22 +23,27 @@ class Operand(NamedTuple):
     name: str  # As --help has it.
     help: str
     kind: str = WORD
-    count: str = ""  # Of argparse: one without it.
+    nargs: Optional[str] = None  # Of argparse: one word without it.
     choices: Tuple[str, ...] = ()
 
     def field(self) -> str:
-        return self.name.lower() + "s" * (self.count in ("*", "+"))
+        """Where the parser puts it; `folder` is that of the snapshot."""
+        name = {"FOLDER": "within", "EDITS": "script"}.get(self.name, self.name.lower())
+        return {"within": "folders"}.get(name, name + "s") if self.nargs in ("*", "+") else name
 
     def usage(self) -> str:
-        return {"": "%s", "?": "[%s]", "*": "[%s..]", "+": "%s.."}[self.count] % self.name
+        return {None: "%s", "?": "[%s]", "*": "[%s..]", "+": "%s.."}[self.nargs] % self.name
 
 
 FOLDERS = Operand("FOLDER", "a folder or a file, with its whole name; those of the snapshot without it", PATH, "*")
 
+A_USER = Operand("USER", "a user by name or id, or 'everybody else'", USER)
+A_FILE = Operand("FILE", "a file or a folder, with its whole name", PATH)
+
 
 class Verb(NamedTuple):
-    """A verb. `words` are those of the command that it runs, by `words_of`; a module of this package has none, and takes what the
-    parser read."""
+    """A verb. `words` are those of the command that it runs, by `words_of`; a module of this package has none, and
+    takes what the parser read."""
 
     name: str
     operands: Tuple[Operand, ...]
@@ -47,9 +53,10 @@ class Verb(NamedTuple):
     words: str = ""
     group: str = ASKING
     one_of: Tuple[str, ...] = ()  # Options of which one has to be given.
-    prepare: Callable[[argparse.Namespace], None] = prepare.choose
+    prepare: Callable[[Command, argparse.Namespace], None] = prepare.choose
     stopped: str = UNCHANGED  # What a signal does to it.
     goes_on: bool = False  # Whether its work is more than what it prints.
+    is_watched: bool = True  # Whether what it is at is shown, and a signal answered, while it runs.
 
     def usage(self) -> str:
         asked = " | ".join("--%s %s" % (it.replace("_", "-"), BY_FIELD[it].value) for it in self.one_of)
@@ -57,24 +64,115 @@ class Verb(NamedTuple):
 
 
 VERBS: Tuple[Verb, ...] = (
+    Verb("snapshot", (Operand("FOLDER", "a folder, which is recorded with all below it", FILE, "+"),),
+         "Records the users, the groups and the owners and ACLs of folders, as a new snapshot of the store.",
+         ("exclude", "cross_file_systems", "split", "readers", "users", "program", "output", "quiet"),
+         "snapshot.command",
+         "--quiet?quiet -- @output @folders", RECORDING, prepare=prepare.new_snapshot, stopped=NO_SNAPSHOT,
+         goes_on=True),
+    Verb("snapshots", (), "Lists the snapshots of the store, the newest first.", PRINTED, "verbs.snapshots",
+         group=RECORDING,
+         prepare=prepare.nothing),
+    Verb("prune", (), "Removes snapshots of the store, but the last one of each of some days, weeks and months.",
+         ("keep_daily", "keep_weekly", "keep_monthly", "dry_run"), "verbs.prune", group=RECORDING,
+         prepare=prepare.nothing,
+         stopped="what is removed so far is removed"),
+    Verb("import", (Operand("DUMP", "what getfacl -R printed", FILE),),
+         "Makes a snapshot of what getfacl -R printed, on whatever host.", ("passwd", "group", *ANSWERED, "output"),
+         "verbs.dumps",
+         group=RECORDING, prepare=prepare.new_snapshot, stopped=NO_SNAPSHOT),
+    Verb("who", (Operand("PERMS", "read, write, enter, or letters of rwx; commas between several"), FOLDERS),
+         "Says who may read, write or enter what is in a folder, and by which entries.",
+         (*CHOSEN, *PEOPLE, "lists_alone", *PRINTED), "questions.who.command", "-- @perms @folder @folders"),
+    Verb("why", (A_USER, A_FILE), "Says by which entries a user may do what with a file, or what is in the way.",
+         (*CHOSEN, "alone", *PRINTED), "verbs.why"),
+    Verb("user", (A_USER, FOLDERS), "Says what one user may do, folder by folder.",
+         (*CHOSEN, *PEOPLE, "depth", "lists_alone", *PRINTED), "questions.who.command",
+         "--user=@user -- @folder @folders"),
+    Verb("files", (FOLDERS,), "Lists the files that a user owns, or of which an entry names a user.",
+         (*CHOSEN, *PEOPLE, *PRINTED, "owner", "naming"), "questions.who.command",
+         "--owner=@owner --names=@naming -- @folder @folders",
+         one_of=("owner", "naming")),
+    Verb("who-removes", (A_FILE,), "Says who may remove a file, by its parent directory.",
+         (*CHOSEN, *PEOPLE, "lists_alone", *PRINTED), "questions.who.command", "--remove=@file -- @folder"),
+    Verb("new-file", (Operand("FOLDER", "where the file is made", PATH), A_USER),
+         "Says which ACL a new file gets that a user makes in a folder, and who may then do what with it.",
+         (*CHOSEN, *PEOPLE, "umask", "lists_alone", *PRINTED), "questions.who.command",
+         "--new-file @within @user @folder"),
+    Verb("diff", (Operand("OLD", "a snapshot; the last but one of the store without it", SNAPSHOT, "?"),
+                  Operand("NEW", "a later one; the last one of the store without it", SNAPSHOT, "?")),
+         "Says who gained and lost what between two snapshots, and why.",
+         (*ANSWERED, "quiet", *PEOPLE, "below", "any_host", *PRINTED, "output"), "questions.diff.command",
+         "--page=@output -- @before @after @below", prepare=prepare.two),
+    Verb("audit", (FOLDERS,), "Says what is wrong with owners and ACLs, by weight, and how many files it is about.",
+         (*CHOSEN, *PEOPLE, "list", "accepted", "fail_on", *PRINTED, "output"), "questions.audit.command",
+         "--page=@output -- @folder @folders"),
+    Verb("audit fix", (Operand("FINDING", "a finding of `facl audit`", FINDING, None, FINDINGS), FOLDERS),
+         "Prints the lines of edits that mend all files of one finding; look at them, and give them to `facl plan`.",
+         (*CHOSEN, *PEOPLE, "accepted"), "questions.audit.command", "--edits=@finding -- @folder @folders"),
+    Verb("check", (Operand("RULES", "a file of rules, or - for standard input", FILE),),
+         "Checks that rules hold, as `never guest read /srv/hr/`.", (*CHOSEN, *PEOPLE, *PRINTED),
+         "questions.check.command",
+         "--quiet?quiet -- @folder @rules"),
+    Verb("rules", (FOLDERS,), "Prints the rules that hold now on folders, as a start.", (*CHOSEN, *PEOPLE),
+         "questions.check.command",
+         "--write -- @folder @folders"),
+    Verb("plan", (Operand("EDITS", "a file of edits, or - for standard input", FILE, "*"),),
+         "Says what edits would change, and for whom, and writes a plan of them.",
+         (*CHOSEN, "with_root", "alone", "edit", "full", "keep_going", "readers", "json", "output"), "plan.command",
+         "--plan=@output -- @folder @scripts", CHANGING, prepare=prepare.plan, goes_on=True,
+         stopped="no plan was written"),
     Verb("apply", (Operand("PLAN", "the folder that `facl plan` wrote", FILE),),
          "Gives the files of a plan their new owners, groups and ACLs; all of them, or none.",
-         ("dry_run", "drop_capabilities"), "apply.command", "--dry-run?dry_run -- @plan", CHANGING, prepare=prepare.nothing, goes_on=True,
+         ("dry_run", "drop_capabilities"), "apply.command", "--dry-run?dry_run -- @plan", CHANGING,
+         prepare=prepare.nothing, goes_on=True,
          stopped="the files get their old ACLs back"),
     Verb("undo", (Operand("PLAN", "the folder of a plan that was applied", FILE),),
          "Gives the files of a plan their old owners, groups and ACLs back.",
-         ("dry_run", "leave_changed", "drop_capabilities"), "apply.command", "--undo --dry-run?dry_run -- @plan", CHANGING,
+         ("dry_run", "leave_changed", "drop_capabilities"), "apply.command", "--undo --dry-run?dry_run -- @plan",
+         CHANGING,
          prepare=prepare.nothing, goes_on=True, stopped="all files get their old ACLs back before it ends"),
-    Verb("help", (Operand("VERB", "opens the page of this verb", VERB, "*"),), "Lists the verbs, or opens the page of one.", (),
-         "verbs.help", group=SHOWING, prepare=prepare.nothing),
+    Verb("page", (Operand("EDITS", "a file of edits: the page has what they change, too", FILE, "*"),),
+         "Writes one HTML page of the whole tree to look at, which needs no network.",
+         (*CHOSEN, "with_root", "alone", "output"), "page.command", "--output=@output -- @folder @scripts", SHOWING,
+         stopped="no page was written"),
+    Verb("review", (Operand("FOLDER", "the folder that its owner is to review", PATH),),
+         "Writes an HTML page for the owner of a folder, with a box at each entry that can go.",
+         (*CHOSEN, *PEOPLE, "output"), "page.command", "--for-review --folder=@within --output=@output -- @folder",
+         SHOWING,
+         stopped="no page was written"),
+    Verb("ask", (Operand("SCRIPT", "a file of questions and edits, or - for standard input; a prompt without it", FILE,
+                         "*"),),
+         "Answers a script of questions and edits, or asks you for them at a prompt.",
+         (*CHOSEN, "with_root", "headings", "each", "hosts", "timeout"), "ask.command", "-- @snapshots @scripts",
+         prepare=prepare.ask, is_watched=False),
+    Verb("daily", (Operand("FOLDER", "a folder that is recorded each day, with its whole name", FILE, "+"),),
+         "Records folders and says, or mails, what there is to look at; a timer or cron runs it.",
+         ("mail", "rules", "accepted", "fail_on", "keep", "split", "exclude", "cross_file_systems", "users", "readers",
+          "acl5"),
+         "daily.command", "--folder=@store --snapshot=@recording -- @folders", RECORDING, prepare=prepare.daily,
+         stopped="the snapshot that was begun is removed", goes_on=True),
+    Verb("help", (Operand("VERB", "opens the page of this verb", VERB, "*"),),
+         "Lists the verbs, or opens the page of one.", (),
+         "verbs.help", group=SHOWING, prepare=prepare.nothing, is_watched=False),
 )
-BY_VERB: Dict[str, Verb] = {verb.name: verb for verb in VERBS}
+# What a shell calls, and nobody types.
+COMPLETE = Verb("complete", (Operand("KIND", "bash, zsh or fish: the completion of that shell; or a kind of words",
+                                     WORD, None,
+                                     ("bash", "zsh", "fish", USER, GROUP, SNAPSHOT, FINDING, VERB, PATH)),
+                             Operand("WORD", "what is typed so far", WORD, "?")),
+                "Prints what a shell completes the words of facl by.", (), "verbs.completion", prepare=prepare.nothing,
+                is_watched=False)
+BY_VERB: Dict[str, Verb] = {verb.name: verb for verb in (*VERBS, COMPLETE)}
 # Words that somebody may try who does not know the verbs.
 MEANT: Dict[str, str] = {
-    "list": "snapshots", "ls": "snapshots", "forget": "prune", "report": "page", "show": "who", "can": "user", "may": "user",
-    "explain": "why", "names": "files", "owner": "files", "delete": "who-removes", "remove": "who-removes", "rm": "who-removes",
+    "list": "snapshots", "ls": "snapshots", "forget": "prune", "report": "page", "show": "who", "can": "user",
+    "may": "user",
+    "explain": "why", "names": "files", "owner": "files", "delete": "who-removes", "remove": "who-removes",
+    "rm": "who-removes",
     "compare": "diff", "changes": "diff", "find": "audit", "findings": "audit", "fix": "audit fix", "mend": "audit fix",
-    "test": "check", "edit": "plan", "restore": "undo", "revert": "undo", "rollback": "undo", "prompt": "ask", "record": "snapshot",
+    "test": "check", "edit": "plan", "restore": "undo", "revert": "undo", "rollback": "undo", "prompt": "ask",
+    "record": "snapshot",
     "html": "page", "man": "help",
 }
 
@@ -85,10 +183,10 @@ def parser_of(verb: Verb) -> argparse.ArgumentParser:
         prog="facl " + verb.name, description=verb.does, allow_abbrev=False, add_help=False,
         epilog="facl help %s opens its page, with examples." % verb.name)
     parser.usage = "facl " + verb.usage() + " [OPTION]..."
-    for operand in verb.operands:
-        parser.add_argument(operand.field(), metavar=operand.name, help=operand.help, choices=operand.choices or None,
-                            **({"nargs": operand.count} if operand.count else {}))
-    group = parser.add_mutually_exclusive_group(required=True) if verb.one_of else parser
+    for it in verb.operands:
+        action = parser.add_argument(it.field(), metavar=it.name, help=it.help, choices=it.choices or None)
+        action.nargs, action.required = it.nargs, it.nargs in (None, "+")
+    group: argparse._ActionsContainer = parser.add_mutually_exclusive_group(required=True) if verb.one_of else parser
     for field in verb.options:
         BY_FIELD[field].add_to(group if field in verb.one_of else parser)
     parser.add_argument("-h", "--help", action="help", help="print this")
@@ -96,8 +194,8 @@ def parser_of(verb: Verb) -> argparse.ArgumentParser:
 
 
 def words_of(verb: Verb, given: argparse.Namespace) -> List[str]:
-    """The words of the command that the verb runs: options that both have, and those of the row. There `@F` is the value of the
-    field F, or each of its values, `--x=@F` that of an option, and `--x?F` an option where F is set."""
+    """The words of the command that the verb runs: options that both have, and those of the row. There `@F` is the
+    value of the field F, or each of its values, `--x=@F` that of an option, and `--x?F` an option where F is set."""
     carried = [it for it in map(BY_FIELD.__getitem__, verb.options) if it.command]
     return [word for it in carried for word in of_option(it.command, getattr(given, it.field()))] + [
         word for token in verb.words.split() for word in of_token(token, given)]
@@ -115,8 +213,9 @@ def of_option(name: str, value: object) -> Iterator[str]:
 
 
 def of_token(token: str, given: argparse.Namespace) -> List[str]:
-    name, sign, field = token.partition("?") if "?" in token else token.partition("=@") if "=@" in token else token.partition("@")
+    sign = next((it for it in ("?", "=@", "@") if it in token), "")
     if not sign:
         return [token]
+    name, _, field = token.partition(sign)
     value = getattr(given, field)
     return [*of_option(name, bool(value) if sign == "?" else value)] if name else values_of(value)

@@ -1,0 +1,132 @@
+"""facl why: the entries that decide what a user may do with a file, along its path, and the answer in one sentence."""
+from __future__ import annotations
+
+import argparse
+import os
+from typing import Dict, Iterator, List, NamedTuple, Optional, Set
+
+from ..base.messages import Command
+from ..base.names import json_text, path_word, shown
+from ..base.programs import find_program
+from ..base.tables import Column, Table, paged, write_json, write_table
+from ..model import choice, meta, overview, split_tree
+from ..model.entries import Entries, entries_of
+from ..model.everybody import world_of
+from ..model.records import asks_as_directory, body_of, name_of, path_of
+from ..model.rules_of_lists import grants_search
+from ..model.sources import Source
+from ..program.protocol import CAN
+from ..questions.who.answers import anybody
+from ..questions.who.asking import Asker
+
+SCHEMA = "facl-why/1"
+SOMETHING, NOTHING = 0, 1
+CUT = b" (the mask leaves %s)"
+CLOSED = b"no search permission here: nothing below is reached"
+COLUMNS = (Column("FILE"), Column("ENTRY"), Column("NOTE"))
+WORDS = {"r": b"read", "w": b"write", "x": b"execute"}
+IN_FOLDER = {"r": b"list", "w": b"write in", "x": b"enter"}
+
+
+class Step(NamedTuple):
+    """A file on the path, with the entries that decide there."""
+
+    name: bytes
+    entries: Entries
+    is_closed: bool  # Whether it is the first directory without search permission for the user.
+    marks: List[bytes]  # What Linux looks at beside its ACL.
+
+    def texts(self) -> List[bytes]:
+        return [it.text(CUT) for it in self.entries]
+
+    def rows(self) -> Iterator[List[bytes]]:
+        note = b"; ".join([*[CLOSED] * self.is_closed, *self.marks])
+        for place, text in enumerate(self.texts() or [b"none"]):
+            yield [self.name, text, note if place == 0 else b""]
+
+
+class Reasons(NamedTuple):
+    """Why a user may do something with a file, or may not."""
+
+    user: bytes
+    steps: List[Step]  # From the root down; the file is the last one.
+    granted: List[Set[str]]  # The greatest sets of letters that are granted together.
+    is_directory: bool
+
+    def closed(self) -> Optional[Step]:
+        return next((it for it in self.steps if it.is_closed), None)
+
+    def letters(self) -> str:
+        return "".join(letter for letter in "rwx" if any(letter in its for its in self.granted))
+
+    def sentence(self) -> bytes:
+        file, closed = self.steps[-1], self.closed()
+        if closed is not None:
+            return b"%s can do nothing with %s: %s gives no search permission (%s)" % (
+                self.user, file.name, closed.name, b", ".join(closed.texts()) or b"no entry")
+        by = b", ".join(file.texts()) or b"no entry"
+        if not self.letters():
+            return b"%s can do nothing with %s, by %s" % (self.user, file.name, by)
+        words = [(IN_FOLDER if self.is_directory else WORDS)[letter] for letter in self.letters()]
+        together = set(self.letters()) in self.granted
+        joined = b", ".join(words[:-1]) + (b" and " if together else b" or ") * (len(words) > 1) + words[-1]
+        return b"%s can %s %s%s, by %s" % (self.user, joined, file.name, b"" if together else b", but not at once", by)
+
+
+def part_with(source: Source, word: bytes) -> Source:
+    """The part that has a file; the snapshot itself where it has no parts."""
+    parts = split_tree.parts_in(source.folder)
+    found = [part for part in parts if split_tree.recorded_in([part], choice.paths_of(word))] or parts
+    return source._replace(folder=found[0]) if found else source
+
+
+def steps_of(asker: Asker, user: bytes, path: bytes) -> Iterator[Step]:
+    line = asker.line(b"why", user, path_word(path))
+    is_open = True
+    for record in asker.session.ask_accepted(line).records():
+        if record:
+            its, entries = path_of(name_of(record)), entries_of(body_of(record) + b"\n")
+            closes = its != path and not grants_search(entries)
+            yield Step(asker.name_of(its), entries, closes and is_open, asker.marks.texts(its))
+            is_open = is_open and not closes
+
+
+def reasons_of(asker: Asker, user: bytes, word: bytes) -> Reasons:
+    found = anybody(asker, user)
+    path = choice.folder_of(asker.session, word)
+    program_word = asker.word_of(found.shown) if found.shown != asker.world.everybody.name else found.shown
+    answer = b"".join(asker.lines_of(CAN, program_word, path_word(path))).decode()
+    granted = [set(it) - {"-"} for it in answer.split(" ") if it not in ("", "none")]
+    steps = [*steps_of(asker, program_word, path)]
+    return Reasons(asker.shown(found.shown), steps, granted, asks_as_directory(asker.session, path))
+
+
+def fields_of(reasons: Reasons) -> Dict[str, object]:
+    closed = reasons.closed()
+    return {
+        "user": json_text(reasons.user), "path": json_text(reasons.steps[-1].name), "rights": reasons.letters(),
+        "closed": None if closed is None else json_text(closed.name), "sentence": json_text(reasons.sentence()),
+        "steps": [{"path": json_text(it.name), "entries": [*map(json_text, it.texts())],
+                   "marks": [*map(json_text, it.marks)]} for it in reasons.steps]}
+
+
+def write(command: Command, given: argparse.Namespace, reasons: Reasons) -> None:
+    if given.json:
+        about = meta.fields_of(given.stored.about)
+        write_json(command, given, SCHEMA, {"snapshot": about, "along_paths": not given.alone, **fields_of(reasons)})
+        return
+    with paged(command, not given.no_pager):
+        write_table(command, given, Table(COLUMNS, [row for step in reasons.steps for row in step.rows()]))
+        if not given.tsv:
+            command.write(shown(reasons.sentence()) + b"\n")
+
+
+def body(command: Command, given: argparse.Namespace) -> int:
+    given.file_alone, given.lists_alone = given.alone, True
+    word = os.fsencode(given.file)
+    source = part_with(Source(given.stored.folder, given.stored.name, False), word)
+    overview.say_notices(command, source, given.acl5, is_alone=False)
+    with world_of(find_program(given), source) as world:
+        reasons = reasons_of(Asker(world, given), os.fsencode(given.user), word)
+    write(command, given, reasons)
+    return SOMETHING if reasons.letters() else NOTHING

@@ -1,0 +1,253 @@
+"""The verbs: their parsers, what they run, and that each says what its command says; and why."""
+from __future__ import annotations
+
+import argparse
+import json
+import os
+import sys
+import unittest
+from typing import Dict, Iterator, List, Set, Tuple
+
+from common import COMMANDS, Done
+from verb_case import DAY, VerbCase
+
+sys.path.insert(0, COMMANDS)
+
+from facl_commands.verbs import options  # noqa: E402
+from facl_commands.verbs.table import ASKING, BY_VERB, MEANT, VERBS, parser_of, words_of  # noqa: E402
+
+NOTES = "/srv/project/notes.txt"
+# The words of a verb, and those of the command that says the same; SNAP is the snapshot.
+SAME: Tuple[Tuple[str, str], ...] = (
+    ("who write /srv/project", "facl-who write SNAP /srv/project"), ("who read,write", "facl-who read,write SNAP"),
+    ("who x / --alone --all-users --with-root --tsv", "facl-who x --file-alone --all-users --with-root --tsv SNAP /"),
+    ("who w / --lists-alone --json", "facl-who w --lists-alone --json SNAP /"),
+    ("who r / --acl5", "facl-who r --acl5 SNAP /"),
+    ("user mara", "facl-who --user mara SNAP"),
+    ("user mara / --depth 1 --json", "facl-who --user mara --depth 1 --json SNAP /"),
+    ("user --depth=0 mara", "facl-who --user mara --depth 0 SNAP"),
+    ("user nobody-is-this", "facl-who --user nobody-is-this SNAP"),
+    ("files --owner mara", "facl-who --owner mara SNAP"),
+    ("files --naming mara / --tsv", "facl-who --names mara --tsv SNAP /"),
+    ("who-removes " + NOTES, "facl-who --remove %s SNAP" % NOTES),
+    ("new-file /srv/project mara --umask 077", "facl-who --new-file /srv/project mara --umask 077 SNAP"),
+    ("diff OLD SNAP", "facl-diff OLD SNAP"), ("diff OLD SNAP --below /srv/project/drafts --json",
+                                              "facl-diff --json OLD SNAP /srv/project/drafts"),
+    ("diff SNAP OLD --alone", "facl-diff --file-alone SNAP OLD"),
+    ("audit", "facl-audit SNAP"), ("audit --list mask-cuts-entry --tsv /srv",
+                                   "facl-audit --list mask-cuts-entry --tsv SNAP /srv"),
+    ("audit --fail-on none --json", "facl-audit --fail-on none --json SNAP"),
+    ("audit --accepted fine", "facl-audit --accepted fine SNAP"),
+    ("audit fix mask-cuts-entry", "facl-audit --edits mask-cuts-entry SNAP"),
+    ("check rules", "facl-check --quiet SNAP rules"), ("check broken --json", "facl-check --json SNAP broken"),
+    ("check broken", "facl-check SNAP broken"), ("rules", "facl-check --write SNAP"),
+    ("rules /srv", "facl-check --write SNAP /srv"),
+    ("plan edits --full --json -o one", "facl-plan --full --json --plan one SNAP edits"),
+    ("plan edits bad --keep-going -o two", "facl-plan --keep-going --plan two SNAP edits bad"),
+    ("plan bad -o a", "facl-plan --plan a SNAP bad"),
+    ("page", "facl-report SNAP"), ("page edits --alone --with-root", "facl-report --file-alone --with-root SNAP edits"),
+    ("review /srv/project/drafts", "facl-report --for-review --folder /srv/project/drafts SNAP"),
+    ("ask script", "facl-ask SNAP script"), ("ask script script --headings", "facl-ask --headings SNAP script script"),
+    ("ask --frob", ""), ("apply absent", "facl-apply absent"),
+    ("undo absent --leave-changed", "facl-apply --undo --leave-changed absent"),
+)
+
+
+class Parsers(unittest.TestCase):
+    def actions(self) -> Iterator[Tuple[str, argparse.Action]]:
+        return ((verb.name, action) for verb in VERBS for action in parser_of(verb)._actions)
+
+    def test_one_option_has_one_meaning(self) -> None:
+        """No name has two helps, forms or places, and no help has two names."""
+        by_name: Dict[str, Set[Tuple[object, ...]]] = {}
+        by_help: Dict[str, Set[Tuple[str, ...]]] = {}
+        for _, action in self.actions():
+            for name in action.option_strings:
+                what = (tuple(action.option_strings), action.dest, action.help, action.metavar, type(action),
+                        action.nargs)
+                by_name.setdefault(name, set()).add(what)
+                by_help.setdefault(str(action.help), set()).add(tuple(action.option_strings))
+        self.assertGreater(len(by_name), 40)
+        self.assertEqual({name: its for name, its in by_name.items() if len(its) > 1}, {})
+        self.assertEqual({text: its for text, its in by_help.items() if len(its) > 1}, {})
+
+    def test_a_word_has_one_meaning(self) -> None:
+        found: Dict[str, Set[str]] = {}
+        for verb in VERBS:
+            for operand in verb.operands:
+                found.setdefault(operand.name, set()).add(operand.kind)
+        several = {name: kinds for name, kinds in found.items() if len(kinds) > 1}
+        self.assertEqual(several, {"FOLDER": {"path", "file"}})  # What is recorded is no path of a snapshot yet.
+
+    def test_each_option_is_of_a_verb(self) -> None:
+        used = {field for verb in VERBS for field in verb.options}
+        self.assertEqual(used, set(options.BY_FIELD))
+        for verb in VERBS:
+            self.assertEqual(len(set(verb.options)), len(verb.options), verb.name)
+
+    def test_common_options(self) -> None:
+        """A verb that uses a snapshot takes the options by which one is chosen."""
+        for verb in VERBS:
+            if "@folder" in verb.words.split() or verb.module == "verbs.why":
+                self.assertLessEqual({"snapshot", "program", "acl5", "quiet"}, set(verb.options), verb.name)
+
+    def test_sentences(self) -> None:
+        for verb in VERBS:
+            self.assertRegex(verb.does, r"\A[A-Z][a-z]+s .*[^.]\.\Z")
+            self.assertLess(len(verb.does), 112, verb.name)
+            self.assertIn(verb.name, BY_VERB)
+        for option in options.ALL:
+            self.assertRegex(option.help, r"\A[a-z].*[^.]\Z")
+        self.assertEqual({it.partition(" ")[0] for it in MEANT} & set(BY_VERB), set())
+        self.assertLessEqual(set(MEANT.values()), set(BY_VERB))
+
+    def test_words_of_commands(self) -> None:
+        verb = BY_VERB["files"]
+        given = parser_of(verb).parse_intermixed_args(["--naming=-x y", "/a", "--json"])
+        given.folder = "S"
+        self.assertEqual(words_of(verb, given), ["--json", "--names=-x y", "--", "S", "/a"])
+
+
+class Verbs(VerbCase):
+    def setUp(self) -> None:
+        super().setUp()
+        self.snap = self.stored("new")
+        self.old = self.stored("old", seconds=3 * DAY)
+        dump = self.read("store/new/dump")
+        self.write("store/new/dump", dump.replace(b"mask::r--", b"mask::rw-"))
+        self.write("edits", b"setfacl -n -m u:guest:r /srv/project/notes.txt\n")
+        self.write("bad", b"frob\nchmod 600 /srv/project/notes.txt\n")
+        self.write("rules", b"never guest read /srv/project/\n")
+        self.write("broken", b"never mara read /srv/project/\n")
+        self.write("fine", b"set-user-id /srv/project/ it is meant\n")
+        self.write("script", b"who --reach w /srv/project/notes.txt\nfrob\n")
+
+    def test_each_says_what_its_command_says(self) -> None:
+        for words, command in SAME:
+            with self.subTest(words):
+                named = [{"SNAP": "new", "OLD": "old"}.get(it, it) for it in words.split()]
+                done = self.verb(*named, "-q") if "-q" in self.verb(*named[:1],
+                                                                    "-h").out.decode() else self.verb(*named)
+                if not command:
+                    self.assertEqual((done.status, done.out), (2, b""))
+                    continue
+                name, *rest = [{"SNAP": self.snap, "OLD": self.old}.get(it, it) for it in command.split()]
+                self.assert_same(words, done, self.run_command(name, rest))
+
+    def assert_same(self, words: str, one: Done, other: Done) -> None:
+        name = b"facl " + next(it for it in sorted(BY_VERB, key=len, reverse=True) if words.startswith(it)).encode()
+        texts = [self.without_name(it.messages, prefix) for it,
+                 prefix in ((one, name), (other, b"facl-" + other.messages[5:].split(b":")[0]))]
+        self.assertEqual((one.status, one.out), (other.status, other.out))
+        self.assertEqual(*texts)
+
+    def without_name(self, text: bytes, name: bytes) -> List[bytes]:
+        """The messages, but for the name before each, and for a plan that is replaced by the second run."""
+        lines = (line[len(name):] if line.startswith(name) else line for line in text.split(b"\n"))
+        return [line for line in lines if b"the plan that was there" not in line]
+
+    def test_the_newest_and_its_age(self) -> None:
+        self.expect(self.verb("files", "--owner", "guest"), 1, b"guest owns nothing at or below /srv/project\n")
+        note = b"facl files: the snapshot old is 3 days old\n"
+        for words, snapshot in ((["-s", "old", "files"], ""), (["files"], "old"), (["files", "--snapshot=old"], "")):
+            done = self.verb(*words, "--owner", "mara", environment={"FACL_SNAPSHOT": snapshot})
+            self.assertEqual((done.status, done.messages), (0, note))
+            self.assertEqual(self.verb(*words, "--owner", "mara", "-q",
+                                       environment={"FACL_SNAPSHOT": snapshot}).messages, b"")
+
+    def test_a_path_outside(self) -> None:
+        text = b"/etc/x: is not in the snapshot new, which has /srv/project; to record it: facl snapshot /etc/x\n"
+        for words in (["who", "read", "/etc/x"], ["why", "mara", "/etc/x"], ["who-removes", "/etc/x"],
+                      ["new-file", "/etc/x", "mara"],
+                      ["user", "mara", "/etc/x"], ["audit", "/etc/x"], ["review", "/etc/x"], ["rules", "/etc/x"]):
+            done = self.verb(*words)
+            self.assertEqual((done.status, done.out, done.messages), (2, b"", b"facl %s: " % words[0].encode() + text))
+
+    def test_the_last_two(self) -> None:
+        done = self.verb("diff")
+        self.assertEqual((done.status, done.out), (1, self.verb("diff", "old", "new").out))
+        self.assertRegex(done.messages, b"\\Afacl diff: compares old of .*\nfacl diff: compares new of .*\n\\Z")
+        self.assertEqual(self.verb("diff", "old").out, done.out)
+        for words, text in ((["new"], b"new: is compared with itself"),
+                            (["new", "new"], b"new: is compared with itself"),
+                            (["absent"], b"absent: no such snapshot")):
+            self.assertIn(text, self.verb("diff", *words).messages)
+        os.rename(self.old, self.path("old"))
+        self.assertIn(b"has no two snapshots of this host to compare", self.verb("diff").messages)
+
+    def test_lines_of_edits(self) -> None:
+        done = self.verb("plan", "-e", "setfacl -n -m u:guest:r " + NOTES, "-e", "chmod 700 /srv/project")
+        self.assertEqual((done.status, done.messages), (0, b""), done)
+        self.assertIn(b"edits.plan: is written", done.out)
+        self.assertEqual(self.read("edits.plan/edits"),
+                         b"setfacl -n -m u:guest:r /srv/project/notes.txt\nchmod 700 /srv/project\n")
+        self.assertEqual(self.verb("plan", "edits").messages, b"")  # Nobody has used the one that was there.
+        self.assertEqual(self.verb("plan", "-", "-o", "p", text=self.read("edits")).status, 0)
+        for words in (["plan"], ["plan", "edits", "-e", "rm x"]):
+            self.expect(self.verb(*words), 2, b"", b"facl plan: give a file of edits, or lines by -e LINE\n")
+        done = self.verb("plan", "-e", "frob")
+        self.assertEqual((done.status, done.messages[:52]),
+                         (1, b"facl plan: standard input, line 1: facl: unknown tool"[:52]))
+
+    def test_pages(self) -> None:
+        for words in (["page"], ["review", "/srv/project"], ["audit", "-s", "old"], ["diff", "old", "new"]):
+            done = self.verb(*words, "-q", "-o", "page.html")
+            self.assertIn(done.status, (0, 1))
+            self.assertTrue(self.read("page.html").startswith(b"<!DOCTYPE html>"))
+            os.unlink(self.path("page.html"))
+
+    def test_why(self) -> None:
+        done = self.verb("why", "guest", NOTES)
+        self.expect(done, 1, b"""\
+FILE                    ENTRY       NOTE
+/                       other::r-x
+/srv                    other::r-x
+/srv/project            other::---  no search permission here: nothing below is reached
+/srv/project/notes.txt  other::---
+guest can do nothing with /srv/project/notes.txt: /srv/project gives no search permission (other::---)
+""")
+        for snapshot, words, status, sentence in (
+                ("new", ("mara", NOTES), 0, "mara can read and write /srv/project/notes.txt, by user:mara:rw-"),
+                ("old", ("mara", NOTES), 0, "mara can read /srv/project/notes.txt, by user:mara:rw- (the mask leaves r--)"),
+                ("old", ("guest", NOTES, "--alone"), 1,
+                 "guest can do nothing with /srv/project/notes.txt, by other::---"),
+                ("old", ("guest", "/srv"), 0, "guest can list and enter /srv, by other::r-x"),
+                ("old", ("everybody else", "/srv"), 0, "everybody else can list and enter /srv, by other::r-x"),
+                ("old", ("1003", "srv/project/notes.txt"), 0,
+                 "mara can read /srv/project/notes.txt, by user:mara:rw- (the mask leaves r--)"),
+                ("old", ("ines", "/srv/project"), 0, "ines can list, write in and enter /srv/project, by user::rwx")):
+            done = self.verb("why", *words, "-q", "-s", snapshot)
+            self.assertEqual((done.status, done.out.decode().split("\n")[-2]), (status, sentence))
+        found = json.loads(self.verb("why", "mara", NOTES, "--json").out)
+        self.assertEqual((found["schema"], found["user"], found["path"], found["rights"], found["closed"]),
+                         ("facl-why/1", "mara", NOTES, "rw", None))
+        self.assertEqual([it["path"] for it in found["steps"]], ["/", "/srv", "/srv/project", NOTES])
+        self.assertEqual(self.verb("why", "mara", NOTES, "--tsv").out.decode().split("\n")[4],
+                         NOTES + "\tuser:mara:rw-\t")
+        for words, text in ((("mora", NOTES), b"facl why: mora: is no user of the snapshot: there is mara\n"),
+                            (("mara", "/srv/project/absent"),
+                             b"facl why: /srv/project/absent: is not recorded: the snapshot is of /srv/project\n")):
+            self.expect(self.verb("why", *words), 2, b"", text)
+
+    def test_a_snapshot_that_is_no_one(self) -> None:
+        for verb in VERBS:
+            if verb.group == ASKING and "snapshot" in verb.options:
+                words = [{"USER": "mara", "PERMS": "read", "FILE": "/srv", "RULES": "rules",
+                          "FINDING": "set-user-id"}.get(it.name, "/srv")
+                         for it in verb.operands if it.nargs is None]
+                done = self.verb(*verb.name.split(), *words, *(["--owner", "mara"] if verb.one_of else []), "-s",
+                                 "nothing")
+                self.assertEqual((done.status, done.out), (2, b""), verb.name)
+                self.assertTrue(done.messages.endswith(b"nothing: no such snapshot; facl snapshots lists those of %s\n" %
+                                                       os.fsencode(self.store)), done.messages)
+
+    def test_daily(self) -> None:
+        os.mkdir(self.path("tree"))
+        done = self.verb("daily", "--exclude", "*.x", "--cross-file-systems", "--fail-on", "none", self.path("tree"))
+        self.assertEqual((done.status, done.messages), (0, b""), done)
+        name, = (it for it in os.listdir(self.store) if it.startswith("20"))
+        self.assertIn(b"\nexclude *.x\n", self.read("store/%s/meta" % name))
+
+
+if __name__ == "__main__":
+    unittest.main()
