@@ -48,13 +48,29 @@ case $prefix in /*) ;; *) fail "$prefix: PREFIX has to begin with a slash" ;; es
 to=${DESTDIR:-}${prefix%/}
 # facl_commands is beside them.
 commands='facl-snapshot facl-ask facl-plan facl-apply facl-report facl-who facl-diff facl-audit facl-check facl-daily'
-pages="facl facl_linux facl-commands $commands"
 completions=share/bash-completion/completions
+case $prefix in # where zsh of the system, or of the administrator, looks
+/usr) zsh=share/zsh/vendor-completions ;;
+*) zsh=share/zsh/site-functions ;;
+esac
+fish=share/fish/vendor_completions.d
+
+# pages: the manual pages that are made of docs/pages, as manN/NAME.N
+pages() {
+    for page in "$top"/docs/pages/*.md; do
+        page=${page##*/}
+        page=${page%.md}
+        echo "man${page##*.}/$page"
+    done
+}
 
 uninstall() {
     for name in facl facl_linux $commands; do rm -f -- "$to/bin/$name"; done # links, and of an older facl programs
-    for page in $pages; do rm -f -- "$to/share/man/man1/$page.1"; done
-    for name in $commands; do rm -f -- "$to/$completions/$name"; done
+    for page in man1/facl_linux.1 man1/facl-commands.1 man1/facl-report.1 man5/facl-script.5 $(pages); do
+        rm -f -- "$to/share/man/$page"
+    done
+    for name in facl $commands; do rm -f -- "$to/$completions/$name"; done
+    rm -f -- "$to/$zsh/_facl" "$to/$fish/facl.fish"
     rm -rf -- "$to/libexec/facl"
 }
 
@@ -81,7 +97,7 @@ install_modules() {
 
 # name_page NAME PAGE: a page that is another one by its own name
 name_page() {
-    echo ".so man1/$2.1" >"$to/share/man/man1/$1.1"
+    echo ".so $2" >"$to/share/man/man1/$1.1"
     chmod 644 "$to/share/man/man1/$1.1"
 }
 
@@ -90,6 +106,17 @@ write_origin() {
     [ -n "$origin" ] || origin='The programs were given as they are: nobody said whether they were proved.'
     printf '%s\n' "$origin" >"$to/libexec/facl/origin"
     chmod 644 "$to/libexec/facl/origin"
+}
+
+# install_completion: of each shell, as the parsers of the verbs have it
+install_completion() {
+    install -d -m 755 -- "$to/$zsh" "$to/$fish"
+    completion_of() { $python -I "$top/commands/facl-verbs" complete "$1"; }
+    { cat "$top/commands/completion/facl.bash" && completion_of bash; } >"$to/libexec/facl/facl.bash"
+    completion_of zsh >"$to/$zsh/_facl"
+    completion_of fish >"$to/$fish/facl.fish"
+    chmod 644 -- "$to/libexec/facl/facl.bash" "$to/$zsh/_facl" "$to/$fish/facl.fish"
+    for name in facl $commands; do ln -sf -- ../../../libexec/facl/facl.bash "$to/$completions/$name"; done
 }
 
 install_files() {
@@ -107,13 +134,11 @@ install_files() {
     sed -i "s/^VERSION = \"0\"/VERSION = \"$version\"/" "$to/libexec/facl/facl_commands/__init__.py"
     # A start reads what is compiled; a package compiles it where it is installed.
     [ -n "${DESTDIR:-}" ] || ! command -v $python >/dev/null || $python -m compileall -q "$to/libexec/facl/facl_commands"
-    for page in facl facl-commands; do install -m 644 -- "$top/docs/$page.1" "$to/share/man/man1"; done
-    [ -z "$linux_program" ] || name_page facl_linux facl
-    for name in $commands; do name_page "$name" facl-commands; done
-    install -m 644 -- "$top/commands/completion/facl.bash" "$to/libexec/facl/facl.bash"
-    for name in $commands; do
-        ln -sf -- ../../../libexec/facl/facl.bash "$to/$completions/$name"
-    done
+    "$top/tools/pages.py" --version "$version" "$to/share/man"
+    chmod 644 -- "$to"/share/man/man[157]/facl*
+    [ -z "$linux_program" ] || name_page facl_linux man5/facl-script.5
+    name_page facl-report man1/facl-commands.1
+    install_completion
 }
 
 warn() {

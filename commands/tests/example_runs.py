@@ -23,6 +23,8 @@ from facl_commands.base.programs import ACL5, LINUX  # noqa: E402
 
 SECONDS = 120  # that a command may take, however busy the machine is
 HOME = "/root"  # Where the examples of documents are run.
+STORE = "/var/lib/facl"  # Where documents have snapshots.
+LIVE_VERB = re.compile(r"\bfacl (?:-\S+ )*(?:snapshot|apply|undo|daily)\b")
 # Commands that are not run here, by their first word.
 COMMANDS_APART: Dict[str, str] = {
     "tools/try.sh": "compiles the program; by hand",
@@ -132,7 +134,8 @@ class Runner:
         self.missing: List[str] = []  # What a command that was not run would have made.
         path = "%s:%s/bin:%s" % (COMMANDS, folder, os.environ["PATH"])
         programs = {it.variable: it.find() for it in (ACL5, LINUX)}
-        environment = {"PATH": path, "LC_ALL": "C", "HOME": folder, "SNAPSHOT": snapshot, **programs}
+        environment = {"PATH": path, "LC_ALL": "C", "HOME": folder, "SNAPSHOT": snapshot,
+                       "FACL_STORE": folder + "/store", **programs}
         self.shell = Shell(folder, environment, ("unshare", "-m", "sh", "-ec", REAL_TREE) if is_real else ("sh",))
 
     def run(self, example: Example) -> None:
@@ -141,7 +144,8 @@ class Runner:
             self.not_run.append("%s: %s" % (example.place(), reason))
         else:
             self.run_count += 1
-            printed = [line.replace(self.folder, HOME) for line in self.shell.run(example.command)]
+            lines = self.shell.run(example.command)
+            printed = [line.replace(self.folder + "/store", STORE).replace(self.folder, HOME) for line in lines]
             found = difference(example, printed)
             self.faults += found
             self.others += [(example, printed)] if found else []
@@ -153,7 +157,7 @@ class Runner:
             return COMMANDS_APART[first.split(" ")[0]]
         if OF_SEVERAL.search(first) and not self.is_real and not why_no_tree():
             return "takes long, and is run over the real tree"
-        live = set(PROGRAM.findall(first)) & set(LIVE)
+        live = set(PROGRAM.findall(first)) & set(LIVE) or set(LIVE_VERB.findall(first))
         if live and not self.is_real:
             made = [word for found in MADE.findall(first) for word in found if word]
             self.missing += [name for name in made if not os.path.exists(os.path.join(self.folder, name))]

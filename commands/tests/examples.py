@@ -105,8 +105,22 @@ def anywhere(line: str) -> str:
     return re.sub("\t+#effective:", "\t#effective:", of_one_day(line))
 
 
+# What differs from run to run, and what documents have in its place.
+OF_ONE_DAY = (
+    (re.compile(r"\(of [\w.-]+, [\dT:-]+Z\)"), "(of srva, 2026-11-27T03:10:00Z)"),
+    (re.compile(r"\b(?!2026-11-2[67]T031000\b)20\d\d-\d\d-\d\dT\d{6}\b"), "2026-11-27T031000"),
+    (re.compile(r'"host": "[\w.-]+"'), '"host": "srva"'),
+    (re.compile(r'"date": "[\dT:-]+Z"'), '"date": "2026-11-27T03:10:00Z"'),
+    (re.compile(r"^(20\d\d-\d\d-\d\dT\d{6})  [\w.-]+ +(?=/)"), r"\1  srva  "),
+    (re.compile(r"\b\d seconds?$"), "1 second"),
+    (re.compile(r"^NAME +HOST +"), "NAME               HOST  "),
+)
+
+
 def of_one_day(line: str) -> str:
-    return re.sub(r"\(of [\w.-]+, [\dT:-]+Z\)", "(of srva, 2026-11-27T03:10:00Z)", line)
+    for pattern, text in OF_ONE_DAY:
+        line = pattern.sub(text, line)
+    return line
 
 
 def difference(example: Example, printed: List[str]) -> List[str]:

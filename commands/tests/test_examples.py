@@ -9,22 +9,27 @@ import os
 import re
 import shutil
 import sys
+import tempfile
 import unittest
-from typing import Dict
+from typing import Dict, List
 
 from common import COMMANDS, HERE, Case
 from example_runs import SERVERS, Runner, Shell, why_no_tree
 from examples import REPOSITORY, blocks_of, difference, examples_of, read_lines, write_answers
+from verb_case import ago
 
 sys.path.insert(0, COMMANDS)
 
 from facl_commands.base.programs import ACL5, LINUX  # noqa: E402
+from facl_commands.verbs.table import BY_VERB, VERBS  # noqa: E402
 
 SNAPSHOTS = os.path.join(HERE, "snapshots")
 # With the snapshot that each is about.
 DOCUMENTS = {
     "README.md": "project", "CONTRIBUTING.md": "project", "docs/facl.1": "recipes", "docs/facl-commands.1": "project",
 }
+PAGES = sorted("docs/pages/" + name for name in os.listdir(os.path.join(REPOSITORY, "docs", "pages")))
+DOCUMENTS.update(dict.fromkeys(PAGES, "project"))
 # Blocks that are not run here, by their first line: why, and what runs them.
 BLOCKS: Dict[str, str] = {
     "[d:] [u:]USER [:PERMS]      a named user, or the owner: u::PERMS": "a grammar; crates/acl_text_tests",
@@ -38,13 +43,19 @@ BLOCKS: Dict[str, str] = {
     "git clone URL facl && cd facl": "changes and compiles the program; by hand",
     "tools/try.sh": "compiles the program; by hand",
     "tools/demo.sh": "proves the program; by hand",
-    "facl-snapshot before /srv/project": "the other examples run it",
+    "facl import backup.facl": "test_store.py",
+    "facl rules /srv >rules": "has an editor in it",
+    "facl snapshot /srv": "the other examples run it",
+    "FINDING PATH REASON": "a form; test_audit.py",
+    "never   xaver           read   /srv/finance/    # a contractor": "a form; test_check.py",
     ".ci/run": "has these tests in it",
     "tools/quick.sh": "has tests in it that need no program",
 }
-# The commands of README's tables.
-OWN = ("facl-snapshot", "facl-ask", "facl-who", "facl-diff", "facl-audit", "facl-check", "facl-report", "facl-plan",
-       "facl-apply", "echo", "cp")
+# The lines of README's table of verbs that do not end with 0: something is found, or there is nothing to do.
+OTHERWISE = {
+    "facl audit": "1", "facl audit fix mask-cuts-entry": "1", "facl audit --list writable-by-everybody": "1", "facl diff": "1",
+    "facl prune --keep-daily 30": "3", "facl why guest /srv/project/notes.txt": "1", "facl user guest /": "0",
+}
 
 
 SAMPLE = """\
@@ -104,6 +115,17 @@ class Documents(Case):
 
     def setUp(self) -> None:
         super().setUp()
+        self.fill()
+
+    def new_folder(self) -> str:
+        """Another folder of the same kind."""
+        self.folder = tempfile.mkdtemp(prefix="facl-commands-test.")
+        self.addCleanup(shutil.rmtree, self.folder)
+        os.mkdir(self.path("before"))
+        self.fill()
+        return self.folder
+
+    def fill(self) -> None:
         shutil.rmtree(self.path("before"))
         for name, text in SERVERS.items():
             os.mkdir(os.path.dirname(self.path(name)))
@@ -119,15 +141,28 @@ class Documents(Case):
         for folder in ["srva/today", "srvb/today"] + ([] if is_real else ["before"]):
             shutil.copytree(snapshot, self.path(folder))
         self.write("srvb/today/dump", self.read("srvb/today/dump").replace(b"user:1003:rw-\t", b"user:1003:---\t"))
+        os.mkdir(self.path("store"), 0o700)
+        for stored, hours, entry in () if is_real else ((b"2026-11-26T031000", 29, b"mask::rw-"), (b"2026-11-27T031000", 5, b"mask::r--")):
+            self.store(snapshot, os.fsdecode(stored), hours, entry)
         runner = Runner(self.folder, snapshot, is_real)
         self.addCleanup(runner.shell.close)
         return runner
+
+    def store(self, snapshot: str, name: str, hours: int, entry: bytes) -> None:
+        """Puts a snapshot of this host into the store, with another entry in the list of a file."""
+        shutil.copytree(snapshot, self.path("store/" + name))
+        about = self.read("store/%s/meta" % name)
+        about = re.sub(b"(?m)^host .*", b"host " + os.fsencode(os.uname().nodename), about)
+        self.write("store/%s/meta" % name, re.sub(b"(?m)^date .*", b"date " + ago(hours * 3600 + 600).encode(), about))
+        dump = self.read("store/%s/dump" % name)
+        self.write("store/%s/dump" % name, dump.replace(b"mask::r--", entry))
 
     def run_document(self, name: str, is_real: bool = False) -> int:
         """The number of examples that were run."""
         runner = self.runner(name, is_real)
         for block in blocks_of(name):
-            for example in examples_of(block) if block.is_examples else []:
+            is_of_root = block.lines[:1] != [] and block.lines[0].startswith("# ")
+            for example in examples_of(block) if block.is_examples and (name not in PAGES or is_of_root is is_real) else []:
                 runner.run(example)
         print("%s: %d examples run, %d not\n%s" % (name, runner.run_count, len(runner.not_run), "".join(
             "  %s\n" % line for line in runner.not_run)), end="", file=sys.stderr)
@@ -148,6 +183,24 @@ class Documents(Case):
 
     def test_page_of_commands(self) -> None:
         self.assertGreater(self.run_document("docs/facl-commands.1"), 5)
+
+    def test_pages_of_verbs(self) -> None:
+        """Each has an example, which comes before all else."""
+        for name in PAGES:
+            with self.subTest(name):
+                self.folder = self.new_folder()
+                self.run_document(name)
+                if not name.endswith(".7.md"):
+                    blocks = blocks_of(name)
+                    self.assertTrue(blocks and blocks[0].is_examples and blocks[0].lines[-1:], name)
+
+    @unittest.skipIf(why_no_tree(), why_no_tree())
+    def test_pages_of_verbs_on_a_real_tree(self) -> None:
+        for name in PAGES:
+            if any(block.is_examples and block.lines[0].startswith("# ") for block in blocks_of(name)):
+                with self.subTest(name):
+                    self.folder = self.new_folder()
+                    self.assertGreater(self.run_document(name, is_real=True), 0)
 
     @unittest.skipIf(why_no_tree(), why_no_tree())
     def test_readme_on_a_real_tree(self) -> None:
@@ -173,19 +226,29 @@ class Documents(Case):
             printed = runner.shell.run("\n".join(lines).replace("/var/lib/facl", "kept"))
             self.assertRegex(" ".join(printed), r"^(\d{4}-\d\d-\d\d) old \1$")
 
-    def test_commands_in_tables_of_readme(self) -> None:
-        """Those of the last column, but for synopses, are accepted."""
-        text = "\n".join(read_lines("README.md"))
-        cells = "\n".join(re.findall(r"^\|.*\| (.*) \|$", text.replace("\\|", "&pipe;"), re.MULTILINE))
-        words = re.findall(r"`([^`]+)`", cells.replace("--dump FILE", "--dump before/dump"))
-        self.write("edits", b"setfacl -m u:guest:r srv/project/notes.txt\n")
-        self.write("rules", b"never guest read srv/project/\n")
-        runner = self.runner("README.md", not why_no_tree())
-        for command in ["facl-snapshot before /srv/project", "cp -r before after", *(word.replace("&pipe;", "|") for word in words)]:
-            if command.split(" ")[0] in OWN and not re.search(r"[A-Z]{3}|\[", command) and not runner.why_not(command):
-                printed = runner.shell.run(command + "; echo $?\n")
-                found = ["1"] if command.startswith("facl-audit") else ["0"]  # Something is wrong in that tree.
-                self.assertEqual((command, printed[-1:]), (command, found), printed)
+    def run_table(self, name: str, start: str) -> List[str]:
+        """Runs the lines of facl in the rows of a table that begin so, but for those with a word to be replaced; returns them all."""
+        rows = [line for line in read_lines(name) if line.startswith(start)]
+        lines = [word for row in rows for word in re.findall("`(facl [^`]+)`", row)]
+        runner = self.runner("README.md", is_real=False)
+        for line in lines:
+            if not re.search(r"[A-Z]{3}", line) and not runner.why_not(line):
+                printed = runner.shell.run(line + "; echo $?\n")
+                self.assertEqual((line, printed[-1:]), (line, [OTHERWISE.get(line, "0")]), printed)
+        return lines
+
+    def test_verbs_in_the_table_of_readme(self) -> None:
+        """Each line is accepted, and each verb is there."""
+        lines = self.run_table("README.md", "| `facl ")
+        self.assertEqual({verb.name for verb in VERBS if verb.name != "help"},
+                         {name for name in BY_VERB for line in lines if (line + " ").startswith("facl %s " % name)})
+
+    def test_recipes_by_verbs(self) -> None:
+        self.assertGreater(len(self.run_table("docs/pages/facl-recipes.7.md", "| ")), 20)
+
+    def test_readme_is_short(self) -> None:
+        words = [word for word in " ".join(read_lines("README.md")).split() if re.search(r"\w", word)]
+        self.assertLessEqual(len(words), 1200)
 
     def test_each_block_is_run_or_named(self) -> None:
         blocks = [block for name in DOCUMENTS for block in blocks_of(name) if not block.is_examples]
