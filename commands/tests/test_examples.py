@@ -43,6 +43,7 @@ BLOCKS: Dict[str, str] = {
     "git clone URL facl && cd facl": "changes and compiles the program; by hand",
     "tools/try.sh": "compiles the program; by hand",
     "tools/demo.sh": "proves the program; by hand",
+    "facl daily --install --mail root --rules /etc/facl/rules /srv": "test_verbs.py",
     "facl import backup.facl": "test_store.py",
     "facl rules /srv >rules": "has an editor in it",
     "facl snapshot /srv": "the other examples run it",

@@ -7,13 +7,15 @@ import os
 import sys
 import unittest
 from typing import Dict, Iterator, List, Set, Tuple
+from unittest import mock
 
 from common import COMMANDS, Done
 from verb_case import DAY, VerbCase
 
 sys.path.insert(0, COMMANDS)
 
-from facl_commands.verbs import options  # noqa: E402
+from facl_commands.base.messages import Command, Failure  # noqa: E402
+from facl_commands.verbs import options, prepare, timer  # noqa: E402
 from facl_commands.verbs.table import ASKING, BY_VERB, MEANT, VERBS, parser_of, words_of  # noqa: E402
 
 NOTES = "/srv/project/notes.txt"
@@ -247,6 +249,42 @@ guest can do nothing with /srv/project/notes.txt: /srv/project gives no search p
         self.assertEqual((done.status, done.messages), (0, b""), done)
         name, = (it for it in os.listdir(self.store) if it.startswith("20"))
         self.assertIn(b"\nexclude *.x\n", self.read("store/%s/meta" % name))
+
+    def test_the_timer(self) -> None:
+        for name in ("bin", "units", "etc"):
+            os.mkdir(self.path(name))
+        self.write("bin/systemctl", b'#!/bin/sh\necho "$@" >>called\n')
+        os.chmod(self.path("bin/systemctl"), 0o755)
+        self.write("units/facl-daily.timer", b"")
+        settings = os.fsencode(self.path("etc/facl-daily"))
+        with mock.patch.dict(os.environ, {"PATH": self.path("bin") + ":/usr/bin:/bin", "FACL_STORE": "/var/lib/facl"}):
+            self.assertRaises(Failure, timer.settings_of, self.prepared("*.x"))
+            given = self.prepared("tmp")
+            text = b'FACL_DAILY="--mail=root --folder=/var/lib/facl --snapshot=--exclude=tmp -- /srv"\n'
+            self.assertEqual(timer.settings_of(given), timer.HEAD + text)
+            with mock.patch.object(timer, "UNITS", (self.path("units"),)), mock.patch.object(timer, "SETTINGS", settings):
+                said = [self.installed(given), self.installed(given)]
+        self.assertEqual(said, [b"", b"the settings that were there are " + settings + b".before now"])
+        self.assertEqual(self.read("etc/facl-daily"), timer.HEAD + text)
+        self.assertEqual(sorted(os.listdir(self.path("etc"))), ["facl-daily", "facl-daily.before"])
+        self.assertEqual(self.read("called"), b"enable --now facl-daily.timer\n" * 2)
+
+    def prepared(self, glob: str) -> argparse.Namespace:
+        words = ["--install", "--mail", "root", "--exclude=" + glob, "/srv"]
+        given = parser_of(BY_VERB["daily"]).parse_intermixed_args(words)
+        prepare.daily(Command("facl daily"), given)
+        return given
+
+    def installed(self, given: argparse.Namespace) -> bytes:
+        """What is said where the timer is installed."""
+        command = Command("facl daily")
+        said: List[bytes] = []
+        before = os.getcwd()
+        os.chdir(self.folder)
+        with mock.patch.object(command, "say", said.append), mock.patch.object(command, "tell"):
+            self.assertEqual(timer.body(command, given), 0)
+        os.chdir(before)
+        return b"".join(said)
 
 
 if __name__ == "__main__":

@@ -84,5 +84,7 @@ def body(command: Command, words: List[str]) -> int:
         Runs(command, line.verb).start(os.isatty(2) and not getattr(given, "quiet", False))
     given.paths = paths_in(line.verb, given)
     line.verb.prepare(command, given)
-    run: Callable[..., int] = importlib.import_module("%s.%s" % (PACKAGE, line.verb.module)).body
-    return run(command, words_of(line.verb, given) if line.verb.words else given)
+    option, other = line.verb.instead
+    is_other = bool(option) and getattr(given, option)
+    run: Callable[..., int] = importlib.import_module("%s.%s" % (PACKAGE, other if is_other else line.verb.module)).body
+    return run(command, words_of(line.verb, given) if line.verb.words and not is_other else given)

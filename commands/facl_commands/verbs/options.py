@@ -128,6 +128,7 @@ ALL: Tuple[VerbOption, ...] = (
     VerbOption(("--keep",), "how many daily snapshots stay (default: 30)", "COUNT", check=number_up_to(999_999_999, 1),
                command="--keep"),
     VerbOption(("--rules",), "a file of rules to check: man 5 facl-rules", "FILE", FILE, command="--rules"),
+    VerbOption(("--install",), "have the timer of systemd run it each day, with the words of this line"),
     VerbOption(("--mail",), "mail what there is to look at, in the place of printing it", "ADDRESS", command="--mail"),
 )
 BY_FIELD: Dict[str, VerbOption] = {option.field(): option for option in ALL}

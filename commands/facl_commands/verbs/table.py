@@ -12,6 +12,7 @@ ANSWERED = ("program", "acl5")
 CHOSEN = ("snapshot", *ANSWERED, "quiet")
 PEOPLE = ("all_users", "with_root", "alone")
 PRINTED = ("json", "tsv", "no_pager")
+RECORDED = ("exclude", "cross_file_systems", "users", "readers")
 RECORDING, ASKING, CHANGING, SHOWING = "Record", "Ask", "Change", "Show"
 UNCHANGED = "nothing was changed"
 NO_SNAPSHOT = "the snapshot that was begun is removed"
@@ -56,6 +57,7 @@ class Verb(NamedTuple):
     prepare: Callable[[Command, argparse.Namespace], None] = prepare.choose
     stopped: str = UNCHANGED  # What a signal does to it.
     goes_on: bool = False  # Whether its work is more than what it prints.
+    instead: Tuple[str, str] = ("", "")  # An option, and the module that runs where it is given.
     is_watched: bool = True  # Whether what it is at is shown, and a signal answered, while it runs.
 
     def usage(self) -> str:
@@ -148,10 +150,8 @@ VERBS: Tuple[Verb, ...] = (
          prepare=prepare.ask, is_watched=False),
     Verb("daily", (Operand("FOLDER", "a folder that is recorded each day, with its whole name", FILE, "+"),),
          "Records folders and says, or mails, what there is to look at; a timer or cron runs it.",
-         ("mail", "rules", "accepted", "fail_on", "keep", "split", "exclude", "cross_file_systems", "users", "readers",
-          "acl5"),
-         "daily.command", "--folder=@store --snapshot=@recording -- @folders", RECORDING, prepare=prepare.daily,
-         stopped="the snapshot that was begun is removed", goes_on=True),
+         ("install", "mail", "rules", "accepted", "fail_on", "keep", "split", *RECORDED, "acl5"), "daily.command", "--folder=@store --snapshot=@recording -- @folders", RECORDING, prepare=prepare.daily,
+         stopped="the snapshot that was begun is removed", goes_on=True, instead=("install", "verbs.timer")),
     Verb("help", (Operand("VERB", "opens the page of this verb", VERB, "*"),),
          "Lists the verbs, or opens the page of one.", (),
          "verbs.help", group=SHOWING, prepare=prepare.nothing, is_watched=False),

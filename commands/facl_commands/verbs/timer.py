@@ -1,0 +1,56 @@
+"""facl daily --install: has the timer of systemd run facl-daily each day, with the words of the line."""
+from __future__ import annotations
+
+import argparse
+import os
+import shutil
+import subprocess
+
+from ..base import new_file, trusted
+from ..base.environment import environment_of_called
+from ..base.messages import Command, Failure
+from ..base.names import PLAIN_SHELL_WORD
+from .table import BY_VERB, words_of
+
+SETTINGS = b"/etc/default/facl-daily"
+TIMER = "facl-daily.timer"
+UNITS = ("/usr/lib/systemd/system", "/lib/systemd/system", "/etc/systemd/system")
+HEAD = b"# The words of facl-daily, which the timer starts: man facl-daily. `facl daily --install` wrote them.\n"
+KEPT = b".before"  # After the name of settings that were there.
+
+
+def settings_of(given: argparse.Namespace) -> bytes:
+    """The file of settings. systemd cuts the words at blanks."""
+    words = [*map(os.fsencode, words_of(BY_VERB["daily"], given))]
+    for word in words:
+        if not PLAIN_SHELL_WORD.match(word):
+            raise Failure(word + b": the timer takes words of letters, digits and ./:=@%+,_- alone")
+    return HEAD + b'FACL_DAILY="%s"\n' % b" ".join(words)
+
+
+def write_settings(text: bytes) -> bool:
+    """Puts the settings in place; whether others were there, which are kept."""
+    above, name = os.path.split(SETTINGS)
+    folder = trusted.open_folder(above)
+    made = b"." + name + b"." + os.urandom(8).hex().encode()
+    new_file.write(made, folder, text)
+    was_there = new_file.is_there(name, folder)
+    if was_there:
+        os.replace(name, name + KEPT, src_dir_fd=folder, dst_dir_fd=folder)
+    os.replace(made, name, src_dir_fd=folder, dst_dir_fd=folder)
+    os.close(folder)
+    return was_there
+
+
+def body(command: Command, given: argparse.Namespace) -> int:
+    systemctl = shutil.which("systemctl")
+    if systemctl is None or not any(os.path.exists(os.path.join(folder, TIMER)) for folder in UNITS):
+        raise Failure(b"there is no facl-daily.timer, which the Debian package has; let cron run facl daily instead")
+    if write_settings(settings_of(given)):
+        command.say(b"the settings that were there are " + SETTINGS + KEPT + b" now")
+    done = subprocess.run([systemctl, "enable", "--now", TIMER], stdin=subprocess.DEVNULL, stdout=subprocess.DEVNULL,
+                          env=environment_of_called(), check=False)
+    if done.returncode != 0:
+        raise Failure(b"systemctl enable --now facl-daily.timer: status %d" % done.returncode)
+    command.tell(b"the timer runs it each day, with the words of " + SETTINGS)
+    return 0
