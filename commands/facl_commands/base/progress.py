@@ -15,7 +15,7 @@ class Progress:
     """The step of a command, and how many files of how many it has done. A thread shows it, which takes no signal."""
 
     def __init__(self) -> None:
-        self.step, self.done, self.of, self.shares = "starting", 0, 0, 1
+        self.step, self.done, self.of, self.shares = "at work", 0, 0, 1
         self.begun, self.is_shown, self.is_over = time.monotonic(), False, threading.Event()
         self.lock = threading.RLock()  # A signal may come while it is held.
 

@@ -10,6 +10,7 @@ from typing import Callable, List, NamedTuple
 from .. import VERSION
 from ..base.environment import HOME
 from ..base.messages import Command, Failure
+from ..base.progress import AT
 from .options import BY_FIELD, BY_NAME, PATH
 from .running import Runs
 from .table import BY_VERB, MEANT, Verb, parser_of, values_of, words_of
@@ -72,19 +73,28 @@ def version() -> bytes:
     return ("facl %s\n%s" % (VERSION, origin)).encode()
 
 
+def start(command: Command, verb: Verb, given: argparse.Namespace) -> int:
+    """Runs what the row of a verb says."""
+    given.paths = paths_in(verb, given)
+    verb.prepare(command, given)
+    option, other = verb.instead
+    is_other = bool(option) and bool(getattr(given, option))
+    module = importlib.import_module("%s.%s" % (PACKAGE, other if is_other else verb.module))
+    run: Callable[..., int] = module.body
+    return run(command, words_of(verb, given) if verb.words and not is_other else given)
+
+
 def body(command: Command, words: List[str]) -> int:
     if words[:1] == ["--version"]:
         command.write(version())
         return 0
-    line = read_line(["help"] if not words or words[0] in ("--help", "-h") else words)
-    command.name = b"facl " + line.verb.name.encode()
-    command.goes_on = line.verb.goes_on
-    given = parser_of(line.verb).parse_intermixed_args(line.words)
-    if line.verb.is_watched:
-        Runs(command, line.verb).start(os.isatty(2) and not getattr(given, "quiet", False))
-    given.paths = paths_in(line.verb, given)
-    line.verb.prepare(command, given)
-    option, other = line.verb.instead
-    is_other = bool(option) and getattr(given, option)
-    run: Callable[..., int] = importlib.import_module("%s.%s" % (PACKAGE, other if is_other else line.verb.module)).body
-    return run(command, words_of(line.verb, given) if line.verb.words and not is_other else given)
+    verb, rest = read_line(["help"] if not words or words[0] in ("--help", "-h") else words)
+    command.name = b"facl " + verb.name.encode()
+    command.goes_on = verb.goes_on
+    given = parser_of(verb).parse_intermixed_args(rest)
+    if verb.is_watched:
+        Runs(command, verb).start(os.isatty(2) and not getattr(given, "quiet", False))
+    try:
+        return start(command, verb, given)
+    finally:
+        AT.stop()
