@@ -45,7 +45,7 @@ class Step(NamedTuple):
             yield [self.name, text, note if place == 0 else b""]
 
 
-class Reasons(NamedTuple):
+class WhyAnswer(NamedTuple):
     """Why a user may do something with a file, or may not."""
 
     user: bytes
@@ -91,17 +91,17 @@ def steps_of(asker: Asker, user: bytes, path: bytes) -> Iterator[Step]:
             is_open = is_open and not closes
 
 
-def reasons_of(asker: Asker, user: bytes, word: bytes) -> Reasons:
+def reasons_of(asker: Asker, user: bytes, word: bytes) -> WhyAnswer:
     found = anybody(asker, user)
     path = choice.folder_of(asker.session, word)
     program_word = asker.word_of(found.shown) if found.shown != asker.world.everybody.name else found.shown
     answer = b"".join(asker.lines_of(CAN, program_word, path_word(path))).decode()
     granted = [set(it) - {"-"} for it in answer.split(" ") if it not in ("", "none")]
     steps = [*steps_of(asker, program_word, path)]
-    return Reasons(asker.shown(found.shown), steps, granted, asks_as_directory(asker.session, path))
+    return WhyAnswer(asker.shown(found.shown), steps, granted, asks_as_directory(asker.session, path))
 
 
-def fields_of(reasons: Reasons) -> Dict[str, object]:
+def fields_of(reasons: WhyAnswer) -> Dict[str, object]:
     closed = reasons.closed()
     return {
         "user": json_text(reasons.user), "path": json_text(reasons.steps[-1].name), "rights": reasons.letters(),
@@ -110,7 +110,7 @@ def fields_of(reasons: Reasons) -> Dict[str, object]:
                    "marks": [*map(json_text, it.marks)]} for it in reasons.steps]}
 
 
-def write(command: Command, given: argparse.Namespace, reasons: Reasons) -> None:
+def write(command: Command, given: argparse.Namespace, reasons: WhyAnswer) -> None:
     if given.json:
         about = meta.fields_of(given.stored.about)
         write_json(command, given, SCHEMA, {"snapshot": about, "along_paths": not given.alone, **fields_of(reasons)})
