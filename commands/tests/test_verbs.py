@@ -210,7 +210,7 @@ guest can do nothing with /srv/project/notes.txt: /srv/project gives no search p
 """)
         for snapshot, words, status, sentence in (
                 ("new", ("mara", NOTES), 0, "mara can read and write /srv/project/notes.txt, by user:mara:rw-"),
-                ("old", ("mara", NOTES), 0, "mara can read /srv/project/notes.txt, by user:mara:rw- (the mask leaves r--)"),
+                ("old", ("mara", NOTES), 0, "mara can read %s, by user:mara:rw- (the mask leaves r--)" % NOTES),
                 ("old", ("guest", NOTES, "--alone"), 1,
                  "guest can do nothing with /srv/project/notes.txt, by other::---"),
                 ("old", ("guest", "/srv"), 0, "guest can list and enter /srv, by other::r-x"),
@@ -240,8 +240,28 @@ guest can do nothing with /srv/project/notes.txt: /srv/project gives no search p
                 done = self.verb(*verb.name.split(), *words, *(["--owner", "mara"] if verb.one_of else []), "-s",
                                  "nothing")
                 self.assertEqual((done.status, done.out), (2, b""), verb.name)
-                self.assertTrue(done.messages.endswith(b"nothing: no such snapshot; facl snapshots lists those of %s\n" %
-                                                       os.fsencode(self.store)), done.messages)
+                text = b"nothing: no such snapshot; facl snapshots lists those of %s\n" % os.fsencode(self.store)
+                self.assertTrue(done.messages.endswith(text), done.messages)
+
+    def test_parts(self) -> None:
+        """Of a snapshot in parts some verbs take all, and the others say which one they take."""
+        for name in ("a", "b", "c"):
+            os.makedirs(self.path("tree/%s" % name))
+            self.write("tree/%s/f" % name, b"")
+        depth = self.folder.count("/") + 3
+        self.assertEqual(self.verb("snapshot", "-q", "--split", "%d" % (depth + 1), self.path("tree")).status, 0)
+        rows = self.verb("snapshots", "--tsv").out.decode().split("\n")
+        name, _, _, files, users, _, warnings = rows[1].split("\t")
+        self.assertRegex(warnings, r"\Ain [3-6] parts\Z")
+        self.assertEqual((files, users.isdigit()), ("", True))
+        for words in (["why", "nobody", self.path("tree/c/f"), "--alone"], ["audit", "--fail-on", "none"]):
+            self.assertEqual(self.verb(*words).status, 0)
+        part = os.fsencode(os.path.join(self.store, name, "001"))
+        for words in (["who", "read"], ["page"], ["plan", "edits"], ["ask", "script"]):
+            text = b"facl %s: %s: is in parts, of which facl %s takes one: -s %s\n" % (
+                words[0].encode(), name.encode(), words[0].encode(), part)
+            self.expect(self.verb(*words), 2, b"", text)
+        self.assertIn(self.verb("who", "read", "-s", os.fsdecode(part)).status, (0, 1))
 
     def test_daily(self) -> None:
         os.mkdir(self.path("tree"))
@@ -262,7 +282,7 @@ guest can do nothing with /srv/project/notes.txt: /srv/project gives no search p
             given = self.prepared("tmp")
             text = b'FACL_DAILY="--mail=root --folder=/var/lib/facl --snapshot=--exclude=tmp -- /srv"\n'
             self.assertEqual(timer.settings_of(given), timer.HEAD + text)
-            with mock.patch.object(timer, "UNITS", (self.path("units"),)), mock.patch.object(timer, "SETTINGS", settings):
+            with mock.patch.multiple(timer, UNITS=(self.path("units"),), SETTINGS=settings):
                 said = [self.installed(given), self.installed(given)]
         self.assertEqual(said, [b"", b"the settings that were there are " + settings + b".before now"])
         self.assertEqual(self.read("etc/facl-daily"), timer.HEAD + text)

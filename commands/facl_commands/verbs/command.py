@@ -75,7 +75,7 @@ def version() -> bytes:
 
 def start(command: Command, verb: Verb, given: argparse.Namespace) -> int:
     """Runs what the row of a verb says."""
-    given.paths = paths_in(verb, given)
+    given.paths, given.takes_parts = paths_in(verb, given), verb.takes_parts()
     verb.prepare(command, given)
     option, other = verb.instead
     is_other = bool(option) and bool(getattr(given, option))

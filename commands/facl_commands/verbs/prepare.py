@@ -18,6 +18,9 @@ def nothing(_command: Command, _given: argparse.Namespace) -> None:
 def choose(command: Command, given: argparse.Namespace) -> None:
     """Chooses the snapshot, says how old it is, and looks whether it has the paths of the line."""
     given.stored = store.chosen(given.snapshot)
+    if given.stored.parts and not given.takes_parts:
+        first = given.stored.parts[0]
+        raise Failure(given.stored.name + b": is in parts, of which %s takes one: -s " % command.name + first)
     store.check_paths(given.stored, [*map(os.fsencode, given.paths)])
     given.folder = os.fsdecode(given.stored.folder)
     for note in () if given.quiet else store.notes(given.stored):

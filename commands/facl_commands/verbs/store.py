@@ -52,9 +52,10 @@ class Stored(NamedTuple):
         return None if taken is None else int(time.time() - taken)
 
     def number(self, key: bytes) -> Optional[int]:
-        """A number of meta; of all parts where there are some."""
-        found = [meta.meta_of(it).numbers.get(key, b"") for it in self.parts or [self.folder]]
-        return sum(map(int, found)) if all(it.isdigit() for it in found) else None
+        """A number of meta. How many files parts have together is not known: some directories are in several."""
+        about = self.about if not self.parts or key == meta.UNREAD else meta.meta_of(self.parts[0])
+        found = about.numbers.get(key, b"")
+        return int(found) if found.isdigit() and not (self.parts and key == meta.FILES) else None
 
     def warnings(self) -> List[bytes]:
         """What a reader of a list of snapshots has to know."""
@@ -62,6 +63,7 @@ class Stored(NamedTuple):
             return [self.fault]
         unread = self.number(meta.UNREAD)
         found = ((meta.is_of_another_host(self.about), b"of another host"), (self.about is meta.UNKNOWN, b"imported"),
+                 (bool(self.parts), b"in %d parts" % len(self.parts)),
                  (bool(unread), counted(unread or 0, "file") + b" could not be read"))
         return [text for is_so, text in found if is_so]
 

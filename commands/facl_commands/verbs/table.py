@@ -14,6 +14,7 @@ PEOPLE = ("all_users", "with_root", "alone")
 PRINTED = ("json", "tsv", "no_pager")
 RECORDED = ("exclude", "cross_file_systems", "users", "readers")
 RECORDING, ASKING, CHANGING, SHOWING = "Record", "Ask", "Change", "Show"
+OF_PARTS = ("questions.audit.command", "questions.check.command", "verbs.why")  # And facl diff, which chooses two.
 UNCHANGED = "nothing was changed"
 NO_SNAPSHOT = "the snapshot that was begun is removed"
 
@@ -59,6 +60,10 @@ class Verb(NamedTuple):
     goes_on: bool = False  # Whether its work is more than what it prints.
     instead: Tuple[str, str] = ("", "")  # An option, and the module that runs where it is given.
     is_watched: bool = True  # Whether what it is at is shown, and a signal answered, while it runs.
+
+    def takes_parts(self) -> bool:
+        """Whether it takes a snapshot in parts as one."""
+        return self.module in OF_PARTS
 
     def usage(self) -> str:
         asked = " | ".join("--%s %s" % (it.replace("_", "-"), BY_FIELD[it].value) for it in self.one_of)
