@@ -231,6 +231,21 @@ guest can do nothing with /srv/project/notes.txt: /srv/project gives no search p
                              b"facl why: /srv/project/absent: is not recorded: the snapshot is of /srv/project\n")):
             self.expect(self.verb("why", *words), 2, b"", text)
 
+    def test_not_at_once(self) -> None:
+        """What two groups grant is not granted together."""
+        group = self.read("store/new/group")
+        self.write("store/new/group", group + b"readers:x:3001:guest\nwriters:x:3002:guest\n")
+        record = b"# file: /both\n# owner: 0\n# group: 0\nuser::rw-\ngroup::---\n" + (
+            b"group:3001:r--\ngroup:3002:-w-\nmask::rw-\nother::---\n\n")
+        self.write("store/new/dump", self.read("store/new/dump") + record)
+        done = self.verb("why", "guest", "/both", "--tsv", "-q", "-s", "new", "--alone")
+        self.assertEqual(done.status, 2)  # It is not one of the folders of the snapshot.
+        about = self.read("store/new/meta")
+        self.write("store/new/meta", about.replace(b"folder /srv/project", b"folder /"))
+        done = self.verb("why", "guest", "/both", "-q")
+        text = b"guest can read or write /both, but not at once, by group:readers:r--, group:writers:-w-\n"
+        self.assertEqual((done.status, done.out.split(b"\n", 4)[-1]), (0, text), done)
+
     def test_a_snapshot_that_is_no_one(self) -> None:
         for verb in VERBS:
             if verb.group == ASKING and "snapshot" in verb.options:
