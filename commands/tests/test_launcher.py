@@ -44,7 +44,7 @@ class Launcher(Case):
 
     def test_its_streams(self) -> None:
         for streams in STREAMS:
-            for words in (["--passwd", "before/passwd"], []):
+            for words in RUNS[0][0], RUNS[3][0]:
                 line = '"$@" ' + streams
                 runs = [self.run_file("/bin/sh", ["-c", line, "sh", file, *words], b"index\n")
                         for file in (FACL, ACL5.find())]
