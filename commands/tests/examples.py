@@ -112,7 +112,6 @@ OF_ONE_DAY = (
     (re.compile(r'"host": "[\w.-]+"'), '"host": "srva"'),
     (re.compile(r'"date": "[\dT:-]+Z"'), '"date": "2026-11-27T03:10:00Z"'),
     (re.compile(r"^(20\d\d-\d\d-\d\dT\d{6})  [\w.-]+ +(?=/)"), r"\1  srva  "),
-    (re.compile(r"\b\d seconds?$"), "1 second"),
     (re.compile(r"^NAME +HOST +"), "NAME               HOST  "),
 )
 

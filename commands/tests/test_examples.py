@@ -205,7 +205,11 @@ class Documents(Case):
 
     @unittest.skipIf(why_no_tree(), why_no_tree())
     def test_readme_on_a_real_tree(self) -> None:
-        self.assertGreater(self.run_document("README.md", is_real=True), 8)
+        """All of its session are run: from the record to the change that is taken back."""
+        blocks = [block for block in blocks_of("README.md") if block.is_examples]
+        verbs = [example.command.split(" ")[1] for block in blocks for example in examples_of(block)]
+        self.assertEqual(verbs, ["snapshot", "who", "why", "plan", "plan", "apply", "undo"])
+        self.assertEqual(self.run_document("README.md", is_real=True), len(verbs))
 
     @unittest.skipIf(why_no_tree(), why_no_tree())
     def test_page_on_a_real_tree(self) -> None:

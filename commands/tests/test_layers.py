@@ -21,8 +21,8 @@ ALLOWED: Dict[str, Tuple[str, ...]] = {
     "questions.diff": (*QUESTION, "page"), "questions.audit": (*QUESTION, "page"),
     "apply": ("base", "planned", "model.meta"), "daily": ("base",), "snapshot": ("base",),
     # It starts commands by their names.
-    "verbs": (*QUESTION, "daily.folder", "questions.audit.findings", "questions.who.answers", "questions.who.asking",
-              "snapshot.target", "snapshot.written"),
+    "verbs": (*QUESTION, "daily.folder", "questions.audit.findings", "questions.who.asking", "snapshot.recording",
+              "snapshot.target"),
 }
 Imports = Dict[str, Set[str]]  # By the name of a module: the modules that it imports, also late ones in functions.
 

@@ -11,8 +11,8 @@ from ..base.programs import find_program
 from ..model import sources
 from ..program.protocol import LIST
 from ..program.session import Session
+from ..snapshot.recording import write_file
 from ..snapshot.target import NewSnapshot, place_of
-from ..snapshot.written import write_file
 
 
 def body(command: Command, given: argparse.Namespace) -> int:

@@ -6,7 +6,7 @@ import datetime
 from typing import Callable, Dict, Iterator, List, Tuple
 
 from ..base.messages import Command, Failure, counted
-from ..daily.folder import DailyFolder
+from ..daily.folder import DailyFolder, remove_known
 from ..model import meta
 from .store import Stored, place, snapshots_in
 
@@ -52,7 +52,7 @@ def remove(command: Command, store: bytes, names: List[bytes]) -> int:
     folder = DailyFolder(store)
     gone = 0
     for name in names:
-        if folder.remove_snapshot(name):
+        if remove_known(name, folder.descriptor, has_parts=True):
             gone += 1
         else:
             command.say(name + b": has other files too, so these stay")

@@ -16,7 +16,6 @@ from ..model.records import asks_as_directory, body_of, name_of, path_of
 from ..model.rules_of_lists import grants_search
 from ..model.sources import Source
 from ..program.protocol import CAN
-from ..questions.who.answers import anybody
 from ..questions.who.asking import Asker
 
 SCHEMA = "facl-why/1"
@@ -92,9 +91,9 @@ def steps_of(asker: Asker, user: bytes, path: bytes) -> Iterator[Step]:
 
 
 def reasons_of(asker: Asker, user: bytes, word: bytes) -> WhyAnswer:
-    found = anybody(asker, user)
+    found = asker.anybody(user)
     path = choice.folder_of(asker.session, word)
-    program_word = asker.word_of(found.shown) if found.shown != asker.world.everybody.name else found.shown
+    program_word = asker.word_of(found.shown)
     answer = b"".join(asker.lines_of(CAN, program_word, path_word(path))).decode()
     granted = [set(it) - {"-"} for it in answer.split(" ") if it not in ("", "none")]
     steps = [*steps_of(asker, program_word, path)]
