@@ -91,9 +91,11 @@ class Words(Case):
         for words, text in (
                 (["frob"], b"frob: no such verb; facl help lists them"),
                 (["-n"], b"a verb is missing; facl help lists them"),
-                (["aply", "x"], b"aply: no such verb: did you mean apply?; facl help lists them"),
-                (["revert"], b"revert: no such verb: did you mean undo?; facl help lists them"),
-                (["help", "frob"], b""), ([""], b": no such verb; facl help lists them"),
+                (["aply", "x"], b"aply: no such verb; did you mean apply?"),
+                (["--json", "snapshop"], b"snapshop: no such verb; did you mean snapshot or snapshots?"),
+                (["revert"], b"revert: no such verb; did you mean undo?"),
+                (["compare"], b"compare: no such verb; did you mean diff?"),
+                ([""], b": no such verb; facl help lists them"),
                 (["-s"], b"a verb is missing; facl help lists them"),
                 (["-s", "apply"], b"a verb is missing; facl help lists them"),
                 (["a\033b"], b"a\\033b: no such verb; facl help lists them")):
@@ -116,9 +118,16 @@ class Words(Case):
             self.expect(self.verb(*words), 2, b"", b"facl apply: " + os.fsencode(self.folder) + text)
 
     def test_help(self) -> None:
-        for word in ("help", "--help", "-h"):
-            self.assertEqual(self.verb(word), self.verb())
-        self.assertIn(b"usage: facl undo PLAN [OPTION]", self.verb("undo", "-h").out)
+        for words in (["help"], ["--help"], ["-h"], ["-q", "-h"]):
+            self.assertEqual(self.verb(*words), self.verb())
+        for columns, most in (("200", 100), ("80", 80), ("10", 72)):
+            done = self.run_command("facl-verbs", ["help"], environment={"COLUMNS": columns})
+            self.assertLessEqual(max(map(len, done.out.splitlines())), most)
+        for words in (["undo", "-h"], ["-h", "undo"], ["--help", "undo"]):
+            self.assertIn(b"usage: facl undo PLAN [OPTION]", self.verb(*words).out)
+        for word, hint in (("frob", b"facl help lists them"), ("udno", b"did you mean undo?")):
+            text = b"facl help: %s: no such verb; %s\n" % (word.encode(), hint)
+            self.expect(self.verb("help", word), 2, b"", text)
 
     def test_version(self) -> None:
         self.assertEqual(self.verb("--version").out.split(b"\n")[0], b"facl 0")

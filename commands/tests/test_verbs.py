@@ -9,7 +9,7 @@ import unittest
 from typing import Dict, Iterator, List, Set, Tuple
 from unittest import mock
 
-from common import COMMANDS, Done
+from common import COMMANDS
 from verb_case import DAY, VerbCase
 
 sys.path.insert(0, COMMANDS)
@@ -50,6 +50,7 @@ SAME: Tuple[Tuple[str, str], ...] = (
     ("page", "facl-report SNAP"), ("page edits --alone --with-root", "facl-report --file-alone --with-root SNAP edits"),
     ("review /srv/project/drafts", "facl-report --for-review --folder /srv/project/drafts SNAP"),
     ("ask script", "facl-ask SNAP script"), ("ask script script --headings", "facl-ask --headings SNAP script script"),
+    ("ask --each --timeout 9 script", "facl-ask --each --timeout 9 script"), ("ask --hosts script", "facl-ask --hosts script"),
     ("ask --frob", ""), ("apply absent", "facl-apply absent"),
     ("undo absent --leave-changed", "facl-apply --undo --leave-changed absent"),
 )
@@ -135,18 +136,6 @@ class Verbs(VerbCase):
                     continue
                 name, *rest = [{"SNAP": self.snap, "OLD": self.old}.get(it, it) for it in command.split()]
                 self.assert_same(words, done, self.run_command(name, rest))
-
-    def assert_same(self, words: str, one: Done, other: Done) -> None:
-        name = b"facl " + next(it for it in sorted(BY_VERB, key=len, reverse=True) if words.startswith(it)).encode()
-        texts = [self.without_name(it.messages, prefix) for it,
-                 prefix in ((one, name), (other, b"facl-" + other.messages[5:].split(b":")[0]))]
-        self.assertEqual((one.status, one.out), (other.status, other.out))
-        self.assertEqual(*texts)
-
-    def without_name(self, text: bytes, name: bytes) -> List[bytes]:
-        """The messages, but for the name before each, and for a plan that is replaced by the second run."""
-        lines = (line[len(name):] if line.startswith(name) else line for line in text.split(b"\n"))
-        return [line for line in lines if b"the plan that was there" not in line]
 
     def test_the_newest_and_its_age(self) -> None:
         self.expect(self.verb("files", "--owner", "guest"), 1, b"guest owns nothing at or below /srv/project\n")

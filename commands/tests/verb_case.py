@@ -4,10 +4,15 @@ from __future__ import annotations
 import os
 import re
 import shutil
+import sys
 import time
 from typing import Dict, List, Optional
 
-from common import HERE, Case, Done
+from common import COMMANDS, HERE, Case, Done
+
+sys.path.insert(0, COMMANDS)
+
+from facl_commands.verbs.table import BY_VERB  # noqa: E402
 
 HOST = os.uname().nodename
 DATE = "%Y-%m-%dT%H:%M:%SZ"
@@ -39,6 +44,19 @@ class VerbCase(Case):
         with open(os.path.join(folder, "meta"), "w", encoding="ascii") as file:
             file.write(text)
         return folder
+
+    def assert_same(self, words: str, one: Done, other: Done) -> None:
+        """A verb, with which some words begin, did what a command did."""
+        name = b"facl " + next(it for it in sorted(BY_VERB, key=len, reverse=True) if words.startswith(it)).encode()
+        texts = [self.without_name(it.messages, prefix) for it,
+                 prefix in ((one, name), (other, b"facl-" + other.messages[5:].split(b":")[0]))]
+        self.assertEqual((one.status, one.out), (other.status, other.out))
+        self.assertEqual(*texts)
+
+    def without_name(self, text: bytes, name: bytes) -> List[bytes]:
+        """The messages, but for the name before each, and for a plan that is replaced by the second run."""
+        lines = (line[len(name):] if line.startswith(name) else line for line in text.split(b"\n"))
+        return [line for line in lines if b"the plan that was there" not in line]
 
     def verb(self, *words: str, environment: Optional[Dict[str, str]] = None, text: bytes = b"") -> Done:
         return self.run_command("facl-verbs", [*words], text,

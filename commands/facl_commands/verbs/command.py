@@ -2,7 +2,6 @@
 from __future__ import annotations
 
 import argparse
-import difflib
 import importlib
 import os
 from typing import Callable, List, NamedTuple
@@ -13,7 +12,7 @@ from ..base.messages import Command, Failure
 from ..base.progress import AT
 from .options import BY_FIELD, BY_NAME, PATH
 from .running import Runs
-from .table import BY_VERB, MEANT, Verb, parser_of, values_of, words_of
+from .table import BY_VERB, Verb, no_verb, parser_of, values_of, words_of
 
 PACKAGE = __package__.rpartition(".")[0]
 ORIGIN = os.path.join(HOME, "origin")  # What is known of the installed programs.
@@ -27,18 +26,24 @@ class VerbLine(NamedTuple):
     words: List[str]
 
 
+def takes_next(word: str) -> bool:
+    """Whether the next word is the value of this option, or of the last letter of several."""
+    names = [word] if word.startswith("--") else ["-" + letter for letter in word[1:]]
+    with_value = [name in BY_NAME and bool(BY_NAME[name].value) for name in names]
+    return with_value.index(True) == len(names) - 1 if any(with_value) else False
+
+
 def place_of_verb(words: List[str]) -> int:
     """Where the verb is: the first word that is no option and no value of one; else behind the last word."""
     place = 0
     while place < len(words) and words[place].startswith("-") and len(words[place]) > 1:
-        option = BY_NAME.get(words[place])
-        place += 2 if option is not None and option.value else 1
-    return place
+        place += 2 if takes_next(words[place]) else 1
+    return min(place, len(words))
 
 
 def read_line(words: List[str]) -> VerbLine:
     """Fails where there is no such verb."""
-    place = min(place_of_verb(words), len(words))
+    place = place_of_verb(words)
     before, rest = words[:place], words[place:]
     if not rest:
         raise Failure(b"a verb is missing; facl help lists them")
@@ -46,14 +51,7 @@ def read_line(words: List[str]) -> VerbLine:
         name = " ".join(rest[:count])
         if name in BY_VERB and len(rest) >= count:
             return VerbLine(BY_VERB[name], before + rest[count:])
-    raise Failure(os.fsencode(rest[0]) + b": no such verb" + nearest(rest[0]) + b"; facl help lists them")
-
-
-def nearest(word: str) -> bytes:
-    """The end of a message: the verbs that may be meant."""
-    meant = [MEANT[word]] if word in MEANT else []
-    found = [it for it in [*meant, *difflib.get_close_matches(word, BY_VERB, cutoff=0.7)] if it in BY_VERB]
-    return b": did you mean " + " or ".join(dict.fromkeys(found)).encode() + b"?" if found else b""
+    raise no_verb(rest[0])
 
 
 def paths_in(verb: Verb, given: argparse.Namespace) -> List[str]:
@@ -88,7 +86,8 @@ def body(command: Command, words: List[str]) -> int:
     if words[:1] == ["--version"]:
         command.write(version())
         return 0
-    verb, rest = read_line(["help"] if not words or words[0] in ("--help", "-h") else words)
+    is_help = place_of_verb(words) == len(words) and (not words or bool({"-h", "--help"} & set(words)))
+    verb, rest = read_line(["help"] if is_help else words)
     command.name = b"facl " + verb.name.encode()
     command.goes_on = verb.goes_on
     given = parser_of(verb).parse_intermixed_args(rest)

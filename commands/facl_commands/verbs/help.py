@@ -5,32 +5,39 @@ import argparse
 import os
 import shutil
 import subprocess
+import textwrap
 from typing import Iterator, List, Optional
 
 from ..base import tables
 from ..base.environment import HOME, environment_of_called
-from ..base.messages import Command, Failure
-from .table import ASKING, BY_VERB, CHANGING, RECORDING, SHOWING, VERBS, Verb, parser_of
+from ..base.messages import Command
+from .table import ASKING, BY_VERB, CHANGING, RECORDING, SHOWING, VERBS, Verb, no_verb, parser_of
 
 GROUPS = (RECORDING, ASKING, CHANGING, SHOWING)
 HEAD = """\
-facl records owners, groups and ACLs of a tree, says who may do what there, and plans, applies and undoes changes.
-It never reads what is in a file. Each verb takes -h; facl help VERB opens its page; man facl has the whole.
-"""
+facl records owners, groups and ACLs of a tree, says who may do what there, and plans, applies and undoes changes. It never \
+reads what is in a file. Each verb takes -h; facl help VERB opens its page; man facl has the whole."""
+LEFT, NARROWEST, WIDEST = 32, 72, 100  # Columns of the usage of a verb, and of a line.
 # Where pages are: installed, and in a clone.
 PLACES = (os.path.join(HOME, "..", "..", "share", "man", "man1"), os.path.join(HOME, "..", "docs", "man"))
 
 
 def lines() -> Iterator[str]:
-    """The verbs by groups."""
-    yield HEAD
-    width = max(len(verb.usage()) for verb in VERBS)
+    """The verbs by groups, as wide as the terminal, within limits."""
+    width = min(max(shutil.get_terminal_size((WIDEST, 24)).columns, NARROWEST), WIDEST)
+    yield from textwrap.wrap(HEAD, width)
     for group in GROUPS:
-        its = [verb for verb in VERBS if verb.group == group]
-        if its:
-            yield group
-            yield from ("  facl %-*s  %s" % (width, verb.usage(), verb.does) for verb in its)
-            yield ""
+        yield from ("", group)
+        for verb in VERBS:
+            yield from row(verb, width) if verb.group == group else ()
+
+
+def row(verb: Verb, width: int) -> Iterator[str]:
+    """The usage of a verb, and beside it what it does."""
+    usage, text = "  facl " + verb.usage(), textwrap.wrap(verb.does, width - LEFT)
+    if len(usage) < LEFT:
+        usage = usage.ljust(LEFT) + text.pop(0)
+    yield from (usage, *(" " * LEFT + line for line in text))
 
 
 def page_of(verb: Verb) -> Optional[str]:
@@ -54,9 +61,9 @@ def body(command: Command, given: argparse.Namespace) -> int:
     words: List[str] = given.verbs
     if not words:
         with tables.paged(command):
-            command.write("\n".join(lines()).encode())
+            command.write("".join(line + "\n" for line in lines()).encode())
         return 0
     name = " ".join(words)
     if name not in BY_VERB:
-        raise Failure(os.fsencode(name) + b": no such verb; facl help lists them")
+        raise no_verb(name)
     return show_page(command, BY_VERB[name])

@@ -2,9 +2,11 @@
 from __future__ import annotations
 
 import argparse
+import difflib
+import os
 from typing import Callable, Dict, Iterator, List, NamedTuple, Optional, Tuple
 
-from ..base.messages import Command
+from ..base.messages import Command, Failure
 from . import prepare
 from .options import BY_FIELD, FILE, FINDING, FINDINGS, GROUP, PATH, SNAPSHOT, USER, VERB, WORD
 
@@ -181,6 +183,14 @@ MEANT: Dict[str, str] = {
     "record": "snapshot",
     "html": "page", "man": "help",
 }
+
+
+def no_verb(word: str) -> Failure:
+    """Says that a word is no verb, and which ones may be meant."""
+    near = difflib.get_close_matches(word, [verb.name for verb in VERBS], cutoff=0.7)
+    meant = list(dict.fromkeys([*([MEANT[word]] if word in MEANT else []), *near]))
+    hint = "did you mean %s?" % " or ".join(meant) if meant else "facl help lists them"
+    return Failure(os.fsencode(word) + b": no such verb; " + hint.encode())
 
 
 def parser_of(verb: Verb) -> argparse.ArgumentParser:
